@@ -1,5 +1,5 @@
--- Where files have the same players, sheets that are read alike and the same unread lines, a game of theirs is
--- printed the same behind the first line.
+-- If files have the same players, sheets that are read the same and the same unread lines, a game
+-- of theirs is printed the same after the first line.
 use Rattle.std.proofs.Common.{◌≡◌, ℕ, List, [], ◌∷◌, ◌++◌, length, is_some, append_assoc, ap, refl, subst, sym, ◌∙◌}
 use Rattle.std.specs.Prelude.{Option, Some, None, is_none, Result, Ok, Err, IsOk}
 use Rattle.std.specs.List.{flat_map, range_with_len}
@@ -179,7 +179,7 @@ end_same f g seats events (Awaiting round) same = rw (owing_same f g round same.
 end_same f g seats events Bank same = rw (worths_same f g seats events same.players) refl
 end_same f g seats events Bankrupt same = rw (worths_same f g seats events same.players) refl
 
--- what is behind the first line of the report of a file whose game has these events and this end
+-- what is after the first line of the report of a file whose game has these events and this end
 abbrev behind : List ℕ → ℕ → List Event → End → List ℕ
 behind file seats events end =
     players_line file ++ rounds_text file seats events ++ unread_lines 0 (unread_of file)

@@ -1,5 +1,6 @@
--- The texts of a game's rounds, each looked up by its round, are the text of all rounds: each part into which
--- the events are cut begins a round, and no two the same, since the rounds of a game are in order.
+-- The texts of a game's rounds, each looked up by its round, are the text of all rounds. Each part
+-- into which the events are cut begins a round. No two begin the same, since the rounds of a game
+-- are in order.
 use Rattle.std.proofs.Common.{◌≡◌, ℕ, Bool, true, false, List, [], ◌∷◌, ◌++◌, Option, Some, None, is_some, refl, ap}
 use Rattle.std.proofs.Common.{sym, subst, ◌∙◌, arith}
 use Rattle.std.specs.Prelude.{IsSome, ⊤}
@@ -115,7 +116,7 @@ module _ (file : List ℕ) (seats : ℕ) where
       ∙ ap (λ text. lines_of_round file seats before first ++ text)
       (all_later before first rounds begun rounds is different.2 ∙ texts (before ++ first) rounds different.3))
 
--- the first of the rounds with an event in front begins what that event begins
+-- the first of the rounds with an event before them begins what that event begins
 first_of_rounds_begins : (event : Event) (ended : Bool) (rounds : List (List Event))
     → FirstBegins (round_begun_by event) (with_event_in_round event ended rounds)
 first_of_rounds_begins event true rounds = refl
@@ -137,7 +138,7 @@ none_begun : (events : List Event) → ends_round events ≡ false → round_beg
 none_begun [] goes = refl
 none_begun (event ∷ events) goes = none_found (round_begun_by event) goes
 
--- an event in front of rounds begins its round before them
+-- an event before rounds begins its round before them
 one_begun : (event : Event) (ended : Bool) (rounds : List (List Event)) (first : Option Round)
     → FirstBegins first rounds → (ended ≡ false → first ≡ None)
     → rounds_of (with_event_in_round event ended rounds) ≡ with_round (round_begun_by event) (rounds_of rounds)
@@ -154,7 +155,7 @@ all_begun (event ∷ events) =
     (none_begun events)
     ∙ ap (with_round (round_begun_by event)) (all_begun events)
 
--- with an event in front, each part but the first begins a round
+-- with an event before them, each part but the first begins a round
 one_later_begins : (event : Event) (ended : Bool) (rounds : List (List Event)) (first : Option Round)
     → FirstBegins first rounds → is_some first ≡ ended → LaterBegin rounds
     → LaterBegin (with_event_in_round event ended rounds)

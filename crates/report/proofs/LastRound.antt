@@ -1,4 +1,5 @@
--- The round that began last: where it is in the list of events, and that its text comes after those of all others.
+-- The round that began last: where it is in the list of events, and that its text comes after those
+-- of all others.
 use Rattle.std.proofs.Common.{◌≡◌, ℕ, zero, suc, ◌+◌, ◌<◌, Bool, true, false, ◌||◌, List, [], ◌∷◌, ◌++◌, length, take}
 use Rattle.std.proofs.Common.{drop, get_or, refl, sym, ap, subst, ◌∙◌, append_assoc, take-append-drop, arith}
 use Rattle.std.specs.Prelude.{if◌then◌else◌, is_some, Some, Option}
@@ -67,7 +68,7 @@ last_written file seats before all last (round ∷ rounds) is =
     ∙ sym (append_assoc (lines_of_round file seats before round) (texts_of_rounds file seats (before ++ round) rounds)
     (lines_of_round file seats all last))
 
--- an event in front of rounds is in front of the events of all
+-- an event before rounds is before the events of all
 in_front : (event : Event) (ended : Bool) (rounds : List (List Event))
     → flat_map (λ round. round) (with_event_in_round event ended rounds) ≡ event ∷ flat_map (λ round. round) rounds
 in_front event true rounds = refl
@@ -88,7 +89,7 @@ some_round event true rounds = (event ∷ [], rounds, refl)
 some_round event false [] = (event ∷ [], [], refl)
 some_round event false (round ∷ rounds) = (event ∷ round, rounds, refl)
 
--- an event in front of some rounds and a further one
+-- an event before some rounds and a further one
 one_more_in_front :
     (event : Event) (ended : Bool) (rounds others : List (List Event)) (first last : List Event)
     → rounds ≡ first ∷ others →
@@ -109,7 +110,7 @@ one_round event (next ∷ more) none =
     ]
     none
 
--- a list that a round is added to is cut in front of it
+-- a list that a round is added to is cut before it
 pub cut_before :
     (old more : List Event) (event : Event) → begins event ≡ true → list_any begins more ≡ false →
     rounds_in (old ++ event ∷ more) ≡ rounds_in old ++ (event ∷ more) ∷ []
@@ -153,7 +154,8 @@ grows_by_last file seats old more event is none =
     in
     texts_grow file seats old more event is none ∙ ap (λ (text : List ℕ). rounds_text file seats old ++ text) (sym last)
 
--- the events from a place on are those of the round that began last, if the first of them begins a round and no later one does
+-- the events from a place on are those of the round that began last, if the first of them begins a
+-- round and no later one does
 pub from_here :
     (events : List Event) (begun : ℕ) (d : Event) → begun < length events → begins (get_or events begun d) ≡ true →
     list_any begins (drop (begun + 1) events) ≡ false → drop begun events ≡ last_round events

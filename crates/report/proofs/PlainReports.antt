@@ -21,7 +21,7 @@ plain_header : (file : List ℕ) → version_of file ≡ One →
 unfolding header
 plain_header file one = ap (λ (version : Version). game_line version ++ players_line file) one
 
--- a plain event tells none
+-- a plain event names none
 tells_none : (file : List ℕ) (event : Event) → is_plain event ≡ true → NamesNoCondition file event
 tells_none file (Ruled seat line (Obeyed None order)) plain = refl
 tells_none file (Ruled seat line (Obeyed (Some condition) order)) plain = absurd (cc)

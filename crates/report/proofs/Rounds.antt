@@ -1,5 +1,5 @@
--- The events of a game in their rounds: where the first of them ends, and that one after the other they
--- make up the text.
+-- The events of a game in their rounds: where the first of them ends, and that one after the other
+-- they make up the text.
 use Rattle.std.proofs.Common.{◌≡◌, ℕ, ◌+◌, ◌-◌, ◌≤◌, Bool, true, false, List, [], ◌∷◌, ◌++◌, length, take, drop, get_or}
 use Rattle.std.proofs.Common.{refl, ap, append_assoc, sym, subst, ◌∙◌, arith}
 use Rattle.std.specs.Prelude.{slice_range, if◌then◌else◌}
@@ -10,12 +10,12 @@ use Rattle.report.specs.Report.{ends_round, is_round, lines_of_round, rounds_in,
 use Rattle.report.specs.Report.{with_event_in_round}
 use Rattle.tables.specs.declared.round.Round as table
 
--- events in front of rounds: of the first of them, or a round by themselves where that ends with them
+-- events before rounds: of the first of them, or a round by themselves where that ends with them
 abbrev pub with_events : List Event → Bool → List (List Event) → List (List Event)
 with_events events false (round ∷ rounds) = (events ++ round) ∷ rounds
 with_events events ended rounds = events ∷ rounds
 
--- an event between them is the last of those in front
+-- an event between them is the last of those before
 between : (prefix : List Event) (event : Event) (ended : Bool) (rounds : List (List Event))
     → with_events prefix false (with_event_in_round event ended rounds) ≡ with_events (prefix ++ event ∷ []) ended
     rounds
@@ -24,31 +24,31 @@ between prefix event false [] = refl
 between prefix event false (round ∷ rounds) = ap (λ first. first ∷ rounds)
     (sym (append_assoc prefix (event ∷ []) round))
 
--- so one that begins no round goes to those in front
+-- so one that begins no round goes to those before
 pub one_event_more : (prefix : List Event) (event : Event) (rest : List Event) → ends_round (event ∷ rest) ≡ false
     → with_events prefix (ends_round (event ∷ rest)) (rounds_in (event ∷ rest))
     ≡ with_events (prefix ++ event ∷ []) (ends_round rest) (rounds_in rest)
 one_event_more prefix event rest goes_on = rw goes_on (between prefix event (ends_round rest) (rounds_in rest))
 
--- an event by itself in front
+-- an event by itself before them
 alone : (event : Event) (ended : Bool) (rounds : List (List Event))
     → with_event_in_round event ended rounds ≡ with_events (event ∷ []) ended rounds
 alone event true rounds = refl
 alone event false [] = refl
 alone event false (round ∷ rounds) = refl
 
--- the first event is in front of the others
+-- the first event is before the others
 first_event : (event : Event) (rest : List Event)
     → rounds_in (event ∷ rest) ≡ with_events (event ∷ []) (ends_round rest) (rounds_in rest)
 first_event event rest = alone event (ends_round rest) (rounds_in rest)
 
--- the first of some events is in front of the others
+-- the first of some events is before the others
 pub first_of_some : (events : List Event) → 1 ≤ length events
     → rounds_in events ≡ with_events (take 1 events) (ends_round (drop 1 events)) (rounds_in (drop 1 events))
 first_of_some [] some = absurd (omega (arith, some))
 first_of_some (event ∷ rest) some = first_event event rest
 
--- one event more is of the first round, where it does not end here and this is what follows
+-- one more event is of the first round, where it does not end here and this is what follows
 one_more_of : (events rest : List Event) (n : ℕ) → n ≤ length events → drop n events ≡ rest → ends_round rest ≡ false
     → rounds_in events ≡ with_events (take n events) (ends_round rest) (rounds_in rest)
     → (n + 1 ≤ length events) × (rounds_in events ≡ with_events (take (n + 1) events)
@@ -64,7 +64,7 @@ one_more_of events (event ∷ rest) n within is goes_on first =
     take_more events n event (omega arith) ∙ ap (λ one. take n events ++ one ∷ []) here in
     (below, rw (prefix, later) (first ∙ one_event_more (take n events) event rest goes_on))
 
--- one event more is of the first round, where it does not end here
+-- one more event is of the first round, where it does not end here
 pub one_more : (events : List Event) (n : ℕ) → n ≤ length events → ends_round (drop n events) ≡ false
     → rounds_in events ≡ with_events (take n events) (ends_round (drop n events)) (rounds_in (drop n events))
     → (n + 1 ≤ length events) × (rounds_in events ≡ with_events (take (n + 1) events)

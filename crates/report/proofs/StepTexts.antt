@@ -1,4 +1,5 @@
--- What is written step by step, as a game is played, is the prefix of its report, and at the end the whole of it.
+-- What is written step by step, as a game is played, is the prefix of its report, and at the end
+-- the whole of it.
 use Rattle.std.proofs.Common.{◌≡◌, ℕ, zero, suc, false, List, [], ◌∷◌, ◌++◌, refl, sym, ap, subst, ◌∙◌, append_assoc}
 use Rattle.std.specs.Prelude.{Option, Some, Result, Ok, Err, IsOk}
 use Rattle.std.proofs.lemmas.List.{append-nil}
@@ -152,7 +153,7 @@ text_is_prefix one adds steps_play file steps play text whole accepted stepped r
           ∙ append_assoc (header file ++ text) more.0 (after_rounds file up_to.last);
     }
 
--- and where a step has answered that play has stopped it is the report
+-- and if a step has returned that play has stopped it is the report
 pub text_is_report : RoundsOnlyAdd → StepsPlayTheGame → PartsAreTheReport
 text_is_report adds steps_play file steps before play end text accepted stepped stays =
     let written = steps_written adds file steps before text stepped in

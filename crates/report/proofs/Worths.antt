@@ -1,5 +1,5 @@
--- What a player is worth is summed up value by value. It fits: no account that a list makes is over 2 to the power of 100,
--- and no price over 350.
+-- What a player is worth is summed up value by value. It fits: no account that a list makes is over
+-- 2 to the power of 100, and no price over 350.
 use Rattle.std.proofs.Common.{◌≡◌, ℕ, ◌+◌, ◌*◌, ◌^◌, ◌<◌, ◌≤◌, List, length, take, get_or, sum_by, pos, ℤ, ◌+ℤ◌, arith}
 use Rattle.std.proofs.Math.Nat.{mul-le-mul}
 use Rattle.std.proofs.lemmas.Int.{ints}
@@ -19,7 +19,7 @@ not_many (negsuc n) moderate = omega arith
 pub worth_fits : (shares price : ℕ) → shares ≤ 2 ^ 100 → price ≤ 350 → shares * price ≤ 2 ^ 109
 worth_fits shares price many small = let most = mul-le-mul many small in omega (arith, most)
 
--- one value more is added to those of the first n
+-- one more value is added to those of the first n
 pub sum_step : {X : Type 0} (f : X → ℕ) (xs : List X) (n : ℕ) (d : X) (sum value : ℕ) → n < length xs
     → sum ≡ sum_by f (take n xs) → value ≡ f (get_or xs n d) → sum + value ≡ sum_by f (take (n + 1) xs)
 sum_step f xs n d sum value below so_far is = omega (arith, sum_by_more f xs n d below, so_far, is)

@@ -1,4 +1,4 @@
--- An event as a line of the report: its words, parted by single spaces, and its LF.
+-- An event as a line of the report: its words, separated by single spaces, and its LF.
 use Rattle.std.specs.Prelude.{ℕ, Bool, if◌then◌else◌, List, [], ◌∷◌, ◌++◌, Option, Some, None, map, codes, decimal}
 use Rattle.std.specs.Prelude.{unwrap_or, slice_get, ⊤}
 use Rattle.events.specs.Event.{code_of_refusal}
@@ -43,7 +43,7 @@ abbrev pub holder_text : List ℕ → Holder → List ℕ
 holder_text file (holder.Seat seat) = name_of file seat
 holder_text file (holder.Company company) = code_of_company company
 
--- what became of a line: the order with its condition, if it has one; of a fault the code alone
+-- what became of a line: the order with its condition, if it has one; of a fault only the code
 abbrev pub ruling_words : Ruling → List (List ℕ)
 ruling_words (Obeyed condition order) = codes "OBEYED" ∷ conditional_spelling condition order ∷ []
 ruling_words (Refused rule condition order) =
@@ -58,7 +58,7 @@ line_of first words = first ++ spaced words ++ 10 ∷ []
 abbrev pub ruled_line : List ℕ → Seat → ℕ → Ruling → List ℕ
 ruled_line file seat line ruling = line_of (name_of file seat) (decimal line ∷ ruling_words ruling)
 
--- a line that tells of a private, a holder and a sum
+-- a line of a private, a holder and a sum
 abbrev pub private_line : List ℕ → List ℕ → Private → Holder → ℕ → List ℕ
 private_line file word private owner amount = line_of word
     (code_of_private private ∷ holder_text file owner ∷ decimal amount ∷ [])
@@ -84,7 +84,7 @@ words_of_lay lay = text_of_tile lay.tile ∷ text_of_hex lay.hex ∷ text_of_rot
 abbrev pub lay_line : Company → Lay → ℕ → List ℕ
 lay_line company lay cost = line_of (codes "LAID") (code_of_company company ∷ words_of_lay lay ++ decimal cost ∷ [])
 
--- the line of a share of NYC that a seat has for MH
+-- the line of a seat's exchange of MH for a share of NYC
 abbrev pub exchange_line : List ℕ → Seat → ShareSource → List ℕ
 exchange_line file seat from = line_of (codes "EXCHANGED") (codes "MH" ∷ name_of file seat ∷ text_of_source from ∷ [])
 
@@ -94,7 +94,7 @@ text_of_seller seller.Bank = codes "BANK"
 text_of_seller seller.BankPool = codes "POOL"
 text_of_seller (seller.Company company) = code_of_company company
 
--- a company's code, or the word for the bank pool where there is none
+-- a company's code, or the word for the bank pool if there is no owner
 abbrev pub text_of_train_owner : Option Company → List ℕ
 text_of_train_owner None = codes "POOL"
 text_of_train_owner (Some company) = code_of_company company
@@ -151,8 +151,8 @@ event_line file (Aid seat company amount) =
 event_line file (Bankrupt seat) = line_of (codes "BANKRUPT") (name_of file seat ∷ [])
 event_line file Broken = line_of (codes "BROKEN") []
 
--- the event tells of a private: of its sale, of a bid on it, of its revenue, of its closing, of its purchase by a
--- company, or of the price of SV
+-- the event is of a private: its sale, a bid on it, its revenue, its closing, its purchase by a
+-- company, or the price of SV
 abbrev pub IsOfPrivate : Event → Type 0
 IsOfPrivate (Sold private seat price) = ⊤
 IsOfPrivate (Bids private seat amount) = ⊤
@@ -162,7 +162,7 @@ IsOfPrivate (Closed private) = ⊤
 IsOfPrivate (PrivateBought private company seller price) = ⊤
 IsOfPrivate other = ⊥
 
--- the event tells of shares: that they are given, bought or sold, or that one is had for MH
+-- the event is of shares: they are given, bought or sold, or one is exchanged for MH
 abbrev pub IsOfShares : Event → Type 0
 IsOfShares (Given company seat shares) = ⊤
 IsOfShares (Bought company seat shares from price) = ⊤
@@ -170,7 +170,7 @@ IsOfShares (Sells company seat shares price) = ⊤
 IsOfShares (Exchanged seat from) = ⊤
 IsOfShares other = ⊥
 
--- the event tells of a company: of its par value, of its president, of its float, or of where its token moves
+-- the event is of a company: its par value, its president, its float, or where its token moves
 abbrev pub IsOfCompany : Event → Type 0
 IsOfCompany (Par company price) = ⊤
 IsOfCompany (President company seat) = ⊤
@@ -178,8 +178,8 @@ IsOfCompany (Floats company amount) = ⊤
 IsOfCompany (Moves company square) = ⊤
 IsOfCompany other = ⊥
 
--- the event tells of a company's turn: of its home, of a tile, of a token, of a run, of a dividend, or of what
--- it withholds
+-- the event is of a company's turn: its home, a tile, a token, a run, a dividend, or what it
+-- withholds
 abbrev pub IsOfTurn : Event → Type 0
 IsOfTurn (Home company place) = ⊤
 IsOfTurn (Laid company lay cost) = ⊤
@@ -189,7 +189,7 @@ IsOfTurn (Dividend company holder amount) = ⊤
 IsOfTurn (Withheld company amount) = ⊤
 IsOfTurn other = ⊥
 
--- the event tells of trains: of one that is traded in, bought, rusted or discarded, or of the phase that one
+-- the event is of trains: one that is traded in, bought, rusted or discarded, or the phase that one
 -- begins
 abbrev pub IsOfTrains : Event → Type 0
 IsOfTrains (Traded company kind) = ⊤
@@ -199,7 +199,8 @@ IsOfTrains (Rusted owner kind) = ⊤
 IsOfTrains (Discarded company kind) = ⊤
 IsOfTrains other = ⊥
 
--- the event tells of a forced purchase: that it is due, of what the president pays, or that he is bankrupt
+-- the event is of a forced purchase: that it is due, what the president pays, or that the president
+-- is bankrupt
 abbrev pub IsOfForce : Event → Type 0
 IsOfForce (Forced company) = ⊤
 IsOfForce (Aid seat company amount) = ⊤

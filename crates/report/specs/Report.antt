@@ -1,5 +1,5 @@
--- The report of a file: for a refused file its one line; else the header, each round's events and its
--- statement, the unread lines, and the end.
+-- The report of a file. For a refused file it is its one line; otherwise the header, each round's
+-- events and its statement, the unread lines, and the end.
 use Rattle.std.specs.Prelude.{◌≡◌, ℕ, ◌+◌, Bool, true, false, if◌then◌else◌, List, [], ◌∷◌, ◌++◌, length, take, drop}
 use Rattle.std.specs.Prelude.{slice_range, codes, decimal, Option, Some, None, is_none, is_some, Result, Ok, Err}
 use Rattle.std.specs.List.{flat_map, range_with_len}
@@ -47,12 +47,12 @@ abbrev pub ends_round : List Event → Bool
 ends_round [] = true
 ends_round (event ∷ events) = is_some (round_begun_by event)
 
--- an event in front of rounds: of the first of them, or a round by itself where that ends with it
+-- an event before rounds: of the first of them, or a round by itself if that ends with it
 abbrev pub with_event_in_round : Event → Bool → List (List Event) → List (List Event)
 with_event_in_round event false (round ∷ rounds) = (event ∷ round) ∷ rounds
 with_event_in_round event ended rounds = (event ∷ []) ∷ rounds
 
--- the list of events, cut in front of each that begins a round
+-- the list of events, cut before each that begins a round
 abbrev pub rounds_in : List Event → List (List Event)
 rounds_in [] = []
 rounds_in (event ∷ events) = with_event_in_round event (ends_round events) (rounds_in events)
@@ -87,7 +87,7 @@ abbrev pub round_begun : List Event → Option round.Round
 round_begun [] = None
 round_begun (event ∷ events) = round_begun_by event
 
--- it is this round
+-- a round is this one
 abbrev pub is_the_round : round.Round → Option round.Round → Bool
 is_the_round round None = false
 is_the_round round (Some other) = same_round other round
@@ -96,7 +96,7 @@ is_the_round round (Some other) = same_round other round
 abbrev pub is_round : round.Round → List Event → Bool
 is_round round events = is_the_round round (round_begun events)
 
--- the text of one of some rounds, nothing where it is not among them
+-- the text of one of some rounds; nothing if it is not among them
 abbrev pub text_of_one : List ℕ → ℕ → round.Round → List Event → List (List Event) → List ℕ
 text_of_one file seats round before [] = []
 text_of_one file seats round before (events ∷ rounds) =
@@ -126,7 +126,7 @@ owing file round = flat_map (λ seat. name_owing file round seat) (range_with_le
 abbrev pub awaiting_text : List ℕ → round.Round → List ℕ
 awaiting_text file round = codes "AWAITING " ++ text_of_round round ++ owing file round ++ 10 ∷ []
 
--- that the game is over, and for what, and what each player is worth
+-- the text that says that the game is over, why, and what each player is worth
 abbrev pub over_text : List ℕ → ℕ → List Event → List ℕ → List ℕ
 over_text file seats events word = line_of (codes "END") (word ∷ []) ++ worth_lines file seats events
 

@@ -1,4 +1,5 @@
--- The statement after a round: what each player holds, what each started company has, and the bank's cash.
+-- The statement after a round: what each player holds, what each started company has, and the
+-- bank's cash.
 use Rattle.std.specs.Prelude.{◌≡◌, ℕ, zero, suc, Bool, false, if◌then◌else◌, List, [], ◌∷◌, ◌++◌, codes, decimal}
 use Rattle.std.specs.Prelude.{Option, Some, None}
 use Rattle.certs.specs.Counted.{counted_of}
@@ -29,7 +30,7 @@ use Rattle.tables.specs.declared.roster.Private.{Private}
 use Rattle.tables.specs.declared.seat.Seat.{Seat}
 use Rattle.tables.specs.declared.squares.Square.{Square}
 
--- it is this seat
+-- an owner is this seat
 abbrev pub is_seat : Seat → Option Holder → Bool
 is_seat seat None = false
 is_seat seat (Some owner) = same_holder owner (holder.Seat seat)
@@ -54,7 +55,7 @@ shares_column events company place = at_right 3 (signed_decimal (shares_of event
 unfoldable pub cash_column : ℕ → List Event → Party → List ℕ
 cash_column seats events party = at_right 6 (signed_decimal (cash_of seats events party))
 
--- the same, as a game stood
+-- what a party has in a game as it stood, in its column
 abbrev pub cash_column_at : GameView → Party → List ℕ
 cash_column_at view party = cash_column view.seats view.events.now party
 
@@ -73,7 +74,7 @@ player_line file seats events seat =
     ++ counted_column events seat ++ holdings events seat
     ++ codes_owned events seat ++ 10 ∷ []
 
--- the same, as a game stood
+-- a player's line in a game as it stood
 abbrev pub player_line_at : List ℕ → GameView → Seat → List ℕ
 player_line_at file view seat = player_line file view.seats view.events.now seat
 
@@ -82,8 +83,8 @@ abbrev pub president_name : List ℕ → Option Seat → List ℕ
 president_name file None = []
 president_name file (Some seat) = name_of file seat
 
--- a company's cash, the price of its square, its shares in the initial offering and the bank pool, and the tokens that
--- it has placed
+-- a company's cash, the price of its square, its shares in the initial offering and the bank pool,
+-- and the tokens that it has placed
 unfoldable pub company_figures : ℕ → List Event → Company → Square → List ℕ
 company_figures seats events company square =
     cash_column seats events (party.Holder (holder.Company company))
@@ -91,7 +92,7 @@ company_figures seats events company square =
     ++ shares_column events company InitialOffering ++ shares_column events company BankPool
     ++ at_right 2 (decimal (tokens_placed events company))
 
--- the same, as a game stood
+-- a company's figures in a game as it stood
 abbrev pub company_figures_at : GameView → Company → Square → List ℕ
 company_figures_at view company square = company_figures view.seats view.events.now company square
 
@@ -114,7 +115,7 @@ company_line file seats events company square =
     codes "COMPANY " ++ at_left 4 (code_of_company company) ++ company_figures seats events company square
     ++ 32 ∷ president_name file (president_of events company) ++ trains_text events company ++ 10 ∷ []
 
--- the same, as a game stood
+-- the line of a company on this square in a game as it stood
 abbrev pub company_line_at : List ℕ → GameView → Company → Square → List ℕ
 company_line_at file view company square = company_line file view.seats view.events.now company square
 
@@ -127,7 +128,7 @@ line_on_square file seats events company (Some square) = company_line file seats
 abbrev pub started_line : List ℕ → ℕ → List Event → Company → List ℕ
 started_line file seats events company = line_on_square file seats events company (square_of events company)
 
--- the same, as a game stood
+-- the line of a company that is started, in a game as it stood
 abbrev pub started_line_at : List ℕ → GameView → Company → List ℕ
 started_line_at file view company = started_line file view.seats view.events.now company
 
@@ -135,7 +136,7 @@ started_line_at file view company = started_line file view.seats view.events.now
 unfoldable pub company_lines : List ℕ → ℕ → List Event → List ℕ
 company_lines file seats events = flat_map (λ company. started_line file seats events company) companies
 
--- the same, as a game stood
+-- the lines of the started companies in a game as it stood
 abbrev pub company_lines_at : List ℕ → GameView → List ℕ
 company_lines_at file view = company_lines file view.seats view.events.now
 
@@ -143,7 +144,7 @@ company_lines_at file view = company_lines file view.seats view.events.now
 unfoldable pub bank_line : ℕ → List Event → List ℕ
 bank_line seats events = codes "BANK " ++ cash_column seats events party.Bank ++ 10 ∷ []
 
--- the same, as a game stood
+-- the bank's line in a game as it stood
 abbrev pub bank_line_at : GameView → List ℕ
 bank_line_at view = bank_line view.seats view.events.now
 
@@ -152,7 +153,7 @@ unfoldable pub player_lines : List ℕ → ℕ → List Event → List ℕ
 player_lines file seats events = flat_map (λ seat. player_line file seats events (record { 0 = seat }))
     (range_with_len 0 seats)
 
--- the same, as a game stood
+-- the players' lines in a game as it stood
 abbrev pub player_lines_at : List ℕ → GameView → List ℕ
 player_lines_at file view = player_lines file view.seats view.events.now
 
@@ -161,6 +162,6 @@ abbrev pub statement : List ℕ → ℕ → List Event → List ℕ
 statement file seats events =
     player_lines file seats events ++ company_lines file seats events ++ bank_line seats events
 
--- the same, as a game stood
+-- the statement of a game as it stood
 abbrev pub statement_at : List ℕ → GameView → List ℕ
 statement_at file view = statement file view.seats view.events.now

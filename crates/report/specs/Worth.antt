@@ -1,5 +1,5 @@
--- What each player is worth at the end of a game: cash, shares at the market price, and privates at their face value.
--- Shares of a company without a market price are worth nothing.
+-- What each player is worth at the end of a game: cash, shares at the market price, and privates at
+-- their face value. Shares of a company without a market price are worth nothing.
 use Rattle.std.specs.Prelude.{ℕ, ◌+◌, ◌*◌, if◌then◌else◌, List, [], ◌∷◌, codes, ℤ, pos, ◌+ℤ◌, sum_by}
 use Rattle.certs.specs.Purchase.{market_price_of}
 use Rattle.events.specs.Event.{party_at}
@@ -22,7 +22,7 @@ use Rattle.tables.specs.declared.seat.Seat.{Seat}
 abbrev pub worth_of_shares : List Event → Seat → Company → ℕ
 worth_of_shares events seat company = at_least_zero (shares_of events company (OfSeat seat)) * market_price_of events company
 
--- what a private is worth to a seat: nothing where another owns it
+-- what a private is worth to a seat: nothing if another owns it
 abbrev pub worth_of_private : List Event → Seat → Private → ℕ
 worth_of_private events seat private = if is_seat seat (owner_of events private) then face_of private else 0
 
@@ -30,7 +30,7 @@ worth_of_private events seat private = if is_seat seat (owner_of events private)
 abbrev pub worth_of_all_shares : List Event → Seat → ℕ
 worth_of_all_shares events seat = sum_by (worth_of_shares events seat) companies
 
--- what all privates are worth that a seat owns
+-- what all privates that a seat owns are worth
 abbrev pub worth_of_privates : List Event → Seat → ℕ
 worth_of_privates events seat = sum_by (worth_of_private events seat) privates
 
@@ -44,7 +44,7 @@ abbrev pub worth_line : List ℕ → ℕ → List Event → Seat → List ℕ
 worth_line file seats events seat = line_of (codes "WORTH")
     (name_of file seat ∷ signed_decimal (worth_of seats events seat) ∷ [])
 
--- the same, as a game stood
+-- the line of what a player is worth in a game as it stood
 abbrev pub worth_line_at : List ℕ → GameView → Seat → List ℕ
 worth_line_at file view seat = worth_line file view.seats view.events.now seat
 
@@ -53,6 +53,6 @@ unfoldable pub worth_lines : List ℕ → ℕ → List Event → List ℕ
 worth_lines file seats events = flat_map (λ seat. worth_line file seats events (record { 0 = seat }))
     (range_with_len 0 seats)
 
--- the same, as a game stood
+-- the lines of all players in a game as it stood
 abbrev pub worth_lines_at : List ℕ → GameView → List ℕ
 worth_lines_at file view = worth_lines file view.seats view.events.now

@@ -5,7 +5,7 @@ use itoa::Integer;
 use std::alloc::AllocError;
 
 /// Adds a text at the left of a column of this many bytes, filled up with spaces. A wider text is
-/// printed whole. An error where memory is refused.
+/// printed whole. Fails only if allocation fails.
 #[tactic(auto, unfolding(crate::specs::Column::at_left))]
 pub fn push_left(out: &mut Vec<u8>, text: &[u8], width: usize) -> Result<(), AllocError>
     ensures { OnOk result (Adds out.old out.new (at_left width text.now)) }
@@ -14,8 +14,8 @@ pub fn push_left(out: &mut Vec<u8>, text: &[u8], width: usize) -> Result<(), All
     push_spaces(out, width.saturating_sub(text.len()))
 }
 
-/// Adds a number at the right of a column of this many bytes. A wider number is printed whole. An
-/// error where memory is refused.
+/// Adds a number at the right of a column of this many bytes. A wider number is printed whole.
+/// Fails only if allocation fails.
 #[tactic(auto, unfolding(crate::specs::Column::at_right))]
 pub fn push_right<I: Integer>(out: &mut Vec<u8>, number: I, width: usize) -> Result<(), AllocError>
     ensures { OnOk result (Adds out.old out.new (at_right width (I.text number))) }

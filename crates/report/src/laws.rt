@@ -1,44 +1,45 @@
-//! Laws of the definitions, each the contract of a function that does nothing.
+//! The laws of the definitions. Each is the contract of a function that does nothing.
 ghost use Rattle.report.specs.Laws.{ArrivalChangesNoReport, PartsAreAPrefix, PartsAreTheReport, PlainReports};
 ghost use Rattle.report.specs.Laws.{ReportIsItsParts, SamePartsSameReport};
 ghost use Rattle.report.specs.Report.{IsReport};
 ghost use Rattle.std.specs.Prelude.{◌≡◌, ℕ, List};
 
-/// A file has at most one report.
+/// States that a file has at most one report.
 pub fn one_report()
     ensures { (file a b : List ℕ) → IsReport file a → IsReport file b → a ≡ b }
 {
     rounds::laws::one_game()
 }
 
-/// Each file, refused or not, has one.
+/// States that each file, refused or not, has a report.
 pub fn some_report()
     ensures { (file : List ℕ) → (text : List ℕ) × IsReport file text }
 {
     rounds::laws::some_game()
 }
 
-/// Two accepted files of the same players have reports that differ in the version of the first line
-/// alone, where each seat has a sheet for a round in both files or in none, its lines are read
-/// alike, and the unread lines have the same faults in the same order.
+/// States that two accepted files of the same players have reports that differ only in the version
+/// of the first line, under three conditions. Each seat has a sheet for a round in both files or in
+/// none. Its lines are read the same. The unread lines have the same faults in the same order.
 pub fn same_parts_same_report()
     ensures { SamePartsSameReport }
 {
     rounds::laws::same_parts_same_game()
 }
 
-/// The report of a file of version 1 has that version in its first line, and tells no condition: each
-/// ruling of its game has the spelling of its order alone. So has that of each order without a
-/// condition, whatever the version of its file.
+/// States that the report of a file of version 1 has that version in its first line, and names no
+/// condition. Each ruling of its game has only the spelling of its order. Each order without a
+/// condition is printed in this way, whatever the version of its file.
 pub fn plain_reports()
     ensures { PlainReports }
 {
     rounds::laws::version_one_is_ruled_plainly()
 }
 
-/// In which order the sheets of different players arrive changes nothing in the report: two accepted
-/// files of one version and the same players have one report, where each player sent the same sheets
-/// in the same order, and the unread lines have the same faults in the same order.
+/// States that the order in which the sheets of different players arrive changes nothing in the
+/// report. Two accepted files of one version and the same players have one report under two
+/// conditions. Each player sent the same sheets in the same order. The unread lines have the same
+/// faults in the same order.
 pub fn arrival_changes_no_report()
     ensures { ArrivalChangesNoReport }
 {
@@ -47,17 +48,17 @@ pub fn arrival_changes_no_report()
     rounds::laws::same_parts_same_game()
 }
 
-/// The report of the game of a file is its header, the text of each of its rounds, the unread lines
-/// and the end, one after the other.
+/// States that the report of the game of a file is its header, the text of each of its rounds, the
+/// unread lines and the end, one after the other.
 pub fn report_is_its_parts()
     ensures { ReportIsItsParts }
 {
     rounds::laws::rounds_follow_in_order()
 }
 
-/// The parts that are written while a game is played are its report: the header, the text of each
-/// round as it was played, and, once play has stopped, what follows them. Until then they are a
-/// prefix of the report.
+/// States that the parts that are written while a game is played are its report. They are the
+/// header, the text of each round as it was played, and, once play has stopped, what follows them.
+/// Until then they are a prefix of the report.
 pub fn parts_are_the_report()
     ensures prefix { PartsAreAPrefix }
     ensures whole { PartsAreTheReport }

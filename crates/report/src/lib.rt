@@ -1,17 +1,18 @@
-//! The report of an order file. For a file that is refused it is the one line that says why; else
-//! the header, the lines of each round's events and the statement after them, the lines that are
-//! in no sheet, and why play stopped, with what each player is worth where the game is over.
+//! The report of an order file. For a file that is refused it is the one line that says why.
+//! Otherwise it is the header, the lines of each round's events and the statement after them, the
+//! lines that are in no sheet, and why play stopped. If the game is over it also has what each
+//! player is worth.
 //!
-//! `refusal_text` and `report` write it, `header_text`, `next_text` and `end_text` write it part by
-//! part as the game is played (`unread_text` and `outcome_text` write the two halves of `end_text`,
-//! the first a few lines at a time), and `round_text` writes one round of it: byte for byte the text
-//! that `specs/Report` and `specs/Parts` define, or the error that memory is refused. Each file has
-//! a report and no second.
+//! `refusal_text` and `report` write it. `header_text`, `next_text` and `end_text` write it part by
+//! part as the game is played; `unread_text` and `outcome_text` write the two halves of `end_text`,
+//! the first a few lines at a time. `round_text` writes one round of it. Each returns the text,
+//! byte for byte, that `specs/Report` and `specs/Parts` define, or fails if allocation fails. Each
+//! file has exactly one report.
 //!
 //! Reading order: `column` (numbers and names in columns), `line` (an event as a line), `statement`
 //! (what each player and the bank hold), `worth` (what each player is worth at the end), `text`
-//! (`refusal_text`, `report`, `round_text`), `parts` (`header_text`, `next_text`, `end_text`
-//! and its halves), `laws`.
+//! (`refusal_text`, `report`, `round_text`), `parts` (`header_text`, `next_text`, `end_text` and
+//! its halves), `laws`.
 #![tactic(auto)]
 
 mod column;

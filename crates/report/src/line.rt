@@ -28,7 +28,7 @@ pub(crate) enum Field<'a> {
     Number(u32),
     /// A number of shares.
     ShareCount(u8),
-    /// Where shares are bought that are no seat's.
+    /// Where shares are bought that no seat owns.
     Source(ShareSource),
     /// A square of the stock market.
     On(Square),
@@ -139,8 +139,8 @@ fn push_of_private(out: &mut Vec<u8>, sheets: &Sheets, event: &Event) -> Result<
     }
 }
 
-/// Adds an event of a company's shares as its line: a gift of them, a purchase, a sale, or that one
-/// of NYC is had for MH.
+/// Adds an event of a company's shares as its line: a gift of them, a purchase, a sale, or MH
+/// exchanged for a share of NYC.
 fn push_of_shares(out: &mut Vec<u8>, sheets: &Sheets, event: &Event) -> Result<(), AllocError>
     requires { IsOfShares event.now }
     ensures { OnOk result (Adds out.old out.new (event_line sheets.now event.now)) }
@@ -183,7 +183,7 @@ fn push_of_shares(out: &mut Vec<u8>, sheets: &Sheets, event: &Event) -> Result<(
     }
 }
 
-/// Adds the line of a share of NYC that a seat has for MH.
+/// Adds the line of a seat's exchange of MH for a share of NYC.
 fn push_exchanged(
     out: &mut Vec<u8>,
     sheets: &Sheets,
@@ -290,7 +290,7 @@ fn push_of_trains(out: &mut Vec<u8>, sheets: &Sheets, event: &Event) -> Result<(
 }
 
 /// Adds an event of a forced purchase as its line: that it is due, what the president pays, or that
-/// he is bankrupt.
+/// the president is bankrupt.
 fn push_of_force(out: &mut Vec<u8>, sheets: &Sheets, event: &Event) -> Result<(), AllocError>
     requires { IsOfForce event.now }
     ensures { OnOk result (Adds out.old out.new (event_line sheets.now event.now)) }
@@ -310,7 +310,7 @@ fn push_of_force(out: &mut Vec<u8>, sheets: &Sheets, event: &Event) -> Result<()
     }
 }
 
-/// The word for where a company buys a train: the code of a company that sells it.
+/// Returns the word for where a company buys a train: the code of a company that sells it.
 fn seller_word(seller: TrainSeller) -> &'static str
     ensures { result.now ≡ text_of_seller seller }
 {
@@ -321,7 +321,7 @@ fn seller_word(seller: TrainSeller) -> &'static str
     }
 }
 
-/// A company's code, or the word for the bank pool where there is none.
+/// Returns a company's code, or the word for the bank pool if there is no owner.
 fn train_owner_word(owner: Option<Company>) -> &'static str
     ensures { result.now ≡ text_of_train_owner owner }
 {
@@ -410,7 +410,7 @@ fn push_line_of_private(
     )
 }
 
-/// Adds a line of these fields, parted by single spaces, with its LF.
+/// Adds a line of these fields, separated by single spaces, with its LF.
 fn push_line(
     out: &mut Vec<u8>,
     sheets: &Sheets,
@@ -451,7 +451,7 @@ fn push_field(out: &mut Vec<u8>, sheets: &Sheets, field: &Field) -> Result<(), A
 }
 
 /// Adds a square of the stock market: the letter of its row, and its column. A row that is none of
-/// the chart's has no letter. An error where memory is refused.
+/// the chart's has no letter. Fails only if allocation fails.
 pub fn push_square(out: &mut Vec<u8>, square: Square) -> Result<(), AllocError>
     ensures { OnOk result (Adds out.old out.new (text_of_square square)) }
 {
@@ -496,15 +496,15 @@ fn push_ruled(
     }
 }
 
-/// Adds the name of a seat's player; nothing for a seat that nobody has. An error where memory is
-/// refused.
+/// Adds the name of a seat's player; nothing for a seat that nobody has. Fails only if allocation
+/// fails.
 pub fn push_name(out: &mut Vec<u8>, sheets: &Sheets, seat: Seat) -> Result<(), AllocError>
     ensures { OnOk result (Adds out.old out.new (name_of sheets.now seat)) }
 {
     out.extend_from_slice(name(sheets, seat))
 }
 
-/// The name of a seat's player; no letters for a seat that nobody has.
+/// Returns the name of a seat's player; no letters for a seat that nobody has.
 pub fn name<'a>(sheets: &'a Sheets, seat: Seat) -> &'a [u8]
     ensures { result.now ≡ name_of sheets.now seat }
 {

@@ -10,7 +10,7 @@ use rounds::Play;
 use sheets::Sheets;
 use std::alloc::{AllocError, Global};
 
-/// The header of a report, its first two lines. An error where memory is refused.
+/// Returns the header of a report, its first two lines. Fails only if allocation fails.
 pub fn header_text(alloc: Global, sheets: &Sheets) -> Result<Vec<u8>, AllocError>
     ensures { IfOk result (λ text. text.items ≡ header sheets.now) }
 {
@@ -19,8 +19,9 @@ pub fn header_text(alloc: Global, sheets: &Sheets) -> Result<Vec<u8>, AllocError
     Ok(out)
 }
 
-/// The text of the round that a play has played last: its events and the statement after them.
-/// Empty before the first round, and once play was broken off. An error where memory is refused.
+/// Returns the text of the round that a play has played last: its events and the statement after
+/// them. It is empty before the first round, and once play was broken off. Fails only if allocation
+/// fails.
 pub fn next_text(alloc: Global, play: &Play) -> Result<Vec<u8>, AllocError>
     ensures { IfOk result (λ text. text.items ≡ next_text_of play.now) }
 {
@@ -31,8 +32,8 @@ pub fn next_text(alloc: Global, play: &Play) -> Result<Vec<u8>, AllocError>
     Ok(out)
 }
 
-/// What follows the rounds, once a step has answered that play has stopped: the lines that are in
-/// no sheet, and why play stopped. An error where memory is refused.
+/// Returns what follows the rounds, once a step has returned that play has stopped: the lines that
+/// are in no sheet, and why play stopped. Fails only if allocation fails.
 pub fn end_text(alloc: Global, play: &Play) -> Result<Vec<u8>, AllocError>
     requires { HasEnded play.now }
     ensures { IfOk result (λ text. text.items ≡ end_text_of play.now) }
@@ -43,9 +44,9 @@ pub fn end_text(alloc: Global, play: &Play) -> Result<Vec<u8>, AllocError>
     Ok(out)
 }
 
-/// The lines for some of the lines that are in no sheet, by their faults, after `before` others
-/// that came earlier in the file: so `end_text` can be written a few lines at a time. An error
-/// where memory is refused.
+/// Returns the lines for some of the lines that are in no sheet, by their faults, after `before`
+/// others that came earlier in the file. So `end_text` can be written a few lines at a time. Fails
+/// only if allocation fails.
 pub fn unread_text(alloc: Global, before: usize, unread: &[Fault]) -> Result<Vec<u8>, AllocError>
     requires { before + length unread.now ≤ usize.MAX }
     ensures { IfOk result (λ text. text.items ≡ unread_lines before unread.now) }
@@ -55,8 +56,8 @@ pub fn unread_text(alloc: Global, before: usize, unread: &[Fault]) -> Result<Vec
     Ok(out)
 }
 
-/// Why play stopped, once a step has answered that it has: what `end_text` tells after the lines
-/// that are in no sheet. An error where memory is refused.
+/// Returns why play stopped, once a step has returned that it has: the part of `end_text` after the
+/// lines that are in no sheet. Fails only if allocation fails.
 pub fn outcome_text(alloc: Global, play: &Play) -> Result<Vec<u8>, AllocError>
     requires { HasEnded play.now }
     ensures { IfOk result (λ text. text.items ≡ outcome_text_of play.now) }
@@ -66,7 +67,7 @@ pub fn outcome_text(alloc: Global, play: &Play) -> Result<Vec<u8>, AllocError>
     Ok(out)
 }
 
-/// Adds why play stopped, where that is known.
+/// Adds why play stopped, if that is known.
 fn push_outcome(out: &mut Vec<u8>, play: &Play) -> Result<(), AllocError>
     ensures { OnOk result (Adds out.old out.new (outcome_text_of play.now)) }
 {

@@ -53,7 +53,7 @@ pub(crate) struct Snapshot<'a> {
 }
 
 impl<'a> Snapshot<'a> {
-    /// A game as it stands.
+    /// Returns a game as it stands.
     pub(crate) fn of(history: &'a History) -> Snapshot<'a>
         ensures seats { result.view.seats ≡ history.now.seats }
         ensures events { result.view.events.now ≡ history.now.events }
@@ -67,7 +67,7 @@ impl<'a> Snapshot<'a> {
         }
     }
 
-    /// A game as it stood.
+    /// Returns a game as it stood.
     pub(crate) fn at(view: GameView<'a>) -> Snapshot<'a>
         ensures seats { result.view.seats ≡ view.entry.seats }
         ensures events { result.view.events.now ≡ view.entry.events.now }
@@ -152,7 +152,7 @@ fn push_player(
     Ok(())
 }
 
-/// Adds the shares of each company that a seat holds, which is one of six.
+/// Adds the shares of each company that a seat holds. The seat is one of six.
 #[tactic(auto, unfolding(crate::specs::Statement::holdings))]
 fn push_holdings(out: &mut Vec<u8>, snapshot: &Snapshot, seat: Seat) -> Result<(), AllocError>
     requires { seat.0 < 6 }
@@ -192,7 +192,7 @@ fn push_private(
     Ok(())
 }
 
-/// Whether the seat owns the private.
+/// Returns whether the seat owns the private.
 pub(crate) fn owns(owners: &Owners, seat: Seat, private: Private) -> bool
     ensures { result ≡ is_seat seat (owner_in owners.now private) }
 {
@@ -293,7 +293,7 @@ fn push_counted(out: &mut Vec<u8>, snapshot: &Snapshot, seat: Seat) -> Result<()
     push_right(out, certificates(snapshot, seat), COUNT_WIDTH)
 }
 
-/// How many certificates of a seat count against the limit. The seat is one of six.
+/// Returns how many certificates of a seat count against the limit. The seat is one of six.
 fn certificates(snapshot: &Snapshot, seat: Seat) -> ShareCount
     requires { seat.0 < 6 }
     ensures { result ≡ counted_of snapshot.now.view.events.now seat }

@@ -16,7 +16,7 @@ use sheets::{FileFault, Sheets};
 use std::alloc::{AllocError, Global};
 use tables::{Round, Seat};
 
-/// The text of a refused file, or an error where memory is refused.
+/// Returns the text of a refused file. Fails only if allocation fails.
 pub fn refusal_text(alloc: Global, fault: FileFault) -> Result<Vec<u8>, AllocError>
     ensures { IfOk result (λ text. text.items ≡ refusal_line fault) }
 {
@@ -27,8 +27,8 @@ pub fn refusal_text(alloc: Global, fault: FileFault) -> Result<Vec<u8>, AllocErr
     Ok(out)
 }
 
-/// The text of a round that was played: its events and the statement after them. Empty for a round
-/// that was not played. An error where memory is refused.
+/// Returns the text of a round that was played: its events and the statement after them. It is
+/// empty for a round that was not played. Fails only if allocation fails.
 pub fn round_text(alloc: Global, game: &Game, round: Round) -> Result<Vec<u8>, AllocError>
     ensures { IfOk result (λ text. text.items ≡ round_text_of game.now round) }
 {
@@ -47,7 +47,7 @@ pub fn round_text(alloc: Global, game: &Game, round: Round) -> Result<Vec<u8>, A
     Ok(out)
 }
 
-/// The whole report of a game, or an error where memory is refused.
+/// Returns the whole report of a game. Fails only if allocation fails.
 pub fn report(alloc: Global, game: &Game) -> Result<Vec<u8>, AllocError>
     ensures { IfOk result (λ text. text.items ≡ report_of game.now) }
 {
@@ -73,7 +73,7 @@ pub(crate) fn push_header(out: &mut Vec<u8>, sheets: &Sheets) -> Result<(), Allo
     Ok(())
 }
 
-/// The first line of a report: the game, and the version of its file.
+/// Returns the first line of a report: the game, and the version of its file.
 fn game_line(version: Version) -> &'static [u8]
     ensures { result.now ≡ game_line version }
 {
@@ -148,7 +148,7 @@ pub(crate) fn push_last_round(
     push_statement(out, sheets, &Snapshot::of(history))
 }
 
-/// The place from which on the events are those of the round that began last.
+/// Returns the place where the events of the round that began last begin.
 fn begin_of_last_round(events: &[Event]) -> usize
     ensures within { result ≤ length events.now }
     ensures last { drop result events.now ≡ last_round events.now }
@@ -163,7 +163,7 @@ fn begin_of_last_round(events: &[Event]) -> usize
     begun
 }
 
-/// How many events the first of these rounds has.
+/// Returns how many events the first of these rounds has.
 fn length_of_round(events: &[Event]) -> usize
     requires { 1 ≤ length events.now }
     ensures some { 1 ≤ result }
@@ -177,7 +177,7 @@ fn length_of_round(events: &[Event]) -> usize
     length
 }
 
-/// Whether these are the events of this round.
+/// Returns whether these are the events of this round.
 fn is_round(events: &[Event], round: &Round) -> bool
     ensures { result ≡ is_round round.now events.now }
 {
@@ -187,7 +187,7 @@ fn is_round(events: &[Event], round: &Round) -> bool
     }
 }
 
-/// Whether a round ends before these later events: the next begins, or there is none.
+/// Returns whether a round ends before these later events: the next begins, or there is none.
 fn ends_round(later: &[Event]) -> bool
     ensures { result ≡ ends_round later.now }
 {
@@ -230,7 +230,7 @@ pub(crate) fn push_end(
     }
 }
 
-/// Adds that the game is over, for what a word names, and what each player is worth.
+/// Adds that the game is over, with the word for why, and what each player is worth.
 fn push_over(
     out: &mut Vec<u8>,
     sheets: &Sheets,

@@ -1,4 +1,4 @@
--- What was written behind a file is answered by its report.
+-- What was written after a file is checked, and its report is written.
 use Rattle.std.proofs.Common.{◌≡◌, ℕ, ◌≤◌, List, [], ◌∷◌, ◌++◌, Ok, length, refl, sym, ap, subst}
 use Rattle.std.specs.Prelude.{Option, Some}
 use Rattle.std.specs.List.{AllByRecursion}

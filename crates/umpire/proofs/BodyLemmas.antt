@@ -85,7 +85,8 @@ file_by_parts file text line rest lines found are first =
     rw behind (found.stays ∙ ap (λ l. found.prefix ++ l)
     (file_by_header text line rest first (found.counts line lines are)))
 
--- some lines have come behind what was gathered; of the text from `kept` on those from `rest` on are ahead
+-- some lines have come after what was gathered; of the text from `kept` on those from `rest` on are
+-- ahead
 pub record Putting (old new : Option (List ℕ)) (before after text kept rest : List ℕ) : Type 0 where
   pub out : List ℕ
   pub stretch : List ℕ
@@ -162,7 +163,7 @@ prefix_of_stretch old mid new before after text kept rest stretch so_far is pref
     rw (so_far.whole, ← is) (prefix_behind old mid new before after so_far.out stretch (body_in_two rest)
     so_far.gathers prefix)
 
--- so is a prefix of the X behind it
+-- so is a prefix of the X after it
 pub prefix_of_x : (old mid there new : Option (List ℕ))
     (before after between text kept rest line next stretch : List ℕ)
     (so_far : Putting old mid before after text kept rest) →

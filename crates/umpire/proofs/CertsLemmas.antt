@@ -1,7 +1,7 @@
 -- Certificates that are written, group by group.
-use Rattle.std.proofs.Common.{◌≡◌, ℕ, ◌+◌, ◌<◌, suc, List, [], ◌∷◌, ◌++◌, Result, Ok, Err, add-one, append_assoc, drop}
-use Rattle.std.proofs.Common.{drop-cons, get_or, length, refl, sym, ap, subst, ◌∙◌}
-use Rattle.std.specs.Prelude.{ℤ, Option, Some, Bool, false, IfSome, IsOk}
+use Rattle.std.proofs.Common.{◌≡◌, ℕ, ◌+◌, ◌<◌, zero, suc, List, [], ◌∷◌, ◌++◌, Result, Ok, Err, add-one, append_assoc, drop}
+use Rattle.std.proofs.Common.{drop-cons, get_or, inl, inr, length, refl, sym, ap, subst, ◌∙◌}
+use Rattle.std.specs.Prelude.{ℤ, Option, Some, Bool, false, IfErr, IfSome, IsOk, OnErr}
 use Rattle.std.specs.Io.KnownBytes.{Appends}
 use Rattle.std.specs.List.{flat_map}
 use Rattle.std.proofs.KnownBytes.{Appends-trans, Keeps-refl}
@@ -13,15 +13,20 @@ use Rattle.legal_runs.specs.declared.runner.RunnerFault.{RunnerFault}
 use Rattle.operating.specs.Calls.{AreMade, Call}
 use Rattle.order_grammar.specs.declared.order.Order.TheVariants.{Certs}
 use Rattle.operating.specs.Answered.{AreAnswered}
-use Rattle.sheets.specs.File.{IsAccepted}
+use Rattle.report.specs.Report.{refusal_line}
+use Rattle.rounds.specs.Steps.{started}
+use Rattle.rounds.specs.StepsCall.{StepsCall}
+use Rattle.sheets.specs.File.{IsAccepted, content_of}
+use Rattle.sheets.specs.declared.fault.FileFault.{FileFault}
 use Rattle.umpire.specs.Certified.{AreCertified, CertifyGame}
-use Rattle.umpire.specs.Certs.{IsCertified, StopsCerts}
-use Rattle.umpire.specs.Run.{IsReadFault, as_read}
+use Rattle.umpire.specs.Certs.{AreCertificatesCut, IsCertified, IsCutInGroups, StopsCerts}
+use Rattle.umpire.specs.Failure.{AppendsPrefix}
+use Rattle.umpire.specs.Run.{IsReadFault, IsWriteFault, as_read}
 use Rattle.umpire.specs.Written.{certificates_text, group_text, order_line}
 use Rattle.umpire.specs.declared.fault.Fault.{Fault}
 use Rattle.umpire.specs.declared.fault.Fault.TheVariants.{Read, Write, Memory, File, Certificate}
 use Rattle.umpire.proofs.Files.{Says, refused, says}
-use Rattle.umpire.proofs.Parts.{LeavesRest}
+use Rattle.umpire.proofs.Parts.{LeavesRest, prefix_of_first_part, prefix_of_second_part}
 
 -- a text with nothing left was written whole
 pub all_written : (old new : Option (List ℕ)) (text rest : List ℕ) → LeavesRest old new text rest → rest ≡ []
@@ -45,7 +50,7 @@ pub record KeptOf (before after : List Group) (calls : List Call) : Type 0 where
   pub kept : after ≡ before ++ groups
   pub certified : AreCertified calls groups
 
--- one call more in front, which was answered
+-- one more call before the others, which succeeded
 kept_first : (call : Call) (calls : List Call) (answer : Result ℤ RunnerFault) (before between after : List Group)
     → call.answer ≡ answer → IsOk answer →
     KeepsBest before call.position call.round call.company call.trains answer between → KeptOf between after calls
@@ -68,13 +73,21 @@ kept_first call calls (Ok money) before between after is answered one rest =
     }
 kept_first call calls (Err fault) before between after is answered one rest = absurd (cc)
 
--- what a runner that keeps the best runs has kept of calls that were answered
+-- what a runner that keeps the best runs has kept of calls that succeeded
 pub kept_of : (calls : List Call) (before after : List Group) → AreAnswered calls
     → AreMade KeepsBest before calls after → KeptOf before after calls
 kept_of [] before after answered made = record { groups = []; kept = made ∙ sym (append-nil before); certified = tt }
 kept_of (call ∷ calls) before after answered made =
     kept_first call calls call.answer before made.0 after refl answered.0 made.1
     (kept_of calls made.0 after answered.1 made.2)
+
+-- where its marks are cut short, a group is
+pub marks_prefix : {A E : Type 0} (result : Result A E) (old mid new : Option (List ℕ)) (claim marks : List ℕ)
+    → Appends old mid claim → OnErr result (AppendsPrefix mid new marks)
+    → OnErr result (AppendsPrefix old new (claim ++ marks))
+marks_prefix (Ok done) old mid new claim marks written prefix = tt
+marks_prefix (Err error) old mid new claim marks written prefix =
+    prefix_of_second_part old mid new claim marks written prefix
 
 -- the text of groups, and that of more
 text_more : (groups more : List Group) → certificates_text groups ++ flat_map group_text more
@@ -93,6 +106,21 @@ text_grows old mid new groups more kept is so_far written =
     let all = Appends-trans old mid new (certificates_text groups) (flat_map group_text more) so_far behind in
     subst (Appends old new) (text_more groups more) all
 
+-- a prefix of the line with which they begin is one of any certificates
+pub prefix_of_head : (old new : Option (List ℕ)) (groups : List Group) → AppendsPrefix old new (order_line Certs)
+    → AppendsPrefix old new (certificates_text groups)
+prefix_of_head old new groups prefix = prefix_of_first_part old new (order_line Certs) (flat_map group_text groups) prefix
+
+-- so are the texts of some groups, and a prefix of that of more
+pub prefix_grows : (old mid new : Option (List ℕ)) (groups more kept : List Group) → kept ≡ more
+    → Appends old mid (certificates_text groups) → AppendsPrefix mid new (flat_map group_text kept)
+    → AppendsPrefix old new (certificates_text (groups ++ more))
+prefix_grows old mid new groups more kept is so_far prefix =
+    let behind : AppendsPrefix mid new (flat_map group_text more) =
+    subst (λ (l : List Group). AppendsPrefix mid new (flat_map group_text l)) is prefix in
+    let all = prefix_of_second_part old mid new (certificates_text groups) (flat_map group_text more) so_far behind in
+    subst (AppendsPrefix old new) (text_more groups more) all
+
 -- certificates that were written of a file that was read are those of the whole file
 pub certified_of : (given old new : Option (List ℕ)) (file : List ℕ) → IfSome given (λ bytes. file ≡ as_read bytes)
     → IsCertified (Some file) old new → IsCertified given old new
@@ -109,14 +137,87 @@ certified_of given old new file read known =
       written = known.written;
     }
 
+-- so are those that were cut short
+cut_of : (given old new : Option (List ℕ)) (file : List ℕ) → IfSome given (λ bytes. file ≡ as_read bytes)
+    → AreCertificatesCut (Some file) old new → AreCertificatesCut given old new
+cut_of given old new file read (inl kept) = inl kept
+cut_of given old new file read (inr (inl known)) =
+    let says_all : Says given file = says given file read in
+    let accepted : IsAccepted file = subst IsAccepted known.whole known.accepted in
+    let same : known.file ≡ says_all.whole = known.whole ∙ sym (says_all.accepted accepted) in
+    inr (inl (record {
+      file = says_all.whole;
+      whole = says_all.is_whole;
+      accepted = subst IsAccepted same known.accepted;
+      steps = known.steps;
+      play = known.play;
+      calls = known.calls;
+      called = subst (λ (f : List ℕ). StepsCall known.steps f known.play known.calls) same known.called;
+      groups = known.groups;
+      certified = known.certified;
+      prefix = known.prefix;
+    }))
+cut_of given old new file read (inr (inr known)) =
+    let says_all : Says given file = says given file read in
+    inr (inr (record {
+      file = says_all.whole;
+      fault = known.fault;
+      whole = says_all.is_whole;
+      refused = says_all.content ∙ ap content_of (sym known.whole) ∙ known.refused;
+      prefix = known.prefix;
+    }))
+
+-- before the first round nothing is certified
+pub cut_at_start : (file : List ℕ) (old new : Option (List ℕ)) → IsAccepted file
+    → AppendsPrefix old new (order_line Certs) → IsCutInGroups (Some file) old new
+cut_at_start file old new accepted prefix =
+    record {
+      file = file;
+      whole = refl;
+      accepted = accepted;
+      steps = zero;
+      play = started file;
+      calls = [];
+      called = (refl, refl);
+      groups = [];
+      certified = tt;
+      prefix = prefix_of_head old new [] prefix;
+    }
+
+-- a fault of writing leaves this
+pub certificates_stop : (file : List ℕ) (old new : Option (List ℕ)) (failed : Bool) (fault : Fault)
+    → IsWriteFault failed fault → AreCertificatesCut (Some file) old new
+    → StopsCerts (Some file) old new false failed fault
+certificates_stop file old new failed Read is cut = absurd is
+certificates_stop file old new failed Write is cut = (refl, is, cut)
+certificates_stop file old new failed Memory is cut = (refl, is, cut)
+certificates_stop file old new failed (File fault) is cut = absurd is
+certificates_stop file old new failed (Certificate round company) is cut = absurd is
+
+pub result_stops : {A : Type 0} (result : Result A Fault) (file : List ℕ) (old new : Option (List ℕ)) (failed : Bool)
+    → IfErr result (IsWriteFault failed) → OnErr result (IsCutInGroups (Some file) old new)
+    → IfErr result (StopsCerts (Some file) old new false failed)
+result_stops (Ok done) file old new failed is cut = tt
+result_stops (Err fault) file old new failed is cut = certificates_stop file old new failed fault is (inr (inl cut))
+
+-- a prefix of the line that says why a file is refused
+pub refusal_stops : (file : List ℕ) (old new : Option (List ℕ)) (failed : Bool) (refusal : FileFault) (fault : Fault)
+    → content_of file ≡ Err refusal → IsWriteFault failed fault → AppendsPrefix old new (refusal_line refusal)
+    → StopsCerts (Some file) old new false failed fault
+refusal_stops file old new failed refusal fault is stopped prefix =
+    certificates_stop file old new failed fault stopped
+    (inr (inr (record { file = file; fault = refusal; whole = refl; refused = is; prefix = prefix })))
+
 -- what a fault leaves where this was read
 pub stops_of : (given old new : Option (List ℕ)) (file : List ℕ) (read_failed write_failed : Bool) (fault : Fault)
     → IfSome given (λ bytes. file ≡ as_read bytes) →
     read_failed ≡ false → StopsCerts (Some file) old new false write_failed fault
     → StopsCerts given old new read_failed write_failed fault
 stops_of given old new file read_failed write_failed Read read unfailed known = absurd cc
-stops_of given old new file read_failed write_failed Write read unfailed known = (unfailed, known.1)
-stops_of given old new file read_failed write_failed Memory read unfailed known = (unfailed, known.1)
+stops_of given old new file read_failed write_failed Write read unfailed known =
+    (unfailed, known.1, cut_of given old new file read known.2)
+stops_of given old new file read_failed write_failed Memory read unfailed known =
+    (unfailed, known.1, cut_of given old new file read known.2)
 stops_of given old new file read_failed write_failed (File fault) read unfailed known =
     (unfailed, known.1, refused given old new file fault read known.2)
 stops_of given old new file read_failed write_failed (Certificate round company) read unfailed known = absurd known
@@ -126,7 +227,7 @@ pub read_stops_certs : (given old : Option (List ℕ)) (read_failed write_failed
     → IsReadFault read_failed fault → write_failed ≡ false →
     StopsCerts given old old read_failed write_failed fault
 read_stops_certs given old read_failed write_failed Read is unfailed = (is, unfailed, Keeps-refl old)
-read_stops_certs given old read_failed write_failed Memory is unfailed = (is, unfailed)
+read_stops_certs given old read_failed write_failed Memory is unfailed = (is, unfailed, inl (Keeps-refl old))
 read_stops_certs given old read_failed write_failed Write is unfailed = absurd is
 read_stops_certs given old read_failed write_failed (File fault) is unfailed = absurd is
 read_stops_certs given old read_failed write_failed (Certificate round company) is unfailed = absurd is

@@ -7,7 +7,7 @@ use Rattle.sheets.specs.Text.{is_blank, lines_from, lines_of, rest_of, without_r
 use Rattle.umpire.specs.Migrated.{body_in_two, ended_in_two, ended_lines, ended_lines_from, file_in_two, header_of_two}
 use Rattle.umpire.specs.Migrated.{is_if_line, line_in_two, lines_in_two, return_of, text_of_ended}
 
--- the bytes before an LF are the line and the CR behind it
+-- the bytes before an LF are the line and the CR after it
 one_byte : (byte : ℕ) (is : Bool) → eqb byte 13 ≡ is → cond is [] (byte ∷ []) ++ cond is (13 ∷ []) [] ≡ byte ∷ []
 one_byte byte true e = rw (eqb-true byte 13 e) refl
 one_byte byte false e = refl
@@ -130,7 +130,7 @@ pub no_body_in_two : body_in_two [] ≡ []
 unfolding body_in_two ended_lines
 no_body_in_two = refl
 
--- a text behind the header line goes over line by line
+-- a text after the header line migrates line by line
 pub body_by_line : (text line rest : List ℕ) (first : FirstEnded text line rest)
     → body_in_two text ≡ line_in_two line ++ (first.end ++ body_in_two rest)
 unfolding body_in_two
@@ -151,7 +151,7 @@ empty_line_in_two : line_in_two [] ≡ []
 unfolding line_in_two is_if_line
 empty_line_in_two = refl
 
--- what is left behind the words of a line goes over as it stands
+-- what is left after the words of a line migrates as it stands
 pub body_behind : (end rest : List ℕ) → IsEnd end rest → body_in_two (end ++ rest) ≡ end ++ body_in_two rest
 unfolding body_in_two ended_lines
 body_behind [] [] (inl none) = refl

@@ -43,7 +43,7 @@ says_by bytes file (inl same) = record {
 says_by bytes file (inr (a, b)) =
     record { whole = bytes; is_whole = refl; content = a ∙ sym b; accepted = λ accepted. absurd (cc) }
 
--- where all bytes are known they are the whole file, and else what was read may be
+-- where all bytes are known they are the whole file, and otherwise what was read may be
 pub says : (given : Option (List ℕ)) (file : List ℕ) → IfSome given (λ bytes. file ≡ as_read bytes) → Says given file
 says None file read = record { whole = file; is_whole = tt; content = refl; accepted = λ accepted. refl }
 says (Some bytes) file read = says_by bytes file (read_or_long bytes file read (grind arith))

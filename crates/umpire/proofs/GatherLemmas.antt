@@ -12,7 +12,7 @@ use Rattle.umpire.proofs.Parts.{LeavesRest, prefix_of_part, none_of}
 pub gathers_none : (old : Option (List ℕ)) (before : List ℕ) → Gathers old old before before []
 gathers_none old before = record { done = []; whole = sym (append-nil before); appended = Appends-nil old }
 
--- a text is kept behind what was gathered
+-- a text is kept after what was gathered
 pub gathers_more : (old : Option (List ℕ)) (before after text : List ℕ) → after ≡ before ++ text
     → Gathers old old before after text
 gathers_more old before after text is = record { done = []; whole = is; appended = Appends-nil old }
@@ -23,7 +23,7 @@ pub gathers_written : (old new : Option (List ℕ)) (before after : List ℕ) �
 gathers_written old new before after written none =
     record { done = before; whole = ap (λ l. before ++ l) none; appended = written }
 
--- so is a text behind it
+-- so is a text after it
 pub gathers_all : (old mid new : Option (List ℕ)) (before after text : List ℕ) → Appends old mid before → after ≡ []
     → Appends mid new text → Gathers old new before after text
 gathers_all old mid new before after text written none more =
@@ -52,7 +52,7 @@ pub gathers_end : (old mid new : Option (List ℕ)) (after text : List ℕ) → 
 gathers_end old mid new after text gathered written =
     rw (← gathered.whole) (Appends-trans old mid new gathered.done after gathered.appended written)
 
--- a prefix of what is gathered, with what comes behind it, is a prefix of the whole
+-- a prefix of what is gathered, with what comes after it, is a prefix of the whole
 pub prefix_behind : (old mid new : Option (List ℕ)) (before between first second rest : List ℕ)
     → Gathers old mid before between first → AppendsPrefix mid new (between ++ second)
     → AppendsPrefix old new (before ++ (first ++ (second ++ rest)))
@@ -72,7 +72,7 @@ pub prefix_so_far : (old mid : Option (List ℕ)) (before between first rest : L
 prefix_so_far old mid before between first rest a =
     prefix_behind old mid mid before between first [] rest a (none_of mid (between ++ []))
 
--- what was gathered is written, and a prefix of the text behind it
+-- what was gathered is written, and a prefix of the text after it
 pub prefix_after : (old mid new : Option (List ℕ)) (before text : List ℕ) → Appends old mid before
     → AppendsPrefix mid new text → AppendsPrefix old new (before ++ text)
 prefix_after old mid new before text written prefix =

@@ -60,7 +60,7 @@ words_by line (Ok (Game game number)) read e =
 words_by line (Ok other) read e = absurd (cc)
 words_by line (Err fault) read e = absurd (cc)
 
--- the bytes of words, with one behind each
+-- the bytes of words, with one after each
 total : List (List ℕ) → ℕ
 total [] = 0
 total (word ∷ words) = length word + 1 + total words

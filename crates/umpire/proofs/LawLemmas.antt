@@ -1,4 +1,4 @@
--- A text behind a file and an LF, of whose lines the first alone divides, is found again.
+-- A text after a file and an LF, of whose lines the first alone divides, is found again.
 use Rattle.std.proofs.Common.{◌≡◌, ℕ, ◌+◌, ◌-◌, ◌<◌, ◌≤◌, List, [], ◌∷◌, ◌++◌, true, false, cond, length, take, refl}
 use Rattle.std.proofs.Common.{sym, ◌∙◌, zero, suc, append_assoc, arith, eqb, subst}
 use Rattle.std.proofs.lemmas.List.{length-append}
@@ -69,7 +69,7 @@ only_first (byte ∷ text) b =
     (subst (AllByRecursion (λ line. is_divider line ≡ false)) others b.alone) in
     at_line (byte ∷ text) b.first b.others b.lines ∙ rw (none, b.divides) refl
 
--- so it is behind a file and an LF
+-- so it is after a file and an LF
 found_behind : (begins : Bool) (file text found : List ℕ) → from_divider true text ≡ Some found
     → from_divider begins (file ++ 10 ∷ text) ≡ Some found
 found_behind begins [] text found e = rw e refl

@@ -8,12 +8,14 @@ pub mod WrittenLemmas
 pub mod LawLemmas
 pub mod CertsLemmas
 pub mod VerifyLemmas
+pub mod VerifierLemmas
 pub mod Judged
 mod WrittenLines
 mod MarksLines
 mod ReadAgain
 mod Writable
 mod AnsweredAgain
+mod OneAnswer
 mod GatherLemmas
 mod EndedLines
 mod MigratedLines

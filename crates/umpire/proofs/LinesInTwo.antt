@@ -79,7 +79,7 @@ written_alike (line ∷ lines) =
       | false ↦ ap (λ ls. line_in_two line ∷ ls) (written_alike lines)
     ])
 
--- the header and the lines behind it
+-- the header and the lines after it
 abbrev pub headed : List (List ℕ) → List (List ℕ)
 headed [] = []
 headed (line ∷ lines) = header_of_two ∷ map line_in_two lines

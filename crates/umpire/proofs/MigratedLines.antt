@@ -25,7 +25,8 @@ clear_more : (bytes : List ℕ) (byte : ℕ) → NoNewline bytes → eqb byte 10
 clear_more [] byte none e = (e, tt)
 clear_more (first ∷ bytes) byte none e = (none.0, clear_more bytes byte none.1 e)
 
--- a line with its end is one that a text may have: with an LF it has no CR before that, without one nothing follows
+-- a line with its end is one that a text may have: with an LF it has no CR before that, without one
+-- nothing follows
 record IsEnded (ended : EndedLine) (lines : List EndedLine) : Type 0 where
   clear : NoNewline ended.line
   ends :

@@ -1,4 +1,5 @@
--- What going over to version 2 leaves: what is written of what was read is what is written of the whole file.
+-- What going over to version 2 leaves: what is written of what was read is what is written of the
+-- whole file.
 use Rattle.std.proofs.Common.{◌≡◌, ℕ, Bool, true, false, cond, List, [], ◌∷◌, length, ap, refl, sym, subst, ◌∙◌}
 use Rattle.std.specs.Prelude.{Option, Some, None, Result, Ok, Err, IfErr, IfSome, IsOk, OnErr, OnOk, is_some, nat_lt}
 use Rattle.std.specs.Prelude.{unwrap_or}
@@ -88,7 +89,7 @@ migration_unread given old read_failed write_failed Write is unfailed = absurd i
 migration_unread given old read_failed write_failed (File fault) is unfailed = absurd is
 migration_unread given old read_failed write_failed (Certificate round company) is unfailed = absurd is
 
--- what a write that failed leaves, or memory is refused, where this is written of the file
+-- what a write that failed leaves, or allocation fails, where this is written of the file
 pub migration_cut : (file text : List ℕ) (old new : Option (List ℕ)) (failed : Bool) (fault : Fault)
     → IsWriteFault failed fault → migration_of file ≡ text → AppendsPrefix old new text
     → StopsMigration (Some file) old new false failed fault

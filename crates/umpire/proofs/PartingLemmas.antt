@@ -13,7 +13,7 @@ use Rattle.order_grammar.specs.declared.order.Order.TheVariants.{Certs}
 use Rattle.sheets.specs.Text.{lines_of, rest_of}
 use Rattle.umpire.specs.Parting.{is_divider, begin_with_divider, from_divider, says_certs, without_newline}
 
--- a line of a certificate's text is read as an order exactly where it spells that
+-- a line of a certificate's text is read as an order exactly if it spells that
 abbrev CertLinesAreReadWhereSpelt : Type 0
 CertLinesAreReadWhereSpelt = (line : List ℕ) (order : Order)
     → (cert_reading_of line ≡ Ok order) ↔ SpellsIn certificate line order
@@ -62,7 +62,7 @@ behind_first byte bytes =
     elim (eqb byte 10) as (λ b. from_divider b bytes ≡ from_divider true (cond b bytes (rest_of bytes)))
     [ true ↦ refl | false ↦ later bytes ]
 
--- the first line divides, or what is behind it is looked at
+-- the first line divides, or what is after it is looked at
 pub at_line : (text line : List ℕ) (lines : List (List ℕ)) → lines_of text ≡ line ∷ lines →
     from_divider true text ≡ option_or (from_divider true (rest_of text)) (cond (is_divider line) (Some text) None)
 at_line [] line lines e = cc
@@ -72,7 +72,7 @@ at_line (byte ∷ bytes) line lines e =
     ∙ ap (λ ls. option_or (from_divider true (rest_of (byte ∷ bytes)))
     (cond (true && begin_with_divider ls) (Some (byte ∷ bytes)) None)) e
 
--- a line that divides, before what has been found behind it or not
+-- a line that divides, before what has been found after it or not
 or_found : {A : Type 0} (o : Option A) (a b : A) → option_or (option_or o (Some a)) (Some b) ≡ option_or o (Some a)
 or_found None a b = refl
 or_found (Some c) a b = refl

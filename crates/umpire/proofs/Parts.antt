@@ -217,7 +217,7 @@ pub all_of_start : (file : List ℕ) (play ended : Underway) (old new : Option (
 all_of_start file play ended old new is all =
     subst (λ (f : List ℕ). WritesAllRounds f ended old new) (ap (λ (p : Underway). p.file) is) all
 
--- a report that is cut short, by a write that failed or by refused memory
+-- a report that is cut short, by a write that failed or by a failed allocation
 pub stops_short : (file : List ℕ) (old new : Option (List ℕ)) (failed : Bool) (fault : Fault)
     → IsWriteFault failed fault → IsCutShort (Some file) old new → Stops (Some file) old new false failed fault
 stops_short file old new failed Read is cut = absurd is

@@ -183,7 +183,7 @@ unfolding marks_within
 no_marks zero = refl
 no_marks (suc count) = refl
 
--- bits are read behind others, and what fills up the last digit with them
+-- bits are read after others, and what fills up the last digit with them
 record AreRead (group : Group) (runs : List ClaimedRun) (before : List Bool) (lines more : List (List ℕ))
     (bits : List Bool) : Type 0 where
   filling : List Bool
@@ -262,7 +262,7 @@ marks_read_from (suc count) group runs before (bit ∷ bits) more within =
           }
     ]
 
--- the lines of a group behind its CERT line begin no other
+-- the lines of a group after its CERT line begin no other
 claims_begin_none : (runs : List ClaimedRun) → AllByRecursion CanBeClaimed runs → NoneBegins (claims_of runs)
 unfolding claims_of
 claims_begin_none [] all = tt
@@ -305,7 +305,7 @@ ends_here : (lines : List (List ℕ)) (group : Option Group) → BeginAnew lines
 ends_here [] group ends = refl
 ends_here (line ∷ lines) group ends = rw ends refl
 
--- a group is read, and then those of the lines behind it
+-- a group is read, and then those of the lines after it
 record IsGroupRead (group : Group) (more : List (List ℕ)) : Type 0 where
   first : Option Group
   again : IsReadAgain group first

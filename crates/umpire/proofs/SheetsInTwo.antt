@@ -180,7 +180,7 @@ still_posted : (sheet : Option (List (List ℕ))) → is_some (gone sheet) ≡ i
 still_posted None = refl
 still_posted (Some lines) = refl
 
--- what the file says, with the lines behind the players gone over
+-- what the file says, with the lines after the players migrated
 abbrev pub with_body : Result Content FileFault → Result Content FileFault
 with_body (Ok content) = Ok (record { players = content.players; body = map line_in_two content.body })
 with_body (Err fault) = Err fault

@@ -9,7 +9,7 @@ use Rattle.order_grammar.specs.declared.fault.Fault.{Fault}
 use Rattle.report.specs.Report.{unread_lines}
 use Rattle.umpire.proofs.Parts.{LeavesRest}
 
--- a line, with lines of a part and more behind it
+-- a line, with lines of a part and more after it
 line_parted : (first number code here there : List ℕ) →
     first ++ number ++ 32 ∷ code ++ 10 ∷ (here ++ there) ≡ (first ++ number ++ 32 ∷ code ++ 10 ∷ here) ++ there
 line_parted first number code here there = simp append_assoc

@@ -1,9 +1,9 @@
--- What the check of certificates answers, by what it has read and by how the game was judged.
+-- What the check of certificates writes, by what it has read and by how the game was judged.
 use Rattle.std.proofs.Common.{◌≡◌, ℕ, zero, suc, ◌+◌, ◌-◌, ◌<◌, ◌≤◌, ◌⊎◌, inl, inr, Bool, true, false, List, [], ◌∷◌}
 use Rattle.std.proofs.Common.{◌++◌, length, take, refl, sym, ap, subst, ◌∙◌, cond, eqb, arith}
 use Rattle.std.proofs.lemmas.Bool.{le-ltb, lt-ltb}
 use Rattle.std.proofs.lemmas.List.{length-take-le, take_all}
-use Rattle.std.specs.Prelude.{Option, Some, None, Result, Ok, Err, IfErr, IfSome, IsOk, OnOk, nat_lt, unwrap_or}
+use Rattle.std.specs.Prelude.{Option, Some, None, Result, Ok, Err, IfErr, IfSome, IsOk, OnErr, OnOk, nat_lt, unwrap_or}
 use Rattle.std.specs.Io.KnownBytes.{Appends}
 use Rattle.std.proofs.KnownBytes.{Keeps-refl}
 use Rattle.certificate.specs.declared.group.Group.{Group}
@@ -16,13 +16,14 @@ use Rattle.sheets.specs.declared.fault.FileFault.TheVariants.{TooLong}
 use Rattle.tables.specs.declared.roster.Company.{Company}
 use Rattle.tables.specs.declared.round.Round.{Round}
 use Rattle.umpire.proofs.PartingLemmas.{found_within}
+use Rattle.umpire.specs.Failure.{AppendsPrefix}
 use Rattle.umpire.specs.Groups.{groups_of}
 use Rattle.umpire.specs.Parting.{certificates_most, certificates_of, file_before, from_divider, order_file_of}
 use Rattle.umpire.specs.Parting.{without_newline}
-use Rattle.umpire.specs.Rounds.{IsTextOfRounds, WritesAllRounds}
-use Rattle.umpire.specs.Run.{IsFileOf, IsReadFault, IsReported, IsWriteFault}
-use Rattle.umpire.specs.Verify.{AnswersContent, AnswersGame, AnswersInput, HasAllGroups, IsAnswered, IsGameAnswered}
-use Rattle.umpire.specs.Verify.{IsRefusal, LacksGroup, Refuses, StopsGame, StopsVerify, content_of_input}
+use Rattle.umpire.specs.Rounds.{IsTextOfRounds, WritesAllRounds, WritesPrefixOfRounds}
+use Rattle.umpire.specs.Run.{IsCutShort, IsFileOf, IsReadFault, IsReported, IsWriteFault}
+use Rattle.umpire.specs.Verify.{AnswersContent, AnswersGame, AnswersInput, HasAllGroups, IsAnswerCut, IsAnswered}
+use Rattle.umpire.specs.Verify.{IsGameAnswered, IsGameCut, IsRefusal, LacksGroup, Refuses, StopsGame, StopsVerify, content_of_input}
 use Rattle.umpire.specs.Verify.{uncertified_line}
 use Rattle.umpire.specs.declared.fault.Fault.{Fault}
 use Rattle.umpire.specs.declared.fault.Fault.TheVariants.{Read, Write, Memory, File, Certificate}
@@ -108,7 +109,7 @@ pub says_input : (given : Option (List ℕ)) (input : List ℕ) → IfSome given
 says_input None input read = record { whole = input; is_whole = tt; content = refl; taken = λ taken. refl }
 says_input (Some bytes) input read = says_input_by bytes input read (either (length bytes) 134217729)
 
--- what was read is answered as the whole input is
+-- for what was read it writes what it writes for the whole input
 answers_whole :
     (input whole text : List ℕ) (outcome : Result (Unit {0}) Fault) (content : Result Content FileFault)
     → content_of_input input ≡ content →
@@ -137,7 +138,7 @@ answered given old new input text outcome read answers written =
       written = written;
     }
 
--- the answer to what was read is that to the whole input
+-- what it writes for what was read is that for the whole input
 pub answered_whole :
     (given old new : Option (List ℕ)) (input : List ℕ) (outcome : Result (Unit {0}) Fault)
     → IfSome given (λ bytes. input ≡ take 134217730 bytes) →
@@ -147,14 +148,32 @@ answered_whole given old new input outcome read known =
     (subst (λ (other : List ℕ). AnswersInput other outcome known.text) known.whole known.answers)
     known.written
 
+-- so is an answer that was cut short
+cut_whole : (given old new : Option (List ℕ)) (input : List ℕ) → IfSome given (λ bytes. input ≡ take 134217730 bytes)
+    → IsAnswerCut (Some input) old new → IsAnswerCut given old new
+cut_whole given old new input read (inl kept) = inl kept
+cut_whole given old new input read (inr known) =
+    let says : SaysInput given input = says_input given input read in
+    inr (record {
+      input = says.whole;
+      outcome = known.outcome;
+      text = known.text;
+      whole = says.is_whole;
+      answers = answers_whole input says.whole known.text known.outcome (content_of_input input) refl says.content
+          says.taken (subst (λ (other : List ℕ). AnswersInput other known.outcome known.text) known.whole known.answers);
+      prefix = known.prefix;
+    })
+
 pub stops_whole :
     (given old new : Option (List ℕ)) (input : List ℕ) (read_failed write_failed : Bool) (fault : Fault) →
     IfSome given (λ bytes. input ≡ take 134217730 bytes) → read_failed ≡ false
     → StopsVerify (Some input) old new false write_failed fault →
     StopsVerify given old new read_failed write_failed fault
 stops_whole given old new input rf wf Read read unfailed known = absurd cc
-stops_whole given old new input rf wf Write read unfailed known = (unfailed, known.1)
-stops_whole given old new input rf wf Memory read unfailed known = (unfailed, known.1)
+stops_whole given old new input rf wf Write read unfailed known =
+    (unfailed, known.1, cut_whole given old new input read known.2)
+stops_whole given old new input rf wf Memory read unfailed known =
+    (unfailed, known.1, cut_whole given old new input read known.2)
 stops_whole given old new input rf wf (File fault) read unfailed known =
     (unfailed, known.1, answered_whole given old new input (Err (File fault)) read known.2)
 stops_whole given old new input rf wf (Certificate round company) read unfailed known =
@@ -166,12 +185,12 @@ pub stops_reading :
     → write_failed ≡ false →
     StopsVerify given old old read_failed write_failed fault
 stops_reading given old rf wf Read is unfailed = (is, unfailed, Keeps-refl old)
-stops_reading given old rf wf Memory is unfailed = (is, unfailed)
+stops_reading given old rf wf Memory is unfailed = (is, unfailed, inl (Keeps-refl old))
 stops_reading given old rf wf Write is unfailed = absurd is
 stops_reading given old rf wf (File fault) is unfailed = absurd is
 stops_reading given old rf wf (Certificate round company) is unfailed = absurd is
 
--- a file that is refused is answered by its refusal
+-- for a file that is refused it writes that refusal
 pub refusal_answers : (input text : List ℕ) (fault : FileFault) (outcome : Result (Unit {0}) Fault)
     → content_of_input input ≡ Err fault → IsRefusal fault outcome text → AnswersInput input outcome text
 refusal_answers input text fault outcome is refusal =
@@ -200,7 +219,7 @@ judgement_answers input file certificates text outcome of_file of_certificates w
     (sym (within_limit input few))
     (judgement_by input text outcome (content_of (order_file_of input)) (subst IsAccepted of_file accepted) of_whole)
 
--- so an input is answered as its game is
+-- so for an input it writes what it writes for its game
 pub game_answers :
     (input file certificates : List ℕ) (old new : Option (List ℕ)) (outcome : Result (Unit {0}) Fault)
     → file ≡ order_file_of input →
@@ -216,14 +235,32 @@ game_answers input file certificates old new outcome of_file of_certificates wit
       written = known.written;
     }
 
+game_cut :
+    (input file certificates : List ℕ) (old new : Option (List ℕ)) → file ≡ order_file_of input →
+    certificates ≡ certificates_of input → length certificates ≤ certificates_most → IsAccepted file →
+    IsGameCut file (groups_of certificates) old new → IsAnswerCut (Some input) old new
+game_cut input file certificates old new of_file of_certificates within accepted (inl kept) = inl kept
+game_cut input file certificates old new of_file of_certificates within accepted (inr known) =
+    inr (record {
+      input = input;
+      outcome = known.outcome;
+      text = known.text;
+      whole = refl;
+      answers = judgement_answers input file certificates known.text known.outcome of_file of_certificates within
+          accepted known.answers;
+      prefix = known.prefix;
+    })
+
 pub game_stops :
     (input file certificates : List ℕ) (old new : Option (List ℕ)) (failed : Bool) (fault : Fault)
     → file ≡ order_file_of input →
     certificates ≡ certificates_of input → length certificates ≤ certificates_most → IsAccepted file →
     StopsGame file (groups_of certificates) old new failed fault → StopsVerify (Some input) old new false failed fault
 game_stops input file certificates old new failed Read of_file of_certificates within accepted stops = absurd stops
-game_stops input file certificates old new failed Write of_file of_certificates within accepted stops = (refl, stops)
-game_stops input file certificates old new failed Memory of_file of_certificates within accepted stops = (refl, stops)
+game_stops input file certificates old new failed Write of_file of_certificates within accepted stops =
+    (refl, stops.0, game_cut input file certificates old new of_file of_certificates within accepted stops.1)
+game_stops input file certificates old new failed Memory of_file of_certificates within accepted stops =
+    (refl, stops.0, game_cut input file certificates old new of_file of_certificates within accepted stops.1)
 game_stops input file certificates old new failed (File fault) of_file of_certificates within accepted stops =
     absurd stops
 game_stops input file certificates old new failed (Certificate round company) of_file of_certificates within accepted
@@ -243,13 +280,37 @@ same_outcome fault refusal is = (
   refl,
 )
 
+refusal_cut : (input : List ℕ) (old new : Option (List ℕ)) (refusal : FileFault)
+    → content_of_input input ≡ Err refusal → AppendsPrefix old new (refusal_line refusal)
+    → IsAnswerCut (Some input) old new
+refusal_cut input old new refusal is prefix =
+    inr (record {
+      input = input;
+      outcome = Err (File refusal);
+      text = refusal_line refusal;
+      whole = refl;
+      answers = refusal_answers input (refusal_line refusal) refusal (Err (File refusal)) is (refl, refl);
+      prefix = prefix;
+    })
+
+-- writing that line was stopped
+pub refuses_short : (refusal : FileFault) (old new : Option (List ℕ)) (failed : Bool) (fault : Fault)
+    → IsWriteFault failed fault → AppendsPrefix old new (refusal_line refusal) → Refuses refusal old new failed fault
+refuses_short refusal old new failed Read is prefix = absurd is
+refuses_short refusal old new failed Write is prefix = (is, prefix)
+refuses_short refusal old new failed Memory is prefix = (is, prefix)
+refuses_short refusal old new failed (File fault) is prefix = absurd is
+refuses_short refusal old new failed (Certificate round company) is prefix = absurd is
+
 pub refusal_stops :
     (input : List ℕ) (old new : Option (List ℕ)) (failed : Bool) (refusal : FileFault) (fault : Fault)
     → content_of_input input ≡ Err refusal →
     Refuses refusal old new failed fault → StopsVerify (Some input) old new false failed fault
 refusal_stops input old new failed refusal Read is refuses = absurd refuses
-refusal_stops input old new failed refusal Write is refuses = (refl, refuses)
-refusal_stops input old new failed refusal Memory is refuses = (refl, refuses)
+refusal_stops input old new failed refusal Write is refuses =
+    (refl, refuses.0, refusal_cut input old new refusal is refuses.1)
+refusal_stops input old new failed refusal Memory is refuses =
+    (refl, refuses.0, refusal_cut input old new refusal is refuses.1)
 refusal_stops input old new failed refusal (File fault) is refuses = (
   refl,
   refuses.0,
@@ -264,7 +325,7 @@ refusal_stops input old new failed refusal (File fault) is refuses = (
 )
 refusal_stops input old new failed refusal (Certificate round company) is refuses = absurd refuses
 
--- a game that has all its groups is answered by its report
+-- for a game that has all its groups it writes the report
 pub report_answers :
     (file : List ℕ) (groups : List (Option Group)) (old new : Option (List ℕ)) → HasAllGroups file groups
     → IsReported (Some file) old new →
@@ -276,7 +337,7 @@ report_answers file groups old new all reported =
       written = reported.written;
     }
 
--- one in which a call is the first that has none is answered by the line that says so
+-- for one in which a call is the first that has none it writes the line that says so
 pub refusal_answers_game :
     (file : List ℕ) (groups : List (Option Group)) (old new : Option (List ℕ)) (failed : Bool) (round : Round)
     (company : Company) →
@@ -285,16 +346,49 @@ pub refusal_answers_game :
 refusal_answers_game file groups old new failed round company written unfailed lacks =
     (unfailed, record { text = uncertified_line round company; answers = (lacks, refl); written = written })
 
+-- a prefix of that report, or of that line
+pub report_cut : (file : List ℕ) (groups : List (Option Group)) (old new : Option (List ℕ)) → HasAllGroups file groups
+    → IsCutShort (Some file) old new → IsGameCut file groups old new
+report_cut file groups old new all cut =
+    inr (record {
+      outcome = Ok tt;
+      text = cut.text;
+      answers = (all, subst (λ (other : List ℕ). IsReport other cut.text) cut.whole cut.report);
+      prefix = cut.prefix;
+    })
+
+pub line_cut : (file : List ℕ) (groups : List (Option Group)) (old new : Option (List ℕ)) (round : Round)
+    (company : Company) → LacksGroup file groups round company → AppendsPrefix old new (uncertified_line round company)
+    → IsGameCut file groups old new
+line_cut file groups old new round company lacks prefix =
+    inr (record {
+      outcome = Err (Certificate round company);
+      text = uncertified_line round company;
+      answers = (lacks, refl);
+      prefix = prefix;
+    })
+
+-- nothing was written
+pub none_cut : (file : List ℕ) (groups : List (Option Group)) (old : Option (List ℕ)) → IsGameCut file groups old old
+none_cut file groups old = inl (Keeps-refl old)
+
 -- a fault of writing there
 pub writing_stops :
     (file : List ℕ) (groups : List (Option Group)) (old new : Option (List ℕ)) (failed : Bool) (fault : Fault)
-    → IsWriteFault failed fault →
-    StopsGame file groups old new failed fault
-writing_stops file groups old new failed Read is = absurd is
-writing_stops file groups old new failed Write is = is
-writing_stops file groups old new failed Memory is = is
-writing_stops file groups old new failed (File fault) is = absurd is
-writing_stops file groups old new failed (Certificate round company) is = absurd is
+    → IsWriteFault failed fault → IsGameCut file groups old new → StopsGame file groups old new failed fault
+writing_stops file groups old new failed Read is cut = absurd is
+writing_stops file groups old new failed Write is cut = (is, cut)
+writing_stops file groups old new failed Memory is cut = (is, cut)
+writing_stops file groups old new failed (File fault) is cut = absurd is
+writing_stops file groups old new failed (Certificate round company) is cut = absurd is
+
+pub played_stops :
+    {A : Type 0} (result : Result A Fault) (file : List ℕ) (groups : List (Option Group)) (old new : Option (List ℕ))
+    (failed : Bool) → HasAllGroups file groups → IfErr result (IsWriteFault failed)
+    → OnErr result (IsCutShort (Some file) old new) → IfErr result (StopsGame file groups old new failed)
+played_stops (Ok done) file groups old new failed all is cut = tt
+played_stops (Err fault) file groups old new failed all is cut =
+    writing_stops file groups old new failed fault is (report_cut file groups old new all cut)
 
 -- the texts of all rounds, once they are written
 pub rounds_are_written :
@@ -308,3 +402,9 @@ rounds_are_written file ended text old new all written =
       end = all.end;
       stays = all.stays;
     }
+
+-- a prefix of these texts
+pub prefix_of_rounds : (file : List ℕ) (ended : Underway) (text : List ℕ) (old new : Option (List ℕ))
+    → IsTextOfRounds file ended text → AppendsPrefix old new text → WritesPrefixOfRounds file old new
+prefix_of_rounds file ended text old new all prefix =
+    record { steps = all.steps; play = all.last; text = text; is_text = all.is_text; prefix = prefix }

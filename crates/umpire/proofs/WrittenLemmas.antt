@@ -6,7 +6,7 @@ use Rattle.certificate.specs.Digits.{digits_of}
 use Rattle.std.proofs.lemmas.List.{length-drop}
 use Rattle.umpire.specs.Written.{marks_line, marks_lines_within}
 
--- lines that suffice for what is left behind the first
+-- lines that suffice for what is left after the first
 pub record Left (count : ℕ) (bits : List Bool) : Type 0 where
   pub next : ℕ
   pub within : length (drop 4000 bits) ≤ next

@@ -1,4 +1,4 @@
--- What calls of a reader or a writer leave, one that fails included.
+-- What calls of a reader or a writer leave, including one that fails.
 use Rattle.std.specs.Prelude.{ℕ, ◌≤◌, ◌==◌, Bool, false, List, [], ◌∷◌, length, take, Option, Result, Ok, Err}
 use Rattle.std.specs.Io.KnownBytes.{Appends, Consumes}
 

@@ -1,4 +1,4 @@
--- How far a file has gone over to version 2.
+-- How far a file has migrated to version 2.
 use Rattle.std.specs.Prelude.{◌≡◌, ℕ, Bool, false, ◌&&◌, nat_le, List, ◌∷◌, ◌++◌, length, Option}
 use Rattle.std.specs.List.{list_all}
 use Rattle.std.specs.Io.KnownBytes.{Appends}
@@ -7,7 +7,8 @@ use Rattle.order_grammar.specs.Words.{before_comment, is_printable}
 use Rattle.sheets.specs.Text.{is_blank, lines_of}
 use Rattle.umpire.specs.Migrated.{file_in_two}
 
--- a text has come behind what was gathered to be written: some of both is written, and the rest is gathered
+-- a text has come after what was gathered to be written: some of both is written, and the rest is
+-- gathered
 pub record Gathers (old new : Option (List ℕ)) (before after text : List ℕ) : Type 0 where
   pub done : List ℕ
   pub whole : done ++ after ≡ before ++ text
@@ -20,7 +21,7 @@ pub record IsFromHeader (file rest : List ℕ) : Type 0 where
   pub stays : file_in_two file ≡ prefix ++ file_in_two rest
   pub counts : (line : List ℕ) (lines : List (List ℕ)) → lines_of rest ≡ line ∷ lines → is_blank line ≡ false
 
--- a line is not too long, and its bytes before the comment are printable: it has no fault that comes before those of its
--- words
+-- a line is not too long, and its bytes before the comment are printable: it has no fault that
+-- comes before those of its words
 abbrev pub is_clean : List ℕ → Bool
 is_clean line = nat_le (length line) line_most && list_all is_printable (before_comment line)

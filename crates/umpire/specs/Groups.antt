@@ -1,6 +1,7 @@
--- The groups of a text of certificates. A line whose first word is CERT begins one, spelt or not, and it goes up to the
--- next such line. It is well formed where that line is spelt, CLAIM lines come then, and then MARKS lines, and no other
--- line with words. The digits of its MARKS lines may be parted into lines anyhow. Lines before the first are not looked at.
+-- The groups of a text of certificates. A line whose first word is CERT begins one, spelt or not,
+-- and it goes up to the next such line. It is well formed if that line is spelt, CLAIM lines
+-- follow, and then MARKS lines, and no other line with words. The digits of its MARKS lines may be
+-- divided into lines in any way. Lines before the first group are not looked at.
 use Rattle.std.specs.Prelude.{ℕ, Bool, true, false, if◌then◌else◌, List, [], ◌∷◌, ◌++◌, codes, Option, Some, None}
 use Rattle.std.specs.Prelude.{option_and_then, Result, Ok}
 use Rattle.certificate.specs.Digits.{bits_of_digits}
@@ -17,12 +18,12 @@ use Rattle.sheets.specs.Text.{lines_of}
 unfoldable pub begins_group : List ℕ → Bool
 begins_group line = same_word (first_of_words (words_of line)) (codes "CERT")
 
--- the second of some words; nothing where there is none
+-- the second of some words; nothing if there is none
 abbrev pub second_of_words : List (List ℕ) → List ℕ
 second_of_words [] = []
 second_of_words (word ∷ words) = first_of_words words
 
--- what a CERT line begins: a group without runs and marks; nothing where it is not spelt
+-- what a CERT line begins: a group without runs and marks; nothing if it is not spelt
 abbrev pub group_begun : Result Order Fault → Option Group
 group_begun (Ok (Cert round company revenue)) =
     Some (record { round = round; company = company; claim = record { revenue = revenue; runs = [] }; bits = [] })
@@ -45,7 +46,7 @@ with_reading group words (Ok (Claim kind run)) = with_run group (record { kind =
 with_reading group words (Ok Marks) = Some (with_marks group (second_of_words words))
 with_reading group words other = None
 
--- a group with a line; nothing where it is no longer well formed
+-- a group with a line; nothing if it is no longer well formed
 unfoldable pub with_line : Group → List ℕ → Option Group
 with_line group line = with_reading group (words_of line) (cert_reading_of line)
 
@@ -54,6 +55,10 @@ abbrev pub with_lines : List (List ℕ) → Option Group → Option Group
 with_lines [] group = group
 with_lines (line ∷ lines) group =
     if begins_group line then group else with_lines lines (option_and_then (λ begun. with_line begun line) group)
+
+-- the group that a line begins, with the lines of the text after that
+abbrev pub group_behind : List ℕ → List ℕ → Option Group
+group_behind head text = with_lines (lines_of text) (group_begun (cert_reading_of head))
 
 -- a group, if it is well formed
 abbrev pub group_if : Bool → Group → Option Group

@@ -1,10 +1,10 @@
--- What is written behind an order file and one LF is parted from it again.
+-- What is written after an order file and one LF is split from it again.
 use Rattle.std.specs.Prelude.{◌≡◌, false, true, List, ℕ, ◌∷◌, ◌++◌}
 use Rattle.std.specs.List.{AllByRecursion}
 use Rattle.sheets.specs.Text.{lines_of}
 use Rattle.umpire.specs.Parting.{certificates_of, is_divider, order_file_of}
 
--- a text whose first line alone divides
+-- a text in which only the first line divides
 pub record BeginsAlone (text : List ℕ) : Type 0 where
   pub first : List ℕ
   pub others : List (List ℕ)
@@ -12,7 +12,7 @@ pub record BeginsAlone (text : List ℕ) : Type 0 where
   pub divides : is_divider first ≡ true
   pub alone : AllByRecursion (λ line. is_divider line ≡ false) others
 
--- a file and such a text behind an LF are the file and the text of what both make
+-- a file and such a text after an LF are the file and the text of what both make
 pub record ArePartedAgain (file text : List ℕ) : Type 0 where
   pub order_file : order_file_of (file ++ 10 ∷ text) ≡ file
   pub certificates : certificates_of (file ++ 10 ∷ text) ≡ text

@@ -4,12 +4,14 @@ pub mod Failure
 pub mod Run
 pub mod Parting
 pub mod Groups
+pub mod Verifier
 pub mod Written
 pub mod Laws
 pub mod Rounds
 pub mod Certified
 pub mod Certs
 pub mod Verify
+pub mod OneAnswer
 pub mod ReadAgain
 pub mod Migrated
 pub mod Gathered

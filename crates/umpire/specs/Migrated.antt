@@ -1,6 +1,7 @@
--- What a file goes over to. A file of version 2 stays as it is. In a file of version 1 the first line that is not blank
--- becomes `GAME 1830 2`, and each line whose first word is IF and whose fault is G3 becomes `X`, since in version 2 it could
--- be an order. The ends of lines and all other bytes stay.
+-- The file to which a file migrates. A file of version 2 stays as it is. In a file of version 1 the
+-- first line that is not blank becomes `GAME 1830 2`. Each line whose first word is IF and whose
+-- fault is G3 becomes `X`, since in version 2 it could be an order. The ends of lines and all other
+-- bytes stay.
 use Rattle.std.specs.Prelude.{ℕ, ◌==◌, Bool, true, false, ◌&&◌, if◌then◌else◌, List, [], ◌∷◌, ◌++◌, map, codes, Option}
 use Rattle.std.specs.Prelude.{Some, None, Result, Err}
 use Rattle.std.specs.List.{flat_map}
@@ -14,7 +15,8 @@ use Rattle.order_grammar.specs.declared.order.Order.{Order}
 use Rattle.sheets.specs.File.{header_version}
 use Rattle.sheets.specs.Text.{is_blank, without_return, written_lines}
 
--- a line of a text, and what ends it there: an LF, a CR and an LF, or nothing where the text ends first
+-- a line of a text, and what ends it there: an LF, a CR and an LF, or nothing if the text ends
+-- first
 pub record EndedLine : Type 0 where
   pub line : List ℕ
   pub end : List ℕ
@@ -65,7 +67,7 @@ is_if_line line = same_word (first_of_words (words_of line)) (codes "IF") && is_
 unfoldable pub line_in_two : List ℕ → List ℕ
 line_in_two line = if is_if_line line then codes "X" else line
 
--- the same, with its end
+-- the line of a file of version 2 that stands for a line of a file of version 1, with its end
 abbrev pub ended_in_two : EndedLine → EndedLine
 ended_in_two ended = record { line = line_in_two ended.line; end = ended.end }
 
@@ -73,7 +75,8 @@ ended_in_two ended = record { line = line_in_two ended.line; end = ended.end }
 abbrev pub header_of_two : List ℕ
 header_of_two = codes "GAME 1830 2"
 
--- the lines of a file of version 2 that stand for those of a file of version 1: the first that is not blank is the header
+-- the lines of a file of version 2 that stand for those of a file of version 1: the first that is
+-- not blank is the header
 abbrev pub lines_in_two : List EndedLine → List EndedLine
 lines_in_two [] = []
 lines_in_two (first ∷ lines) =
@@ -85,7 +88,7 @@ lines_in_two (first ∷ lines) =
 unfoldable pub file_in_two : List ℕ → List ℕ
 file_in_two file = text_of_ended (lines_in_two (ended_lines file))
 
--- the text of version 2 that stands for a text of version 1 behind the header line
+-- the text of version 2 that stands for a text of version 1 after the header line
 unfoldable pub body_in_two : List ℕ → List ℕ
 body_in_two text = text_of_ended (map ended_in_two (ended_lines text))
 
@@ -94,11 +97,11 @@ abbrev pub named_version : List (List ℕ) → Option Version
 named_version [] = None
 named_version (line ∷ lines) = header_version (reading_of line)
 
--- what a file goes over to, by the version that it names
+-- the file to which a file migrates, by the version that it names
 abbrev pub migrated_from : Option Version → List ℕ → List ℕ
 migrated_from (Some One) file = file_in_two file
 migrated_from other file = file
 
--- what a file goes over to
+-- the file to which a file migrates
 unfoldable pub migrated : List ℕ → List ℕ
 migrated file = migrated_from (named_version (written_lines file)) file

@@ -1,4 +1,4 @@
--- What going over to version 2 leaves, by what the reader gave and what the writer held.
+-- What migrating to version 2 leaves, by what the reader gave and what the writer held.
 use Rattle.std.specs.Prelude.{◌≡◌, ℕ, Bool, true, false, List, Option, Result, Ok, Err}
 use Rattle.std.specs.Io.KnownBytes.{Appends, Keeps}
 use Rattle.report.specs.Report.{refusal_line}
@@ -10,7 +10,8 @@ use Rattle.umpire.specs.Run.{IsFileOf, IsRefused}
 use Rattle.umpire.specs.declared.fault.Fault.{Fault}
 use Rattle.umpire.specs.declared.fault.Fault.TheVariants.{Read, Write, Memory, File, Certificate}
 
--- what is written of a file, by what it says: what it goes over to, or the line that says why it is refused
+-- what is written of a file, by what it says: the migrated file, or the line that says why it is
+-- refused
 abbrev pub answer_to : List ℕ → Result Content FileFault → List ℕ
 answer_to file (Ok content) = migrated file
 answer_to file (Err fault) = refusal_line fault
@@ -19,7 +20,7 @@ answer_to file (Err fault) = refusal_line fault
 abbrev pub migration_of : List ℕ → List ℕ
 migration_of file = answer_to file (content_of file)
 
--- the file is accepted, and what it goes over to follows what the writer held
+-- the file is accepted, and the migrated file follows what the writer held
 pub record IsMigrated (given old new : Option (List ℕ)) : Type 0 where
   pub file : List ℕ
   pub whole : IsFileOf given file

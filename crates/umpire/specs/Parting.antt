@@ -1,4 +1,5 @@
--- How the input of a check of certificates is parted: into an order file, and the text of the certificates behind it.
+-- How the input of a check of certificates is split: into an order file, and the text of the
+-- certificates after it.
 use Rattle.std.specs.Prelude.{ℕ, ◌==◌, ◌-◌, Bool, true, false, ◌&&◌, if◌then◌else◌, List, [], ◌∷◌, length, take, Option}
 use Rattle.std.specs.Prelude.{Some, None, unwrap_or, Result, Ok}
 use Rattle.std.specs.Option.{option_or}
@@ -35,7 +36,7 @@ without_newline [] = []
 without_newline (byte ∷ []) = if byte == 10 then [] else byte ∷ []
 without_newline (byte ∷ next ∷ bytes) = byte ∷ without_newline (next ∷ bytes)
 
--- the order file of an input, by the text behind it: all before that; the whole where there is none
+-- the order file of an input, by the text after it: all before that; the whole if there is none
 abbrev pub file_before : List ℕ → Option (List ℕ) → List ℕ
 file_before input None = input
 file_before input (Some text) = without_newline (take (length input - length text) input)
@@ -44,7 +45,7 @@ file_before input (Some text) = without_newline (take (length input - length tex
 unfoldable pub order_file_of : List ℕ → List ℕ
 order_file_of input = file_before input (from_divider true input)
 
--- the text of the certificates of an input; nothing where there is none
+-- the text of the certificates of an input; nothing if there is none
 unfoldable pub certificates_of : List ℕ → List ℕ
 certificates_of input = unwrap_or (from_divider true input) []
 

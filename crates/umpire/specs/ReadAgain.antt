@@ -29,7 +29,7 @@ pub record IsReadAgain (group : Group) (read : Option Group) : Type 0 where
         group.bits ++ filling;
   })
 
--- so are groups, one after the other
+-- groups are read again, one after the other
 abbrev pub AreReadAgain : List Group → List (Option Group) → Type 0
 AreReadAgain [] [] = Unit {0}
 AreReadAgain [] (read ∷ others) = ⊥
@@ -41,13 +41,14 @@ abbrev pub ReadsBack : Type 0
 ReadsBack = (groups : List Group) → AllByRecursion CanBeWritten groups
     → AreReadAgain groups (groups_of (certificates_text groups))
 
--- so can groups that certify a game
+-- groups that certify a game can be written
 abbrev pub CertifyingCanBeWritten : Type 0
 CertifyingCanBeWritten =
     (file : List ℕ) (groups : List Group) → IsAccepted file → CertifyGame file groups
     → AllByRecursion CanBeWritten groups
 
--- behind their file and one LF groups that certify its game are answered by its report, where their text is within its limit
+-- `verify` writes the report of a file if groups that certify its game come after it and one LF,
+-- and their text is within its limit
 abbrev pub AcceptsWhatWasWritten : Type 0
 AcceptsWhatWasWritten =
     (file : List ℕ) (groups : List Group) → IsAccepted file → CertifyGame file groups →

@@ -6,14 +6,15 @@ use Rattle.rounds.specs.Steps.{Stays, Underway, started}
 use Rattle.rounds.specs.declared.game.End.{End}
 use Rattle.umpire.specs.Failure.{AppendsPrefix}
 
--- the texts of some rounds of a file, from its first on, follow what the writer held; so far play has come
+-- the texts of some rounds of a file, from its first on, follow what the writer held; so far play
+-- has come
 pub record WritesRounds (file : List ℕ) (play : Underway) (old new : Option (List ℕ)) : Type 0 where
   pub steps : ℕ
   pub text : List ℕ
   pub is_text : IsTextOfSteps steps (started file) play text
   pub written : Appends old new text
 
--- the texts of all rounds do, and a step has answered that play has stopped
+-- the texts of all rounds do, and a step has returned that play has stopped
 pub record WritesAllRounds (file : List ℕ) (ended : Underway) (old new : Option (List ℕ)) : Type 0 where
   pub last : Underway
   pub rounds : WritesRounds file last old new
@@ -28,7 +29,8 @@ pub record WritesPrefixOfRounds (file : List ℕ) (old new : Option (List ℕ)) 
   pub is_text : IsTextOfSteps steps (started file) play text
   pub prefix : AppendsPrefix old new text
 
--- these are the texts of all rounds of a file, one after the other, and a step has answered that play has stopped
+-- these are the texts of all rounds of a file, one after the other, and a step has returned that
+-- play has stopped
 pub record IsTextOfRounds (file : List ℕ) (ended : Underway) (text : List ℕ) : Type 0 where
   pub steps : ℕ
   pub last : Underway

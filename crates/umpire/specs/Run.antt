@@ -8,11 +8,11 @@ use Rattle.umpire.specs.Failure.{AppendsPrefix}
 use Rattle.umpire.specs.declared.fault.Fault.{Fault}
 use Rattle.umpire.specs.declared.fault.Fault.TheVariants.{Read, Write, Memory, File, Certificate}
 
--- as much of a file as is read: one byte more than the most that a file may have
+-- as much of a file as is read: one more byte than the most that a file may have
 unfoldable pub as_read : List ℕ → List ℕ
 as_read bytes = take 67108865 bytes
 
--- the first of the bytes that a reader gives, this many at most, where they are known
+-- the first of the bytes that a reader gives, this many at most, if they are known
 abbrev pub AreFirst : ℕ → Option (List ℕ) → List ℕ → Type 0
 AreFirst most given bytes = IfSome given (λ all. bytes ≡ take most all)
 
@@ -20,7 +20,7 @@ AreFirst most given bytes = IfSome given (λ all. bytes ≡ take most all)
 abbrev pub IsAsRead : Option (List ℕ) → List ℕ → Type 0
 IsAsRead given file = IfSome given (λ bytes. file ≡ as_read bytes)
 
--- why reading stopped early: a call failed, or memory ran out
+-- why reading stopped early: a read or an allocation failed
 abbrev pub IsReadFault : Bool → Fault → Type 0
 IsReadFault failed Read = failed ≡ true
 IsReadFault failed Memory = failed ≡ false
@@ -28,7 +28,7 @@ IsReadFault failed Write = ⊥
 IsReadFault failed (File fault) = ⊥
 IsReadFault failed (Certificate round company) = ⊥
 
--- why writing stopped early: a call failed or took nothing, or memory ran out
+-- why writing stopped early: a write failed or took nothing, or an allocation failed
 abbrev pub IsWriteFault : Bool → Fault → Type 0
 IsWriteFault failed Write = failed ≡ true
 IsWriteFault failed Memory = failed ≡ false
@@ -36,7 +36,7 @@ IsWriteFault failed Read = ⊥
 IsWriteFault failed (File fault) = ⊥
 IsWriteFault failed (Certificate round company) = ⊥
 
--- the file is all the bytes that the reader gives, where they are known
+-- the file is all the bytes that the reader gives, if they are known
 abbrev pub IsFileOf : Option (List ℕ) → List ℕ → Type 0
 IsFileOf given file = IfSome given (λ bytes. file ≡ bytes)
 
@@ -55,6 +55,14 @@ pub record IsRefused (given old new : Option (List ℕ)) (fault : FileFault) : T
   pub whole : IsFileOf given file
   pub refused : content_of file ≡ Err fault
   pub written : Appends old new (refusal_line fault)
+
+-- the file is refused, and a prefix of the line that says so follows what the writer held
+pub record IsCutInRefusal (given old new : Option (List ℕ)) : Type 0 where
+  pub file : List ℕ
+  pub fault : FileFault
+  pub whole : IsFileOf given file
+  pub refused : content_of file ≡ Err fault
+  pub prefix : AppendsPrefix old new (refusal_line fault)
 
 -- a prefix of the file's report, or nothing, follows what the writer held
 pub record IsCutShort (given old new : Option (List ℕ)) : Type 0 where

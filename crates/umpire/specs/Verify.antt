@@ -1,7 +1,8 @@
--- What the check of certificates answers. The input is parted into an order file and the text of certificates behind it.
--- The game of the file is played, and its runner answers each call by the next group of the text: the k-th RUN BEST that
--- is obeyed is judged by the k-th group, and groups left over are not looked at.
-use Rattle.std.specs.Prelude.{◌≡◌, ℕ, ◌+◌, ◌≤◌, nat_lt, Bool, true, false, if◌then◌else◌, List, [], ◌∷◌, ◌++◌, length}
+-- What the check of certificates writes. The input is split into an order file and the text of
+-- certificates after it. The game of the file is played, and each call of its runner uses the next
+-- group of the text. So the k-th RUN BEST that is obeyed is judged by the k-th group, and groups
+-- left over are not looked at.
+use Rattle.std.specs.Prelude.{◌≡◌, ◌⊎◌, ℕ, nat_lt, Bool, true, false, if◌then◌else◌, List, [], ◌∷◌, ◌++◌, length}
 use Rattle.std.specs.Prelude.{codes, Option, Some, None, Result, Ok, Err, IsOk}
 use Rattle.std.specs.Io.KnownBytes.{Appends, Keeps}
 use Rattle.certificate.specs.Checked.{Shows}
@@ -19,13 +20,15 @@ use Rattle.sheets.specs.declared.fault.FileFault.TheVariants.{TooLong}
 use Rattle.tables.specs.Roster.{code_of_company}
 use Rattle.tables.specs.declared.roster.Company.{Company}
 use Rattle.tables.specs.declared.round.Round.{Round}
+use Rattle.umpire.specs.Failure.{AppendsPrefix}
 use Rattle.umpire.specs.Groups.{groups_of}
 use Rattle.umpire.specs.Parting.{certificates_most, certificates_of, order_file_of}
 use Rattle.umpire.specs.Run.{IsFileOf}
 use Rattle.umpire.specs.declared.fault.Fault.{Fault}
 use Rattle.umpire.specs.declared.fault.Fault.TheVariants.{Read, Write, Memory, File, Certificate}
 
--- a call has its group: one that is well formed, for its round and company, and accepted at its position for its trains
+-- a call has its group: one that is well formed, for its round and company, and accepted at its
+-- position for its trains
 abbrev pub HasGroup : Call → Option Group → Type 0
 HasGroup call None = ⊥
 HasGroup call (Some group) = Shows call.position call.round call.company call.trains group
@@ -55,7 +58,7 @@ pub record LacksGroup (file : List ℕ) (groups : List (Option Group)) (round : 
   pub have : HaveGroups earlier groups
   pub lacks : ¬ HaveGroups (earlier ++ call ∷ []) groups
 
--- how the game of a file is judged by groups; nothing is said where memory is refused
+-- how the game of a file is judged by groups; nothing is said if allocation fails
 abbrev pub IsJudged : {A : Type 0} → List ℕ → List (Option Group) → Result A PlayFault → Type 0
 IsJudged file groups (Ok game) = HasAllGroups file groups
 IsJudged file groups (Err (play.Refused round company)) = LacksGroup file groups round company
@@ -66,7 +69,8 @@ abbrev pub uncertified_line : Round → Company → List ℕ
 uncertified_line round company =
     codes "CERTIFICATE REFUSED " ++ text_of_round round ++ 32 ∷ code_of_company company ++ 10 ∷ []
 
--- what an order file that is not refused is answered, by the groups behind it: an outcome, and a text that is written
+-- what is returned and written for an order file that is not refused, by the groups after it: an
+-- outcome, and a text
 abbrev pub AnswersGame : List ℕ → List (Option Group) → Result (Unit {0}) Fault → List ℕ → Type 0
 AnswersGame file groups (Ok done) text = HasAllGroups file groups × IsReport file text
 AnswersGame file groups (Err (Certificate round company)) text =
@@ -76,52 +80,65 @@ AnswersGame file groups (Err Read) text = ⊥
 AnswersGame file groups (Err Write) text = ⊥
 AnswersGame file groups (Err Memory) text = ⊥
 
--- it is answered so, and the answer follows what the writer held
+-- for an order file that is not refused, this outcome is returned and this text follows what the
+-- writer held
 pub record IsGameAnswered (file : List ℕ) (groups : List (Option Group)) (outcome : Result (Unit {0}) Fault)
     (old new : Option (List ℕ)) : Type 0 where
   pub text : List ℕ
   pub answers : AnswersGame file groups outcome text
   pub written : Appends old new text
 
+-- a prefix of its answer follows what the writer held
+pub record IsGameCutShort (file : List ℕ) (groups : List (Option Group)) (old new : Option (List ℕ)) : Type 0 where
+  pub outcome : Result (Unit {0}) Fault
+  pub text : List ℕ
+  pub answers : AnswersGame file groups outcome text
+  pub prefix : AppendsPrefix old new text
+
+-- nothing more is written, or such a prefix
+abbrev pub IsGameCut : List ℕ → List (Option Group) → Option (List ℕ) → Option (List ℕ) → Type 0
+IsGameCut file groups old new = Keeps old new ⊎ IsGameCutShort file groups old new
+
 -- what a fault leaves there, and whether a call of the writer has failed
 abbrev pub StopsGame : List ℕ → List (Option Group) → Option (List ℕ) → Option (List ℕ) → Bool → Fault → Type 0
 StopsGame file groups old new failed Read = ⊥
-StopsGame file groups old new failed Write = failed ≡ true
-StopsGame file groups old new failed Memory = failed ≡ false
+StopsGame file groups old new failed Write = (failed ≡ true) × IsGameCut file groups old new
+StopsGame file groups old new failed Memory = (failed ≡ false) × IsGameCut file groups old new
 StopsGame file groups old new failed (File fault) = ⊥
 StopsGame file groups old new failed (Certificate round company) =
     (failed ≡ false) × IsGameAnswered file groups (Err (Certificate round company)) old new
 
--- what a fault leaves where a file is refused: the line that says so, unless writing it was stopped
+-- what a fault leaves if a file is refused: the line that says so, or a prefix of it if writing was
+-- stopped
 abbrev pub Refuses : FileFault → Option (List ℕ) → Option (List ℕ) → Bool → Fault → Type 0
 Refuses refusal old new failed Read = ⊥
-Refuses refusal old new failed Write = failed ≡ true
-Refuses refusal old new failed Memory = failed ≡ false
+Refuses refusal old new failed Write = (failed ≡ true) × AppendsPrefix old new (refusal_line refusal)
+Refuses refusal old new failed Memory = (failed ≡ false) × AppendsPrefix old new (refusal_line refusal)
 Refuses refusal old new failed (File fault) = (failed ≡ false) × (fault ≡ refusal)
     × Appends old new (refusal_line refusal)
 Refuses refusal old new failed (Certificate round company) = ⊥
 
--- what the order file of an input says, or why the input is refused: its text of certificates is over its limit, or the
--- order file is refused
+-- what the order file of an input says, or why the input is refused: its text of certificates is
+-- over its limit, or the order file is refused
 unfoldable pub content_of_input : List ℕ → Result Content FileFault
 content_of_input input =
     if nat_lt certificates_most (length (certificates_of input)) then Err TooLong else content_of (order_file_of input)
 
--- what is answered where a file is refused
+-- what is returned and written if a file is refused
 abbrev pub IsRefusal : FileFault → Result (Unit {0}) Fault → List ℕ → Type 0
 IsRefusal fault outcome text = (outcome ≡ Err (File fault)) × (text ≡ refusal_line fault)
 
--- what an input is answered, by what it says
+-- what is returned and written for an input, by what it says
 abbrev pub AnswersContent : List ℕ → Result Content FileFault → Result (Unit {0}) Fault → List ℕ → Type 0
 AnswersContent input (Ok content) outcome text =
     AnswersGame (order_file_of input) (groups_of (certificates_of input)) outcome text
 AnswersContent input (Err fault) outcome text = IsRefusal fault outcome text
 
--- what an input is answered
+-- what is returned and written for an input
 abbrev pub AnswersInput : List ℕ → Result (Unit {0}) Fault → List ℕ → Type 0
 AnswersInput input outcome text = AnswersContent input (content_of_input input) outcome text
 
--- the input is answered so, and the answer follows what the writer held
+-- for the input, this outcome is returned and the text follows what the writer held
 pub record IsAnswered (given : Option (List ℕ)) (outcome : Result (Unit {0}) Fault) (old new : Option (List ℕ)) : Type
     0 where
   pub input : List ℕ
@@ -130,12 +147,26 @@ pub record IsAnswered (given : Option (List ℕ)) (outcome : Result (Unit {0}) F
   pub answers : AnswersInput input outcome text
   pub written : Appends old new text
 
--- what a fault leaves, and which calls of the reader and the writer have failed; of what is written before a write fails
--- or memory is refused nothing is said
+-- a prefix of its answer follows what the writer held
+pub record IsAnswerCutShort (given old new : Option (List ℕ)) : Type 0 where
+  pub input : List ℕ
+  pub outcome : Result (Unit {0}) Fault
+  pub text : List ℕ
+  pub whole : IsFileOf given input
+  pub answers : AnswersInput input outcome text
+  pub prefix : AppendsPrefix old new text
+
+-- nothing more is written, or such a prefix
+abbrev pub IsAnswerCut : Option (List ℕ) → Option (List ℕ) → Option (List ℕ) → Type 0
+IsAnswerCut given old new = Keeps old new ⊎ IsAnswerCutShort given old new
+
+-- what a fault leaves, and which calls of the reader and the writer have failed
 abbrev pub StopsVerify : Option (List ℕ) → Option (List ℕ) → Option (List ℕ) → Bool → Bool → Fault → Type 0
 StopsVerify given old new read_failed write_failed Read = (read_failed ≡ true) × (write_failed ≡ false) × Keeps old new
-StopsVerify given old new read_failed write_failed Write = (read_failed ≡ false) × (write_failed ≡ true)
-StopsVerify given old new read_failed write_failed Memory = (read_failed ≡ false) × (write_failed ≡ false)
+StopsVerify given old new read_failed write_failed Write =
+    (read_failed ≡ false) × (write_failed ≡ true) × IsAnswerCut given old new
+StopsVerify given old new read_failed write_failed Memory =
+    (read_failed ≡ false) × (write_failed ≡ false) × IsAnswerCut given old new
 StopsVerify given old new read_failed write_failed (File fault) =
     (read_failed ≡ false) × (write_failed ≡ false) × IsAnswered given (Err (File fault)) old new
 StopsVerify given old new read_failed write_failed (Certificate round company) =

@@ -1,5 +1,5 @@
--- A reader or a writer that remembers whether a call of it failed: what it passes each call on to, and
--- whether one has failed.
+-- A reader or a writer that remembers whether a call of it failed: what it passes each call on to,
+-- and whether one has failed.
 use Rattle.std.specs.Prelude.{Bool}
 use Rattle.umpire.specs.declared.watched.Watched.{Watched}
 

@@ -1,5 +1,5 @@
--- The text of certificates that is written: `CERTS 1`, and for each group its CERT line, a CLAIM line for each run, and
--- MARKS lines, all full but the last.
+-- The text of certificates that is written: `CERTS 1`, and for each group its CERT line, a CLAIM
+-- line for each run, and MARKS lines, all full but the last.
 use Rattle.std.specs.Prelude.{ℕ, zero, suc, Bool, List, [], ◌∷◌, ◌++◌, length, take, drop, codes}
 use Rattle.std.specs.List.{flat_map}
 use Rattle.certificate.specs.Digits.{digits_of}

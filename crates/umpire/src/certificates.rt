@@ -1,14 +1,14 @@
-//! Certificates, written: for each company that ran its best, what it ran, and marks by which anybody
-//! checks without a search that it could not earn more.
+//! Certificates, written. For each company that ran its best they have what it ran, and marks by
+//! which anybody checks without a search that it could not earn more.
 ghost use Rattle.best_run.specs.Keeping.{KeepsBest};
 ghost use Rattle.operating.specs.Calls.{Makes};
 ghost use Rattle.rounds.specs.Steps.{ComesNearer, IsUnbroken, StepCalls, StepLeads};
 ghost use Rattle.sheets.specs.File.{IsAccepted};
 ghost use Rattle.std.specs.Io.KnownBytes.{Appends};
 ghost use Rattle.std.specs.List.{flat_map};
-ghost use Rattle.std.specs.Prelude.{◌≡◌, false, IfErr, IfOk, Ok, OnOk, Some};
-ghost use Rattle.umpire.specs.Certs.{IsCertified, StopsCerts};
-ghost use Rattle.umpire.specs.Failure.{TakesWithin};
+ghost use Rattle.std.specs.Prelude.{◌≡◌, false, IfErr, IfOk, Ok, OnErr, OnOk, Some};
+ghost use Rattle.umpire.specs.Certs.{IsCertified, IsCutInGroups, StopsCerts};
+ghost use Rattle.umpire.specs.Failure.{AppendsPrefix, TakesWithin};
 ghost use Rattle.umpire.specs.Run.{IsWriteFault};
 ghost use Rattle.umpire.specs.Watched.{has_failed, inside};
 ghost use Rattle.umpire.specs.Written.{group_text, marks_lines, order_line};
@@ -28,16 +28,16 @@ use std::alloc::{AllocError, Global};
 use std::io::{Read, Write};
 
 /// Reads an order file to its end, or to the first byte past the greatest size of a file, and
-/// writes the certificates of its game: `CERTS 1`, and for each RUN BEST that is obeyed, in order, a
-/// group that `verify` accepts. The game is played a round at a time, and what was found in a round is
-/// written before the next: no more than one round's marks are held at a time. What the writer then
-/// holds is what it held and, at
+/// writes the certificates of its game. They are `CERTS 1`, and for each RUN BEST that is obeyed,
+/// in order, a group that `verify` accepts. The game is played a round at a time, and what was
+/// found in a round is written before the next. No more than one round's marks are held at a time.
+/// The writer then holds what it held before, and after it, at
 ///
 /// - `Ok`: that text, whole;
-/// - `File`, where the file is refused: the one line that says so, whole;
-/// - `Read`, where a read failed: nothing more;
-/// - `Write`, where a write failed or took nothing, and `Memory`, where memory was refused: more, of
-///   which nothing is promised.
+/// - `File`, if the file is refused: the one line that says so, whole;
+/// - `Read`, if a read failed: nothing more;
+/// - `Write`, if a write failed or took nothing, and `Memory`, if an allocation failed: a prefix of
+///   the text of groups that certify the game's first calls, or of that line, or nothing more.
 pub fn certs<R: Read, W: Write>(
     alloc: Global,
     reader: &mut Watched<R>,
@@ -75,6 +75,7 @@ fn write_certificates<W: Write>(
 {
     match collect(alloc, file) {
         Ok(sheets) => write_game(alloc, &sheets, writer),
+        // An allocation failed: passed on.
         Err(FileFault::Memory) => Err(Fault::Memory),
         Err(fault) => {
             write_refusal(alloc, fault, writer)?;
@@ -95,9 +96,11 @@ fn write_game<W: Write>(
         (W.contents (inside writer.old)) (W.contents (inside writer.new))) }
     ensures unfailed { OnOk result (has_failed writer.new ≡ false) }
     ensures err { IfErr result (IsWriteFault (has_failed writer.new)) }
+    ensures prefix { OnErr result (IsCutInGroups (Some sheets.now)
+        (W.contents (inside writer.old)) (W.contents (inside writer.new))) }
 {
-    // Laws, which do nothing when they run: the calls of the steps are those of the game, and each of
-    // them is answered.
+    // Laws, which do nothing when they run: the calls of the steps are those of the game, and each
+    // of them succeeds.
     rounds::laws::calls_are_answered();
     rounds::laws::steps_call_the_game();
     write_head(alloc, writer)?;
@@ -118,6 +121,8 @@ fn write_head<W: Write>(alloc: Global, writer: &mut Watched<W>) -> Result<(), Fa
         (W.contents (inside writer.new)) (order_line Certs)) }
     ensures unfailed { OnOk result (has_failed writer.new ≡ false) }
     ensures err { IfErr result (IsWriteFault (has_failed writer.new)) }
+    ensures prefix { OnErr result (AppendsPrefix (W.contents (inside writer.old))
+        (W.contents (inside writer.new)) (order_line Certs)) }
 {
     let mut line = Vec::new(alloc);
     print_certs(&mut line)?;
@@ -125,7 +130,8 @@ fn write_head<W: Write>(alloc: Global, writer: &mut Watched<W>) -> Result<(), Fa
     Ok(())
 }
 
-/// A step of a play that was not broken off, in which the best runs are searched for and kept.
+/// Takes a step of a play that was not broken off, in which the best runs are searched for and
+/// kept.
 fn step(play: &mut Play, keeping: &mut Keeping) -> Result<Step, AllocError>
     requires { IsUnbroken play.old }
     ensures step { IfOk result (λ step. StepLeads play.old (Ok step) play.new) }
@@ -150,6 +156,8 @@ fn write_groups<W: Write>(
         (W.contents (inside writer.new)) (flat_map group_text groups.now)) }
     ensures unfailed { OnOk result (has_failed writer.new ≡ false) }
     ensures err { IfErr result (IsWriteFault (has_failed writer.new)) }
+    ensures prefix { OnErr result (AppendsPrefix (W.contents (inside writer.old))
+        (W.contents (inside writer.new)) (flat_map group_text groups.now)) }
 {
     for group in groups {
         write_group(alloc, group, writer)?;
@@ -164,6 +172,8 @@ fn write_group<W: Write>(alloc: Global, group: &Group, writer: &mut Watched<W>) 
         (W.contents (inside writer.new)) (group_text group.now)) }
     ensures unfailed { OnOk result (has_failed writer.new ≡ false) }
     ensures err { IfErr result (IsWriteFault (has_failed writer.new)) }
+    ensures prefix { OnErr result (AppendsPrefix (W.contents (inside writer.old))
+        (W.contents (inside writer.new)) (group_text group.now)) }
 {
     let mut text = Vec::new(alloc);
     print_claim(&mut text, group)?;
@@ -178,6 +188,8 @@ fn write_marks<W: Write>(alloc: Global, bits: &Bits, writer: &mut Watched<W>) ->
         (W.contents (inside writer.new)) (marks_lines bits.now)) }
     ensures unfailed { OnOk result (has_failed writer.new ≡ false) }
     ensures err { IfErr result (IsWriteFault (has_failed writer.new)) }
+    ensures prefix { OnErr result (AppendsPrefix (W.contents (inside writer.old))
+        (W.contents (inside writer.new)) (marks_lines bits.now)) }
 {
     let mut marks = bits.reader();
     let mut line = Vec::new(alloc);

@@ -15,8 +15,8 @@ use rounds::Play;
 use std::alloc::Global;
 use std::io::Write;
 
-/// How many unread lines are written at a time. One takes some twenty bytes of a report and may be
-/// two bytes of a file: so the text of all of them may be ten times the file, and is never held at
+/// How many unread lines are written at a time. The text of one may be twenty bytes of a report for
+/// two bytes of a file. So the text of all of them may be ten times the file, and is never held at
 /// once.
 const UNREAD_AT_ONCE: usize = 4_096;
 

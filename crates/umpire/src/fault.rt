@@ -16,7 +16,7 @@ pub enum Fault {
     /// A write failed, or took nothing.
     #[error("the report could not be written")]
     Write,
-    /// Memory was refused.
+    /// An allocation failed.
     #[error("memory ran out")]
     Memory,
     /// The order file is refused as a whole, and the line that says so is written.
@@ -32,12 +32,13 @@ impl From<AllocError> for Fault {
     ghost from_gives = { λ _ fault. fault ≡ Memory };
 
     fn from(_error: AllocError) -> Fault {
+        // An allocation failed: passed on.
         Fault::Memory
     }
 }
 
-/// The exit status of the program: 0 for a report, 2 for a refused file, 3 for a refused
-/// certificate, 4 where reading, writing or memory failed.
+/// Returns the exit status of the program: 0 for a report, 2 for a refused file, 3 for a refused
+/// certificate, 4 if a read, a write or an allocation failed.
 pub fn status(outcome: &Result<(), Fault>) -> u8
     ensures { result ≡ status_of outcome.now }
 {
@@ -49,8 +50,8 @@ pub fn status(outcome: &Result<(), Fault>) -> u8
     }
 }
 
-/// The word for a fault on standard error; empty for a refused file or certificate, of which what is
-/// written speaks.
+/// Returns the word for a fault on standard error; empty for a refused file or certificate, of
+/// which a line was written.
 pub fn word(fault: &Fault) -> &'static str
     ensures { result.now ≡ word_of fault.now }
 {

@@ -13,7 +13,7 @@ use std::io::Write;
 /// From how many bytes on a text is written; a shorter one is gathered with what follows it.
 const PIECE: usize = 65_536;
 
-/// Puts a text behind what is gathered, and writes what has become long enough. At most two pieces
+/// Adds a text after what is gathered, and writes what has become long enough. At most two pieces
 /// are gathered.
 pub(crate) fn put<W: Write>(
     gathered: &mut Vec<u8>,

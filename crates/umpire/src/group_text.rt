@@ -7,16 +7,16 @@ use certificate::{BitReader, ClaimedRun, Group};
 use order_grammar::{MARKS_DIGITS_MOST, Order, print_order};
 use std::alloc::AllocError;
 
-/// Adds the line with which a text of certificates begins. It fails only if memory is refused, and
-/// then a part may be added.
+/// Adds the line with which a text of certificates begins. Fails only if allocation fails; then a
+/// part may be added.
 pub(crate) fn print_certs(text: &mut Vec<u8>) -> Result<(), AllocError>
     ensures { OnOk result (text.new.items ≡ text.old.items ++ order_line Certs) }
 {
     print_order_line(text, &Order::Certs)
 }
 
-/// Adds the lines of a group before its marks: its CERT line, and a CLAIM line for each run. It fails
-/// only if memory is refused, and then a part may be added.
+/// Adds the lines of a group before its marks: its CERT line, and a CLAIM line for each run. Fails
+/// only if allocation fails; then a part may be added.
 pub(crate) fn print_claim(text: &mut Vec<u8>, group: &Group) -> Result<(), AllocError>
     ensures { OnOk result (text.new.items ≡ text.old.items ++ claim_text group.now) }
 {
@@ -29,8 +29,8 @@ pub(crate) fn print_claim(text: &mut Vec<u8>, group: &Group) -> Result<(), Alloc
     print_runs(text, group.claim.runs.as_slice())
 }
 
-/// Adds a MARKS line of the next marks: 1,000 digits, or all where fewer are left. It fails only if
-/// memory is refused, and then a part may be added.
+/// Adds a MARKS line of the next marks: 1,000 digits, or all if fewer are left. Fails only if
+/// allocation fails; then a part may be added.
 pub(crate) fn print_marks(text: &mut Vec<u8>, marks: &mut BitReader) -> Result<(), AllocError>
     ensures printed { OnOk result (text.new.items ≡ text.old.items ++ marks_line marks.old) }
     ensures left { OnOk result (marks.new ≡ drop 4000 marks.old) }

@@ -1,35 +1,42 @@
-ghost use Rattle.std.specs.Prelude.{◌≡◌, IfOk, OnOk};
-ghost use Rattle.umpire.specs.Groups.{begins_group, group_begun, group_if, groups_of, second_of_words, with_line};
-ghost use Rattle.umpire.specs.Groups.{with_lines, with_marks, with_run};
+ghost use Rattle.std.specs.Prelude.{◌≡◌, [], ◌∷◌, IfOk, MatchOption, OnOk};
+ghost use Rattle.umpire.specs.Groups.{begins_group, group_begun, group_behind, group_if, groups_of, second_of_words};
+ghost use Rattle.umpire.specs.Groups.{with_line, with_marks, with_run};
+ghost use Rattle.umpire.specs.Verifier.{IsReadFor};
 ghost use Rattle.order_grammar.specs.Line.{cert_reading_of};
 ghost use Rattle.order_grammar.specs.Words.{texts_of};
-ghost use Rattle.sheets.specs.Text.{lines_of};
 
 use certificate::{Bits, Claim, ClaimedRun, ClaimedRuns, Group};
 use order_grammar::{Line, Order, Words, begins_with_word, read_cert_line};
-use sheets::first_line;
+use sheets::{Piece, first_line};
 use std::alloc::{AllocError, Global};
 
-/// Reads the groups of a text of certificates, in order; `None` is one that is malformed. It fails
-/// only if memory is refused.
-pub fn read_groups(alloc: Global, text: &[u8]) -> Result<Vec<Option<Group>>, AllocError>
-    ensures { IfOk result (λ groups. groups.items ≡ groups_of text.now) }
+/// Returns the next line of a text of certificates that begins a group, and the text after it.
+/// `None` means that none is left.
+pub(crate) fn next_head(text: &[u8]) -> Option<Piece<'_>>
+    ensures { MatchOption result (groups_of text.now ≡ [])
+        (λ head. groups_of text.now ≡
+        group_behind head.line.now head.rest.now ∷ groups_of head.rest.now) }
 {
-    let mut groups = Vec::new(alloc);
     let mut rest = text;
     while let Some(piece) = first_line(rest) {
         if begins_group(piece.line) {
-            groups.push(read_group(alloc, piece.line, piece.rest)?)?;
+            return Some(piece);
         }
         rest = piece.rest;
     }
-    Ok(groups)
+    None
 }
 
-/// Reads a group from its CERT line and the text behind that, up to the next CERT line.
-fn read_group(alloc: Global, head: &[u8], text: &[u8]) -> Result<Option<Group>, AllocError>
-    ensures { IfOk result (λ group. group ≡
-        with_lines (lines_of text.now) (group_begun (cert_reading_of head.now))) }
+/// Reads a group for this many trains, from its CERT line and the text after that, up to the next
+/// CERT line. `None` is a group that is malformed, or claims more runs than there are trains. So one
+/// run more than that is the most that is held. Fails only if allocation fails.
+pub(crate) fn read_group(
+    alloc: Global,
+    head: &[u8],
+    text: &[u8],
+    trains: usize,
+) -> Result<Option<Group>, AllocError>
+    ensures { IfOk result (λ group. IsReadFor trains (group_behind head.now text.now) group) }
 {
     let Some(mut group) = group_begun(alloc, head) else {
         return Ok(None);
@@ -42,12 +49,15 @@ fn read_group(alloc: Global, head: &[u8], text: &[u8]) -> Result<Option<Group>, 
         if !take_line(&mut group, piece.line)? {
             return Ok(None);
         }
+        if group.claim.runs.as_slice().len() > trains {
+            return Ok(None);
+        }
         rest = piece.rest;
     }
     Ok(Some(group))
 }
 
-/// Whether the first word of a line is CERT.
+/// Returns whether the first word of a line is CERT.
 #[tactic(auto, unfolding(crate::specs::Groups::begins_group))]
 fn begins_group(line: &[u8]) -> bool
     ensures { result ≡ begins_group line.now }
@@ -55,7 +65,7 @@ fn begins_group(line: &[u8]) -> bool
     begins_with_word(line, b"CERT")
 }
 
-/// What a CERT line begins; `None` where it is not spelt.
+/// Returns what a CERT line begins; `None` if it is not spelt.
 fn group_begun(alloc: Global, head: &[u8]) -> Option<Group>
     ensures { result ≡ group_begun (cert_reading_of head.now) }
 {
@@ -77,7 +87,7 @@ fn group_begun(alloc: Global, head: &[u8]) -> Option<Group>
     }
 }
 
-/// Takes a line into a group. `false` says that the group is malformed with it, and then the group
+/// Takes a line into a group. Returns `false` if the line makes the group malformed; then the group
 /// stays as it was.
 #[tactic(auto, unfolding(crate::specs::Groups::with_line))]
 fn take_line(group: &mut Group, line: &[u8]) -> Result<bool, AllocError>
@@ -97,7 +107,7 @@ fn take_line(group: &mut Group, line: &[u8]) -> Result<bool, AllocError>
     }
 }
 
-/// Takes a run into a group, unless that has marks.
+/// Takes a run into a group, unless the group has marks. Returns whether it was taken.
 fn take_run(group: &mut Group, run: ClaimedRun) -> Result<bool, AllocError>
     ensures { IfOk result (λ taken. group_if taken group.new ≡ with_run group.old run
         group.old.bits) }

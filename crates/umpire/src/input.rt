@@ -10,7 +10,7 @@ use sheets::FILE_MOST;
 use std::alloc::Global;
 use std::io::Read;
 
-/// How many bytes are asked for at a time.
+/// How many bytes are requested at a time.
 const PIECE: usize = 65_536;
 
 /// Reads the order file to its end, or to the first byte past the greatest size of a file.
@@ -28,7 +28,7 @@ pub(crate) fn read_file<R: Read>(alloc: Global, reader: &mut Watched<R>) -> Resu
     read_first(alloc, FILE_MOST + 1, reader)
 }
 
-/// Reads this many bytes, or all where there are no more.
+/// Reads this many bytes, or all if there are no more.
 pub(crate) fn read_first<R: Read>(
     alloc: Global,
     most: usize,

@@ -1,5 +1,6 @@
-//! Laws of the definitions, each the contract of a function that does nothing.
+//! The laws of the definitions. Each is the contract of a function that does nothing.
 ghost use Rattle.umpire.specs.Laws.{PartsWhatWasJoined};
+ghost use Rattle.umpire.specs.OneAnswer.{OneAnswer};
 ghost use Rattle.umpire.specs.ReadAgain.{AcceptsWhatWasWritten, CertifyingCanBeWritten, ReadsBack};
 
 pub use crate::migration_laws::{
@@ -7,20 +8,21 @@ pub use crate::migration_laws::{
     migration_changes_no_report,
 };
 
-/// An order file, one LF, and a text whose first line alone is `CERTS 1` part into the file and the
-/// text.
+/// States that an order file, one LF, and a text in which only the first line is `CERTS 1` split
+/// into the file and the text.
 pub fn joined_is_parted()
     ensures { PartsWhatWasJoined }
 {}
 
-/// Groups whose lines have a spelling are read again as they were written, but that the last digit
-/// of their bits is filled up.
+/// States that groups whose lines have a spelling are read again as they were written, except that
+/// the last digit of their bits is filled up.
 pub fn certificates_are_read_again()
     ensures { ReadsBack }
 {}
 
-/// The lines of groups that certify the game of an accepted order file have a spelling: each round is
-/// one that a line can name, each revenue is under 50,000 dollars, and each run has 2 to 280 places.
+/// States that the lines of groups that certify the game of an accepted order file have a spelling.
+/// Each round is one that a line can name, each revenue is under 50,000 dollars, and each run has 2
+/// to 280 places.
 pub fn certifying_groups_can_be_written()
     ensures { CertifyingCanBeWritten }
 {
@@ -28,11 +30,19 @@ pub fn certifying_groups_can_be_written()
     legal_runs::laws::claims_have_places()
 }
 
-/// An accepted order file, one LF, and the text of groups that certify its game, as `certs` writes
-/// it, are answered by the report of the file, where that text is within its limit.
+/// States that `verify` writes the report of an accepted order file for the file, one LF, and the
+/// text of groups that certify its game, as `certs` writes it. That text must be within its limit.
 pub fn written_certificates_are_accepted()
     ensures { AcceptsWhatWasWritten }
 {
     certifying_groups_can_be_written();
     report::laws::some_report()
+}
+
+/// States that for one input `verify` has one result and one text.
+pub fn one_answer()
+    ensures { OneAnswer }
+{
+    rounds::laws::one_list_of_calls();
+    report::laws::one_report()
 }

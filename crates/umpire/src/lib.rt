@@ -1,14 +1,14 @@
 //! The umpire: bytes of an order file in, bytes of its report out. The report is written part by
-//! part, so that memory holds the text of one part at a time: the header, a round, 4,096 unread lines,
-//! or the end.
+//! part, so that memory holds the text of one part at a time: the header, a round, 4,096 unread
+//! lines, or the end.
 //!
 //! Reading order: `watched` (readers and writers that remember a failure), `fault`, `input`,
-//! `output` (a text), `refusal` (of a file), `ending` (what follows the rounds of a report), `program`
-//! (the report, and `run`); `certificates` (those of a game, written), `group_text` (how a group is
-//! written), `parting` (an order file and the text of certificates behind it), `groups` (which are
-//! read from that text), `verification` (the game of a file, judged by them); `gathering` (a text that
-//! is written in long pieces), `migration` (a file that goes over to version 2); `laws`,
-//! `migration_laws`.
+//! `output` (a text), `refusal` (of a file), `ending` (what follows the rounds of a report),
+//! `program` (the report, and `run`); `certificates` (those of a game, written), `group_text` (how
+//! a group is written), `parting` (an order file and the text of certificates after it), `groups`
+//! (how one is read from that text), `verifier` (a runner that goes by them), `verification` (the
+//! game of a file, judged by them); `gathering` (a text that is written in long pieces), `migration`
+//! (a file that migrates to version 2); `laws`, `migration_laws`.
 #![tactic(auto)]
 
 mod certificates;
@@ -26,11 +26,11 @@ mod parting;
 mod program;
 mod refusal;
 mod verification;
+mod verifier;
 mod watched;
 
 pub use certificates::certs;
 pub use fault::{Fault, status, word};
-pub use groups::read_groups;
 pub use migration::migrate;
 pub use parting::{CERTIFICATES_MOST, Parted, part};
 pub use program::run;

@@ -25,14 +25,14 @@ use std::io::{Read, Write};
 const HEADER: &[u8] = b"GAME 1830 2";
 
 /// Reads an order file to its end, or to the first byte past the greatest size of a file, and
-/// writes what it goes over to, a file of version 2. What the writer then holds is what it held and,
-/// at
+/// writes the file of version 2 to which it migrates. The writer then holds what it held before,
+/// and after it, at
 ///
 /// - `Ok`: the new file, whole;
-/// - `File`, where the file is refused: the one line that says so, whole;
-/// - `Read`, where a read failed: nothing more;
-/// - `Write`, where a write failed or took nothing: a prefix of the new file, or of that line;
-/// - `Memory`, where memory was refused: the same, or nothing more.
+/// - `File`, if the file is refused: the one line that says so, whole;
+/// - `Read`, if a read failed: nothing more;
+/// - `Write`, if a write failed or took nothing: a prefix of the new file, or of that line;
+/// - `Memory`, if an allocation failed: the same, or nothing more.
 pub fn migrate<R: Read, W: Write>(
     alloc: Global,
     reader: &mut Watched<R>,
@@ -54,7 +54,7 @@ pub fn migrate<R: Read, W: Write>(
     write_migration(alloc, file.as_slice(), writer)
 }
 
-/// Writes what a file goes over to, or the line that says why it is refused.
+/// Writes the file to which a file migrates, or the line that says why it is refused.
 fn write_migration<W: Write>(
     alloc: Global,
     file: &[u8],
@@ -71,6 +71,7 @@ fn write_migration<W: Write>(
     match examine(alloc, file) {
         Ok(Version::One) => write_in_two(alloc, file, writer),
         Ok(Version::Two) => write_text(writer, file),
+        // An allocation failed: passed on.
         Err(FileFault::Memory) => Err(Fault::Memory),
         Err(fault) => {
             write_refusal(alloc, fault, writer)?;
@@ -95,7 +96,7 @@ fn write_in_two<W: Write>(alloc: Global, file: &[u8], writer: &mut Watched<W>) -
     Ok(())
 }
 
-/// Puts the file of version 2 that stands for a file of version 1 behind what is gathered.
+/// Adds the file of version 2 that stands for a file of version 1 after what is gathered.
 fn put_in_two<W: Write>(
     gathered: &mut Vec<u8>,
     file: &[u8],
@@ -122,7 +123,7 @@ fn put_in_two<W: Write>(
     }
 }
 
-/// A file from its first line on that is not blank.
+/// Returns a file from its first line on that is not blank.
 fn from_header(file: &[u8]) -> &[u8]
     ensures { IsFromHeader file.now result.now }
 {
@@ -136,7 +137,7 @@ fn from_header(file: &[u8]) -> &[u8]
     rest
 }
 
-/// Whether a line counts nowhere: it has no words and at most 1,024 bytes.
+/// Returns whether a line counts nowhere: it has no words and at most 1,024 bytes.
 #[tactic(auto, unfolding(sheets::specs::Text::is_blank))]
 fn is_blank(line: &[u8]) -> bool
     ensures { result ≡ is_blank line.now }
@@ -144,7 +145,7 @@ fn is_blank(line: &[u8]) -> bool
     line.len() <= LINE_MOST && !has_word(line)
 }
 
-/// Puts what is behind a header line behind what is gathered, each line as one of version 2.
+/// Adds what follows a header line after what is gathered, each line as one of version 2.
 fn put_body<W: Write>(
     gathered: &mut Vec<u8>,
     text: &[u8],
@@ -159,7 +160,7 @@ fn put_body<W: Write>(
     ensures prefix { OnErr result (AppendsPrefix (W.contents (inside writer.old))
         (W.contents (inside writer.new)) (gathered.old.items ++ body_in_two text.now)) }
 {
-    // What is not put yet, of which the lines from `rest` on are ahead.
+    // The text that is not added yet; the lines from `rest` on are ahead.
     let mut kept = text;
     let mut rest = text;
     while let Some(piece) = first_line(rest) {
@@ -174,7 +175,7 @@ fn put_body<W: Write>(
     Ok(())
 }
 
-/// What follows a line in a text that begins with it.
+/// Returns what follows a line in a text that begins with it.
 fn behind<'a>(text: &'a [u8], line: &[u8]) -> &'a [u8]
     requires { length line.now ≤ length text.now }
     ensures { result.now ≡ drop (length line.now) text.now }
@@ -182,8 +183,8 @@ fn behind<'a>(text: &'a [u8], line: &[u8]) -> &'a [u8]
     &text[line.len()..]
 }
 
-/// Whether the first word of a line is IF, and it has no other fault in version 1 than that: it is not
-/// too long, and its bytes before the comment are printable.
+/// Returns whether the first word of a line is IF, and this is its only fault in version 1. The
+/// line is not too long, and its bytes before the comment are printable.
 #[tactic(auto, using(crate::proofs::PrintableLemmas::if_by_bytes))]
 fn is_if_line(line: &[u8]) -> bool
     ensures { result ≡ is_if_line line.now }
@@ -191,14 +192,14 @@ fn is_if_line(line: &[u8]) -> bool
     begins_with_word(line, b"IF") && is_clean(line)
 }
 
-/// Whether a line has neither of the faults that come before those of its words.
+/// Returns whether a line has neither of the faults that come before those of its words.
 fn is_clean(line: &[u8]) -> bool
     ensures { result ≡ is_clean line.now }
 {
     line.len() <= LINE_MOST && is_printable_line(line)
 }
 
-/// Whether each byte of a line before its comment is printable.
+/// Returns whether each byte of a line before its comment is printable.
 fn is_printable_line(line: &[u8]) -> bool
     ensures { result ≡ list_all is_printable (before_comment line.now) }
 {
@@ -213,7 +214,7 @@ fn is_printable_line(line: &[u8]) -> bool
     true
 }
 
-/// Whether a byte may be before a comment.
+/// Returns whether a byte may stand before a comment.
 fn is_printable(byte: u8) -> bool
     ensures { result ≡ is_printable byte }
 {

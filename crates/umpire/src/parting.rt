@@ -12,13 +12,13 @@ pub const CERTIFICATES_MOST: usize = 67_108_864;
 pub struct Parted<'a> {
     /// The order file.
     pub file: &'a [u8],
-    /// The text of the certificates behind it, from its line `CERTS 1` on.
+    /// The text of the certificates after it, from its line `CERTS 1` on.
     pub certificates: &'a [u8],
 }
 
-/// Parts the input of a check of certificates at its last line `CERTS 1` of at most 2,048 bytes. The
-/// order file is all before that line, without the one LF that ends it; it is the whole input
-/// where there is no such line, and there are no certificates then.
+/// Splits the input of a check of certificates at its last line `CERTS 1` of at most 2,048 bytes.
+/// The order file is all before that line, without the one LF that ends it. If there is no such
+/// line, the order file is the whole input, and there are no certificates.
 pub fn part(input: &[u8]) -> Parted<'_>
     ensures file { result.file.now ≡ order_file_of input.now }
     ensures certificates { result.certificates.now ≡ certificates_of input.now }
@@ -35,7 +35,7 @@ pub fn part(input: &[u8]) -> Parted<'_>
     }
 }
 
-/// What is in a text from its last line `CERTS 1` on.
+/// Returns what is in a text from its last line `CERTS 1` on.
 fn from_divider(text: &[u8]) -> Option<&[u8]>
     ensures { MatchOption result (from_divider true text.now ≡ None)
         (λ found. from_divider true text.now ≡ Some found.now) }
@@ -51,8 +51,8 @@ fn from_divider(text: &[u8]) -> Option<&[u8]>
     found
 }
 
-/// Whether a line is `CERTS 1`, of at most 2,048 bytes. Most lines are none by their first word, and
-/// are not read further.
+/// Returns whether a line is `CERTS 1`, of at most 2,048 bytes. For most lines the first word
+/// decides, and they are not read further.
 #[tactic(auto, unfolding(crate::specs::Parting::is_divider))]
 fn is_divider(line: &[u8]) -> bool
     ensures { result ≡ is_divider line.now }
@@ -69,7 +69,7 @@ fn is_divider(line: &[u8]) -> bool
         )
 }
 
-/// A text without the one LF that ends it.
+/// Returns a text without the one LF that ends it.
 fn without_newline(text: &[u8]) -> &[u8]
     ensures { result.now ≡ without_newline text.now }
 {

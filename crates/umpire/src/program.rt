@@ -22,14 +22,14 @@ use std::alloc::{AllocError, Global};
 use std::io::{Read, Write};
 
 /// Reads an order file to its end, or to the first byte past the greatest size of a file, and
-/// writes its report, part by part: no more than the text of one round, or of 4,096 unread lines, is
-/// held at a time. What the writer then holds is what it held and, at
+/// writes its report, part by part. No more than the text of one round, or of 4,096 unread lines,
+/// is held at a time. The writer then holds what it held before, and after it, at
 ///
 /// - `Ok`: the report, whole;
-/// - `File`, where the file is refused: the one line that says so, whole;
-/// - `Read`, where a read failed: nothing more;
-/// - `Write`, where a write failed or took nothing: a prefix of the report;
-/// - `Memory`, where memory was refused: a prefix of the report, or nothing more.
+/// - `File`, if the file is refused: the one line that says so, whole;
+/// - `Read`, if a read failed: nothing more;
+/// - `Write`, if a write failed or took nothing: a prefix of the report;
+/// - `Memory`, if an allocation failed: a prefix of the report, or nothing more.
 pub fn run<R: Read, W: Write>(
     alloc: Global,
     reader: &mut Watched<R>,
@@ -54,7 +54,8 @@ pub fn run<R: Read, W: Write>(
     write_answer(alloc, file.as_slice(), writer)
 }
 
-/// Writes the answer to a file: the report of its game, or the line that says why it is refused.
+/// Writes what `run` writes for a file: the report of its game, or the line that says why it is
+/// refused.
 fn write_answer<W: Write>(alloc: Global, file: &[u8], writer: &mut Watched<W>) -> Result<(), Fault>
     requires { has_failed writer.old ≡ false }
     ensures ok { OnOk result (IsReported (Some file.now)
@@ -68,6 +69,7 @@ fn write_answer<W: Write>(alloc: Global, file: &[u8], writer: &mut Watched<W>) -
     report::laws::some_report();
     match collect(alloc, file) {
         Ok(sheets) => write_game(alloc, &sheets, writer),
+        // An allocation failed: passed on.
         Err(FileFault::Memory) => Err(Fault::Memory),
         Err(fault) => {
             write_refusal(alloc, fault, writer)?;
@@ -144,7 +146,7 @@ fn write_rounds<W: Write>(
     Ok(())
 }
 
-/// A step of a play that was not broken off, in which the greatest revenue is searched for.
+/// Takes a step of a play that was not broken off, in which the greatest revenue is searched for.
 fn step(play: &mut Play, search: &mut Search) -> Result<Step, AllocError>
     requires { IsUnbroken play.old }
     ensures step { IfOk result (λ step. StepLeads play.old (Ok step) play.new) }

@@ -15,7 +15,7 @@ pub struct Watched<S> {
 }
 
 impl<S> Watched<S> {
-    /// Watches a reader or a writer, none of whose calls has failed yet.
+    /// Returns a watched reader or writer, none of whose calls has failed yet.
     pub fn new(inner: S) -> Watched<S>
         ensures inner { inside result ≡ inner }
         ensures failed { has_failed result ≡ false }
@@ -26,7 +26,7 @@ impl<S> Watched<S> {
         }
     }
 
-    /// Whether a call failed, or a write of one or more bytes took none.
+    /// Returns whether a call failed, or a write of one or more bytes took none.
     pub fn failed(&self) -> bool
         ensures { result ≡ has_failed self.now }
     {

@@ -1,7 +1,8 @@
-//! The umpire's program. Each of its words reads standard input and writes standard output: `report` an
-//! order file and its report, `certs` an order file and the certificates of its best runs, `verify` an
-//! order file with certificates behind it and its report, if these show that its best runs are the best,
-//! `migrate` an order file and the file of version 2 that it goes over to.
+//! The umpire's program. Each of its words reads standard input and writes standard output.
+//! `report` reads an order file and writes its report. `certs` reads an order file and writes the
+//! certificates of its best runs. `verify` reads an order file with certificates after it, and
+//! writes its report if these show that its best runs are the best. `migrate` reads an order file
+//! and writes the file of version 2 to which it migrates.
 #![tactic(auto)]
 
 use clap::error::ErrorKind;
@@ -15,16 +16,16 @@ use umpire::{Fault, Watched, certs, migrate, run, status, verify, word};
 /// The status for a command line that names no program.
 const MISUSED: u8 = 1;
 
-/// What the program can be asked for.
+/// What the program can do.
 #[derive(Clone, Copy, Debug, PartialEq, Eq)]
 enum Task {
     /// The report of an order file.
     Report,
     /// The certificates of its best runs.
     Certs,
-    /// Its report, by the certificates behind it.
+    /// Its report, by the certificates after it.
     Verify,
-    /// The file of version 2 that it goes over to.
+    /// The file of version 2 to which it migrates.
     Migrate,
 }
 
@@ -35,21 +36,22 @@ fn main(rt: HostRuntime) -> ExitCode {
     }
 }
 
-/// The words of the command line.
+/// Returns the words of the command line.
 fn words(rt: &HostRuntime) -> io::Result<Vec<String>> {
     Ok(env::args(rt)?.collect(rt.alloc())?)
 }
 
-/// Ends where the command line could not be taken: it is no text, or memory ran out.
+/// Ends the program if the command line could not be read: it is no text, or an allocation failed.
 fn no_words(rt: &HostRuntime, error: &io::Error) -> ExitCode {
     if error.kind() == io::ErrorKind::OutOfMemory {
+        // An allocation failed: passed on.
         return end(rt, &Err(Fault::Memory));
     }
     let _ = eprintln!(rt; "error: the command line is no text");
     ExitCode::from(MISUSED)
 }
 
-/// Does what the command line asks for.
+/// Does what the command line says.
 fn start(rt: &HostRuntime, words: &[String]) -> ExitCode {
     match parse(rt.alloc(), words) {
         Ok(task) => perform(rt, task),
@@ -57,7 +59,7 @@ fn start(rt: &HostRuntime, words: &[String]) -> ExitCode {
     }
 }
 
-/// What the command line asks for; else what to say.
+/// Returns what the command line says; the error is what to say otherwise.
 fn parse(alloc: Global, words: &[String]) -> Result<Task, Error> {
     let report = Command::new(alloc, "report").about("Writes the report of the order file");
     let certs = Command::new(alloc, "certs").about("Writes the certificates of its best runs");
@@ -87,13 +89,14 @@ fn parse(alloc: Global, words: &[String]) -> Result<Task, Error> {
 /// Says what is wrong with the command line.
 fn misuse(rt: &HostRuntime, error: &Error) -> ExitCode {
     if error.kind() == ErrorKind::OutOfMemory {
+        // An allocation failed: passed on.
         return end(rt, &Err(Fault::Memory));
     }
     let _ = rt.eprint(error);
     ExitCode::from(MISUSED)
 }
 
-/// Reads standard input and writes what is asked for.
+/// Reads standard input and writes what is requested.
 fn perform(rt: &HostRuntime, task: Task) -> ExitCode {
     let mut reader = Watched::new(rt.reader());
     let mut writer = Watched::new(io::writer(rt));

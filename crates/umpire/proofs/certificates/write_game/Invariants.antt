@@ -8,8 +8,8 @@ use Rattle.umpire.specs.Certified.{AreCertified}
 use Rattle.umpire.specs.Written.{certificates_text}
 use Rattle.umpire.proofs.certificates.write_game.Given as goal
 
--- some steps have led here; the groups that certify their calls are written, no fault has broken play off, and no call
--- of the writer failed
+-- some steps have led here; the groups that certify their calls are written, no fault has broken
+-- play off, and no call of the writer failed
 pub record Certifying (g : goal.Over) (l : goal.Live-loop-keeping g) : Type 0 where
   pub steps : ℕ
   pub calls : List Call

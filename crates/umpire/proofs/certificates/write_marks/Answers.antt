@@ -2,7 +2,7 @@ use Rattle.std.proofs.Common.{[], ap, refl, sym, ◌∙◌, arith, length}
 use Rattle.std.proofs.KnownBytes.{Appends-nil}
 use Rattle.umpire.specs.Written.{marks_lines_within}
 use Rattle.umpire.proofs.CertsLemmas.{all_written}
-use Rattle.umpire.proofs.Parts.{leaves_less}
+use Rattle.umpire.proofs.Parts.{leaves_less, on_err, prefix_of_part, prefix_of_text}
 use Rattle.umpire.proofs.WrittenLemmas.{fewer_left, left_behind, none_left, not_true}
 use Rattle.umpire.proofs.certificates.write_marks.Goals as goal
 
@@ -46,3 +46,18 @@ pub returns-clause-ok : goal.returns-clause-ok
 returns-clause-ok g c =
     let at = c.loop-marks.invariant in
     all_written _ _ _ _ at.left (none_left at.count c.loop-marks.marks (c.is_empty.ensures.0 c.loop-marks-test.false))
+
+pub returns-in_err-print_marks-clause-prefix : goal.returns-in_err-print_marks-clause-prefix
+returns-in_err-print_marks-clause-prefix g c = on_err c.from_residual.result (prefix_of_text _ _ _ _
+    c.loop-marks.invariant.left)
+
+pub returns-in_err-write_text-clause-prefix : goal.returns-in_err-write_text-clause-prefix
+returns-in_err-write_text-clause-prefix g c =
+    let marks = c.loop-marks.marks in
+    let at = c.loop-marks.invariant in
+    let behind = left_behind at.count marks (λ e. not_true c.is_empty.result c.loop-marks-test.true
+    (c.is_empty.ensures.1 e)) at.within in
+    let bytes = rw c.as_slice.ensures.value at c.in_err-write_text.ensures.prefix in
+    let line = rw c.in_ok-print_marks.ensures.printed at bytes in
+    let prefix = rw c.clear.ensures.items at line in
+    on_err c.from_residual-in_err-write_text.result (prefix_of_part _ _ _ _ _ _ _ at.left behind.lines prefix)

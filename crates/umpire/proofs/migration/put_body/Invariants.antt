@@ -2,7 +2,7 @@ use Rattle.std.proofs.Common.{◌≡◌, false, length}
 use Rattle.umpire.proofs.BodyLemmas.{Putting}
 use Rattle.umpire.proofs.migration.put_body.Given as goal
 
--- the lines so far are put, but for those that are kept, and no call failed
+-- the lines so far are put, except for those that are kept, and no call failed
 pub record Put (g : goal.Over) (l : goal.Live-loop-piece g) : Type 0 where
   pub putting :
       Putting (g.W.Write.contents l.fn.writer.inner) (g.W.Write.contents l.writer.inner) l.fn.gathered.items

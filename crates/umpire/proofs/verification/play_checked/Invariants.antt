@@ -1,18 +1,19 @@
 use Rattle.std.proofs.Common.{ℕ, List}
-use Rattle.certificate.specs.Checked.{AnswersByNext}
 use Rattle.operating.specs.Calls.{AreMade, Call}
 use Rattle.report.specs.Parts.{IsTextOfSteps}
 use Rattle.rounds.specs.Steps.{IsUnbroken, places_ahead, started}
 use Rattle.rounds.specs.StepsCall.{StepsCall}
+use Rattle.umpire.specs.Groups.{groups_of}
+use Rattle.umpire.specs.Verifier.{AnswersByText}
 use Rattle.umpire.proofs.verification.play_checked.Given as goal
 
--- some steps have led here; their calls were answered by the groups that are used, the texts of their rounds were
--- written, and no fault has broken play off
+-- Some steps have led here. Their calls succeeded by the groups that are used, the texts of their
+-- rounds were written, and no fault has broken play off.
 pub record Checking (l : goal.Live-loop-texts) : Type 0 where
   pub steps : ℕ
   pub calls : List Call
   pub called : StepsCall steps l.fn.play.file l.play calls
-  pub made : AreMade AnswersByNext l.fn.groups.items calls l.checked
+  pub made : AreMade AnswersByText (groups_of l.fn.certificates) calls l.verifier
   pub rounds : ℕ
   pub is_text : IsTextOfSteps rounds (started l.fn.play.file) l.play l.texts.items
   pub unbroken : IsUnbroken l.play

@@ -1,4 +1,5 @@
-use Rattle.std.proofs.Common.{◌≡◌, ◌<◌, ◌≤◌, List, ℕ, length, ap, subst, sym, ◌∙◌, arith, rules}
+use Rattle.std.proofs.Common.{◌≡◌, ◌<◌, ◌≤◌, List, ℕ, length, ap, inl, refl, subst, sym, ◌∙◌, arith, rules}
+use Rattle.std.proofs.KnownBytes.{Keeps-refl}
 use Rattle.std.proofs.lemmas.Grind.{common_steps}
 use Rattle.std.proofs.lemmas.Result.{IfErr-weaker, on_ok_weaker}
 use Rattle.std.specs.Prelude.{Err, Ok}
@@ -42,3 +43,6 @@ returns-in-Err-clause-err g c =
     first_of (search rules, grind (arith, common_steps)) in
     let refused = within_limit c.args.input.now within ∙ ap content_of (sym c.part.ensures.file) ∙ is in
     refusal_stops c.args.input.now _ _ _ _ _ refused c.refuse-in-Err.ensures
+
+pub returns-in-Err-Memory-clause-err : goal.returns-in-Err-Memory-clause-err
+returns-in-Err-Memory-clause-err g c = (refl, c.requires, inl (Keeps-refl _))

@@ -1,0 +1,11 @@
+use Rattle.std.proofs.Common.{sym, ◌∙◌}
+use Rattle.umpire.specs.Groups.{group_behind, groups_of}
+use Rattle.umpire.proofs.VerifierLemmas.{next_used}
+use Rattle.umpire.proofs.verifier.VerifierRunner.earn.Goals as goal
+
+pub returns-clause-earns : goal.returns-clause-earns
+returns-clause-earns g c =
+    let head = c.in-Some.head in
+    next_used (g.N.Network.position c.args.network.now) c.args.round c.args.company c.args.trains.now c.args.self.now
+    (groups_of head.rest.now) (group_behind head.line.now head.rest.now) c.in_ok-group.group c.revenue_by.result
+    (sym c.self.view_is ∙ c.in-Some.ensures) c.in_ok-group.ensures c.revenue_by.ensures.answers
