@@ -1,5 +1,5 @@
 -- A round's part of the report of a file.
-use Rattle.std.proofs.Common.{◌≡◌, ℕ, List, [], Option, Some, sym, refl, ◌∙◌}
+use Rattle.std.proofs.Common.{◌≡◌, ◌<◌, ℕ, List, [], length, Option, Some, sym, ◌∙◌}
 use Rattle.desk.specs.Refusal.{HasNone}
 use Rattle.desk.specs.RoundPart.{HasNoText, IsGameOf, IsNotPlayed, IsNotPlayedIn, IsRoundFault, IsRoundPart}
 use Rattle.desk.specs.RoundPart.{round_asked, text_of_round}
@@ -13,14 +13,14 @@ use Rattle.tables.specs.declared.round.Round as the_round
 pub without_text :
     (played : Played) (round : the_round.Round) (text : List ℕ) → text ≡ round_text_of played round → text ≡ []
     → IsNotPlayed played (Some round)
-without_text played round text is none = record { round = round; is_asked = refl; none = sym is ∙ none }
+without_text played round text is none = sym is ∙ none
 
 -- the text of the round that is asked for in the game of a file
 pub part_of_file :
     (played : Played) (asked : Option the_round.Round) (file text : List ℕ) → played.file ≡ file → IsTheGame played →
-    text ≡ text_of_round played (round_asked played asked) → IsRoundPart file asked text
-part_of_file played asked file text of_file game is =
-    record { played = played; of_file = record { of_file = of_file; game = game }; is = is }
+    text ≡ text_of_round played (round_asked played asked) → 0 < length text → IsRoundPart file asked text
+part_of_file played asked file text of_file game is some =
+    record { played = played; of_file = record { of_file = of_file; game = game }; is = is; some = some }
 
 -- why there is none
 pub no_part_of_file :

@@ -1,5 +1,5 @@
 -- A round's part of the report of a file: of the round that is asked for, or of the last that was played.
-use Rattle.std.specs.Prelude.{◌≡◌, ℕ, List, [], Option, Some, None, ⊤}
+use Rattle.std.specs.Prelude.{◌≡◌, ◌<◌, ℕ, List, [], length, Option, Some, None, ⊤}
 use Rattle.desk.specs.Refusal.{HasNone}
 use Rattle.desk.specs.declared.fault.DeskFault.{DeskFault}
 use Rattle.desk.specs.declared.fault.DeskFault.TheVariants as desk
@@ -23,17 +23,16 @@ abbrev pub text_of_round : Played → Option Round → List ℕ
 text_of_round played None = []
 text_of_round played (Some round) = round_text_of played round
 
--- the text is that of the round that is asked for, in the game of the file
+-- the text is that of the round that is asked for, in the game of the file, which played it
 pub record IsRoundPart (file : List ℕ) (asked : Option Round) (text : List ℕ) : Type 0 where
   pub played : Played
   pub of_file : IsGameOf file played
   pub is : text ≡ text_of_round played (round_asked played asked)
+  pub some : 0 < length text
 
--- a round is asked for that has no text
-pub record IsNotPlayed (played : Played) (asked : Option Round) : Type 0 where
-  pub round : Round
-  pub is_asked : asked ≡ Some round
-  pub none : round_text_of played round ≡ []
+-- the round that is asked for has no text, or no round is there to be asked for
+abbrev pub IsNotPlayed : Played → Option Round → Type 0
+IsNotPlayed played asked = text_of_round played asked ≡ []
 
 -- there is no text of the round that is asked for of a game, for this fault: it was not played, or memory was refused
 abbrev pub HasNoText : Played → Option Round → DeskFault → Type 0

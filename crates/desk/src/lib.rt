@@ -8,19 +8,23 @@
 //! are; how they are laid out is tested by the games of `games/desk/`.
 //!
 //! Reading order: `fault`, `asked` (the round that is asked for), `round_part` (`round`), `told` (the game of a
-//! file), `why` (the rule that a line broke), `sought` (what was looked for), `map_state` (what lay on the map), `ran` (`runs`). Then of a state the facts that the readers of a game do
+//! file), `bulletin_text` (`bulletin`), `why` (the rule that a line broke), `sought` (what was looked for), `map_state`
+//! (what lay on the map), `ran` (`runs`). Then of a state the facts that the readers of a game do
 //! not have (`purse`, `earnings`, `stack`, `stock_left`) and their layout (`lines`, `state_round`, `state_players`,
-//! `state_companies`, `state_stock`, `state_chart`, `state_map`, `state_text`: `state`).
+//! `state_companies`, `state_stock`, `state_chart`, `state_map`, `whole_state`: `state`).
 #![tactic(auto)]
 
 mod asked;
+mod bulletin_text;
 mod earnings;
 mod fault;
+mod groups;
 mod lines;
 mod map_state;
 mod purse;
 mod ran;
 mod round_part;
+mod sheet_line;
 mod sought;
 mod stack;
 mod state_chart;
@@ -29,14 +33,20 @@ mod state_map;
 mod state_players;
 mod state_round;
 mod state_stock;
-mod state_text;
 mod stock_left;
+mod stood;
 mod told;
+mod track;
+mod ways;
+mod whole_state;
 mod why;
+mod wrapped;
 
 pub use asked::read_round;
 pub use fault::DeskFault;
 pub use map_state::best_at;
 pub use ran::runs;
 pub use round_part::{round, round_with_rules};
-pub use state_text::state;
+pub use stood::{Moment, Stood, play_before, play_behind, stood_at_last, stood_now};
+pub use told::bulletin;
+pub use whole_state::{state, state_text};

@@ -15,9 +15,9 @@ use std::alloc::{AllocError, Global};
 use tables::{Amount, Company, Kind, Money, Round};
 
 /// What each company ran in a round of the game of a file, as lines that a sheet could hold, each with
-/// what its stops are worth and their sum; under a RUN BEST that was obeyed, runs that earn the most.
-/// Without a round it is the last in which a company ran; empty where none has. `Round` where the round
-/// that is asked for is not played.
+/// what its stops are worth and their sum; under a RUN BEST that was obeyed, runs that earn the most. Where
+/// nothing ran, a line says so. Without a round it is the last in which a company ran, or the last that was
+/// played where none has. `Round` where the round that is asked for is not played, or none is played.
 pub fn runs(alloc: Global, file: &[u8], asked: Option<Round>) -> Result<Vec<u8>, DeskFault> {
     tell(alloc, file, asked, Told::Runs)
 }
@@ -28,29 +28,28 @@ pub(crate) fn runs_of(
     game: &Game,
     asked: Option<Round>,
 ) -> Result<Vec<u8>, DeskFault> {
-    let round = asked_or_last(game.history().events(), asked)?;
+    let round = round_with_runs(game.history().events(), asked)?;
     let mut out = Vec::new(alloc);
-    if let Some(round) = round {
-        push_runs(alloc, &mut out, game.history(), round)?;
-    }
+    push_runs(alloc, &mut out, game.history(), round)?;
     Ok(out)
 }
 
-/// The round that is asked for, if it is played; else the last in which a company ran, if one has.
-fn asked_or_last(events: &[Event], asked: Option<Round>) -> Result<Option<Round>, DeskFault> {
-    let mut begun = None;
-    let mut last = None;
+/// The round that is asked for, if it is played; else the last in which a company ran, or the last that was
+/// played where none has.
+fn round_with_runs(events: &[Event], asked: Option<Round>) -> Result<Round, DeskFault> {
+    let mut begun = Err(DeskFault::Round);
+    let mut last = Err(DeskFault::Round);
     for event in events {
         match event {
-            Event::Round(round) if asked == Some(*round) => return Ok(asked),
-            Event::Round(round) => begun = Some(*round),
+            Event::Round(round) if asked == Some(*round) => return Ok(*round),
+            Event::Round(round) => begun = Ok(*round),
             Event::Runs { .. } => last = begun,
             _ => {}
         }
     }
     match asked {
         Some(_) => Err(DeskFault::Round),
-        None => Ok(last),
+        None => last.or(begun),
     }
 }
 
@@ -66,25 +65,27 @@ fn push_runs(
     let mut walk = Walk::along(events);
     let mut within = false;
     let mut last = None;
+    let mut end = "NO RUNS\n";
     for (passed, event) in events.iter().enumerate() {
         match event {
             Event::Round(round) => within = *round == asked,
             Event::Ruled { ruling, .. } => last = Some(ruling),
             Event::Runs { company, revenue } => {
                 if let (true, Some(last)) = (within, last) {
+                    end = "";
                     let view = view_behind(&mut walk, passed, history.seats());
-                    push_ran(alloc, out, &view, *company, *revenue, &last.ruling())?;
+                    push_earned(alloc, out, &view, *company, *revenue, &last.ruling())?;
                 }
             }
             _ => {}
         }
     }
-    Ok(())
+    push(out, &[Words(end)])
 }
 
 /// Adds what a company earned by the order that a ruling obeys, and by which runs; nothing where it
 /// obeys none.
-fn push_ran(
+fn push_earned(
     alloc: Global,
     out: &mut Vec<u8>,
     view: &GameView,
@@ -101,9 +102,26 @@ fn push_ran(
     };
     let code = Words(company.code());
     fill(out, words, &[code, Number(Money::from(revenue))])?;
-    match order {
-        Order::Run { kind, run } => push_run(out, &board_at(alloc, view)?, *kind, run),
-        Order::RunBest => push_best(alloc, out, view, company),
+    push_ran(alloc, out, view, company, ruling)
+}
+
+/// Adds the runs of a company by the order that a ruling obeys, a line each; nothing where it obeys none.
+pub(crate) fn push_ran(
+    alloc: Global,
+    out: &mut Vec<u8>,
+    view: &GameView,
+    company: Company,
+    ruling: &Ruling,
+) -> Result<(), AllocError> {
+    match ruling {
+        Ruling::Obeyed {
+            order: Order::Run { kind, run },
+            ..
+        } => push_run(out, &board_at(alloc, view)?, *kind, run),
+        Ruling::Obeyed {
+            order: Order::RunBest,
+            ..
+        } => push_best(alloc, out, view, company),
         _ => Ok(()),
     }
 }

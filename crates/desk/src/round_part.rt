@@ -1,10 +1,11 @@
 //! A round's part of the report, and the same with the rules that refused lines broke.
-ghost use Rattle.std.specs.Prelude.{◌≡◌, IfErr, IfOk, Some};
+ghost use Rattle.std.specs.Prelude.{◌≡◌, ◌<◌, IfErr, IfOk, length};
 ghost use Rattle.desk.specs.RoundPart.{HasNoText, IsRoundFault, IsRoundPart, round_asked, text_of_round};
-ghost use Rattle.report.specs.Report.{round_text_of};
 
 use crate::fault::DeskFault;
 use crate::map_state::view_behind;
+use crate::sheet_line::lines_of;
+use crate::sought::Ruled;
 use crate::told::{Told, tell};
 use crate::why::push_why;
 use desk_base::Piece::Bytes;
@@ -17,7 +18,7 @@ use std::alloc::{AllocError, Global};
 use tables::Round;
 
 /// The part of the report of a file that tells of a round: of the last that was played, where none is
-/// asked for; empty where none was played. `Round` where the round that is asked for is not played.
+/// asked for. `Round` where that round is not played, or none is.
 #[tactic(auto, using(crate::proofs::Refusals::none_where_it_fails, crate::proofs::RoundParts::no_part_where_it_fails))]
 pub fn round(alloc: Global, file: &[u8], asked: Option<Round>) -> Result<Vec<u8>, DeskFault>
     ensures part { IfOk result (λ text. IsRoundPart file.now asked text.items) }
@@ -34,10 +35,7 @@ fn part_in(alloc: Global, sheets: &Sheets, asked: Option<Round>) -> Result<Vec<u
     ensures fault { IfErr result (IsRoundFault sheets.now asked) }
 {
     let game = play(alloc, sheets)?;
-    match round_asked(&game, asked) {
-        Some(round) => text_of(alloc, &game, round),
-        None => Ok(Vec::new(alloc)),
-    }
+    text_of(alloc, &game, round_asked(&game, asked))
 }
 
 /// The same, with the rule that it broke under each line that was refused: two spaces, its code and the
@@ -57,20 +55,28 @@ pub(crate) fn rules_of(
     asked: Option<Round>,
 ) -> Result<Vec<u8>, DeskFault> {
     let Some(round) = round_asked(game, asked) else {
-        return Ok(Vec::new(alloc));
+        return Err(DeskFault::Round);
     };
-    let text = text_of(alloc, game, round)?;
+    let text = text_of(alloc, game, Some(round))?;
     let mut out = Vec::new(alloc);
-    push_with_rules(&mut out, game, round, text.as_slice())?;
+    push_with_rules(alloc, &mut out, game, round, text.as_slice())?;
     Ok(out)
 }
 
-/// The text of a round of a game; `Round` where there is none.
+/// The text of a round of a game, if it is one; `Round` where there is none.
 #[tactic(auto, using(crate::proofs::RoundParts::without_text))]
-fn text_of(alloc: Global, game: &Game, round: Round) -> Result<Vec<u8>, DeskFault>
-    ensures text { IfOk result (λ text. text.items ≡ round_text_of game.now round) }
-    ensures fault { IfErr result (HasNoText game.now (Some round)) }
+pub(crate) fn text_of(
+    alloc: Global,
+    game: &Game,
+    asked: Option<Round>,
+) -> Result<Vec<u8>, DeskFault>
+    ensures text { IfOk result (λ text. text.items ≡ text_of_round game.now asked) }
+    ensures some { IfOk result (λ text. 0 < length text.items) }
+    ensures fault { IfErr result (HasNoText game.now asked) }
 {
+    let Some(round) = asked else {
+        return Err(DeskFault::Round);
+    };
     let text = round_text(alloc, game, round)?;
     if text.is_empty() {
         return Err(DeskFault::Round);
@@ -79,7 +85,7 @@ fn text_of(alloc: Global, game: &Game, round: Round) -> Result<Vec<u8>, DeskFaul
 }
 
 /// The round that is asked for; the last that was played, where none is; `None` before the first.
-fn round_asked(game: &Game, asked: Option<Round>) -> Option<Round>
+pub(crate) fn round_asked(game: &Game, asked: Option<Round>) -> Option<Round>
     ensures { result ≡ round_asked game.now asked }
 {
     match asked {
@@ -91,12 +97,14 @@ fn round_asked(game: &Game, asked: Option<Round>) -> Option<Round>
 /// Adds the text of a round, with the rule that it broke under each line that was refused. The lines
 /// of the events are first in the text, one for each.
 fn push_with_rules(
+    alloc: Global,
     out: &mut Vec<u8>,
     game: &Game,
     round: Round,
     text: &[u8],
 ) -> Result<(), AllocError> {
     let events = game.history().events();
+    let lines = lines_of(alloc, game.sheets(), round)?;
     let mut walk = Walk::along(events);
     let mut rest = text;
     let mut within = false;
@@ -111,9 +119,17 @@ fn push_with_rules(
             fill(out, "%\n", &[Bytes(first.line)])?;
             rest = first.rest;
         }
-        if let Event::Ruled { seat, ruling, .. } = event {
+        if let Event::Ruled { seat, line, ruling } = event {
             let view = view_behind(&mut walk, passed, game.history().seats());
-            push_why(out, game.sheets(), &view, *seat, ruling)?;
+            let ruled = Ruled {
+                sheets: game.sheets(),
+                lines: lines.as_slice(),
+                view: &view,
+                round,
+                seat: *seat,
+                company: None,
+            };
+            push_why(alloc, out, ruled, *line, ruling)?;
         }
     }
     push(out, &[Bytes(rest)])

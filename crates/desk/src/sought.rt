@@ -1,40 +1,67 @@
 //! What was looked for as an order was refused, where it is at hand: the cash, the price, the limit.
 //! Each is added behind the rule, in brackets.
 
+use crate::map_state::board_at;
+use crate::sheet_line::SheetLine;
+use crate::track::break_of;
+use crate::ways::{push_ways_to_stop, push_ways_to_tile};
 use certs::{Holdings, market_price, share_price};
 use desk_base::Piece::{Bytes, Number, Words};
-use desk_base::{fill, push};
+use desk_base::{Objection, bad_side, fill, objection_by_view, objection_to, push, push_objection};
 use history::{
     GameView, Holder, LayRule, OpeningRule, Party, PrivateRule, Refusal, Ruling, RunRule,
     Shareholder, StockRule, TokenRule, TrainRule,
 };
-use map_tables::{End, Lay, Side, laid_links, neighbour};
+use map_tables::{Colour, Hex, Lay, neighbour, printed_colour, tile};
 use order_grammar::{Condition, Order};
 use report::name;
 use sheets::Sheets;
-use std::alloc::AllocError;
+use std::alloc::{AllocError, Global};
 use tables::{
-    Amount, Company, Kind, Money, PLAYERS_MOST, Private, Seat, certificate_limit, face, limit,
-    train,
+    Amount, Company, Kind, Money, PLAYERS_MOST, Private, Round, Seat, certificate_limit, face,
+    limit, train,
 };
+
+/// Where a line was ruled.
+#[derive(Clone, Copy)]
+pub(crate) struct Ruled<'a> {
+    /// The sheets of the game.
+    pub(crate) sheets: &'a Sheets<'a>,
+    /// The lines of those for the round.
+    pub(crate) lines: &'a [SheetLine<'a>],
+    /// The game before it.
+    pub(crate) view: &'a GameView<'a>,
+    /// The round.
+    pub(crate) round: Round,
+    /// Whose line it is.
+    pub(crate) seat: Seat,
+    /// The company among whose orders it is, if it is among some.
+    pub(crate) company: Option<Company>,
+}
 
 /// An order of a seat that was refused, and the game before it.
 #[derive(Drop)]
 struct Refused<'a> {
+    ruled: Ruled<'a>,
     sheets: &'a Sheets<'a>,
     view: &'a GameView<'a>,
     seat: Seat,
     order: &'a Order,
 }
 
-/// Adds what was looked for, where an order of a seat was refused in a view of the game before it.
+/// Adds what was looked for, where an order was refused.
 pub(crate) fn push_sought<'a>(
+    alloc: Global,
     out: &mut Vec<u8>,
-    sheets: &'a Sheets<'a>,
-    view: &'a GameView<'a>,
-    seat: Seat,
+    ruled: Ruled<'a>,
     ruling: &'a Ruling,
 ) -> Result<(), AllocError> {
+    let Ruled {
+        sheets,
+        view,
+        seat,
+        ..
+    } = ruled;
     let Ruling::Refused {
         rule,
         condition,
@@ -44,6 +71,7 @@ pub(crate) fn push_sought<'a>(
         return Ok(());
     };
     let refused = Refused {
+        ruled,
         sheets,
         view,
         seat,
@@ -53,7 +81,10 @@ pub(crate) fn push_sought<'a>(
         Refusal::Opening(rule) => refused.push_of_opening(out, *rule),
         Refusal::Stock(rule) => refused.push_of_stock(out, *rule),
         Refusal::Condition => push_of_condition(out, view, *condition),
-        _ => refused.push_of_operating(out, *rule),
+        _ => {
+            refused.push_of_operating(out, *rule)?;
+            refused.push_cause(alloc, out, *rule)
+        }
     }
 }
 
@@ -117,6 +148,14 @@ impl<'a> Refused<'a> {
                 let pool = Number(self.view.shares(*company, Shareholder::BankPool));
                 fill(out, " (% are in IPO, % in POOL)", &[ipo, pool])
             }
+            StockRule::WrongStart => {
+                let words = if self.view.is_started(*company) {
+                    " (% is started)"
+                } else {
+                    " (% is not started)"
+                };
+                fill(out, words, &[Words(company.code())])
+            }
             StockRule::CashTooSmall => {
                 let cost = Number(cost_of(self.view, self.order));
                 let cash = Number(self.view.free_cash(self.seat));
@@ -131,16 +170,30 @@ impl<'a> Refused<'a> {
         }
     }
 
+    /// Adds the one cause among those of a rule of an operating round, where it is at hand.
+    fn push_cause(
+        &self,
+        alloc: Global,
+        out: &mut Vec<u8>,
+        rule: Refusal,
+    ) -> Result<(), AllocError> {
+        match (rule, self.order) {
+            (Refusal::Lay(LayRule::BadSide), _) => Ok(()),
+            (Refusal::Lay(LayRule::NotReached), Order::Lay(lay)) => push_ways_to_tile(out, *lay),
+            (Refusal::Token(TokenRule::NotReached), Order::Token(place)) => {
+                push_ways_to_stop(out, &board_at(alloc, self.view)?, *place)
+            }
+            _ => push_by_tables(alloc, out, self.ruled, rule, self.order),
+        }
+    }
+
     /// Adds what was looked for by a rule of an operating round.
     fn push_of_operating(&self, out: &mut Vec<u8>, rule: Refusal) -> Result<(), AllocError> {
         let (words, found) = match (rule, self.order) {
             (Refusal::Lay(LayRule::ColourClosed) | Refusal::Private(PrivateRule::TooEarly), _) => {
                 (" (the phase is %)", Words(self.view.phase().code()))
             }
-            (Refusal::Lay(LayRule::BadSide), Order::Lay(lay)) => match closed_side(*lay) {
-                Some(side) => (" (at side %)", Number(side.number() as Money)),
-                None => return Ok(()),
-            },
+            (Refusal::Lay(LayRule::BadSide), Order::Lay(lay)) => return push_bad_side(out, *lay),
             (Refusal::Run(RunRule::WrongNumber), Order::Run { kind, .. }) => match kind.stops() {
                 Some(most) => (" (which is %)", Number(most as Money)),
                 None => return Ok(()),
@@ -164,10 +217,91 @@ impl<'a> Refused<'a> {
                 | Refusal::Train(TrainRule::CashTooSmall)
                 | Refusal::Private(PrivateRule::CashTooSmall),
                 _,
-            ) => return push_presided(out, self.view, self.seat),
+            ) => return push_cash(out, self.ruled),
             _ => return Ok(()),
         };
         fill(out, words, &[found])
+    }
+}
+
+/// Adds to which side the track of a tile leads where it may not, and the grey or red hex there.
+fn push_bad_side(out: &mut Vec<u8>, lay: Lay) -> Result<(), AllocError> {
+    let Some(side) = bad_side(lay) else {
+        return Ok(());
+    };
+    fill(out, " (at side %", &[Number(side.number() as Money)])?;
+    if let Some(hex) = neighbour(lay.hex, side) {
+        fill(out, ", where % lies", &[Bytes(hex.text().as_slice())])?;
+    }
+    fill(out, ")", &[])
+}
+
+/// Adds why an order breaks a rule, where the map and the tables alone show it.
+fn push_by_tables(
+    alloc: Global,
+    out: &mut Vec<u8>,
+    ruled: Ruled,
+    rule: Refusal,
+    order: &Order,
+) -> Result<(), AllocError> {
+    match objection_to(ruled.round, true, order) {
+        Some((code, reason)) if code == rule.code() => push_objection(out, ruled.sheets, reason),
+        _ => push_by_view(alloc, out, ruled, rule, order),
+    }
+}
+
+/// Adds why an order breaks a rule, where what lies on the map or what somebody has shows it, or what is left of
+/// the rule.
+fn push_by_view(
+    alloc: Global,
+    out: &mut Vec<u8>,
+    ruled: Ruled,
+    rule: Refusal,
+    order: &Order,
+) -> Result<(), AllocError> {
+    match (rule, order) {
+        (Refusal::Run(RunRule::NoTrack), Order::Run { run, .. }) => {
+            match break_of(&board_at(alloc, ruled.view)?, run.as_slice()) {
+                Some((hex, other)) => push_objection(
+                    out,
+                    ruled.sheets,
+                    Objection::Apart(hex, other),
+                ),
+                None => Ok(()),
+            }
+        }
+        (Refusal::Token(TokenRule::NoFreeSlot), _) => fill(out, " (no slot is free)", &[]),
+        (Refusal::Lay(LayRule::WrongTile), Order::Lay(lay)) => {
+            let hex = lay.hex.text();
+            let colour = Words(colour_of(ruled.view, lay.hex));
+            fill(out, " (% is % now)", &[Bytes(hex.as_slice()), colour])
+        }
+        _ => match objection_by_view(ruled.view, ruled.seat, order) {
+            Some((code, reason)) if code == rule.code() => push_objection(
+                out,
+                ruled.sheets,
+                reason,
+            ),
+            _ => Ok(()),
+        },
+    }
+}
+
+/// The name of the colour that a hex has by now.
+fn colour_of(view: &GameView, hex: Hex) -> &'static str {
+    let mut colour = printed_colour(hex);
+    for event in view.events {
+        if let Some(lay) = event.lay()
+            && lay.hex == hex
+        {
+            colour = tile(lay.tile).colour;
+        }
+    }
+    match colour {
+        Colour::White => "white",
+        Colour::Yellow => "yellow",
+        Colour::Green => "green",
+        Colour::Brown => "brown",
     }
 }
 
@@ -189,21 +323,6 @@ fn cost_of(view: &GameView, order: &Order) -> Money {
         Order::BuyShare { company, from } => share_price(view, *company, *from),
         _ => 0,
     }
-}
-
-/// The first side to which a tile's track would lead where no hex lies, or over a closed border; `None`
-/// where it has none.
-fn closed_side(lay: Lay) -> Option<Side> {
-    for link in laid_links(lay).as_slice() {
-        for end in &[link.a, link.b] {
-            if let End::Side(side) = end {
-                if neighbour(lay.hex, *side).is_none() {
-                    return Some(*side);
-                }
-            }
-        }
-    }
-    None
 }
 
 /// Which train the bank sells: the first kind of which it has not sold all.
@@ -239,12 +358,18 @@ fn push_of_condition(
     }
 }
 
-/// Adds what each floated company has over which a player presides.
-fn push_presided(out: &mut Vec<u8>, view: &GameView, seat: Seat) -> Result<(), AllocError> {
+/// Adds what the company in hand has; of each that the player presides over, where it is not known which.
+fn push_cash(out: &mut Vec<u8>, ruled: Ruled) -> Result<(), AllocError> {
     let (mut words, mut end) = (" (% has %", "");
     for company in &Company::ALL {
-        if view.floated(*company) && view.president(*company) == Some(seat) {
-            let cash = Number(view.cash(Party::of_company(*company)));
+        let is_meant = match ruled.company {
+            Some(its) => its == *company,
+            None => {
+                ruled.view.floated(*company) && ruled.view.president(*company) == Some(ruled.seat)
+            }
+        };
+        if is_meant {
+            let cash = Number(ruled.view.cash(Party::of_company(*company)));
             fill(out, words, &[Words(company.code()), cash])?;
             (words, end) = (", % has %", ")");
         }

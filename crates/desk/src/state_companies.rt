@@ -4,11 +4,11 @@ use crate::earnings::earnings_of;
 use crate::stack::{before_in_stack, operates};
 use crate::state_players::push_privates;
 use crate::stock_left::tokens_left;
+use crate::stood::Stood;
 use desk_base::Piece::{Bytes, Column, Number, Right, Words};
 use desk_base::{Piece, fill, push};
 use history::{History, Holder, Party, Shareholder, at_least_zero};
 use report::name;
-use rounds::Game;
 use sheets::Sheets;
 use std::alloc::AllocError;
 use tables::{Company, Kind, Money, Seat, price};
@@ -50,7 +50,7 @@ const PLAYER: usize = 9;
 /// left, with where those lie that they have placed.
 pub(crate) fn push_companies(
     out: &mut Vec<u8>,
-    game: &Game,
+    stood: &Stood,
     order: &[Company],
 ) -> Result<(), AllocError> {
     fill(
@@ -59,17 +59,17 @@ pub(crate) fn push_companies(
         &[],
     )?;
     for company in order {
-        push_figures(out, game, *company)?;
+        push_figures(out, stood, *company)?;
     }
-    push_share_heading(out, game.sheets())?;
+    push_share_heading(out, stood.sheets)?;
     for company in order {
-        push_shares(out, game, *company)?;
+        push_shares(out, stood, *company)?;
     }
     fill(out, "\nTOKENS  LEFT  PLACED\n", &[])?;
     for company in order {
-        let left = tokens_left(&game.history().now(), *company) as Money;
+        let left = tokens_left(&stood.history.now(), *company) as Money;
         push(out, &[Words(company.code()), Column(8), Right(4, left)])?;
-        for token in game.history().tokens() {
+        for token in stood.history.tokens() {
             if token.1 == *company {
                 let place = token.0.text();
                 fill(out, "% %", &[Column(TOKENS), Bytes(place.as_slice())])?;
@@ -82,8 +82,8 @@ pub(crate) fn push_companies(
 
 /// Adds the line of a company's figures: its price, its square, the place of its token in the stack there,
 /// its president, and what it has. One that has not floated has few, and one that is not started none.
-fn push_figures(out: &mut Vec<u8>, game: &Game, company: Company) -> Result<(), AllocError> {
-    let view = game.history().now();
+fn push_figures(out: &mut Vec<u8>, stood: &Stood, company: Company) -> Result<(), AllocError> {
+    let view = stood.history.now();
     push(out, &[Words(company.code())])?;
     if let Some(square) = view.square(company) {
         let above = before_in_stack(&view, square, company);
@@ -101,18 +101,18 @@ fn push_figures(out: &mut Vec<u8>, game: &Game, company: Company) -> Result<(), 
         )?;
     }
     let president = match view.president(company) {
-        Some(president) => Bytes(name(game.sheets(), president)),
+        Some(president) => Bytes(name(stood.sheets, president)),
         None => Words(""),
     };
     push(out, &[Column(PRESIDENT), president])?;
     if operates(&view, company) {
-        push_treasury(out, game.history(), company)?;
+        push_treasury(out, stood.history, company)?;
     } else if view.is_started(company) {
         fill(out, "% not floated", &[Column(TRAINS)])?;
     } else {
         fill(out, "% not started", &[Column(TRAINS)])?;
     }
-    push_privates(out, game.history(), Holder::Company(company), PRIVATES)
+    push_privates(out, stood.history, Holder::Company(company), PRIVATES)
 }
 
 /// Adds a company's cash, its last revenue with the round that it is of, and its trains.
@@ -147,8 +147,8 @@ fn push_share_heading(out: &mut Vec<u8>, sheets: &Sheets) -> Result<(), AllocErr
 }
 
 /// Adds a company's par and its shares by their holders; those of its president are marked.
-fn push_shares(out: &mut Vec<u8>, game: &Game, company: Company) -> Result<(), AllocError> {
-    let history = game.history();
+fn push_shares(out: &mut Vec<u8>, stood: &Stood, company: Company) -> Result<(), AllocError> {
+    let history = stood.history;
     let par = match history.par(company) {
         Some(par) => Right(SHARES, par),
         None => Words("    -"),
@@ -167,7 +167,7 @@ fn push_shares(out: &mut Vec<u8>, game: &Game, company: Company) -> Result<(), A
         ],
     )?;
     let president = history.now().president(company);
-    for seat in 0..game.sheets().seats() {
+    for seat in 0..stood.sheets.seats() {
         let seat = Seat::at(seat);
         push(
             out,

@@ -3,11 +3,11 @@ ghost use Rattle.std.specs.Prelude.{◌≡◌};
 ghost use Rattle.privates.specs.Judgement.{price_of};
 
 use crate::purse::purse_of;
+use crate::stood::Stood;
 use desk_base::Piece::{Bytes, Column, Number, Right, Words};
 use desk_base::{fill, push};
 use history::{GameView, History, Holder};
 use report::name;
-use rounds::Game;
 use std::alloc::AllocError;
 use tables::{Amount, Money, Private, Seat, face};
 
@@ -24,19 +24,19 @@ const OWNER: usize = 21;
 const BIDS: usize = 29;
 
 /// Adds what each player has: cash, certificates, worth and privates.
-pub(crate) fn push_players(out: &mut Vec<u8>, game: &Game) -> Result<(), AllocError> {
+pub(crate) fn push_players(out: &mut Vec<u8>, stood: &Stood) -> Result<(), AllocError> {
     fill(
         out,
         "\nPLAYER      CASH    FREE   CERTS   WORTH  PRIVATES\n",
         &[],
     )?;
-    for seat in 0..game.sheets().seats() {
+    for seat in 0..stood.sheets.seats() {
         let seat = Seat::at(seat);
-        let purse = purse_of(game.history(), seat);
+        let purse = purse_of(stood.history, seat);
         push(
             out,
             &[
-                Bytes(name(game.sheets(), seat)),
+                Bytes(name(stood.sheets, seat)),
                 Column(8),
                 Right(FIGURES, purse.cash),
                 Right(FIGURES, purse.free),
@@ -44,7 +44,7 @@ pub(crate) fn push_players(out: &mut Vec<u8>, game: &Game) -> Result<(), AllocEr
                 Right(FIGURES, purse.worth),
             ],
         )?;
-        push_privates(out, game.history(), Holder::Seat(seat), PRIVATES)?;
+        push_privates(out, stood.history, Holder::Seat(seat), PRIVATES)?;
     }
     Ok(())
 }
@@ -66,14 +66,14 @@ pub(crate) fn push_privates(
 }
 
 /// Adds who owns each private; of those that are unsold the price, and the bids that are held.
-pub(crate) fn push_owners(out: &mut Vec<u8>, game: &Game) -> Result<(), AllocError> {
+pub(crate) fn push_owners(out: &mut Vec<u8>, stood: &Stood) -> Result<(), AllocError> {
     fill(out, "\nPRIVATE FACE  PRICE  OWNER    BIDS\n", &[])?;
     for private in &Private::ALL {
-        push_owner(out, game, *private)?;
-        for seat in 0..game.sheets().seats() {
+        push_owner(out, stood, *private)?;
+        for seat in 0..stood.sheets.seats() {
             let seat = Seat::at(seat);
-            if let Some(bid) = game.history().bid(*private, seat) {
-                let name = Bytes(name(game.sheets(), seat));
+            if let Some(bid) = stood.history.bid(*private, seat) {
+                let name = Bytes(name(stood.sheets, seat));
                 fill(out, "% % %", &[Column(BIDS), name, Number(bid)])?;
             }
         }
@@ -83,15 +83,15 @@ pub(crate) fn push_owners(out: &mut Vec<u8>, game: &Game) -> Result<(), AllocErr
 }
 
 /// Adds a private with its face and its owner; with its price, where it is unsold.
-fn push_owner(out: &mut Vec<u8>, game: &Game, private: Private) -> Result<(), AllocError> {
-    let view = game.history().now();
+fn push_owner(out: &mut Vec<u8>, stood: &Stood, private: Private) -> Result<(), AllocError> {
+    let view = stood.history.now();
     let (price, unowned) = if view.is_sold(private) {
         (Words(""), "closed")
     } else {
         (Right(7, Money::from(price_of(&view, private))), "unsold")
     };
     let owner = match view.owner(private) {
-        Some(Holder::Seat(seat)) => Bytes(name(game.sheets(), seat)),
+        Some(Holder::Seat(seat)) => Bytes(name(stood.sheets, seat)),
         Some(Holder::Company(company)) => Words(company.code()),
         None => Words(unowned),
     };

@@ -1,5 +1,6 @@
 //! What is told of a round of the game of a file, where the text is not a part of its report as it stands.
 
+use crate::bulletin_text::bulletin_of;
 use crate::fault::DeskFault;
 use crate::ran::runs_of;
 use crate::round_part::rules_of;
@@ -15,6 +16,8 @@ pub(crate) enum Told {
     Runs,
     /// Its part of the report, with the rules that refused lines broke.
     Rules,
+    /// The round for its players.
+    Bulletin,
 }
 
 /// Tells of a round of the game of a file.
@@ -39,5 +42,13 @@ fn tell_in(
     match told {
         Told::Runs => runs_of(alloc, &game, asked),
         Told::Rules => rules_of(alloc, &game, asked),
+        Told::Bulletin => bulletin_of(alloc, &game, asked),
     }
+}
+
+/// A round of the game of a file for its players, of the last that was played where none is asked for: whose
+/// turn it was, what each had before and after, and what each line brought, in lines of at most 80 columns; and
+/// who owes a sheet for the next round. `Round` where the round is not played, or none is.
+pub fn bulletin(alloc: Global, file: &[u8], asked: Option<Round>) -> Result<Vec<u8>, DeskFault> {
+    tell(alloc, file, asked, Told::Bulletin)
 }

@@ -1,31 +1,54 @@
 //! Why a line was refused: the rule that it broke, and what was looked for where it is at hand.
 
-use crate::sought::push_sought;
-use desk_base::Piece::Words;
-use desk_base::{explain, fill};
-use history::{GameView, PackedRuling, Verdict};
-use sheets::Sheets;
-use std::alloc::AllocError;
-use tables::Seat;
+use crate::sheet_line::sheet_line;
+use crate::sought::{Ruled, push_sought};
+use desk_base::Piece::{Cut, Words};
+use desk_base::{Reason, fill};
+use history::{PackedRuling, Verdict};
+use std::alloc::{AllocError, Global};
 
-/// Adds a line with the rule that a line of a seat's sheet broke, in a view of the game before it; nothing
-/// where it was obeyed.
+/// How many columns of a line with a fault are shown.
+const COLUMNS: usize = 60;
+
+/// Adds a line with the rule that a line of a sheet broke; nothing where it was obeyed.
 pub(crate) fn push_why<'a>(
+    alloc: Global,
     out: &mut Vec<u8>,
-    sheets: &'a Sheets<'a>,
-    view: &'a GameView<'a>,
-    seat: Seat,
+    ruled: Ruled<'a>,
+    number: u32,
     ruling: &PackedRuling,
 ) -> Result<(), AllocError> {
-    let code = match ruling.verdict() {
-        Verdict::Obeyed => return Ok(()),
-        Verdict::Faulty(fault) => fault.code(),
-        Verdict::Refused(rule) => rule.code(),
-    };
-    match explain(code) {
-        Some(entry) => fill(out, "  %: %", &[Words(code), Words(entry.rule)])?,
-        None => fill(out, "  %", &[Words(code)])?,
+    if let Verdict::Obeyed = ruling.verdict() {
+        return Ok(());
     }
-    push_sought(out, sheets, view, seat, &ruling.ruling())?;
+    fill(out, "  ", &[])?;
+    push_rule(alloc, out, ruled, number, ruling)?;
     fill(out, "\n", &[])
+}
+
+/// Adds the rule that a line of a sheet broke, with its code and what was looked for; nothing where it was
+/// obeyed.
+pub(crate) fn push_rule<'a>(
+    alloc: Global,
+    out: &mut Vec<u8>,
+    ruled: Ruled<'a>,
+    number: u32,
+    ruling: &PackedRuling,
+) -> Result<(), AllocError> {
+    let reason = match ruling.verdict() {
+        Verdict::Obeyed => return Ok(()),
+        Verdict::Faulty(fault) => Reason::Line(fault),
+        Verdict::Refused(rule) => Reason::Order(rule),
+    };
+    let (code, rule) = (Words(reason.code()), Words(reason.sentence()));
+    fill(out, "%: %", &[code, rule])?;
+    let line = sheet_line(ruled.lines, ruled.seat, number);
+    let company = match line {
+        Some(line) => line.company,
+        None => None,
+    };
+    if let (Verdict::Faulty(_), Some(line)) = (ruling.verdict(), line) {
+        fill(out, ": %", &[Cut(line.text, COLUMNS)])?;
+    }
+    push_sought(alloc, out, Ruled { company, ..ruled }, &ruling.ruling())
 }

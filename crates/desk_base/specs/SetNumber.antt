@@ -6,7 +6,7 @@ use Rattle.desk_base.specs.declared.set_number.SetSoFar.{SetSoFar}
 use Rattle.events.specs.Event.{phase_set, round_begun_by}
 use Rattle.events.specs.declared.event.Event.{Event}
 use Rattle.desk_base.specs.Stopped.{StoppedAt}
-use Rattle.rounds.specs.Play.{Between, Played, in_set_before}
+use Rattle.rounds.specs.Play.{Between, Played, coming, end_of, in_set_before}
 use Rattle.rounds.specs.declared.following.Next.TheVariants as next
 use Rattle.rounds.specs.declared.game.End.{End}
 use Rattle.rounds.specs.declared.game.End.TheVariants.{Awaiting, Bank, Bankrupt}
@@ -41,6 +41,10 @@ abbrev pub number_in_set : End → List Event → ℕ
 number_in_set (Awaiting round) events = in_set_before (next.Round round) events (set_of events).rounds
 number_in_set Bank events = (set_of events).rounds
 number_in_set Bankrupt events = (set_of events).rounds
+
+-- what comes after a round that has led to these events, or how the game ended
+abbrev pub end_after : Round → List Event → End
+end_after round events = end_of (coming round (set_of events).rounds events) events
 
 -- the number is that by which the game was played as far as it came, and by which it goes on
 pub record IsNumberPlayed (played : Played) (count : ℕ) : Type 0 where

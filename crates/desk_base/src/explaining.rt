@@ -1,42 +1,76 @@
 //! What a code means: its rule in words, what to do about it, and the small game that shows it.
-ghost use Rattle.std.specs.Prelude.{◌≡◌, ◌≢◌, All, MatchOption};
-ghost use Rattle.std.specs.Str.{str_to_ascii_lowercase};
+ghost use Rattle.std.specs.Prelude.{All, IfSome, MatchOption};
+ghost use Rattle.std.specs.Str.{trim};
+ghost use Rattle.desk_base.specs.Reason.{IsItsCode, IsNotItsCode};
 
-use crate::explain_table::{Entry, entries_of};
-use crate::text::Piece::Words;
+use crate::advice::advice_on;
+use crate::reason::{LETTERS, Reason, reasons_of};
+use crate::text::Piece::{Column, Words};
 use crate::text::fill;
 use std::alloc::{AllocError, Global};
 
-/// The entry of a code, which may be in either case; `None` where there is no such code.
-pub fn explain(code: &str) -> Option<&'static Entry> {
+/// The reason that has a code, which may be in either case and between spaces; `None` where there is no such code.
+pub fn explain(word: &str) -> Option<Reason>
+    ensures { IfSome result (IsItsCode (trim word.now)) }
+{
+    let code = word.trim();
     let letter = code.as_bytes().first()?;
-    entry_among(entries_of(letter.to_ascii_uppercase()), code)
+    reason_among(reasons_of(letter.to_ascii_uppercase()), code)
 }
 
-/// The first of some entries with this code, in either case.
-fn entry_among(entries: &'static [Entry], code: &str) -> Option<&'static Entry>
+/// The first of some reasons with this code, in either case.
+fn reason_among(reasons: &'static [Reason], code: &str) -> Option<Reason>
     ensures { MatchOption result
-        (All (λ entry. str_to_ascii_lowercase entry.code.now
-        ≢ str_to_ascii_lowercase code.now) entries.now)
-        (λ entry. str_to_ascii_lowercase entry.now.code.now
-        ≡ str_to_ascii_lowercase code.now) }
+        (All (λ reason. IsNotItsCode code.now reason) reasons.now)
+        (IsItsCode code.now) }
 {
-    for entry in entries {
-        if entry.code.eq_ignore_ascii_case(code) {
-            return Some(entry);
+    for reason in reasons {
+        if reason.code().eq_ignore_ascii_case(code) {
+            return Some(*reason);
         }
     }
     None
 }
 
-/// What there is to say of a code, a line each: the rule, what to do about it, and the game.
-pub fn entry_text(alloc: Global, entry: &Entry) -> Result<Vec<u8>, AllocError> {
+/// What there is to say of a reason, a line each: the rule, what to do about it, and the game.
+pub fn reason_text(alloc: Global, reason: Reason) -> Result<Vec<u8>, AllocError> {
     let mut text = Vec::new(alloc);
-    let (code, rule, advice) = (Words(entry.code), Words(entry.rule), Words(entry.advice));
-    fill(&mut text, "%: %\nTo do: %\nGame: ", &[code, rule, advice])?;
-    match entry.game {
+    let advice = advice_on(reason);
+    let (code, rule) = (Words(reason.code()), Words(reason.sentence()));
+    fill(
+        &mut text,
+        "%: %\nTo do: %\nGame: ",
+        &[code, rule, Words(advice.to_do)],
+    )?;
+    match advice.game {
         Some(game) => fill(&mut text, "games/codes/%.orders\n", &[Words(game)])?,
         None => fill(&mut text, "too large to keep; games/make writes it\n", &[])?,
+    }
+    Ok(text)
+}
+
+/// What there is to say of all reasons, each below an empty line but the first.
+pub fn all_reasons_text(alloc: Global) -> Result<Vec<u8>, AllocError> {
+    let mut text = Vec::new(alloc);
+    for letter in &LETTERS {
+        for reason in reasons_of(*letter) {
+            if !text.is_empty() {
+                fill(&mut text, "\n", &[])?;
+            }
+            text.extend_from_slice(reason_text(alloc, *reason)?.as_slice())?;
+        }
+    }
+    Ok(text)
+}
+
+/// All codes with their rules, a line each.
+pub fn list_text(alloc: Global) -> Result<Vec<u8>, AllocError> {
+    let mut text = Vec::new(alloc);
+    for letter in &LETTERS {
+        for reason in reasons_of(*letter) {
+            let (code, rule) = (Words(reason.code()), Words(reason.sentence()));
+            fill(&mut text, "%%%\n", &[code, Column(5), rule])?;
+        }
     }
     Ok(text)
 }

@@ -1,18 +1,28 @@
 //! What the desk's libraries share: what a code means, how many operating rounds a set has, which rounds can
-//! still come in a game, and a text piece by piece.
+//! still come in a game, why an order is wrong, and a text piece by piece.
 //!
-//! Reading order: `text` (`Piece`, `push`, `fill`), `explain_table` and `explaining` (`explain`), `set_number`
-//! (`number_in_set`), `coming` (`can_come`).
+//! Reading order: `text` (`Piece`, `push`, `fill`), `reason` (`Reason`), `advice`, `explaining` (`explain`), `set_number`
+//! (`number_in_set`, `end_after`), `coming` (`can_come`), `objection` (`Objection`), `map_facts`, `by_tables` (what
+//! the map and the tables show), `belongings` (what somebody has).
 #![tactic(auto)]
 
+mod advice;
+mod belongings;
+mod by_tables;
 mod coming;
-mod explain_table;
 mod explaining;
+mod map_facts;
+mod objection;
+mod reason;
 mod set_number;
 mod text;
 
+pub use belongings::{objection_by_view, other_president};
+pub use by_tables::objection_to;
 pub use coming::can_come;
-pub use explain_table::Entry;
-pub use explaining::{entry_text, explain};
-pub use set_number::number_in_set;
+pub use explaining::{all_reasons_text, explain, list_text, reason_text};
+pub use map_facts::{bad_side, side_towards};
+pub use objection::{Objection, push_objection, who};
+pub use reason::Reason;
+pub use set_number::{end_after, number_after, number_in_set};
 pub use text::{Piece, fill, push, width_in_hand};

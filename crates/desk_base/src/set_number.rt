@@ -1,7 +1,12 @@
 //! How many operating rounds the set has.
-ghost use Rattle.std.specs.Prelude.{◌≡◌};
+ghost use Rattle.std.specs.Prelude.{◌≡◌, ◌≤◌, false};
 ghost use Rattle.desk_base.specs.SetNumber.{IsNumberPlayed, at_round, in_phase, number_in_set, set_of, set_then};
+ghost use Rattle.desk_base.specs.SetNumber.{end_after};
 ghost use Rattle.rounds.specs.Play.{IsTheGame};
+ghost use Rattle.sheets.specs.Laws.{number_of};
+ghost use Rattle.totals.specs.LookBack.{bankrupt_in};
+ghost use Rattle.tables.specs.Round.{number_most};
+ghost use Rattle.tables.specs.declared.round.Round.TheVariants.{Operating};
 
 use history::{Event, History};
 use rounds::{End, Game};
@@ -60,7 +65,7 @@ pub fn number_in_set(game: &Game) -> u8
 }
 
 /// The same by the list of events, and why play stopped.
-pub(crate) fn number_after(history: &History, end: End) -> u8
+pub fn number_after(history: &History, end: End) -> u8
     ensures { result ≡ number_in_set end history.now.events }
 {
     match end {
@@ -81,4 +86,39 @@ fn set_of(events: &[Event]) -> SetSoFar
         set = set.then(event);
     }
     set
+}
+
+/// What comes after the round that was played last: the next one, or how the game ended.
+pub fn end_after(history: &History, round: Round) -> End
+    ensures { number_of round ≤ number_most → result ≡ end_after round history.now.events }
+{
+    if history.now().bankrupt() {
+        return End::Bankrupt;
+    }
+    match round {
+        Round::Opening(_) if history.now().cheapest_unsold().is_none() => {
+            End::Awaiting(Round::Stock(1))
+        }
+        Round::Opening(number) => End::Awaiting(Round::Opening(number.saturating_add(1))),
+        Round::Stock(set) => End::Awaiting(Round::Operating { set, number: 1 }),
+        Round::Operating { set, number } => after_operating(history, set, number),
+    }
+}
+
+/// What comes after an operating round, by its set and its number in that set.
+fn after_operating(history: &History, set: u32, number: u8) -> End
+    requires { bankrupt_in history.now.events ≡ false }
+    ensures { set ≤ number_most → result ≡ end_after (Operating set number) history.now.events }
+{
+    let most = set_of(history.events()).rounds;
+    if number < most {
+        End::Awaiting(Round::Operating {
+            set,
+            number: number.saturating_add(1),
+        })
+    } else if history.broken() {
+        End::Bank
+    } else {
+        End::Awaiting(Round::Stock(set.saturating_add(1)))
+    }
 }

@@ -2,6 +2,7 @@
 pub mod FileLines
 pub mod Found
 pub mod Heads
+pub mod Looked
 pub mod Replaced
 pub mod RoundsPlayed
 pub mod SheetLines

@@ -1,8 +1,8 @@
 -- What a line of a sheet is that is not played yet: a head, a line that may be taken up, or one that has a fault by
 -- itself or whose order has no place where it is.
 use Rattle.std.specs.Prelude.{Bool, true, false, if◌then◌else◌, Result, Ok, Err}
-use Rattle.desk_check.specs.declared.check_early.Look.{Look}
-use Rattle.desk_check.specs.declared.check_early.Look.TheVariants.{Head, Good, Bad}
+use Rattle.desk_check.specs.declared.check_reading.Look.{Look}
+use Rattle.desk_check.specs.declared.check_reading.Look.TheVariants.{Head, Good, Bad}
 use Rattle.purchases.specs.Standing.{has_place_before as is_before_orders}
 use Rattle.order_grammar.specs.declared.fault.Fault.{Fault}
 use Rattle.order_grammar.specs.declared.fault.Fault.TheVariants.{OutOfPlace}

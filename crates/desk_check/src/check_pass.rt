@@ -39,6 +39,7 @@ pub(crate) fn pass_over<'a>(
     alloc: Global,
     sheets: &Sheets,
     file: &'a [u8],
+    from: usize,
 ) -> Result<Pass<'a>, AllocError>
     requires { length file.now ≤ file_most }
     ensures heads { IfOk result (λ pass. came pass.heads
@@ -48,7 +49,7 @@ pub(crate) fn pass_over<'a>(
 {
     let mut pass = Pass {
         heads: Heads::none(alloc, sheets.seats()),
-        found: Found::nothing(alloc),
+        found: Found::nothing(alloc, from),
         preamble: 0,
         open: None,
     };

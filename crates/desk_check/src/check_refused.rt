@@ -2,15 +2,13 @@
 
 use crate::check_lines::{FileLine, FileLines, is_blank};
 use crate::check_mail::is_mail;
+use crate::check_words::words_of;
 use order_grammar::{Fault, NAME_MOST, Order, begins_with_word, read_line};
 use sheets::{FILE_MOST, FileFault};
-use tables::{PLAYERS_LEAST, PLAYERS_MOST};
+use tables::PLAYERS_LEAST;
 
 /// What some editors write before the first line of a text.
 const BYTE_ORDER_MARK: &[u8] = b"\xEF\xBB\xBF";
-
-/// The most words of a PLAYERS line.
-const WORDS_MOST: usize = 1 + PLAYERS_MOST;
 
 /// The game that is played, as its header line names it.
 const GAME: u32 = 1830;
@@ -175,35 +173,4 @@ fn cause_of_name(name: &[u8], others: &[&[u8]]) -> Option<&'static str> {
         }
     }
     None
-}
-
-/// The first words of a line before its comment, and how many it has there.
-fn words_of(line: &[u8]) -> ([&[u8]; WORDS_MOST], usize) {
-    let mut words: [&[u8]; WORDS_MOST] = [b""; WORDS_MOST];
-    let mut count = 0;
-    let mut is_inside = false;
-    for (at, byte) in line.iter().enumerate() {
-        if *byte == b'#' {
-            break;
-        }
-        let is_space = *byte == b' ';
-        if !is_inside && !is_space {
-            if count < WORDS_MOST {
-                words[count] = word_in_front(&line[at..]);
-            }
-            count += 1;
-        }
-        is_inside = !is_space;
-    }
-    (words, count)
-}
-
-/// What of a text is before its first space or comment.
-fn word_in_front(text: &[u8]) -> &[u8] {
-    for (length, byte) in text.iter().enumerate() {
-        if *byte == b' ' || *byte == b'#' {
-            return &text[..length];
-        }
-    }
-    text
 }

@@ -2,10 +2,11 @@
 //! and what there is to say of it.
 
 use crate::check_found::{Finding, Found, Lateness, Matter, Standing};
+use crate::check_hints::push_hint;
 use crate::check_refused::{Cause, Refusal};
+use crate::check_said::push_said;
 use desk_base::Piece::{Bytes, Cut, Number, Words};
 use desk_base::{Piece, explain, push};
-use order_grammar::Fault;
 use report::name;
 use rounds::End;
 use sheets::{FileFault, Sheets};
@@ -29,7 +30,9 @@ pub(crate) fn push_found(
 ) -> Result<(), AllocError> {
     found.sort()?;
     for finding in &found.findings {
-        push_finding(out, sheets, finding)?;
+        if finding.line >= found.from {
+            push_finding(out, sheets, finding)?;
+        }
     }
     if found.unlisted == 0 {
         return Ok(());
@@ -46,23 +49,23 @@ pub(crate) fn push_found(
 
 /// Adds a finding.
 fn push_finding(out: &mut Vec<u8>, sheets: &Sheets, finding: &Finding) -> Result<(), AllocError> {
-    push(
-        out,
-        &[
-            Number(finding.line as Money),
-            PARTED,
-            Cut(finding.text, COLUMNS),
-            PARTED,
-        ],
-    )?;
-    push_matter(out, sheets, &finding.matter)?;
+    push(out, &[Number(finding.line as Money), PARTED])?;
+    if let Matter::Line(sent, _) = finding.matter {
+        let name = Bytes(name(sheets, sent.seat));
+        push(out, &[name, Words(" "), Piece::Round(sent.round), PARTED])?;
+    }
+    push(out, &[Cut(finding.text, COLUMNS), PARTED])?;
+    push_matter(out, sheets, finding)?;
     push(out, &[Words("\n")])
 }
 
 /// Adds what there is to say of a line.
-fn push_matter(out: &mut Vec<u8>, sheets: &Sheets, matter: &Matter) -> Result<(), AllocError> {
-    match *matter {
-        Matter::Unread(fault) => push_rule(out, "it is in no sheet, and is not read. ", fault),
+fn push_matter(out: &mut Vec<u8>, sheets: &Sheets, finding: &Finding) -> Result<(), AllocError> {
+    match finding.matter {
+        Matter::Unread(fault) => {
+            push_rule(out, "it is in no sheet, and is not read. ", fault.code())?;
+            push_hint(out, sheets, finding.text, fault)
+        }
         Matter::Mail(sheet) => {
             let words = "it looks like mail, and counts as a line of the sheet of line ";
             push(out, &[Words(words), Number(sheet as Money)])
@@ -75,7 +78,15 @@ fn push_matter(out: &mut Vec<u8>, sheets: &Sheets, matter: &Matter) -> Result<()
         } => push_replaced(out, line, round, lateness, turn),
         Matter::Early(round) => push_end(out, "it came early: ", End::Awaiting(round)),
         Matter::Never(end) => push_end(out, "its round cannot come any more: ", end),
-        Matter::Faulty(fault) => push_rule(out, "", fault),
+        Matter::Silent(company) => push(
+            out,
+            &[
+                Words("it has no orders for "),
+                Words(company.code()),
+                Words(", which operates and whose president this is"),
+            ],
+        ),
+        Matter::Line(sent, said) => push_said(out, sheets, finding.text, sent.round, said),
         Matter::Name { seat, likeness } => {
             let name = name(sheets, seat);
             push(out, &[Words("the name "), Bytes(name), Words(likeness)])
@@ -83,20 +94,19 @@ fn push_matter(out: &mut Vec<u8>, sheets: &Sheets, matter: &Matter) -> Result<()
     }
 }
 
-/// Adds a fault's code, and its rule in words, behind other words.
-fn push_rule(out: &mut Vec<u8>, before: &str, fault: Fault) -> Result<(), AllocError> {
-    let (parted, rule) = match explain(fault.code()) {
-        Some(entry) => (": ", entry.rule),
+/// Adds a code, and its rule in words, behind other words.
+pub(crate) fn push_rule(
+    out: &mut Vec<u8>,
+    before: &str,
+    code: &'static str,
+) -> Result<(), AllocError> {
+    let (parted, rule) = match explain(code) {
+        Some(reason) => (": ", reason.sentence()),
         None => ("", ""),
     };
     push(
         out,
-        &[
-            Words(before),
-            Words(fault.code()),
-            Words(parted),
-            Words(rule),
-        ],
+        &[Words(before), Words(code), Words(parted), Words(rule)],
     )
 }
 

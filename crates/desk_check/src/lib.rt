@@ -11,16 +11,23 @@
 //! `checking` (`check`).
 #![tactic(auto)]
 
+mod check_codes;
 mod check_early;
 mod check_found;
+mod check_hints;
 mod check_late;
 mod check_lines;
 mod check_mail;
 mod check_names;
+mod check_orders;
 mod check_pass;
+mod check_reading;
 mod check_refused;
+mod check_said;
+mod check_seat;
 mod check_sheets;
 mod check_text;
+mod check_words;
 mod checking;
 
-pub use checking::{Findings, check};
+pub use checking::{Extent, Findings, check};

@@ -1,12 +1,13 @@
 //! What is written for a task, and the status with which the program ends.
 
 use crate::streams::StreamFault;
-use crate::task::Task;
-use desk::{DeskFault, round, round_with_rules, runs, state};
-use desk_base::{Entry, entry_text};
-use desk_check::check;
+use crate::task::{Job, Task};
+use desk::{DeskFault, Moment, bulletin, round, round_with_rules, runs, state};
+use desk_base::{Reason, all_reasons_text, explain, list_text, reason_text};
+use desk_check::{Extent, check};
 use report::refusal_text;
-use std::alloc::Global;
+use std::alloc::{AllocError, Global};
+use tables::Round;
 
 /// The status where the answer is written.
 const WRITTEN: u8 = 0;
@@ -20,81 +21,126 @@ const REFUSED: u8 = 2;
 /// The status where there is something to tell of a file.
 const TOLD: u8 = 3;
 
+/// Where more is said of a refused file.
+const SEE_CHECK: &str = "`desk check` says which line is meant, and what is wrong with it";
+
+/// What is said where no round is there to be told of.
+const NO_ROUND: &str = "that round is not played";
+
+/// The same, where none was named.
+const NOTHING_PLAYED: &str = "no round is played yet";
+
 /// What the program answers.
 #[derive(Drop)]
-pub(crate) struct Answer {
+pub(crate) struct Answer<'a> {
     /// What is written to standard output.
     pub(crate) text: Vec<u8>,
     /// What is said on standard error; nothing where it is empty.
     pub(crate) note: &'static str,
+    /// Of what it is said.
+    pub(crate) about: &'a str,
     /// The status.
     pub(crate) status: u8,
 }
 
 /// The answer to a task for an order file.
-pub(crate) fn answer_to(alloc: Global, file: &[u8], task: Task) -> Result<Answer, StreamFault> {
-    match task {
-        Task::Round {
-            round: asked,
-            why: false,
-        } => answer_with(alloc, round(alloc, file, asked)),
-        Task::Round {
-            round: asked,
-            why: true,
-        } => answer_with(alloc, round_with_rules(alloc, file, asked)),
-        Task::Check => checked(alloc, file),
-        Task::Explain(entry) => explained(alloc, entry),
-        Task::State => answer_with(alloc, stated(alloc, file)),
-        Task::Runs { round: asked } => answer_with(alloc, runs(alloc, file, asked)),
+pub(crate) fn answer_to<'a>(
+    alloc: Global,
+    file: &[u8],
+    task: &Task<'a>,
+) -> Result<Answer<'a>, StreamFault> {
+    if let Job::Explain = task.job {
+        return explained(alloc, task);
+    }
+    if let Job::Check = task.job {
+        let extent = Extent {
+            all: task.all,
+            from: task.from,
+        };
+        return checked(alloc, file, extent);
+    }
+    let asked = Asking {
+        job: task.job,
+        round: task.round,
+        why: task.why,
+        before: task.before,
+    };
+    answer_with(alloc, task.round.is_some(), told_of(alloc, file, asked))
+}
+
+/// What is asked of a game.
+#[derive(Clone, Copy)]
+struct Asking {
+    job: Job,
+    round: Option<Round>,
+    why: bool,
+    before: bool,
+}
+
+/// What is told of the game of a file.
+fn told_of(alloc: Global, file: &[u8], asked: Asking) -> Result<Vec<u8>, DeskFault> {
+    match asked.job {
+        Job::State => state(alloc, file, moment_of(asked)),
+        Job::Runs => runs(alloc, file, asked.round),
+        Job::Bulletin => bulletin(alloc, file, asked.round),
+        _ => told_of_round(alloc, file, asked),
     }
 }
 
-/// The answer with what is told of a game, or with why nothing is. For a refused file it is the line that
+/// The part of the report of a round, with the rules that refused lines broke where they are asked for.
+fn told_of_round(alloc: Global, file: &[u8], asked: Asking) -> Result<Vec<u8>, DeskFault> {
+    if asked.why {
+        round_with_rules(alloc, file, asked.round)
+    } else {
+        round(alloc, file, asked.round)
+    }
+}
+
+/// The moment for which the state is asked.
+fn moment_of(asked: Asking) -> Moment {
+    match (asked.round, asked.before) {
+        (None, false) => Moment::Last,
+        (None, true) => Moment::BeforeLast,
+        (Some(round), false) => Moment::After(round),
+        (Some(round), true) => Moment::Before(round),
+    }
+}
+
+/// The answer with what is told of a game, of a round that is named or not, or with why nothing is. For a refused file it is the line that
 /// its report has.
-fn answer_with(alloc: Global, told: Result<Vec<u8>, DeskFault>) -> Result<Answer, StreamFault> {
+fn answer_with<'a>(
+    alloc: Global,
+    is_named: bool,
+    told: Result<Vec<u8>, DeskFault>,
+) -> Result<Answer<'a>, StreamFault> {
+    let not_played = if is_named { NO_ROUND } else { NOTHING_PLAYED };
     match told {
-        Ok(text) => Ok(written(text)),
-        Err(DeskFault::File(fault)) => Ok(Answer {
-            text: refusal_text(alloc, fault)?,
-            note: "",
-            status: REFUSED,
-        }),
-        Err(DeskFault::Round) => Ok(misused(alloc, "the round is not played")),
+        Ok(text) if text.is_empty() => Ok(answered(text, not_played, MISUSED)),
+        Ok(text) => Ok(answered(text, "", WRITTEN)),
+        Err(DeskFault::File(fault)) => Ok(answered(
+            refusal_text(alloc, fault)?,
+            SEE_CHECK,
+            REFUSED,
+        )),
+        Err(DeskFault::Round) => Ok(answered(Vec::new(alloc), not_played, MISUSED)),
+        // An allocation failed: passed on.
         Err(DeskFault::Memory) => Err(StreamFault::Memory),
     }
 }
 
-/// The answer that is a text.
-fn written(text: Vec<u8>) -> Answer {
-    let note = if text.is_empty() {
-        "no such round is played yet"
-    } else {
-        ""
-    };
+/// An answer with a text, what is said of it, and the status.
+fn answered<'a>(text: Vec<u8>, note: &'static str, status: u8) -> Answer<'a> {
     Answer {
         text,
         note,
-        status: WRITTEN,
+        about: "",
+        status,
     }
-}
-
-/// The answer where a command line asks for what there is not.
-fn misused(alloc: Global, note: &'static str) -> Answer {
-    Answer {
-        text: Vec::new(alloc),
-        note,
-        status: MISUSED,
-    }
-}
-
-/// How the game of a file stands.
-fn stated(alloc: Global, file: &[u8]) -> Result<Vec<u8>, DeskFault> {
-    Ok(state(alloc, file)?)
 }
 
 /// The answer of `check`: its findings.
-fn checked(alloc: Global, file: &[u8]) -> Result<Answer, StreamFault> {
-    let findings = check(alloc, file)?;
+fn checked<'a>(alloc: Global, file: &[u8], extent: Extent) -> Result<Answer<'a>, StreamFault> {
+    let findings = check(alloc, file, extent)?;
     let status = if findings.refused.is_some() {
         REFUSED
     } else if findings.text.is_empty() {
@@ -102,17 +148,40 @@ fn checked(alloc: Global, file: &[u8]) -> Result<Answer, StreamFault> {
     } else {
         TOLD
     };
-    Ok(Answer {
-        text: findings.text,
-        note: "",
-        status,
-    })
+    Ok(answered(findings.text, "", status))
 }
 
-/// The answer of `explain`: what a code means.
-fn explained(alloc: Global, entry: Option<&Entry>) -> Result<Answer, StreamFault> {
-    match entry {
-        Some(entry) => Ok(written(entry_text(alloc, entry)?)),
-        None => Ok(misused(alloc, "there is no such code")),
+/// The answer of `explain`: what codes mean, or a list of them where none is named.
+fn explained<'a>(alloc: Global, task: &Task<'a>) -> Result<Answer<'a>, StreamFault> {
+    if task.all {
+        return Ok(answered(all_reasons_text(alloc)?, "", WRITTEN));
     }
+    if task.codes.is_empty() {
+        return Ok(answered(list_text(alloc)?, "", WRITTEN));
+    }
+    let mut text = Vec::new(alloc);
+    let mut unknown = None;
+    for code in &task.codes {
+        match explain(code) {
+            Some(reason) => push_reason(alloc, &mut text, reason)?,
+            None => unknown = Some(*code),
+        }
+    }
+    match unknown {
+        Some(code) => Ok(Answer {
+            text,
+            note: "there is no such code: ",
+            about: code,
+            status: MISUSED,
+        }),
+        None => Ok(answered(text, "", WRITTEN)),
+    }
+}
+
+/// Adds what there is to say of a code, below an empty line where something is above.
+fn push_reason(alloc: Global, text: &mut Vec<u8>, reason: Reason) -> Result<(), AllocError> {
+    if !text.is_empty() {
+        text.push(b'\n')?;
+    }
+    text.extend_from_slice(reason_text(alloc, reason)?.as_slice())
 }

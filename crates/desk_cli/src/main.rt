@@ -3,16 +3,17 @@
 //! game stands.
 //!
 //! Reading order: `task` (the command line), `streams` (standard input and output), `answers` (what is
-//! written, and the status).
+//! written, and the status), `version`.
 #![tactic(auto)]
 
 mod answers;
 mod streams;
 mod task;
+mod version;
 
 use crate::answers::{MISUSED, answer_to};
 use crate::streams::{StreamFault, read_file, write_text};
-use crate::task::{Task, task_of};
+use crate::task::{Asked, Task, asked_by};
 use clap::Error;
 use clap::error::ErrorKind;
 use std::process::ExitCode;
@@ -25,6 +26,7 @@ const FAILED: u8 = 4;
 fn main(rt: HostRuntime) -> ExitCode {
     match words(&rt) {
         Ok(words) => start(&rt, words.as_slice()),
+        // An allocation failed: passed on.
         Err(error) if error.kind() == io::ErrorKind::OutOfMemory => fail(&rt, StreamFault::Memory),
         Err(_) => misuse(&rt, "the command line is no text"),
     }
@@ -37,9 +39,9 @@ fn words(rt: &HostRuntime) -> io::Result<Vec<String>> {
 
 /// Does what the command line asks for.
 fn start(rt: &HostRuntime, words: &[String]) -> ExitCode {
-    match task_of(rt.alloc(), words) {
-        Ok(Some(task)) => end(rt, perform(rt, task)),
-        Ok(None) => misuse(rt, "the round is none: PR1, SR1 and OR1.1 are rounds"),
+    match asked_by(rt.alloc(), words) {
+        Ok(Asked::Task(task)) => end(rt, perform(rt, &task)),
+        Ok(Asked::Nothing(what)) => misuse(rt, what),
         Err(error) => no_task(rt, &error),
     }
 }
@@ -47,6 +49,7 @@ fn start(rt: &HostRuntime, words: &[String]) -> ExitCode {
 /// Says what is wrong with the command line, or writes the help or the version that it asks for.
 fn no_task(rt: &HostRuntime, error: &Error) -> ExitCode {
     if error.kind() == ErrorKind::OutOfMemory {
+        // An allocation failed: passed on.
         return fail(rt, StreamFault::Memory);
     }
     let shown = error.print(rt);
@@ -60,7 +63,7 @@ fn no_task(rt: &HostRuntime, error: &Error) -> ExitCode {
 }
 
 /// Reads standard input and writes what is asked for; the status.
-fn perform(rt: &HostRuntime, task: Task) -> Result<u8, StreamFault> {
+fn perform(rt: &HostRuntime, task: &Task) -> Result<u8, StreamFault> {
     let file = if task.needs_file() {
         read_file(rt.alloc(), rt.reader())?
     } else {
@@ -69,7 +72,7 @@ fn perform(rt: &HostRuntime, task: Task) -> Result<u8, StreamFault> {
     let answer = answer_to(rt.alloc(), file.as_slice(), task)?;
     write_text(io::writer(rt), answer.text.as_slice())?;
     if !answer.note.is_empty() {
-        let _ = eprintln!(rt; "desk: {}", answer.note);
+        let _ = eprintln!(rt; "desk: {}{}", answer.note, answer.about);
     }
     Ok(answer.status)
 }
@@ -82,7 +85,7 @@ fn end(rt: &HostRuntime, outcome: Result<u8, StreamFault>) -> ExitCode {
     }
 }
 
-/// Ends the program where a stream failed or memory was refused: the fault's word on standard error.
+/// Ends the program where a stream failed or memory was refused: what failed on standard error.
 fn fail(rt: &HostRuntime, fault: StreamFault) -> ExitCode {
     let _ = eprintln!(rt; "{}", fault.word());
     ExitCode::from(FAILED)

@@ -17,11 +17,11 @@ pub(crate) enum StreamFault {
 }
 
 impl StreamFault {
-    /// The word on standard error.
+    /// What is said on standard error.
     pub(crate) fn word(self) -> &'static str {
         match self {
-            StreamFault::Read => "Read",
-            StreamFault::Write => "Write",
+            StreamFault::Read => "desk: standard input could not be read",
+            StreamFault::Write => "desk: the answer could not be written to standard output",
             StreamFault::Memory => "Memory",
         }
     }
@@ -29,6 +29,7 @@ impl StreamFault {
 
 impl From<AllocError> for StreamFault {
     fn from(_error: AllocError) -> StreamFault {
+        // An allocation failed: passed on.
         StreamFault::Memory
     }
 }
@@ -38,6 +39,7 @@ pub(crate) fn read_file<R: Read + Drop>(alloc: Global, reader: R) -> Result<Vec<
     let mut file = Vec::new(alloc);
     match reader.take(FILE_MOST as u64 + 1).read_to_end(&mut file) {
         Ok(_) => Ok(file),
+        // An allocation failed: passed on.
         Err(error) if error.kind() == io::ErrorKind::OutOfMemory => Err(StreamFault::Memory),
         Err(_) => Err(StreamFault::Read),
     }

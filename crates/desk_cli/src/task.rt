@@ -1,31 +1,61 @@
-//! The command line.
+//! The command line: which word was given, and what stands behind it. A word is a row of `WORDS`, and one
+//! case of `answer_to`.
 
+use crate::version::VERSION;
 use clap::{Arg, ArgAction, ArgMatches, Command, Error};
 use desk::read_round;
-use desk_base::{Entry, explain};
 use std::alloc::{AllocError, Global};
 use tables::Round;
 
-/// What the program can be asked for.
+/// What a word of the program writes.
 #[derive(Clone, Copy)]
-pub(crate) enum Task {
-    /// The part of the report of a round, of the last where none is named; with the rules that refused
-    /// lines broke, where they are asked for.
-    Round { round: Option<Round>, why: bool },
+pub(crate) enum Job {
+    /// A round's part of the report.
+    Round,
     /// What a report does not tell of the file.
     Check,
-    /// What a code means; of no code where there is none like it.
-    Explain(Option<&'static Entry>),
-    /// How the game stands.
+    /// What codes mean.
+    Explain,
+    /// What the trains of each company ran in a round.
+    Runs,
+    /// How the game stands, or stood.
     State,
-    /// What the trains of each company ran in a round, in the last with runs where none is named.
-    Runs { round: Option<Round> },
+    /// A round for its players.
+    Bulletin,
 }
 
-impl Task {
+/// What the program is asked for.
+#[derive(Drop)]
+pub(crate) struct Task<'a> {
+    /// What its word writes.
+    pub(crate) job: Job,
+    /// The round that is named, if one is.
+    pub(crate) round: Option<Round>,
+    /// Whether to tell which rules were broken.
+    pub(crate) why: bool,
+    /// Whether to tell how it stood before the round.
+    pub(crate) before: bool,
+    /// Whether to tell all that there is.
+    pub(crate) all: bool,
+    /// The line of the file from which on it is told.
+    pub(crate) from: usize,
+    /// The codes that are named.
+    pub(crate) codes: Vec<&'a str>,
+}
+
+/// What a command line asks for.
+#[derive(Drop)]
+pub(crate) enum Asked<'a> {
+    /// A task.
+    Task(Task<'a>),
+    /// Nothing, for what this says.
+    Nothing(&'static str),
+}
+
+impl Task<'_> {
     /// Whether an order file is to be read for it.
     pub(crate) fn needs_file(&self) -> bool {
-        !matches!(self, Task::Explain(_))
+        !matches!(self.job, Job::Explain)
     }
 }
 
@@ -34,61 +64,84 @@ struct Word {
     name: &'static str,
     about: &'static str,
     example: &'static str,
-    operand: Operand,
+    job: Job,
+    /// What may stand behind it.
+    operands: &'static [Operand],
 }
 
 /// What may stand behind a word.
 #[derive(Clone, Copy)]
 enum Operand {
-    /// Nothing.
-    Nothing,
     /// A round, or none.
     Round,
-    /// A round, or none, and whether to tell which rules were broken.
-    RoundAndWhy,
-    /// A code.
-    Code,
+    /// `--why`.
+    Why,
+    /// `--before`.
+    Before,
+    /// `--all`.
+    All,
+    /// `--from LINE`.
+    From,
+    /// Codes, or none.
+    Codes,
 }
 
 /// The words, as the help lists them.
-static WORDS: [Word; 5] = [
+static WORDS: [Word; 6] = [
     Word {
         name: "round",
         about: "Writes a round's part of the report",
         example: "Example: desk round OR2.1 --why < our-game.orders",
-        operand: Operand::RoundAndWhy,
+        job: Job::Round,
+        operands: &[Operand::Round, Operand::Why],
     },
     Word {
         name: "check",
         about: "Writes what a report does not tell: sheets that come late or early, mail, bad lines",
-        example: "Example: desk check < our-game.orders",
-        operand: Operand::Nothing,
+        example: "Example: desk check --from 120 < our-game.orders",
+        job: Job::Check,
+        operands: &[Operand::All, Operand::From],
     },
     Word {
         name: "explain",
-        about: "Writes what a code means, and what to do about it",
-        example: "Example: desk explain G3",
-        operand: Operand::Code,
+        about: "Writes what codes mean, and what to do about them",
+        example: "Example: desk explain G3 S4",
+        job: Job::Explain,
+        operands: &[Operand::Codes, Operand::All],
     },
     Word {
         name: "runs",
         about: "Writes what the trains of each company ran in a round, stop by stop",
         example: "Example: desk runs OR2.1 < our-game.orders",
-        operand: Operand::Round,
+        job: Job::Runs,
+        operands: &[Operand::Round],
     },
     Word {
         name: "state",
         about: "Writes how the game stands: who owes a sheet, players, companies, chart and map",
-        example: "Example: desk state < our-game.orders",
-        operand: Operand::Nothing,
+        example: "Example: desk state OR2.1 < our-game.orders",
+        job: Job::State,
+        operands: &[Operand::Round, Operand::Before],
+    },
+    Word {
+        name: "bulletin",
+        about: "Writes a round for its players: what each had, and what each line brought",
+        example: "Example: desk bulletin OR2.1 < our-game.orders",
+        job: Job::Bulletin,
+        operands: &[Operand::Round],
     },
 ];
 
-/// What the command line asks for; `None` where the word for a round names none. An error is what to
-/// print: what is wrong, the help or the version.
-pub(crate) fn task_of(alloc: Global, words: &[String]) -> Result<Option<Task>, Error> {
+/// What the command line asks for. An error is what to print: what is wrong, the help or the version.
+pub(crate) fn asked_by<'a>(alloc: Global, words: &'a [String]) -> Result<Asked<'a>, Error> {
     let matches = command_line(alloc)?.try_get_matches_from(words)?;
-    Ok(named_task(&matches))
+    let Some((name, given)) = matches.subcommand() else {
+        return Ok(Asked::Nothing("it takes a word"));
+    };
+    match word_named(name) {
+        Some(word) => Ok(task_of(alloc, word, given)?),
+        None => Ok(Asked::Nothing("there is no such word")),
+    }
 }
 
 /// What a command line may ask for.
@@ -97,7 +150,7 @@ fn command_line<'a>(alloc: Global) -> Result<Command<'a>, AllocError> {
         .about(
             "Tells of a game of 1830 what stands around its report: the order file on standard input",
         )
-        .version("1")
+        .version(VERSION)
         .bin_name("desk")?
         .subcommand_required(true);
     for word in &WORDS {
@@ -108,59 +161,96 @@ fn command_line<'a>(alloc: Global) -> Result<Command<'a>, AllocError> {
 
 /// A word with what may stand behind it.
 fn command_of<'a>(alloc: Global, word: &'static Word) -> Result<Command<'a>, AllocError> {
-    let command = Command::new(alloc, word.name)
+    let mut command = Command::new(alloc, word.name)
         .about(word.about)
         .after_help(word.example);
-    match word.operand {
-        Operand::Nothing => Ok(command),
-        Operand::Round => command.arg(round_argument(alloc)),
-        Operand::RoundAndWhy => command.arg(round_argument(alloc))?.arg(why_argument(alloc)),
-        Operand::Code => command.arg(code_argument(alloc)),
+    for operand in word.operands {
+        command = command.arg(argument_of(alloc, *operand))?;
+    }
+    Ok(command)
+}
+
+/// What may stand behind a word, with what its help says of it.
+fn argument_of<'a>(alloc: Global, operand: Operand) -> Arg<'a> {
+    match operand {
+        Operand::Round => {
+            Arg::new(alloc, "ROUND").help("The round, as OR2.1; the last one if none is named")
+        }
+        Operand::Why => flag(alloc, "why").help("Put under each refused line what rule it broke"),
+        Operand::Before => flag(alloc, "before").help("As it stood before that round"),
+        Operand::All => flag(alloc, "all").help("Tell all that there is"),
+        Operand::From => Arg::new(alloc, "from").long("from").value_name("LINE").help(
+            "Tell only what begins on this line of the file or below it",
+        ),
+        Operand::Codes => Arg::new(alloc, "CODE")
+            .num_args(0..)
+            .help("The codes, as G3; a list of them all if none is named"),
     }
 }
 
-/// The round that a word is about.
-fn round_argument<'a>(alloc: Global) -> Arg<'a> {
-    Arg::new(alloc, "ROUND").help("The round, as OR2.1; the last one if none is named")
+/// A word with two dashes in front that is there or not.
+fn flag<'a>(alloc: Global, name: &'static str) -> Arg<'a> {
+    Arg::new(alloc, name).long(name).action(ArgAction::SetTrue)
 }
 
-/// Whether to tell which rules were broken.
-fn why_argument<'a>(alloc: Global) -> Arg<'a> {
-    Arg::new(alloc, "why")
-        .long("why")
-        .action(ArgAction::SetTrue)
-        .help("Put under each refused line the rule that it broke")
-}
-
-/// The code that a word is about.
-fn code_argument<'a>(alloc: Global) -> Arg<'a> {
-    Arg::new(alloc, "CODE")
-        .help("The code, as G3")
-        .required(true)
-}
-
-/// The task of the word that was given.
-fn named_task(matches: &ArgMatches) -> Option<Task> {
-    let (word, given) = matches.subcommand()?;
-    match word {
-        "round" => Some(Task::Round {
-            round: round_of(given)?,
-            why: given.get_flag("why"),
-        }),
-        "check" => Some(Task::Check),
-        "explain" => Some(Task::Explain(explain(given.get_str("CODE")?))),
-        "state" => Some(Task::State),
-        "runs" => Some(Task::Runs {
-            round: round_of(given)?,
-        }),
-        _ => None,
+/// The row of a word; `None` where there is no such word.
+fn word_named(name: &str) -> Option<&'static Word> {
+    for word in &WORDS {
+        if word.name == name {
+            return Some(word);
+        }
     }
+    None
 }
 
-/// The round that a command line names, if it names one; `None` where its word names no round.
-fn round_of(given: &ArgMatches) -> Option<Option<Round>> {
-    match given.get_str("ROUND") {
-        Some(word) => Some(Some(read_round(word.as_bytes())?)),
-        None => Some(None),
+/// What is asked for by a word with what was given behind it.
+fn task_of<'a>(
+    alloc: Global,
+    word: &Word,
+    given: &ArgMatches<'a>,
+) -> Result<Asked<'a>, AllocError> {
+    let mut task = Task {
+        job: word.job,
+        round: None,
+        why: false,
+        before: false,
+        all: false,
+        from: 1,
+        codes: Vec::new(alloc),
+    };
+    for operand in word.operands {
+        if let Some(wrong) = take_operand(&mut task, given, *operand) {
+            return Ok(Asked::Nothing(wrong));
+        }
+        if let (Operand::Codes, Some(codes)) = (operand, given.get_strs("CODE")) {
+            task.codes = Vec::from_slice(alloc, codes)?;
+        }
     }
+    Ok(Asked::Task(task))
+}
+
+/// Takes what was given behind a word; what is wrong with it, if anything is.
+fn take_operand(task: &mut Task, given: &ArgMatches, operand: Operand) -> Option<&'static str> {
+    match operand {
+        Operand::Round => {
+            let word = given.get_str("ROUND")?;
+            task.round = read_round(word.as_bytes());
+            if task.round.is_some() {
+                return None;
+            }
+            return Some("this names no round; PR1, SR1 and OR1.1 are names of rounds");
+        }
+        Operand::Why => task.why = given.get_flag("why"),
+        Operand::Before => task.before = given.get_flag("before"),
+        Operand::All => task.all = given.get_flag("all"),
+        Operand::From => {
+            let word = given.get_str("from")?;
+            match word.parse() {
+                Ok(line) => task.from = line,
+                Err(_) => return Some("behind --from the number of a line of the file is to stand"),
+            }
+        }
+        Operand::Codes => {}
+    }
+    None
 }

@@ -1,0 +1,296 @@
+//! A round for its players: whose turn it was, what each had before it and after, and what each line brought.
+
+use crate::fault::DeskFault;
+use crate::groups::{Group, Whose, groups_of};
+use crate::map_state::view_behind;
+use crate::ran::push_ran;
+use crate::round_part::{round_asked, text_of};
+use crate::sheet_line::{SheetLine, lines_of, sheet_line};
+use crate::sought::Ruled;
+use crate::state_round::owes;
+use crate::why::push_rule;
+use crate::wrapped::{push_wrapped, push_wrapped_lines};
+use desk_base::Piece::{Bytes, Column, Cut, Number, Right, Words};
+use desk_base::{Piece, fill, push, who};
+use history::{Event, GameView, Holder, PackedRuling, Party, Verdict, Walk};
+use report::name;
+use rounds::{End, Game};
+use sheets::first_line;
+use std::alloc::{AllocError, Global};
+use tables::{Company, Money, Round, Seat, Square, price};
+
+/// The column of what a line brought.
+const BROUGHT: usize = 6;
+
+/// A round of a game.
+#[derive(Clone, Copy)]
+struct Telling<'a> {
+    alloc: Global,
+    game: &'a Game<'a>,
+    round: Round,
+    /// The lines of the sheets for it.
+    lines: &'a [SheetLine<'a>],
+}
+
+/// A round of a game, of the last that was played where none is asked for; `Round` where there is none.
+pub(crate) fn bulletin_of(
+    alloc: Global,
+    game: &Game,
+    asked: Option<Round>,
+) -> Result<Vec<u8>, DeskFault> {
+    let Some(round) = round_asked(game, asked) else {
+        return Err(DeskFault::Round);
+    };
+    let text = text_of(alloc, game, Some(round))?;
+    let lines = lines_of(alloc, game.sheets(), round)?;
+    let telling = Telling {
+        alloc,
+        game,
+        round,
+        lines: lines.as_slice(),
+    };
+    Ok(told(telling, text.as_slice())?)
+}
+
+/// A round of a game, whose part of the report is this text.
+fn told<'a>(telling: Telling<'a>, text: &[u8]) -> Result<Vec<u8>, AllocError> {
+    let mut out = Vec::new(telling.alloc);
+    fill(&mut out, "ROUND %\n", &[Piece::Round(telling.round)])?;
+    telling.push_groups(&mut out, text)?;
+    telling.push_next(&mut out)?;
+    Ok(out)
+}
+
+impl Telling<'_> {
+    /// Adds the groups of a round's events, whose lines in the report are these, behind the line of the round.
+    fn push_groups(&self, out: &mut Vec<u8>, text: &[u8]) -> Result<(), AllocError> {
+        let events = self.game.history().events();
+        let groups = groups_of(self.alloc, self.lines, events, self.round)?;
+        let mut walk = Walk::along(events);
+        let mut rest = behind_line(text);
+        for group in &groups {
+            self.push_heading(out, &mut walk, group)?;
+            let mut dividends = Vec::new(self.alloc);
+            for passed in group.from..group.to {
+                let line = first_line(rest).map_or(rest, |first| first.line);
+                rest = behind_line(rest);
+                if let Some(event) = events.get(passed) {
+                    self.push_event(out, &mut walk, passed, event, line, &mut dividends)?;
+                }
+            }
+            self.push_dividends(out, &mut dividends)?;
+        }
+        Ok(())
+    }
+
+    /// Adds whose turn a group is of, and what it had before and after.
+    fn push_heading(
+        &self,
+        out: &mut Vec<u8>,
+        walk: &mut Walk,
+        group: &Group,
+    ) -> Result<(), AllocError> {
+        let seats = self.game.history().seats();
+        let before = had_at(&view_behind(walk, group.from, seats), group.whose);
+        let view = view_behind(walk, group.to, seats);
+        let after = had_at(&view, group.whose);
+        fill(out, "\n", &[])?;
+        match group.whose {
+            Whose::Nobody => return fill(out, "THE BANK\n", &[]),
+            Whose::Seat(seat) => push(out, &[Bytes(name(self.game.sheets(), seat))])?,
+            Whose::Company(company) => {
+                let president = who(self.game.sheets(), view.president(company));
+                fill(out, "% (%)", &[Words(company.code()), president])?;
+            }
+        }
+        push(out, &[Column(17), Words("cash"), Right(6, before.cash)])?;
+        fill(out, " -> %", &[Number(after.cash)])?;
+        if let Whose::Company(_) = group.whose {
+            push(out, &[Column(40), Words("price ")])?;
+            push_square(out, before.square)?;
+            fill(out, " -> ", &[])?;
+            push_square(out, after.square)?;
+        }
+        fill(out, "\n", &[])
+    }
+
+    /// Adds an event, whose line in the report is this. Dividends are kept, to be on one line.
+    fn push_event(
+        &self,
+        out: &mut Vec<u8>,
+        walk: &mut Walk,
+        passed: usize,
+        event: &Event,
+        line: &[u8],
+        dividends: &mut Vec<u8>,
+    ) -> Result<(), AllocError> {
+        if let Event::Dividend { holder, amount, .. } = event {
+            let comma = if dividends.is_empty() { "" } else { ", " };
+            let amount = Number(Money::from(*amount));
+            let holder = match holder {
+                Holder::Seat(seat) => Bytes(name(self.game.sheets(), *seat)),
+                Holder::Company(company) => Words(company.code()),
+            };
+            return push(dividends, &[Words(comma), holder, Words(" "), amount]);
+        }
+        self.push_dividends(out, dividends)?;
+        if let Event::Ruled { seat, line, ruling } = event {
+            let view = view_behind(walk, passed, self.game.history().seats());
+            return self.push_ruled(out, &view, *seat, *line, ruling);
+        }
+        push(out, &[Column(BROUGHT)])?;
+        push_wrapped(out, BROUGHT, line)?;
+        if let Event::Runs { company, .. } = event {
+            let view = view_behind(walk, passed, self.game.history().seats());
+            return self.push_stops(out, &view, *company);
+        }
+        Ok(())
+    }
+
+    /// Adds the runs that a company has made by the line that was ruled last, stop by stop.
+    fn push_stops(
+        &self,
+        out: &mut Vec<u8>,
+        view: &GameView,
+        company: Company,
+    ) -> Result<(), AllocError> {
+        let mut text = Vec::new(self.alloc);
+        if let Some(Event::Ruled { ruling, .. }) = last_ruled(view.events) {
+            push_ran(self.alloc, &mut text, view, company, &ruling.ruling())?;
+        }
+        push_wrapped_lines(out, BROUGHT, text.as_slice())
+    }
+
+    /// Adds the dividends that are kept, on one line, and keeps none.
+    fn push_dividends(&self, out: &mut Vec<u8>, kept: &mut Vec<u8>) -> Result<(), AllocError> {
+        if kept.is_empty() {
+            return Ok(());
+        }
+        fill(out, "%DIVIDENDS ", &[Column(BROUGHT)])?;
+        push_wrapped(out, BROUGHT + 4, kept.as_slice())?;
+        kept.clear();
+        Ok(())
+    }
+
+    /// Adds a line of a sheet that was ruled; where it was refused with the rule that it broke.
+    fn push_ruled(
+        &self,
+        out: &mut Vec<u8>,
+        view: &GameView,
+        seat: Seat,
+        number: u32,
+        ruling: &PackedRuling,
+    ) -> Result<(), AllocError> {
+        let text: &[u8] = match sheet_line(self.lines, seat, number) {
+            Some(line) => line.text,
+            None => &[],
+        };
+        let mut shown = Vec::new(self.alloc);
+        push(&mut shown, &[Cut(text, text.len())])?;
+        push(out, &[Right(4, Money::from(number)), Words("  ")])?;
+        push_wrapped(out, BROUGHT + 4, shown.as_slice())?;
+        if let Verdict::Obeyed = ruling.verdict() {
+            return Ok(());
+        }
+        let ruled = Ruled {
+            sheets: self.game.sheets(),
+            lines: self.lines,
+            view,
+            round: self.round,
+            seat,
+            company: None,
+        };
+        let mut why = Vec::new(self.alloc);
+        push_rule(self.alloc, &mut why, ruled, number, ruling)?;
+        fill(out, "%REFUSED ", &[Column(BROUGHT)])?;
+        push_wrapped(out, BROUGHT + 4, why.as_slice())
+    }
+
+    /// Adds what comes next, and who owes a sheet for it.
+    fn push_next(&self, out: &mut Vec<u8>) -> Result<(), AllocError> {
+        let events = self.game.history().events();
+        if let Some(next) = round_behind(events, self.round) {
+            return fill(out, "\nNEXT %, which is played\n", &[Piece::Round(next)]);
+        }
+        let round = match self.game.outcome() {
+            End::Awaiting(round) => round,
+            End::Bank => return fill(out, "\nTHE END, for the bank is broken\n", &[]),
+            End::Bankrupt => return fill(out, "\nTHE END, for a president is bankrupt\n", &[]),
+        };
+        fill(out, "\nNEXT %: sheets are owed by", &[Piece::Round(round)])?;
+        let sheets = self.game.sheets();
+        for seat in 0..sheets.seats() {
+            let seat = Seat::at(seat);
+            if owes(sheets, seat, &round) {
+                fill(out, " %", &[Bytes(name(sheets, seat))])?;
+            }
+        }
+        fill(out, "\n", &[])
+    }
+}
+
+/// What a company or a player had.
+#[derive(Clone, Copy)]
+struct Had {
+    cash: Money,
+    square: Option<Square>,
+}
+
+/// What a company or a player had in a view of the game; nothing, where it is nobody.
+fn had_at(view: &GameView, whose: Whose) -> Had {
+    match whose {
+        Whose::Company(company) => Had {
+            cash: view.cash(Party::of_company(company)),
+            square: view.square(company),
+        },
+        Whose::Seat(seat) => Had {
+            cash: view.cash(Party::of_seat(seat)),
+            square: None,
+        },
+        Whose::Nobody => Had {
+            cash: 0,
+            square: None,
+        },
+    }
+}
+
+/// Adds the price of a square with its name; `-` where there is none.
+fn push_square(out: &mut Vec<u8>, square: Option<Square>) -> Result<(), AllocError> {
+    let Some(square) = square else {
+        return fill(out, "-", &[]);
+    };
+    let row = [b'A'.saturating_add(square.row)];
+    let pieces = [
+        Number(Money::from(price(square))),
+        Bytes(&row),
+        Number(Money::from(square.column)),
+    ];
+    fill(out, "% %%", &pieces)
+}
+
+/// The event of the line that was ruled last among some; `None` where none was.
+fn last_ruled(events: &[Event]) -> Option<&Event> {
+    events
+        .iter()
+        .rev()
+        .find(|event| matches!(event, Event::Ruled { .. }))
+}
+
+/// What of a text is behind its first line.
+fn behind_line(text: &[u8]) -> &[u8] {
+    first_line(text).map_or(text, |first| first.rest)
+}
+
+/// The round that was played behind another; `None` where none was.
+fn round_behind(events: &[Event], round: Round) -> Option<Round> {
+    let mut is_behind = false;
+    for event in events {
+        if let Event::Round(begun) = event {
+            if is_behind {
+                return Some(*begun);
+            }
+            is_behind = *begun == round;
+        }
+    }
+    None
+}

@@ -1,0 +1,105 @@
+//! The events of a round in groups: each is of a company's turn, of a player's, or of nobody's.
+
+use crate::sheet_line::{SheetLine, sheet_line};
+use history::Event;
+use std::alloc::{AllocError, Global};
+use tables::{Company, Round, Seat};
+
+/// Whose turn some events are of.
+#[derive(Clone, Copy, PartialEq, Eq)]
+pub(crate) enum Whose {
+    /// A company's.
+    Company(Company),
+    /// A player's.
+    Seat(Seat),
+    /// Nobody's: what comes before the turns of a round and behind them.
+    Nobody,
+}
+
+/// Some events of a round, one behind the other.
+#[derive(Clone, Copy)]
+pub(crate) struct Group {
+    /// Whose turn they are of.
+    pub(crate) whose: Whose,
+    /// How many events are before them.
+    pub(crate) from: usize,
+    /// How many events there are with them.
+    pub(crate) to: usize,
+}
+
+/// The groups of the events of a round, its own event left out, by the lines of the sheets for it. It fails only if memory is refused.
+pub(crate) fn groups_of(
+    alloc: Global,
+    lines: &[SheetLine],
+    events: &[Event],
+    round: Round,
+) -> Result<Vec<Group>, AllocError> {
+    let mut groups = Vec::new(alloc);
+    let mut open: Option<Group> = None;
+    let mut within = false;
+    let mut has_passed = false;
+    for (passed, event) in events.iter().enumerate() {
+        if let Event::Round(begun) = event {
+            within = *begun == round;
+            continue;
+        }
+        if !within {
+            continue;
+        }
+        let now = match open {
+            Some(group) => group.whose,
+            None => Whose::Nobody,
+        };
+        let whose = whose_turn(lines, now, has_passed, event);
+        has_passed = matches!(event, Event::Passes(_));
+        open = match open {
+            Some(group) if group.whose == whose => Some(Group {
+                to: passed.saturating_add(1),
+                ..group
+            }),
+            before => {
+                push_any(&mut groups, before)?;
+                Some(Group {
+                    whose,
+                    from: passed,
+                    to: passed.saturating_add(1),
+                })
+            }
+        };
+    }
+    push_any(&mut groups, open)?;
+    Ok(groups)
+}
+
+/// Adds a group, if there is one.
+fn push_any(groups: &mut Vec<Group>, group: Option<Group>) -> Result<(), AllocError> {
+    if let Some(group) = group {
+        groups.push(group)?;
+    }
+    Ok(())
+}
+
+/// The company among whose orders a line is, if it is among some.
+fn company_of(lines: &[SheetLine], seat: Seat, line: u32) -> Option<Company> {
+    sheet_line(lines, seat, line)?.company
+}
+
+/// Whose turn an event is of, where it was somebody's before, and a seat has just passed or has not.
+fn whose_turn(lines: &[SheetLine], now: Whose, has_passed: bool, event: &Event) -> Whose {
+    match event {
+        Event::Ruled { seat, line, .. } => match company_of(lines, *seat, *line) {
+            Some(company) => Whose::Company(company),
+            None => Whose::Seat(*seat),
+        },
+        Event::Passes(seat) => Whose::Seat(*seat),
+        Event::Revenue { .. } | Event::Price { .. } | Event::Left { .. } => Whose::Nobody,
+        Event::Home { company, .. }
+        | Event::Laid { company, .. }
+        | Event::Token { company, .. }
+        | Event::Withheld { company, .. }
+        | Event::Runs { company, .. }
+        | Event::Forced(company) => Whose::Company(*company),
+        _ if has_passed => Whose::Nobody,
+        _ => now,
+    }
+}

@@ -1,0 +1,84 @@
+//! The lines of the sheets for a round, by their numbers: their text, and the company to whose orders each belongs.
+
+use order_grammar::Order;
+use sheets::{LINES_MOST, Sheets, UnreadLine};
+use std::alloc::{AllocError, Global};
+use tables::{Company, Round, Seat};
+
+/// A line of a sheet.
+#[derive(Clone, Copy)]
+pub(crate) struct SheetLine<'a> {
+    /// Whose sheet it is.
+    seat: Seat,
+    /// Its number in the sheet.
+    number: u32,
+    /// Its bytes.
+    pub(crate) text: &'a [u8],
+    /// The company whose orders it is among; `None` where it is among none.
+    pub(crate) company: Option<Company>,
+}
+
+/// The lines of all sheets for a round, up to the last that may be an order. It fails only if memory is refused.
+pub(crate) fn lines_of<'a>(
+    alloc: Global,
+    sheets: &Sheets<'a>,
+    round: Round,
+) -> Result<Vec<SheetLine<'a>>, AllocError> {
+    let mut lines = Vec::new(alloc);
+    for seat in 0..sheets.seats() {
+        push_sheet(&mut lines, sheets, Seat::at(seat), round)?;
+    }
+    Ok(lines)
+}
+
+/// Adds the lines of the sheet of a seat.
+fn push_sheet<'a>(
+    lines: &mut Vec<SheetLine<'a>>,
+    sheets: &Sheets<'a>,
+    seat: Seat,
+    round: Round,
+) -> Result<(), AllocError> {
+    let mut parts = sheets.parts(seat, round);
+    let mut company = None;
+    for _ in 0..LINES_MOST {
+        let line = match parts.take_line() {
+            Some(line) => line,
+            None => match parts.take_head() {
+                Some(head) => {
+                    company = company_of(head);
+                    head
+                }
+                None => return Ok(()),
+            },
+        };
+        lines.push(SheetLine {
+            seat,
+            number: line.number,
+            text: line.text,
+            company,
+        })?;
+    }
+    Ok(())
+}
+
+/// The company whose orders a head begins, if it begins some.
+fn company_of(head: UnreadLine) -> Option<Company> {
+    match head.read().order() {
+        Ok(Order::Company(company)) => Some(*company),
+        _ => None,
+    }
+}
+
+/// The line with this number in the sheet of a seat, among those of all sheets; `None` where there is none.
+pub(crate) fn sheet_line<'a>(
+    lines: &[SheetLine<'a>],
+    seat: Seat,
+    number: u32,
+) -> Option<SheetLine<'a>> {
+    for line in lines {
+        if line.number == number && line.seat == seat {
+            return Some(*line);
+        }
+    }
+    None
+}

@@ -1,0 +1,127 @@
+//! A game as it stood between two rounds: as its sheets leave it, behind a round, or before one.
+ghost use Rattle.std.specs.Prelude.{IfErr};
+ghost use Rattle.desk.specs.Refusal.{IsOfGame};
+ghost use Rattle.rounds.specs.Play.{IsTheGame};
+
+use crate::fault::DeskFault;
+use best_run::Search;
+use desk_base::{end_after, number_after, number_in_set};
+use history::History;
+use rounds::{End, Game, Play, Step};
+use sheets::Sheets;
+use std::alloc::{AllocError, Global};
+use tables::{Round, Seat};
+
+/// Between which rounds a game is looked at.
+#[derive(Clone, Copy)]
+pub enum Moment {
+    /// Behind the last round that its sheets play.
+    Last,
+    /// Behind this round.
+    After(Round),
+    /// Before this round, which was played.
+    Before(Round),
+    /// Before the last round that its sheets play.
+    BeforeLast,
+}
+
+/// A game as it stood.
+#[derive(Clone, Copy)]
+pub struct Stood<'a> {
+    /// The sheets of the whole game.
+    pub sheets: &'a Sheets<'a>,
+    /// What had happened.
+    pub history: &'a History,
+    /// The round that came next, or how the game ended.
+    pub end: End,
+    /// How many operating rounds the set had, or the set that began with the next round.
+    pub in_set: u8,
+}
+
+/// A game as its sheets leave it.
+pub fn stood_at_last<'a>(game: &'a Game<'a>) -> Stood<'a>
+    requires { IsTheGame game.now }
+{
+    Stood {
+        sheets: game.sheets(),
+        history: game.history(),
+        end: game.outcome(),
+        in_set: number_in_set(game),
+    }
+}
+
+/// A game as it stood behind the rounds that were played; `None` once play was broken off.
+pub fn stood_now<'a>(play: &'a Play<'a>) -> Option<Stood<'a>> {
+    let history = play.history()?;
+    let end = match (play.outcome(), play.last_round()) {
+        (Some(end), _) => end,
+        (None, Some(round)) => end_after(history, round),
+        (None, None) => End::Awaiting(Round::Opening(1)),
+    };
+    Some(Stood {
+        sheets: play.sheets(),
+        history,
+        end,
+        in_set: number_after(history, end),
+    })
+}
+
+/// Plays the game of some sheets up to behind a round; `Round` where it is not played.
+pub fn play_behind<'a>(
+    alloc: Global,
+    sheets: &'a Sheets<'a>,
+    asked: Round,
+) -> Result<Play<'a>, DeskFault>
+    ensures { IfErr result IsOfGame }
+{
+    let mut play = Play::start(alloc, sheets)?;
+    let mut search = Search::new(alloc);
+    loop {
+        match play.step(&mut search) {
+            Ok(Step::Played(round)) if round == asked => return Ok(play),
+            Ok(Step::Played(_)) => {}
+            Ok(Step::Ended(_)) => return Err(DeskFault::Round),
+            Err(fault) => return Err(DeskFault::from(fault.want_of_memory())),
+        }
+    }
+}
+
+/// Plays the game of some sheets up to before a round; `Round` where it is not played.
+pub fn play_before<'a>(
+    alloc: Global,
+    sheets: &'a Sheets<'a>,
+    asked: Round,
+) -> Result<Play<'a>, DeskFault>
+    ensures { IfErr result IsOfGame }
+{
+    let mut play = Play::start(alloc, sheets)?;
+    let mut search = Search::new(alloc);
+    loop {
+        if comes_next(&play, asked) {
+            return Ok(play);
+        }
+        match play.step(&mut search) {
+            Ok(Step::Played(_)) => {}
+            Ok(Step::Ended(_)) => return Err(DeskFault::Round),
+            Err(fault) => return Err(DeskFault::from(fault.want_of_memory())),
+        }
+    }
+}
+
+/// Whether a round comes next, and each player has a sheet for it.
+fn comes_next(play: &Play, asked: Round) -> bool {
+    match stood_now(play) {
+        Some(
+            Stood {
+                end: End::Awaiting(round),
+                ..
+            },
+        ) => round == asked && are_all_there(play.sheets(), &asked),
+        _ => false,
+    }
+}
+
+/// Whether each player has a sheet for a round.
+fn are_all_there(sheets: &Sheets, round: &Round) -> bool {
+    (0..sheets.seats()).all(|seat| sheets.sheet(Seat::at(seat), round).is_some())
+}

@@ -1,0 +1,76 @@
+//! Orders that speak of what another has: offers and discards.
+ghost use Rattle.std.specs.Prelude.{◌≡◌};
+ghost use Rattle.desk_base.specs.Belongings.{other_president};
+ghost use Rattle.purchases.specs.Discards.{is_president};
+
+use crate::objection::Objection;
+use history::{GameView, Holder};
+use order_grammar::{Offer, Order, TrainSource};
+use tables::{Company, Kind, Seat};
+
+/// Who presides over a company, if another does than a seat; `None` where the seat does.
+pub fn other_president(view: &GameView, company: Company, seat: Seat) -> Option<Option<Seat>>
+    ensures { result ≡ other_president view.now.events.now company seat }
+{
+    let president = view.president(company);
+    if is_president(president, seat) {
+        None
+    } else {
+        Some(president)
+    }
+}
+
+/// Whether a seat presides.
+fn is_president(president: Option<Seat>, seat: Seat) -> bool
+    ensures { result ≡ is_president president seat }
+{
+    matches!(president, Some(president) if president == seat)
+}
+
+/// Why an order of a seat speaks of what is not its own, or not the seller's, with the code of the rule that it
+/// breaks; `None` where it does not.
+pub fn objection_by_view(
+    view: &GameView,
+    seat: Seat,
+    order: &Order,
+) -> Option<(&'static str, Objection)> {
+    match order {
+        Order::Offer(Offer::Private { private, .. }) => {
+            let owner = view.owner(*private);
+            if owner == Some(Holder::Seat(seat)) {
+                return None;
+            }
+            Some(("P3", Objection::Owner(*private, owner)))
+        }
+        Order::Offer(Offer::Train { kind, seller, .. }) => {
+            if let Some(president) = other_president(view, *seller, seat) {
+                return Some(("T4", Objection::President(*seller, president)));
+            }
+            objection_to_train(view, "T5", *seller, *kind)
+        }
+        Order::Discard { company, kind } => {
+            if let Some(president) = other_president(view, *company, seat) {
+                return Some(("T7", Objection::President(*company, president)));
+            }
+            objection_to_train(view, "T7", *company, *kind)
+        }
+        Order::BuyTrain {
+            kind,
+            from: TrainSource::Company { seller, .. },
+        } => objection_to_train(view, "T5", *seller, *kind),
+        _ => None,
+    }
+}
+
+/// That a company has no train of a kind, by the code of a rule; `None` where it has one.
+fn objection_to_train(
+    view: &GameView,
+    code: &'static str,
+    company: Company,
+    kind: Kind,
+) -> Option<(&'static str, Objection)> {
+    if view.trains(Some(company), kind) > 0 {
+        return None;
+    }
+    Some((code, Objection::NoTrain(company, kind)))
+}

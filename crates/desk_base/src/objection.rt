@@ -1,0 +1,140 @@
+//! Why an order is wrong that breaks a rule: the one cause among those of the rule, and what would be good where
+//! that is known.
+
+use crate::text::Piece::{Bytes, Number, Words};
+use crate::text::{Piece, fill};
+use history::Holder;
+use map_tables::{Hex, HexKind, Lay, Side, TileKind, hex_kind, printed_stops, tile};
+use sheets::Sheets;
+use std::alloc::AllocError;
+use tables::{Company, Kind, Money, Private, Seat};
+
+/// Why an order is wrong that breaks a rule.
+#[derive(Clone, Copy)]
+pub enum Objection {
+    /// What the rule says.
+    Nothing,
+    /// The orders above it have passed its step.
+    Passed,
+    /// No RUN stands above it.
+    NoRun,
+    /// RUN BEST stands above it.
+    Best,
+    /// It names no stop of this hex where one is to stand.
+    Stops(Hex),
+    /// This hex has no city.
+    NoCity(Hex),
+    /// No track leads from a hex to another, or none does on this map.
+    Apart(Hex, Hex),
+    /// The tile is of another kind than the hex, or its stops are swapped where there are not two.
+    Kind(Lay),
+    /// Its track leads over this side, where this hex lies, if one does and the border is open.
+    Side(Side, Option<Hex>),
+    /// It is not BO's par value.
+    NotBaltimore,
+    /// It is no par value.
+    NoPar,
+    /// The private is not the player's, but this holder's, if it is anybody's.
+    Owner(Private, Option<Holder>),
+    /// This player presides over the company, if anybody does.
+    President(Company, Option<Seat>),
+    /// The company has no such train.
+    NoTrain(Company, Kind),
+}
+
+/// The name of a player, if there is one.
+pub fn who<'a>(sheets: &'a Sheets, seat: Option<Seat>) -> Piece<'a> {
+    match seat {
+        Some(seat) => Bytes(sheets.name(seat).unwrap_or(&[])),
+        None => Words("nobody"),
+    }
+}
+
+/// Adds why an order is wrong, and what would be good where that is known.
+pub fn push_objection(
+    out: &mut Vec<u8>,
+    sheets: &Sheets,
+    reason: Objection,
+) -> Result<(), AllocError> {
+    match reason {
+        Objection::Nothing => Ok(()),
+        Objection::Passed => fill(out, "; the orders above it have passed its step", &[]),
+        Objection::NoRun => fill(out, "; no RUN stands above it", &[]),
+        Objection::Best => fill(out, "; RUN BEST stands above it", &[]),
+        Objection::Stops(hex) => push_stops(out, hex),
+        Objection::NoCity(hex) => fill(out, "; % has no city", &[Bytes(hex.text().as_slice())]),
+        Objection::Apart(hex, other) => {
+            let (hex, other) = (hex.text(), other.text());
+            let pieces = [Bytes(hex.as_slice()), Bytes(other.as_slice())];
+            fill(out, "; no track leads from % to %", &pieces)
+        }
+        Objection::Kind(lay) => push_kinds(out, lay),
+        Objection::Side(side, beyond) => push_side(out, side, beyond),
+        Objection::NotBaltimore => fill(out, "; write it in a stock round, or write BO", &[]),
+        Objection::NoPar => fill(out, "; write 100, 90, 82, 76, 71 or 67", &[]),
+        Objection::Owner(private, owner) => {
+            let owner = match owner {
+                Some(Holder::Seat(seat)) => who(sheets, Some(seat)),
+                Some(Holder::Company(company)) => Words(company.code()),
+                None => Words("nobody"),
+            };
+            fill(out, "; % owns %", &[owner, Words(private.code())])
+        }
+        Objection::President(company, president) => {
+            let pieces = [who(sheets, president), Words(company.code())];
+            fill(out, "; % presides over %", &pieces)
+        }
+        Objection::NoTrain(company, kind) => {
+            let pieces = [Words(company.code()), Words(kind.code())];
+            fill(out, "; % has no %", &pieces)
+        }
+    }
+}
+
+/// Adds how the stops of a hex are named.
+fn push_stops(out: &mut Vec<u8>, hex: Hex) -> Result<(), AllocError> {
+    let text = hex.text();
+    let hex_name = Bytes(text.as_slice());
+    match printed_stops(hex) {
+        0 => fill(out, "; % has no stop", &[hex_name]),
+        1 => fill(out, "; write %.0", &[hex_name]),
+        _ => fill(out, "; write %.0 or %.1", &[hex_name, hex_name]),
+    }
+}
+
+/// Adds of which kinds a tile and its hex are.
+fn push_kinds(out: &mut Vec<u8>, lay: Lay) -> Result<(), AllocError> {
+    let HexKind::Open(kind) = hex_kind(lay.hex) else {
+        return Ok(());
+    };
+    let (text, number) = (lay.hex.text(), Number(Money::from(lay.tile.number())));
+    let hex_name = Bytes(text.as_slice());
+    let its = tile(lay.tile).kind;
+    if its == kind {
+        return fill(out, "; % has not two stops", &[hex_name]);
+    }
+    let pieces = [hex_name, Words(word_of(kind)), number, Words(word_of(its))];
+    fill(out, "; % is a hex for %, and % a tile for %", &pieces)
+}
+
+/// What hexes and tiles of a kind have.
+fn word_of(kind: TileKind) -> &'static str {
+    match kind {
+        TileKind::Plain => "track alone",
+        TileKind::Town => "a town",
+        TileKind::TwoTowns => "two towns",
+        TileKind::City => "a city",
+        TileKind::CityB => "a city B",
+        TileKind::CitiesNY => "the cities NY",
+        TileKind::CitiesOO => "two cities OO",
+    }
+}
+
+/// Adds which side is bad, and where it leads.
+fn push_side(out: &mut Vec<u8>, side: Side, beyond: Option<Hex>) -> Result<(), AllocError> {
+    fill(out, "; at side % ", &[Number(side.number() as Money)])?;
+    match beyond {
+        Some(hex) => fill(out, "% has no track", &[Bytes(hex.text().as_slice())]),
+        None => fill(out, "the map ends, or the border is closed", &[]),
+    }
+}

@@ -1,0 +1,21 @@
+//! What a seat has to order as a round begins.
+ghost use Rattle.std.specs.Prelude.{◌≡◌};
+ghost use Rattle.desk_check.specs.Looked.{has_to_order};
+ghost use Rattle.purchases.specs.Discards.{is_president};
+
+use history::GameView;
+use tables::{Company, Seat};
+
+/// Whether a seat presides over a company that operates.
+pub(crate) fn has_to_order(view: &GameView, company: Company, seat: Seat) -> bool
+    ensures { result ≡ has_to_order view.now.events.now company seat }
+{
+    view.president(company) == Some(seat) && view.floated(company) && view.square(company).is_some()
+}
+
+/// Whether a seat presides.
+fn is_president(president: Option<Seat>, seat: Seat) -> bool
+    ensures { result ≡ is_president president seat }
+{
+    matches!(president, Some(president) if president == seat)
+}

@@ -1,0 +1,37 @@
+//! The words of a line, as they are written.
+
+use tables::PLAYERS_MOST;
+
+/// How many words of a line are looked at: the most of a PLAYERS line.
+pub(crate) const WORDS_MOST: usize = 1 + PLAYERS_MOST;
+
+/// The first words of a line before its comment, and how many it has there.
+pub(crate) fn words_of(line: &[u8]) -> ([&[u8]; WORDS_MOST], usize) {
+    let mut words: [&[u8]; WORDS_MOST] = [b""; WORDS_MOST];
+    let mut count = 0;
+    let mut is_inside = false;
+    for (at, byte) in line.iter().enumerate() {
+        if *byte == b'#' {
+            break;
+        }
+        let is_space = *byte == b' ';
+        if !is_inside && !is_space {
+            if count < WORDS_MOST {
+                words[count] = word_in_front(&line[at..]);
+            }
+            count += 1;
+        }
+        is_inside = !is_space;
+    }
+    (words, count)
+}
+
+/// What of a text is before its first space or comment.
+fn word_in_front(text: &[u8]) -> &[u8] {
+    for (length, byte) in text.iter().enumerate() {
+        if *byte == b' ' || *byte == b'#' {
+            return &text[..length];
+        }
+    }
+    text
+}
