@@ -1,7 +1,0 @@
-use Rattle.std.proofs.Common.{◌∙◌, ap, sym}
-use Rattle.library_tests.proofs.FourStops.{in_hex_is}
-use Rattle.reach.specs.Position.{InHex}
-use Rattle.library_tests.proofs.four_stops.FourStopsNetwork.links.Goals as goal
-
-pub returns : goal.returns
-returns c = c.links_in.ensures ∙ sym (ap (λ (h : InHex). h.links) (in_hex_is c.args.hex))

@@ -1,0 +1,40 @@
+use std::alloc::AllocError;
+use std::io;
+use thiserror::Error;
+
+/// Why no outcome is printed.
+#[derive(Clone, Copy, Debug, PartialEq, Eq, Drop, Error)]
+pub enum Fault {
+    /// The position before the call cannot be built: an allocation failed, or a call that builds it
+    /// returned something unexpected.
+    #[error("the position before the call cannot be built")]
+    Position,
+    /// A word names no call.
+    #[error("no call has this name")]
+    Name,
+    /// The command line cannot be read, or a line cannot be written.
+    #[error("a read or a write failed")]
+    Io,
+}
+
+impl Fault {
+    /// Returns the status that the program ends with.
+    pub fn status(&self) -> u8 {
+        match self {
+            Fault::Position | Fault::Name => 1,
+            Fault::Io => 4,
+        }
+    }
+}
+
+impl From<AllocError> for Fault {
+    fn from(_error: AllocError) -> Fault {
+        Fault::Position
+    }
+}
+
+impl From<io::Error> for Fault {
+    fn from(_error: io::Error) -> Fault {
+        Fault::Io
+    }
+}

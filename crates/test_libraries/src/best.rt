@@ -1,0 +1,107 @@
+//! The best of a company's trains: worked examples, found by hand on the printed map.
+
+use crate::boards::{PRR, first, laid, of_prr};
+use crate::claims::claimed;
+use crate::four_stops::FourStops;
+use best_run::best;
+use board::PlainBoard;
+use map_tables::{Hex, Lay, Run, TileNo};
+use reach::reached;
+use tables::{Company, Kind};
+
+/// Tests two 2s, only one of which can run; no train; and a company without a token.
+#[test]
+fn runs_a_link(rt: HostRuntime) {
+    let Ok(board) = of_prr(rt.alloc(), &[laid(Hex::H10, TileNo::T57)]) else {
+        panic!(rt; "refused")
+    };
+    let twos = [Kind::Two, Kind::Two];
+    assert_eq!(rt; claimed(rt.alloc(), &board, PRR, &twos), Ok(Some((1, 30))));
+    assert_eq!(rt; claimed(rt.alloc(), &board, PRR, &[]), Ok(Some((0, 0))));
+    let other = Company::NewYorkCentral;
+    assert_eq!(rt; claimed(rt.alloc(), &board, other, &twos), Ok(Some((0, 0))));
+}
+
+/// Returns whether a run leads from one hex to another, in either direction.
+fn runs_between(run: &Run, one: Hex, other: Hex) -> bool {
+    match run.as_slice() {
+        [first, .., last] => {
+            (first.hex == one && last.hex == other) || (first.hex == other && last.hex == one)
+        }
+        _ => false,
+    }
+}
+
+/// Returns a line of three cities, with PRR's home in the middle.
+fn line() -> [Lay; 3] {
+    [
+        laid(Hex::H10, TileNo::T57),
+        laid(Hex::H14, TileNo::T9),
+        laid(Hex::H16, TileNo::T57),
+    ]
+}
+
+/// Tests a 2 that runs west from PRR's home and a 3 that runs east. That is more than the 3 earns
+/// alone by running through.
+#[test]
+fn runs_two_trains(rt: HostRuntime) {
+    let Ok(board) = of_prr(rt.alloc(), &line()) else {
+        panic!(rt; "refused")
+    };
+    let trains = [Kind::Three, Kind::Two];
+    assert_eq!(rt;
+        claimed(rt.alloc(), &board, PRR, &trains),
+        Ok(Some((2, 60)))
+    );
+    let Ok(answer) = best(rt.alloc(), &board, PRR, &trains) else {
+        panic!(rt; "memory")
+    };
+    for far in [Hex::H10, Hex::H16] {
+        let mut runs = answer.claim.runs.as_slice().iter();
+        assert!(rt; runs.any(|claimed| runs_between(&claimed.run, Hex::H12, far)));
+    }
+}
+
+/// Tests that a board and a plain board of one line say the same: PRR reaches its three cities, and
+/// a 3 and a 2 earn 60 there.
+#[test]
+fn plain_board_is_a_board(rt: HostRuntime) {
+    let tokens = [(first(Hex::H12).place(), PRR)];
+    let Ok(board) = of_prr(rt.alloc(), &line()) else {
+        panic!(rt; "refused")
+    };
+    let Ok(plain) = PlainBoard::of(rt.alloc(), &line(), &tokens, Kind::Two) else {
+        panic!(rt; "refused")
+    };
+    let stops = [Hex::H10, Hex::H12, Hex::H16].map(first);
+    let (Ok(reach), Ok(same)) = (
+        reached(rt.alloc(), &board, PRR),
+        reached(rt.alloc(), &plain, PRR),
+    ) else {
+        panic!(rt; "memory")
+    };
+    assert_eq!(rt; reach.stops(), stops.as_slice());
+    assert_eq!(rt; same.stops(), stops.as_slice());
+    let trains = [Kind::Three, Kind::Two];
+    let earned = Ok(Some((2, 60)));
+    assert_eq!(rt; claimed(rt.alloc(), &board, PRR, &trains), earned);
+    assert_eq!(rt; claimed(rt.alloc(), &plain, PRR, &trains), earned);
+}
+
+/// Tests what trains earn on a network that is no board, found by hand. H12 to G13 is worth 80, H12
+/// to G11 70, and H10 to G11 60. One train visits all four, from G11 over H10 and H12 to G13. NYC,
+/// whose token lies only in G11, reaches G13 and no further, since it is red.
+#[test]
+fn runs_on_four_stops(rt: HostRuntime) {
+    let earned = [
+        (PRR, &[Kind::Two, Kind::Two, Kind::Two][..], (3, 210)),
+        (PRR, &[Kind::Three], (1, 120)),
+        (PRR, &[Kind::Diesel], (1, 140)),
+        (Company::NewYorkCentral, &[Kind::Two], (1, 90)),
+        (Company::BostonMaine, &[Kind::Diesel], (0, 0)),
+    ];
+    for (company, trains, best) in earned {
+        let found = claimed(rt.alloc(), &FourStops, company, trains);
+        assert_eq!(rt; found, Ok(Some(best)), "{company:?}");
+    }
+}

@@ -1,0 +1,110 @@
+//! Tiles and tokens on a board: worked examples, found by hand on the printed map.
+
+use board::{Asker, Board, BoardFault, LayFault, TokenFault, TurnStep};
+use map_tables::{
+    End, Hex, Lay, LayRule, Place, Rotation, Side, Stop, StopNumber, TileNo, TokenRule,
+};
+use reach::{Network, reached};
+use std::alloc::Global;
+use tables::{Company, Kind, Money};
+
+pub(crate) const PRR: Company = Company::Pennsylvania;
+
+/// Returns a company that has laid nothing in its turn and has this cash.
+fn asker(company: Company, cash: Money) -> Asker {
+    Asker {
+        company,
+        cash,
+        pointer: TurnStep::Lay,
+        lay_used: false,
+        dh_laid: false,
+        own_privates: [false; 6],
+        player_privates: [false; 6],
+    }
+}
+
+/// Returns a tile that is turned by one sixth.
+pub(crate) fn laid(hex: Hex, tile: TileNo) -> Lay {
+    Lay {
+        hex,
+        tile,
+        rot: Rotation::One,
+        swap: false,
+    }
+}
+
+/// Returns the first stop of a hex.
+pub(crate) fn first(hex: Hex) -> Stop {
+    Stop {
+        hex,
+        number: StopNumber::First,
+    }
+}
+
+/// Returns a board with some tiles and PRR's home token.
+pub(crate) fn of_prr(alloc: Global, lays: &[Lay]) -> Result<Board, BoardFault> {
+    Board::of(alloc, lays, &[(first(Hex::H12).place(), PRR)], Kind::Two)
+}
+
+/// Tests that from its home PRR reaches the cities at both ends of the line over H14.
+#[test]
+fn reaches_along_tiles(rt: HostRuntime) {
+    let lays = [
+        laid(Hex::H10, TileNo::T57),
+        laid(Hex::H14, TileNo::T9),
+        laid(Hex::H16, TileNo::T57),
+    ];
+    let Ok(board) = of_prr(rt.alloc(), &lays) else {
+        panic!(rt; "refused")
+    };
+    let Ok(reach) = reached(rt.alloc(), &board, PRR) else {
+        panic!(rt; "memory")
+    };
+    let stops = [Hex::H10, Hex::H12, Hex::H16].map(first);
+    assert_eq!(rt; reach.stops(), stops.as_slice());
+}
+
+/// Tests that the second token costs 40, and that the city is then full for others but not for its
+/// owner.
+#[test]
+fn puts_a_token(rt: HostRuntime) {
+    let Ok(mut board) = of_prr(rt.alloc(), &[laid(Hex::H10, TileNo::T57)]) else {
+        panic!(rt; "refused")
+    };
+    let (place, stop) = (first(Hex::H10).place(), first(Hex::H10));
+    let few = board.try_token(&asker(PRR, 39), place);
+    assert_eq!(rt; few, Err(TokenFault::Rule(TokenRule::CashTooSmall)));
+    assert_eq!(rt; board.try_token(&asker(PRR, 40), place), Ok(40));
+    assert_eq!(rt; board.put_token(place, PRR), Ok(()));
+    assert!(rt; board.token(stop, PRR) && !board.full(stop, PRR));
+    assert!(rt; board.full(stop, Company::NewYorkCentral));
+}
+
+/// Tests ERIE's home: green tiles come in phase 3, and a swapped tile's stop 0 leaves by its other
+/// side.
+#[test]
+fn puts_a_swapped_tile(rt: HostRuntime) {
+    let swapped = Lay {
+        hex: Hex::E11,
+        tile: TileNo::T59,
+        rot: Rotation::Zero,
+        swap: true,
+    };
+    let home: [(Place, Company); 1] = [(first(Hex::E11).place(), Company::Erie)];
+    let Ok(mut board) = Board::of(rt.alloc(), &[], &home, Kind::Three) else {
+        panic!(rt; "refused")
+    };
+    let erie = asker(Company::Erie, 0);
+    assert_eq!(rt; board.try_lay(&erie, swapped), Ok(0));
+    assert_eq!(rt; board.put_lay(swapped), Ok(()));
+    let links = board.links(Hex::E11);
+    let leaves = links
+        .as_slice()
+        .iter()
+        .find(|link| link.b == End::Stop(StopNumber::First));
+    assert!(rt; leaves.map(|link| link.a) == Some(End::Side(Side::NorthWest)));
+    assert_eq!(rt;
+        board.try_lay(&erie, swapped),
+        Err(LayFault::Rule(LayRule::WrongTile))
+    );
+}

@@ -1,0 +1,26 @@
+//! Tests of the libraries below the sequence of rounds, only through public calls, as a user would
+//! write them. They make calls that no order file reaches or whose result no report shows, each on
+//! its happy path. What a report shows is a game of `games/`, which `./check` plays.
+//!
+//! Reading order: `lines` (lines read and printed), `boards` (tiles and tokens), `best` (the
+//! greatest revenue), `four_stops` (a network that is no board), `claims` (the runs of a claim,
+//! checked one after the other), `marks` (bits kept, read and printed), `accepting` (the marks of
+//! the best), `money` (cash, shares, events). `bench/agree` compares the search with a slow one on
+//! small boards.
+#![tactic(auto)]
+
+#[cfg(test)]
+mod accepting;
+#[cfg(test)]
+mod best;
+#[cfg(test)]
+mod boards;
+#[cfg(test)]
+mod claims;
+mod four_stops;
+#[cfg(test)]
+mod lines;
+#[cfg(test)]
+mod marks;
+#[cfg(test)]
+mod money;

@@ -1,0 +1,151 @@
+use crate::support::{
+    AfterEnd, Call, Endless, FIRST, FIRST_REPORT, Sink, Source, Trouble, outcome_of,
+};
+use sheets::FileFault;
+use std::alloc::Global;
+use std::cell::Cell;
+use std::io;
+use std::io::{Read, Write};
+use umpire::{Fault, Watched};
+
+/// A reader that sets a cell when it has given its end.
+#[derive(Drop)]
+struct Telling<'a> {
+    source: Source<'a>,
+    ended: &'a Cell<bool>,
+}
+
+impl<'a> Read for Telling<'a> {
+    fn read(&mut self, buffer: &mut [u8]) -> io::Result<usize> {
+        let count = self.source.read(buffer)?;
+        self.ended.set(count == 0);
+        Ok(count)
+    }
+}
+
+/// A writer that counts its calls, and those before the reader had given its end.
+#[derive(Drop)]
+struct Watching<'a> {
+    ended: &'a Cell<bool>,
+    calls: usize,
+    early: usize,
+}
+
+impl<'a> Write for Watching<'a> {
+    fn write(&mut self, bytes: &[u8]) -> io::Result<usize> {
+        self.calls = self.calls.saturating_add(1);
+        if !self.ended.get() {
+            self.early = self.early.saturating_add(1);
+        }
+        Ok(bytes.len())
+    }
+
+    fn flush(&mut self) -> io::Result<()> {
+        Ok(())
+    }
+}
+
+/// How often a call writes for a file that it reads, a few bytes at a time, and how often before it has
+/// read its end.
+fn writes_of(alloc: Global, call: Call, file: &str) -> (usize, usize) {
+    let ended = Cell::new(false);
+    let mut reader = Watched::new(Telling {
+        source: Source::giving(file, 7),
+        ended: &ended,
+    });
+    let mut sink = Watching {
+        ended: &ended,
+        calls: 0,
+        early: 0,
+    };
+    let mut writer = Watched::new(&mut sink);
+    let _ = call.make(alloc, &mut reader, &mut writer);
+    (sink.calls, sink.early)
+}
+
+#[test]
+fn writes_part_by_part_once_all_is_read(rt: HostRuntime) {
+    // The header, the round, and the end; the first line; the same as the first; the file.
+    let owed = [
+        (Call::Run, 3),
+        (Call::Certs, 1),
+        (Call::Verify, 3),
+        (Call::Migrate, 1),
+    ];
+    for (call, count) in owed {
+        assert_eq!(rt; writes_of(rt.alloc(), call, FIRST), (count, 0));
+    }
+}
+
+/// Whether a call reads no further than the limit of a file, of a reader that gives bytes without an
+/// end, and refuses it as too long.
+fn stops_at_limit(alloc: Global, call: Call) -> bool {
+    let mut source = Endless { given: 0 };
+    let mut sink = Sink::taking(alloc, 1_000);
+    let mut reader = Watched::new(&mut source);
+    let mut writer = Watched::new(&mut sink);
+    let result = call.make(alloc, &mut reader, &mut writer);
+    result == Err(Fault::File(FileFault::TooLong))
+        && source.given == 67_108_865
+        && sink.text.as_slice() == b"FILE REFUSED F3\n".as_slice()
+}
+
+#[test]
+fn reads_no_further_than_the_limit(rt: HostRuntime) {
+    for call in [Call::Run, Call::Migrate] {
+        assert!(rt; stops_at_limit(rt.alloc(), call));
+    }
+}
+
+#[test]
+fn takes_any_pieces(rt: HostRuntime) {
+    for most in [1, 2, 7, 100] {
+        let sink = Sink::taking(rt.alloc(), most);
+        let run = outcome_of(rt.alloc(), Source::giving(FIRST, most), sink);
+        assert_eq!(rt; run.result, Ok(()), "by {most}");
+        assert_eq!(rt; run.text.as_slice(), FIRST_REPORT.as_bytes(), "by {most}");
+    }
+}
+
+#[test]
+fn calls_no_reader_after_its_end(rt: HostRuntime) {
+    for after_end in [AfterEnd::Ends, AfterEnd::Fails, AfterEnd::Gives] {
+        let mut source = Source::giving(FIRST, 1);
+        source.after_end = after_end;
+        let run = outcome_of(rt.alloc(), source, Sink::taking(rt.alloc(), 7));
+        assert_eq!(rt; run.result, Ok(()));
+        assert_eq!(rt; run.text.as_slice(), FIRST_REPORT.as_bytes());
+        // A call for each byte, and one that finds the end.
+        assert_eq!(rt; run.reads, FIRST.len() + 1);
+    }
+}
+
+#[test]
+fn stops_at_a_failed_read(rt: HostRuntime) {
+    // A byte a call; the last of these calls would find the end.
+    for bad in 0..=FIRST.len() {
+        let mut source = Source::giving(FIRST, 1);
+        source.bad = Some(bad);
+        let run = outcome_of(rt.alloc(), source, Sink::taking(rt.alloc(), 7));
+        assert_eq!(rt; run.result, Err(Fault::Read), "at {bad}");
+        assert!(rt; run.text.is_empty(), "at {bad}");
+        assert!(rt; run.read_failed && !run.write_failed, "at {bad}");
+        assert_eq!(rt; run.reads, bad + 1);
+    }
+}
+
+#[test]
+fn stops_at_a_failed_write(rt: HostRuntime) {
+    for bad in 0..FIRST_REPORT.len() {
+        for trouble in [Trouble::Fails, Trouble::TakesNothing] {
+            let mut sink = Sink::taking(rt.alloc(), 1);
+            sink.bad = bad;
+            sink.trouble = trouble;
+            let run = outcome_of(rt.alloc(), Source::giving(FIRST, 50), sink);
+            assert_eq!(rt; run.result, Err(Fault::Write), "at {bad}");
+            let written = &FIRST_REPORT.as_bytes()[..bad];
+            assert_eq!(rt; run.text.as_slice(), written, "at {bad}");
+            assert!(rt; !run.read_failed && run.write_failed, "at {bad}");
+        }
+    }
+}

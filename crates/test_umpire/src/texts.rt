@@ -1,0 +1,50 @@
+//! Reports of a game.
+
+use crate::support::{FIRST, FIRST_REPORT};
+use report::{report, round_text};
+use rounds::play;
+use sheets::{Sheets, collect};
+use std::alloc::{AllocError, Global};
+use std::test::Fail;
+use tables::Round;
+
+/// Returns whether the report of the game of some sheets is this text.
+fn is_report(alloc: Global, sheets: &Sheets, owed: &str) -> Result<bool, AllocError> {
+    let game = play(alloc, sheets)?;
+    let text = report(alloc, &game)?;
+    Ok(text.as_slice() == owed.as_bytes())
+}
+
+/// Returns whether the text of a round of it is this.
+fn is_round(alloc: Global, sheets: &Sheets, round: Round, owed: &str) -> Result<bool, AllocError> {
+    let game = play(alloc, sheets)?;
+    let text = round_text(alloc, &game, round)?;
+    Ok(text.as_slice() == owed.as_bytes())
+}
+
+/// Returns what the report of the first game says of its first round.
+fn first_round() -> Option<&'static str> {
+    let (_, rest) = FIRST_REPORT.split_once("CYD\n")?;
+    let (round, _) = rest.split_once("AWAITING")?;
+    Some(round)
+}
+
+#[test]
+fn writes_a_game(rt: HostRuntime) -> Result<(), Fail> {
+    let Ok(sheets) = collect(rt.alloc(), FIRST.as_bytes()) else {
+        panic!(rt; "refused")
+    };
+    assert!(rt; is_report(rt.alloc(), &sheets, FIRST_REPORT)?);
+    Ok(())
+}
+
+#[test]
+fn writes_a_round_of_it(rt: HostRuntime) -> Result<(), Fail> {
+    let owed = first_round().ok_or("the round")?;
+    let Ok(sheets) = collect(rt.alloc(), FIRST.as_bytes()) else {
+        panic!(rt; "refused")
+    };
+    assert!(rt; is_round(rt.alloc(), &sheets, Round::Opening(1), owed)?);
+    assert!(rt; is_round(rt.alloc(), &sheets, Round::Opening(2), "")?);
+    Ok(())
+}
