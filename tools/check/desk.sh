@@ -1,0 +1,131 @@
+# The part `desk`: what the umpire's desk writes of games.
+
+# play_desk_text TEXT: the text is what a word of the desk writes. The words and the game of games/ stand in NAME.words; where there
+# is no such file, the name begins with the word, and goes on with the game, unless its order file is NAME.orders.
+play_desk_text() {
+  local name=${1%.text} words orders status=0
+  words=${name##*/} words=${words%%-*}
+  orders=${name##*/} orders=games/${orders#"$words"-}.orders
+  [ ! -f "$name.orders" ] || orders=$name.orders
+  [ ! -f "$name.words" ] || { read -r orders words < "$name.words" && orders=games/$orders.orders; }
+  [ ! -f "$name.status" ] || status=$(< "$name.status")
+  # shellcheck disable=SC2086
+  "$desk" $words < "$orders" > "$scratch/out" 2> "$scratch/err"
+  judge "$name" $? "$status" "$1" none
+}
+
+# explain_codes FILE: of each code the desk says what the table of that document says, and names a game that there is.
+explain_codes() {
+  local row code game why all=0
+  while IFS= read -r row; do
+    [[ $row =~ ^\|\ ([A-Z][0-9]+)\ \|\ (.*)\ \|\ (.*)\ \|$ ]] || continue
+    code=${BASH_REMATCH[1]} why='' all=$((all + 1))
+    printf '%s: %s\nTo do: %s\n' "$code" "${BASH_REMATCH[2]}" "${BASH_REMATCH[3]}" > "$scratch/owed"
+    "$desk" explain "$code" < /dev/null > "$scratch/out" 2> "$scratch/err" || why="its status is $?"
+    head -n 2 "$scratch/out" | cmp -s - "$scratch/owed" || why="it does not say what $1 says"
+    game=$(sed -n 's/^Game: //p' "$scratch/out")
+    [[ $code == F[34] || ( $game == games/codes/$code-* && -f $game ) ]] || why='it names no game'
+    count "desk explain $code" "$why"
+  done < <(sed -n '/^### All codes/,/^### Codes of lines/p' "$1")
+  ((all > 0)) || count "the codes of $1" 'there are none'
+}
+
+# round_part REPORT [ROUND]: the part of a report that tells of a round, of the last that was played where none is named.
+round_part() {
+  awk -v asked="${2:-}" '
+    /^ROUND / { if (asked == "") text = ""; within = asked == "" || $2 == asked }
+    within { text = text $0 "\n" }
+    /^BANK / { within = 0 }
+    END { printf "%s", text }' "$1"
+}
+
+# play_rounds ORDERS: `round` writes a round's part of the report, of each round of the game, and `--why` adds lines to it.
+play_rounds() {
+  local report=${1%.orders}.report round why=
+  [ ! -f "${1%.orders}.status" ] || return 0
+  for round in $(awk '$1 == "ROUND" { print $2 }' "$report") ''; do
+    round_part "$report" "$round" > "$scratch/part"
+    "$desk" round ${round:+"$round"} < "$1" 2> "$scratch/err" | cmp -s - "$scratch/part" || why+=" $round is another text;"
+  done
+  "$desk" round --why < "$1" 2> "$scratch/err" | sed '/^  /d' | cmp -s - "$scratch/part" || why+=' --why loses lines;'
+  count "the rounds of $1" "${why# }"
+}
+
+# has_best ORDERS: whether the program obeys a RUN BEST of the game, whose report it leaves behind.
+has_best() {
+  "$program" report < "$1" > "$scratch/of-best"
+  grep -qE ' OBEYED (IF .* )?RUN BEST$' "$scratch/of-best"
+}
+
+# play_runs ORDERS: what `runs` writes of each RUN BEST that is obeyed, put in its place in the file, earns the same.
+play_runs() {
+  local report=$scratch/of-best round why=
+  has_best "$1" || return 0
+  for round in $(awk '$1 == "ROUND" { round = $2 } /RUN BEST$/ && $3 == "OBEYED" { print round }' "$report" | uniq); do
+    "$desk" runs "$round" < "$1" || why+=" $round: the status is $?;"
+  done > "$scratch/runs"
+  games/desk/put-runs "$scratch/runs" "$report" < "$1" > "$scratch/written"
+  "$program" report < "$scratch/written" > "$scratch/of-written"
+  ! grep -qE ' OBEYED (IF .* )?RUN BEST$' "$scratch/of-written" || why+=' a RUN BEST is left;'
+  cmp -s <(what_came "$report") <(what_came "$scratch/of-written") || why+=' it comes out otherwise;'
+  count "the best runs of $1, written out" "${why# }"
+}
+
+# what_came REPORT: what came of a game beside its rulings, and what each company earned in each round.
+what_came() {
+  awk '
+    /^[A-Z][A-Z0-9]* [0-9]+ (OBEYED|REFUSED) / { next }
+    $1 == "ROUND" { round = $2 }
+    $1 == "RUNS" { earned[round " " $2] += $3; next }
+    { print }
+    END { for (it in earned) if (earned[it] > 0) print it, earned[it] | "sort" }' "$1"
+}
+
+# try_every_word ORDERS: each word of the desk on the order file, with no other status than it may
+# have, and with text on standard error if it has no result, and only then.
+try_every_word() {
+  local words status why=
+  for words in round 'round --why' 'round OR1.1' runs 'runs SR1' state 'state SR1' 'state --before' bulletin check \
+    'check --all' 'check --from 9'; do
+    # shellcheck disable=SC2086
+    "$desk" $words < "$1" > "$scratch/out" 2> "$scratch/err"
+    status=$?
+    case $words,$status in
+      check*,2 | *,0 | check*,3) [ ! -s "$scratch/err" ] || why+=" $words says something;" ;;
+      *,2 | round*,1 | runs*,1 | state*,1 | bulletin*,1) [ -s "$scratch/err" ] || why+=" $words says nothing;" ;;
+      *) why+=" $words ends with status $status;" ;;
+    esac
+  done
+  count "each word of the desk on $1" "${why# }"
+}
+
+# formats: the document that has the table of the codes.
+formats() { echo docs/players/formats.md; }
+
+# check_desk: with the word quick it plays the games of games/desk and the codes, and leaves out the rest, which plays games anew
+# for each of their rounds.
+check_desk() {
+  side_by_side play_desk_text games/desk/*.text
+  explain_codes "$(formats)"
+  [ "${1:-}" != quick ] || return 0
+  side_by_side play_rounds games/*.orders
+  side_by_side play_runs games/*.orders games/certificates/certs-*.orders
+  has_best games/best-run-of-two-trains.orders || count 'the best runs, written out' 'there are none'
+  make_games
+  side_by_side try_every_word games/*.orders games/*/*.orders "$scratch"/made/*.orders
+}
+
+desk_must_fail() {
+  local wrong=$scratch/wrong-desk it=best-run-of-two-trains text=games/desk/check-a-late-sheet
+  mkdir -p "$wrong"
+  cp "$text.orders" "$text.status" "$wrong" && changed "$text.text" "$wrong/${text##*/}.text"
+  sees 'a changed text of the desk' 1 play_desk_text "$wrong/${text##*/}.text"
+  printf '### All codes\n\n| G1 | Another meaning. | Nothing. |\n\n### Codes of lines\n' > "$wrong/formats.md"
+  sees 'another meaning of a code' 1 explain_codes "$wrong/formats.md"
+  cp "games/$it.orders" "$wrong" && sed 's/^ROUND.*/&./' "games/$it.report" > "$wrong/$it.report"
+  sees 'a round that is not as in the report' 1 play_rounds "$wrong/$it.orders"
+  desk=$(stub 'exit 5')
+  sees 'runs that are not written out' 1 play_runs "games/$it.orders"
+  sees 'a word with a status that it may not have' 1 try_every_word "games/$it.orders"
+  desk=$2
+}
