@@ -1,9 +1,10 @@
-# The part `docs`: the names that the documents cite exist, and the page of what the claim rests on
-# is fresh.
+# The part `docs`: the names that the documents cite exist, the page of what the claim rests on is
+# fresh, and the examples at the roots of crates are tests.
 
 check_docs() {
   take_over tools/names
   take_over tools/claim --check
+  take_over tools/check/examples
 }
 
 docs_must_fail() {
@@ -17,4 +18,8 @@ docs_must_fail() {
   sees 'a name that is gone' 1 take_over "$wrong/tools/names"
   printf '\nAnother line.\n' >> "$wrong/docs/developers/claim.md"
   sees 'a page of the claim that is not fresh' 1 take_over "$wrong/tools/claim" --check
+  mkdir -p "$wrong-crates/sheets/src" "$wrong-crates/test_umpire/src"
+  sed 's/collect(rt/collects(rt/' crates/sheets/src/lib.rt > "$wrong-crates/sheets/src/lib.rt"
+  cp crates/test_umpire/src/examples.rt "$wrong-crates/test_umpire/src/"
+  sees 'an example that no test has' 1 take_over tools/check/examples "$wrong-crates"
 }

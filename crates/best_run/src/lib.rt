@@ -18,6 +18,29 @@
 //! - `Answer`: what the search finds in the end.
 //! - `Keeping`: what is kept of one call after the other.
 //!
+//! The greatest revenue of a 2 that has one city beside its home to run to:
+//!
+//! ```
+//! let home = Stop {
+//!     hex: Hex::H12,
+//!     number: StopNumber::First,
+//! };
+//! let lay = Lay {
+//!     hex: Hex::H10,
+//!     tile: TileNo::T57,
+//!     rot: Rotation::One,
+//!     swap: false,
+//! };
+//! let homes = [(home.place(), Company::Pennsylvania)];
+//! let Ok(board) = Board::of(rt.alloc(), &[lay], &homes, Kind::Two) else {
+//!     panic!(rt; "refused")
+//! };
+//! let Ok(answer) = best(rt.alloc(), &board, Company::Pennsylvania, &[Kind::Two]) else {
+//!     panic!(rt; "memory")
+//! };
+//! assert_eq!(rt; answer.claim.revenue, 30);
+//! ```
+//!
 //! Reading order: `revenue` (the public call), `answer`, `trains` (their order), `state` (the
 //! trains assigned so far, and the run begun), `outlook` (what lies ahead of that run) with `worth`
 //! (what that is worth), `last` (at which stops ahead it ends), `move_path` (the moves that earn

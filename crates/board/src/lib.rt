@@ -15,6 +15,36 @@
 //! each tile that lies, turned as it was laid. In a contract it is the same as a `PlainBoard`,
 //! which has only the lists and is shorter to read.
 //!
+//! A lay is tried, and laid:
+//!
+//! ```
+//! let home = Stop {
+//!     hex: Hex::H12,
+//!     number: StopNumber::First,
+//! };
+//! let homes = [(home.place(), Company::Pennsylvania)];
+//! let Ok(mut board) = Board::of(rt.alloc(), &[], &homes, Kind::Two) else {
+//!     panic!(rt; "refused")
+//! };
+//! let lay = Lay {
+//!     hex: Hex::H10,
+//!     tile: TileNo::T57,
+//!     rot: Rotation::One,
+//!     swap: false,
+//! };
+//! let asker = Asker {
+//!     company: Company::Pennsylvania,
+//!     cash: 100,
+//!     pointer: TurnStep::Lay,
+//!     lay_used: false,
+//!     dh_laid: false,
+//!     own_privates: [false; 6],
+//!     player_privates: [false; 6],
+//! };
+//! assert_eq!(rt; board.try_lay(&asker, lay), Ok(0));
+//! assert_eq!(rt; board.put_lay(lay), Ok(()));
+//! ```
+//!
 //! Reading order: `fault`, `kept` (the links of a hex as a value), `index`, `board`, `after` (a
 //! board with one more tile), `network` (the position that is kept), `asker`, `powers` (of CS and
 //! DH), `lay`, `token`, `laws`.

@@ -7,6 +7,16 @@
 //! CERT and CLAIM. In an order file of version 2 an order may be under a condition. Reading
 //! allocates nothing; printing allocates only its text.
 //!
+//! A line read, and printed in its one spelling:
+//!
+//! ```
+//! let Ok(line) = read_line(b"run 2 h12.0  H10.0 # x") else {
+//!     panic!(rt; "a fault")
+//! };
+//! let text = print_line(rt.alloc(), &line.order.duplicate())?;
+//! assert_eq!(rt; text.as_slice(), b"RUN 2 H12.0 H10.0".as_slice());
+//! ```
+//!
 //! Reading order: `name`, `fault`, `words` (a line and its words), `keyword` (the literal words),
 //! `order` (orders), `short` (those that need few bytes), `class` (the texts of each class of
 //! words), `form` (the table), `condition` (versions, and an order under a condition), `read`,

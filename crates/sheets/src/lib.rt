@@ -7,6 +7,25 @@
 //! with the version of its file. `PartsLeft` is what is still to come of a sheet: the lines before
 //! its next head, and the written turns or the companies' orders that heads open.
 //!
+//! The sheets of a file, and the lines of one:
+//!
+//! ```
+//! let file = b"GAME 1830 1\nPLAYERS ANN BOB CYD\nSHEET ANN PR1\nTURN\nBUY SV\n";
+//! let Ok(sheets) = collect(rt.alloc(), file) else {
+//!     panic!(rt; "refused")
+//! };
+//! let Some(sheet) = sheets.sheet(Seat::default(), &Round::Opening(1)) else {
+//!     panic!(rt; "no sheet")
+//! };
+//! let mut lines = sheet.lines();
+//! let (Some(first), Some(second)) = (lines.take_line(), lines.take_line()) else {
+//!     panic!(rt; "too few lines")
+//! };
+//! assert!(rt; matches!(first.order(), Ok(Order::Turn)));
+//! assert!(rt; matches!(second.order(), Ok(Order::BuyPrivate(_))) && second.number == 2);
+//! assert!(rt; lines.take_line().is_none());
+//! ```
+//!
 //! Reading order: `fault`, `text` (the lines of a text), `sheet`, `parts` (a sheet as the rounds
 //! take it up), `place` (orders that have none), `players`, `sheet_key` and `open_sheet` (whose
 //! sheet it is, and where it began), `collecting` (line after line), `file` (`collect`, `examine`),

@@ -2,11 +2,11 @@
 //! write them. They make calls that no order file reaches or whose result no report shows, each on
 //! its happy path. What a report shows is a game of `games/`, which `./check` plays.
 //!
-//! Reading order: `lines` (lines read and printed), `boards` (tiles and tokens), `best` (the
-//! greatest revenue), `four_stops` (a network that is no board), `claims` (the runs of a claim,
-//! checked one after the other), `marks` (bits kept, read and printed), `accepting` (the marks of
-//! the best), `money` (cash, shares, events). `bench/agree` compares the search with a slow one on
-//! small boards.
+//! Reading order: `examples` (those at the roots of crates), `lines` (lines read and printed),
+//! `boards` (tiles and tokens), `best` (the greatest revenue), `four_stops` (a network that is no
+//! board), `claims` (the runs of a claim, checked one after the other), `marks` (bits kept, read and
+//! printed), `accepting` (the marks of the best), `money` (cash, shares, events). `bench/agree`
+//! compares the search with a slow one on small boards.
 #![tactic(auto)]
 
 #[cfg(test)]
@@ -17,6 +17,8 @@ mod best;
 mod boards;
 #[cfg(test)]
 mod claims;
+#[cfg(test)]
+mod examples;
 mod four_stops;
 #[cfg(test)]
 mod lines;

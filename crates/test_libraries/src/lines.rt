@@ -1,18 +1,8 @@
 //! Lines read and printed.
 
-use order_grammar::{Token, Version, print_conditional, print_line, read_line, read_line_in};
+use order_grammar::{Token, Version, print_conditional, read_line, read_line_in};
 use std::alloc::{AllocError, Global};
 use std::test::Fail;
-
-#[test]
-fn prints_a_line(rt: HostRuntime) -> Result<(), Fail> {
-    let Ok(read) = read_line(b"run 2 h12.0  H10.0 # x") else {
-        panic!(rt; "a fault")
-    };
-    let text = print_line(rt.alloc(), &read.order.duplicate())?;
-    assert_eq!(rt; text.as_slice(), b"RUN 2 H12.0 H10.0".as_slice());
-    Ok(())
-}
 
 /// Returns whether a line of version 2 is printed again as this.
 fn prints(alloc: Global, line: &[u8], printed: &[u8]) -> Result<bool, AllocError> {

@@ -4,15 +4,18 @@
 //! which `./check` plays; the libraries below the sequence of rounds have their tests in
 //! `test_libraries`.
 //!
-//! Reading order: `support` (readers and writers that give and take as they are told), `running`
-//! (whole runs over them), `certifying` (certificates, written and verified, over them),
-//! `migrating` (a file that migrates to version 2, over them), `watching` (a reader or writer that
-//! remembers a failure), `texts` (reports), `sequence` (the rounds after the bank is broken),
-//! `refusing` (a runner that refuses), `stepping` (a game a round at a time).
+//! Reading order: `examples` (those at the roots of crates), `support` (readers and writers that
+//! give and take as they are told), `running` (whole runs over them), `certifying` (certificates,
+//! written and verified, over them), `migrating` (a file that migrates to version 2, over them),
+//! `watching` (a reader or writer that remembers a failure), `texts` (reports), `sequence` (the
+//! rounds after the bank is broken), `refusing` (a runner that refuses), `stepping` (a game a round
+//! at a time).
 #![tactic(auto)]
 
 #[cfg(test)]
 mod certifying;
+#[cfg(test)]
+mod examples;
 #[cfg(test)]
 mod migrating;
 #[cfg(test)]

@@ -2,6 +2,16 @@
 //! part, so that memory holds the text of one part at a time: the header, a round, 4,096 unread
 //! lines, or the end.
 //!
+//! An order file in memory, `FIRST`, and its report:
+//!
+//! ```
+//! let mut text = Vec::new(rt.alloc());
+//! let mut reader = Watched::new(FIRST.as_bytes());
+//! let mut writer = Watched::new(&mut text);
+//! assert_eq!(rt; run(rt.alloc(), &mut reader, &mut writer), Ok(()));
+//! assert_eq!(rt; text.as_slice(), FIRST_REPORT.as_bytes());
+//! ```
+//!
 //! Reading order: `watched` (readers and writers that remember a failure), `fault`, `input`,
 //! `output` (a text), `refusal` (of a file), `ending` (what follows the rounds of a report),
 //! `program` (the report, and `run`); `certificates` (those of a game, written), `group_text` (how
