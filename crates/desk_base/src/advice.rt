@@ -86,7 +86,7 @@ fn on_line(fault: Fault) -> Advice {
         Fault::OutOfPlace => shown(
             "look which lines may stand before the first TURN or COMPANY, in a turn, in a \
                 company's orders",
-            "G6-before-the-first-group",
+            "G6-before-the-first-turn",
         ),
         Fault::UnknownPlayer => shown(
             "write the name as the PLAYERS line has it",
@@ -101,7 +101,7 @@ fn on_opening(rule: OpeningRule) -> Advice {
     match rule {
         OpeningRule::NotOfOpening => shown(
             "in a turn write BUY or BID; LIMIT and `PAR BO n` stand before the first TURN",
-            "A1-standing-lines-in-a-group",
+            "A1-standing-lines-in-a-turn",
         ),
         OpeningRule::Sold => shown(
             "nothing: it has gone to somebody else, or to you",
@@ -153,7 +153,7 @@ fn on_stock(rule: StockRule) -> Advice {
             "sell before, or buy of a company in a coloured zone",
             "S11-certificate-limit",
         ),
-        StockRule::OverSixShares => shown("buy of another company", "S12-over-six-tenths"),
+        StockRule::OverSixShares => shown("buy of another company", "S12-over-six-shares"),
         StockRule::BoughtBefore => shown(
             "write it below the next TURN; only in the brown zone several shares of one company \
                 may be bought",
