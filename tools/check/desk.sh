@@ -30,6 +30,12 @@ explain_codes() {
   ((all > 0)) || count "the codes of $1" 'there are none'
 }
 
+# look_at_codes FILE: the table of codes in that document is what tools/codes makes of what the desk explains.
+look_at_codes() {
+  "$desk" explain --all < /dev/null > "$scratch/explained"
+  take_over tools/codes --check --page "$1" < "$scratch/explained"
+}
+
 # round_part REPORT [ROUND]: the part of a report that tells of a round, of the last that was played where none is named.
 round_part() {
   awk -v asked="${2:-}" '
@@ -107,6 +113,7 @@ formats() { echo docs/players/formats.md; }
 check_desk() {
   side_by_side play_desk_text games/desk/*.text
   explain_codes "$(formats)"
+  look_at_codes "$(formats)"
   [ "${1:-}" != quick ] || return 0
   side_by_side play_rounds games/*.orders
   side_by_side play_runs games/*.orders games/certificates/certs-*.orders
@@ -122,6 +129,8 @@ desk_must_fail() {
   sees 'a changed text of the desk' 1 play_desk_text "$wrong/${text##*/}.text"
   printf '### All codes\n\n| G1 | Another meaning. | Nothing. |\n\n### Codes of lines\n' > "$wrong/formats.md"
   sees 'another meaning of a code' 1 explain_codes "$wrong/formats.md"
+  grep -v '^| A3 |' "$(formats)" > "$wrong/formats.md"
+  sees 'a table that lacks a code' 1 look_at_codes "$wrong/formats.md"
   cp "games/$it.orders" "$wrong" && sed 's/^ROUND.*/&./' "games/$it.report" > "$wrong/$it.report"
   sees 'a round that is not as in the report' 1 play_rounds "$wrong/$it.orders"
   desk=$(stub 'exit 5')
