@@ -42,7 +42,7 @@ answer_at_once() {
 # want_rt NAME: ends the script where Rattle's command is not there.
 want_rt() {
   command -v rt > /dev/null || {
-    echo "$1: Rattle's command rt is not on the path: put the kit's folder bin on it, as README.md says under 'Your own game'" >&2
+    echo "$1: Rattle's command rt is not on the path: put the kit's folder bin on it, as README.md says under 'Quick start'" >&2
     exit 1
   }
 }
