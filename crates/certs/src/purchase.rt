@@ -17,8 +17,8 @@ use tables::{Amount, Company, Money, Seat, Zone, certificate_limit, par_square, 
 /// The most shares of a company that a seat may hold if no zone lifts that.
 const SHARES_MOST: ShareCount = 6;
 
-/// Checks whether a seat may buy, given the company of which it has bought in this turn, if any. The
-/// error is the first rule that the purchase breaks, of S6 to S13.
+/// Checks whether a seat may buy, given the company of which it has bought in this turn, if any.
+/// The error is the first rule that the purchase breaks, of S6 to S13.
 pub fn may_buy(
     history: &History,
     seat: Seat,

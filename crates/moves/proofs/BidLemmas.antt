@@ -1,4 +1,4 @@
--- What may be bought and bid in an opening, by the answers of the call that rules it.
+-- What may be bought and bid in an opening, by what the call that rules it returns.
 use Rattle.std.proofs.Common.{◌≡◌, ℕ, ◌++◌, false, List, [], ◌∷◌, Some, None, ℤ, pos, sym}
 use Rattle.events.specs.declared.event.Event.{Event}
 use Rattle.events.specs.declared.ruling.OpeningRule.{OpeningRule}

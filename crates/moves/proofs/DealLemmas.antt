@@ -1,4 +1,4 @@
--- What is bought and sold, by the answers of the calls that rule it.
+-- What is bought and sold, by what the calls that rule it return.
 use Rattle.std.proofs.Common.{◌≡◌, ℕ, ◌++◌, List, [], ◌∷◌, Option, Some, None, Result, Ok, Err, ℤ, pos, refl}
 use Rattle.std.proofs.Common.{ap, sym, ◌∙◌}
 use Rattle.certs.specs.Purchase.{allowed, cost_of, purchase_judgement}
@@ -13,7 +13,7 @@ use Rattle.moves.specs.Listed.{Lists}
 use Rattle.moves.specs.declared.priced.Priced.{Priced}
 use Rattle.tables.specs.declared.seat.Seat.{Seat}
 
--- the rule of an answer that is no leave
+-- the rule by which one is refused
 abbrev rule_of : Result (Unit {0}) StockRule → Option StockRule
 rule_of (Ok leave) = None
 rule_of (Err rule) = Some rule

@@ -1,5 +1,5 @@
--- A list of what is allowed has exactly that, where the rules answer each candidate in one way and every thing is a
--- candidate.
+-- A list of what is allowed has exactly that, where the rules judge each candidate in one way and
+-- every thing is a candidate.
 use Rattle.std.proofs.Common.{◌≡◌, ℕ, zero, suc, Bool, true, false, ◌↔◌, IsTrue, inl, inr, List, [], ◌∷◌, ◌++◌}
 use Rattle.std.proofs.Common.{Option, Some, None, Result, Ok, Err, ℤ, refl, sym, ap, subst, ◌∙◌, flat_map}
 use Rattle.std.specs.Prelude.{slice_get}
@@ -116,7 +116,7 @@ module _ {A Fault : Type 0} (rules : A → Result ℤ Fault → Type 0) where
       sound more rest others one price
       (subst (λ (l : List (Priced A)). IsAmong (record { what = one; price = price }) l) is among)
 
-  -- and what is allowed is listed, where each candidate has one answer
+  -- and what is allowed is listed, where each candidate has one verdict
   complete : ((one : A) (a b : Result ℤ Fault) → rules one a → rules one b → a ≡ b) → (candidates : List A)
       (listed : List (Priced A)) → AreListed rules candidates listed → (one : A) (price : ℤ) → IsAmong one candidates
       → rules one (Ok price) → IsAmong (record { what = one; price = price }) listed
@@ -141,7 +141,8 @@ same_tests false false first second = refl
 same_tests true false first second = let wrong : false ≡ true = second.1 (first.0 refl) in cc
 same_tests false true first second = let wrong : false ≡ true = first.1 (second.0 refl) in cc
 
--- a table that goes on by a test breaks one rule first, where the test is one once the first rules are kept
+-- a table that goes on by a test breaks one rule first, where the test is one once the first rules
+-- are kept
 same_break : {Code : Type 0} (first : List (Rule Code)) (later : Bool → List (Rule Code)) (a b : Bool) →
     (first_broken first ≡ None → a ≡ b) → first_broken (first ++ later a) ≡ first_broken (first ++ later b)
 same_break {Code} first later a b same =
@@ -152,7 +153,7 @@ same_break {Code} first later a b same =
     ]
     refl
 
--- a lay has one answer
+-- a lay has one verdict
 pub one_lay_answer : (laid : MapState) (asker : Asker) (lay : Lay) → (a b : Result ℤ LayRule) → IsLayAnswer laid asker lay a
     → IsLayAnswer laid asker lay b → a ≡ b
 one_lay_answer laid asker lay a b one other =

@@ -34,7 +34,7 @@ module _ {A Fault : Type 0} (rules : A → Result ℤ Fault → Type 0) where
     after = y.after ∙ ap (λ l. l ++ y.added) x.after ∙ append_assoc a x.added y.added;
   }
 
-  -- a candidate by its answer
+  -- a candidate by its verdict
   pub lists_one : (one : A) (answer : Result ℤ Fault) (a : List (Priced A)) → rules one answer
       → Lists rules (one ∷ []) a (a ++ priced_if one answer)
   lists_one one answer a answered = record {
@@ -78,7 +78,7 @@ module _ {A Fault : Type 0} (rules : A → Result ℤ Fault → Type 0) where
       → Lists rules xs a b
   lists_all xs i a b most lists = subst (λ (l : List A). Lists rules l a b) (take_all i xs most) lists
 
--- a candidate with its price, where the rules answer that
+-- a candidate with its price, where the rules give that
 pub lists_priced : {A Fault : Type 0} (rules : A → Result ℤ Fault → Type 0) (one : A) (price : ℤ) (a b : List (Priced A))
     → rules one (Ok price) → b ≡ a ++ record { what = one; price = price } ∷ [] → Lists rules (one ∷ []) a b
 lists_priced rules one price a b allowed after = record {
@@ -87,7 +87,7 @@ lists_priced rules one price a b allowed after = record {
   after = after;
 }
 
--- none, where they answer that it breaks one
+-- none, where they say that it breaks one
 pub lists_refused : {A Fault : Type 0} (rules : A → Result ℤ Fault → Type 0) (one : A) (rule : Fault)
     (a : List (Priced A)) → rules one (Err rule) → Lists rules (one ∷ []) a a
 lists_refused rules one rule a refused = record {
@@ -96,7 +96,7 @@ lists_refused rules one rule a refused = record {
   after = sym (append-nil a);
 }
 
--- a candidate that no rule refuses, by an answer that goes by a judgement
+-- a candidate that no rule refuses, by a verdict that goes by a judgement
 pub lists_kept :
     {A Fault : Type 0} (cost : A → ℕ) (judged : A → Option Fault) (one : A) (price : ℤ) (a b : List (Priced A)) →
     judged one ≡ None → price ≡ pos (cost one) → b ≡ a ++ record { what = one; price = price } ∷ [] →

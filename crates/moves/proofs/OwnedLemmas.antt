@@ -1,4 +1,4 @@
--- Which privates a company may buy, by the answers of the call that rules it.
+-- Which privates a company may buy, by what the call that rules it returns.
 use Rattle.std.proofs.Common.{◌≡◌, ◌++◌, List, [], ◌∷◌, Some, None, ℤ, pos, sym}
 use Rattle.events.specs.declared.ruling.PrivateRule.{PrivateRule}
 use Rattle.moves.proofs.ListedLemmas.{lists_broken, lists_kept}

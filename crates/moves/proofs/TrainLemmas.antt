@@ -1,4 +1,4 @@
--- Which trains may be bought, by the answers of the call that rules it.
+-- Which trains may be bought, by what the call that rules it returns.
 use Rattle.std.proofs.Common.{◌≡◌, ◌++◌, List, [], ◌∷◌, Some, None, ℤ, pos, sym}
 use Rattle.events.specs.declared.ruling.TrainRule.{TrainRule}
 use Rattle.moves.proofs.ListedLemmas.{lists_broken, lists_kept}

@@ -1,6 +1,7 @@
--- What a seat may do as its turn of an opening begins: buy a private at its price, or make the least bid on one that is
--- not too low, 5 over the face and over each earlier bid. No bid names over 4,294,967,295 dollars. What it may of these
--- is what the rules of an opening say in a turn that is not used.
+-- What a seat may do as its turn of an opening begins: buy a private at its price, or make the
+-- least bid on one that is not too low, 5 over the face and over each earlier bid. No bid names
+-- over 4,294,967,295 dollars. What it may of these is what the rules of an opening say in a turn
+-- that is not used.
 use Rattle.std.specs.Prelude.{◌≡◌, ◌≤◌, ℕ, ◌+◌, min, max, false, List, Option, Some, None, Result, ℤ}
 use Rattle.board.specs.LayRules.{cost_or}
 use Rattle.events.specs.declared.event.Event.{Event}
@@ -25,12 +26,12 @@ least_over least (Some bid) = max least (step_over bid)
 abbrev pub least_bid_of : List Event → Private → ℕ
 least_bid_of events private = least_over (step_over (face_of private)) (greatest_bid_of events private)
 
--- the answer to the purchase of a private: its price, or the first rule that it breaks
+-- the verdict on the purchase of a private: its price, or the first rule that it breaks
 abbrev pub IsPrivateAnswer : ℕ → List Event → Seat → Private → Result ℤ OpeningRule → Type 0
 IsPrivateAnswer seats events seat private answer =
     answer ≡ cost_or (price_of events private) (judgement_of seats events seat false (BuyPrivate private))
 
--- the answer to the least bid on a private: that bid, or the first rule that it breaks
+-- the verdict on the least bid on a private: that bid, or the first rule that it breaks
 abbrev pub IsBidAnswer : ℕ → List Event → Seat → Private → Result ℤ OpeningRule → Type 0
 IsBidAnswer seats events seat private answer =
     let least = least_bid_of events private in

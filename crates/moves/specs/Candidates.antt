@@ -1,5 +1,6 @@
--- The candidates: each tile in each rotation on each hex, without SWAP and with it; and each hex with each of its two
--- stops for a token, or none. They are in the order of hex, tile, rotation and SWAP, or of hex and stop.
+-- The candidates: each tile in each rotation on each hex, without SWAP and with it; and each hex
+-- with each of its two stops for a token, or none. They are in the order of hex, tile, rotation and
+-- SWAP, or of hex and stop.
 use Rattle.std.specs.Prelude.{Bool, true, false, List, [], ◌∷◌, Option, Some, None}
 use Rattle.std.specs.List.{flat_map}
 use Rattle.map_tables.specs.Hex.{hexes}

@@ -1,6 +1,7 @@
--- What a seat may do with shares as its turn begins: it may buy a president's certificate at each of the six par values,
--- a share of the initial offering or one of the pool; and sell up to ten shares of a company. What it may of these is
--- what the rules of a purchase and of a sale say where it has bought nothing yet.
+-- What a seat may do with shares as its turn begins: it may buy a president's certificate at each
+-- of the six par values, a share of the initial offering or one of the pool; and sell up to ten
+-- shares of a company. What it may of these is what the rules of a purchase and of a sale say where
+-- it has bought nothing yet.
 use Rattle.std.specs.Prelude.{◌≡◌, ℕ, ◌*◌, ◌++◌, if◌then◌else◌, List, [], ◌∷◌, map, Option, Some, None, Result, ℤ}
 use Rattle.std.specs.List.{flat_map}
 use Rattle.board.specs.LayRules.{cost_or}
@@ -42,7 +43,7 @@ purchases_of company = starts_of company ++ shares_of company
 abbrev pub all_purchases : List Purchase
 all_purchases = flat_map purchases_of companies
 
--- the answer to a purchase: its cost, or the first rule that it breaks
+-- the verdict on a purchase: its cost, or the first rule that it breaks
 abbrev pub IsPurchaseAnswer : ℕ → List Event → Seat → Purchase → Result ℤ StockRule → Type 0
 IsPurchaseAnswer seats events seat purchase answer =
     answer ≡ cost_or (cost_of events purchase) (purchase_judgement seats events seat purchase None)
@@ -67,7 +68,7 @@ all_sales = flat_map sales_of companies
 abbrev pub brought_by : List Event → Sale → ℕ
 brought_by events sale = sale.shares * market_price_of events sale.company
 
--- the answer to a sale: what it brings, or the first rule that it breaks
+-- the verdict on a sale: what it brings, or the first rule that it breaks
 abbrev pub IsSaleAnswer : ℕ → List Event → Seat → Sale → Result ℤ StockRule → Type 0
 IsSaleAnswer seats events seat sale answer =
     answer ≡ cost_or (brought_by events sale) (sale_judgement seats events seat sale None)

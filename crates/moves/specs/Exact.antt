@@ -1,5 +1,6 @@
--- What is listed is exact: a candidate is in the list with a price exactly where the rules answer that price. So is the
--- list of a company's lays, and that of its tokens, since every lay and every place is a candidate.
+-- What is listed is exact: a candidate is in the list with a price exactly where the rules give
+-- that price. So is the list of a company's lays, and that of its tokens, since every lay and every
+-- place is a candidate.
 use Rattle.std.specs.Prelude.{◌↔◌, List, Result, Ok, ℤ}
 use Rattle.board.specs.LayRules.{IsLayAnswer}
 use Rattle.board.specs.TokenRules.{IsTokenAnswer}

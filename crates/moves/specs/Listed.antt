@@ -1,5 +1,6 @@
--- Which of some candidates are allowed, in their order, each with its price: exactly those of which the rules answer a
--- price. Nothing else is in the list, and no candidate that is allowed is left out of it.
+-- Which of some candidates are allowed, in their order, each with its price: exactly those of which
+-- the rules give a price. Nothing else is in the list, and no candidate that is allowed is left
+-- out of it.
 use Rattle.std.specs.Prelude.{◌≡◌, List, [], ◌∷◌, ◌++◌, Result, Ok, Err, ℤ}
 use Rattle.moves.specs.declared.priced.Priced.{Priced}
 
@@ -8,7 +9,8 @@ abbrev pub priced_if : {A Fault : Type 0} → A → Result ℤ Fault → List (P
 priced_if one (Ok price) = record { what = one; price = price } ∷ []
 priced_if one (Err rule) = []
 
--- of these candidates, those that the rules allow are these: the rules answer each candidate in its turn
+-- of these candidates, those that the rules allow are these: the rules judge each candidate in its
+-- turn
 abbrev pub AreListed : {A Fault : Type 0} → (A → Result ℤ Fault → Type 0) → List A → List (Priced A) → Type 0
 AreListed rules [] listed = listed ≡ []
 AreListed {A = A} {Fault = Fault} rules (one ∷ more) listed =

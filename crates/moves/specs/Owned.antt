@@ -1,6 +1,6 @@
--- Which privates a company may buy, at the least price, which is half of the face value. It is what the rules of the
--- purchase of a private say, but for the consent of its owner: where that is the rule which is broken first, those behind
--- it say so, and that a player owns the private.
+-- Which privates a company may buy, at the least price, which is half of the face value. It is what
+-- the rules of the purchase of a private say, but for the consent of its owner: where that is the
+-- rule which is broken first, those behind it say so, and that a player owns the private.
 use Rattle.std.specs.Prelude.{◌≡◌, ℕ, ◌/◌, Bool, true, false, [], ◌∷◌, Option, Some, None, Result, ℤ}
 use Rattle.board.specs.LayRules.{cost_or}
 use Rattle.events.specs.declared.event.Holder.{Holder}
@@ -42,7 +42,8 @@ abbrev pub judgement_with_consent : Game → Company → Private → ℕ → Opt
 judgement_with_consent game company private price =
     but_consent game company private price (private_judgement game company private price)
 
--- the answer to the purchase of a private at the least price: that price, or the first rule that it breaks
+-- the verdict on the purchase of a private at the least price: that price, or the first rule that it
+-- breaks
 abbrev pub IsOwnedAnswer : Game → Company → Private → Result ℤ PrivateRule → Type 0
 IsOwnedAnswer game company private answer =
     let least = least_price_of private in

@@ -1,6 +1,7 @@
--- Which trains a company may buy: of the bank, also with each kind of train traded in; of the pool; of each company, at
--- the least price there is. It is what the rules of a purchase say, but for the consent of the company that sells: where
--- that is the rule which is broken first, those behind it say so.
+-- Which trains a company may buy: of the bank, also with each kind of train traded in; of the pool;
+-- of each company, at the least price there is. It is what the rules of a purchase say, but for the
+-- consent of the company that sells: where that is the rule which is broken first, those behind it
+-- say so.
 use Rattle.std.specs.Prelude.{◌≡◌, ◌++◌, List, [], ◌∷◌, map, Option, Some, None, Result, ℤ}
 use Rattle.std.specs.List.{flat_map}
 use Rattle.board.specs.LayRules.{cost_or}
@@ -63,7 +64,7 @@ abbrev pub judgement_with_consent : Game → Company → Purchase → Option Tra
 judgement_with_consent game company purchase =
     but_consent game company purchase (train_judgement game company purchase)
 
--- the answer to a purchase: its cost, or the first rule that it breaks
+-- the verdict on a purchase: its cost, or the first rule that it breaks
 abbrev pub IsTrainAnswer : Game → Company → Purchase → Result ℤ TrainRule → Type 0
 IsTrainAnswer game company purchase answer =
     answer ≡ cost_or (cost_of purchase) (judgement_with_consent game company purchase)

@@ -1,5 +1,6 @@
--- What is listed at the beginning of a company's turn is what it may do in the first line of its orders. A lay that is
--- listed is obeyed there at its price, and one that is not listed is refused by a rule. The same holds of tokens.
+-- What is listed at the beginning of a company's turn is what it may do in the first line of its
+-- orders. A lay that is listed is obeyed there at its price, and one that is not listed is refused
+-- by a rule. The same holds of tokens.
 use Rattle.std.specs.Prelude.{◌≡◌, List, Ok, Err, ℤ}
 use Rattle.board.specs.LayRules.{IsLayAnswer}
 use Rattle.board.specs.TokenRules.{IsTokenAnswer}

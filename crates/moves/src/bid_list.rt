@@ -24,8 +24,8 @@ pub struct OpeningMoves {
     pub bids: Vec<Priced<Private>>,
 }
 
-/// Returns what a seat may buy, and on which privates it may bid and what at least, as its turn of an
-/// opening begins: exactly what `judge` allows. Fails only if allocation fails.
+/// Returns what a seat may buy, and on which privates it may bid and what at least, as its turn of
+/// an opening begins: exactly what `judge` allows. Fails only if allocation fails.
 pub fn bids(alloc: Global, history: &History, seat: Seat) -> Result<OpeningMoves, AllocError>
     requires { history.now.seats ≤ 6 }
     ensures purchases { IfOk result (λ bids. AreListed
@@ -93,8 +93,8 @@ fn push_bid(
     }
 }
 
-/// Returns the least bid on a private that is not too low: 5 over its face and over the greatest earlier
-/// bid on it.
+/// Returns the least bid on a private that is not too low: 5 over its face and over the greatest
+/// earlier bid on it.
 fn least_bid(history: &History, private: Private) -> Amount
     ensures { result ≡ least_bid_of history.now.events private }
 {

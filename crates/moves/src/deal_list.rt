@@ -36,8 +36,8 @@ pub struct StockMoves {
 }
 
 /// Returns what a seat may buy, sell and exchange as its turn of a stock round begins: exactly what
-/// `may_buy`, `may_sell` and the rules of the exchange allow to a seat that has bought nothing in the
-/// turn. Fails only if allocation fails.
+/// `may_buy`, `may_sell` and the rules of the exchange allow to a seat that has bought nothing in
+/// the turn. Fails only if allocation fails.
 pub fn deals(alloc: Global, history: &History, seat: Seat) -> Result<StockMoves, AllocError>
     requires few { history.now.seats ≤ 6 }
     requires at_table { seat.0 < history.now.seats }
@@ -188,7 +188,8 @@ fn brought_by(view: &GameView, sale: Sale) -> Money
     Money::from(sale.shares) * Money::from(market_price(view, sale.company))
 }
 
-/// Returns where the share of NYC comes from that a seat may have for MH; `None` if it may have none.
+/// Returns where the share of NYC comes from that a seat may have for MH; `None` if it may have
+/// none.
 fn exchange(history: &History, seat: Seat) -> Option<ShareSource>
     ensures { result ≡ exchange_of history.now.events seat }
 {

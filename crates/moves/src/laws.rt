@@ -29,8 +29,8 @@ pub fn first_lay_is_by_the_list()
     map_tables::laws::tiles_are_listed_once();
 }
 
-/// A token that is listed as a company's turn begins is obeyed at its price in the first line of its
-/// orders, and one that is not listed is refused there.
+/// A token that is listed as a company's turn begins is obeyed at its price in the first line of
+/// its orders, and one that is not listed is refused there.
 pub fn first_token_is_by_the_list()
     ensures obeyed { ListedTokensAreObeyed }
     ensures refused { OtherTokensAreRefused }

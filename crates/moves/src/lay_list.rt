@@ -14,8 +14,8 @@ use std::alloc::{AllocError, Global};
 pub type Lays = Vec<Priced<Lay>>;
 
 /// Returns every tile that a company may lay, with its cost in dollars: of all hexes, tiles and
-/// rotations, with SWAP and without, those of which `try_lay` returns a cost. Fails only if allocation
-/// fails.
+/// rotations, with SWAP and without, those of which `try_lay` returns a cost. Fails only if
+/// allocation fails.
 pub fn lays(alloc: Global, board: &Board, asker: &Asker) -> Result<Lays, AllocError>
     ensures { IfOk result (λ lays. AreListed (IsLayAnswer board.now asker.now) all_lays lays.items) }
 {

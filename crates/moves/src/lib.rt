@@ -1,11 +1,13 @@
-//! What may be done: which tiles a company may lay and where it may place a token; what a seat may buy,
-//! sell and bid; which trains and privates a company may buy. It is all of that and nothing else.
+//! What may be done: which tiles a company may lay and where it may place a token; what a seat may
+//! buy, sell and bid; which trains and privates a company may buy. It is all of that and nothing
+//! else.
 //!
-//! No rule is written here. Each list asks the call that rules a line, of every candidate in order, and
-//! its contract says so: a candidate is listed exactly where that call refuses it by no rule.
+//! No rule is written here. Each list asks the call that rules a line, of every candidate in order,
+//! and its contract says so: a candidate is listed exactly where that call refuses it by no rule.
 //!
-//! Reading order: `priced` (what may be done, with its price), `lay_list`, `token_list`, `deal_list` (of a
-//! stock round), `bid_list` (of an opening), `train_list`, `owned` (privates that a company buys), `laws`.
+//! Reading order: `priced` (what may be done, with its price), `lay_list`, `token_list`,
+//! `deal_list` (of a stock round), `bid_list` (of an opening), `train_list`, `owned` (privates that
+//! a company buys), `laws`.
 #![tactic(auto)]
 
 mod bid_list;

@@ -12,8 +12,9 @@ use purchases::judge_private;
 use std::alloc::{AllocError, Global};
 use tables::{Amount, Company, Money, Private, face};
 
-/// Returns every private that a company may buy, with the least price. Its owner must consent, and may
-/// ask for up to twice the face value: all other rules are kept. Fails only if allocation fails.
+/// Returns every private that a company may buy, with the least price. Its owner must consent, and
+/// may ask for up to twice the face value: all other rules are kept. Fails only if allocation
+/// fails.
 pub fn owned_privates(
     alloc: Global,
     history: &History,
@@ -81,8 +82,8 @@ fn broken_in_game(
     broken_behind_consent(&history.now(), company, private, price)
 }
 
-/// Returns the first rule that it breaks, of those behind the consent: no player owns it; it is never
-/// sold; the company has less than the price.
+/// Returns the first rule that it breaks, of those behind the consent: no player owns it; it is
+/// never sold; the company has less than the price.
 fn broken_behind_consent(
     view: &GameView,
     company: Company,

@@ -13,8 +13,9 @@ use std::alloc::{AllocError, Global};
 /// Places for a company's next token, with its cost there, in the order of hex and stop.
 pub type Tokens = Vec<Priced<Place>>;
 
-/// Returns every place where a company may put its next token, with its cost in dollars: of all hexes
-/// and their stops, those of which `try_token` returns a cost. Fails only if allocation fails.
+/// Returns every place where a company may put its next token, with its cost in dollars: of all
+/// hexes and their stops, those of which `try_token` returns a cost. Fails only if allocation
+/// fails.
 pub fn tokens(alloc: Global, board: &Board, asker: &Asker) -> Result<Tokens, AllocError>
     ensures { IfOk result (λ tokens.
         AreListed (IsTokenAnswer board.now asker.now) all_places tokens.items) }

@@ -24,10 +24,10 @@ const TRADE_INS: [Option<Kind>; 7] = [
     Some(Kind::Diesel),
 ];
 
-/// Returns every train that a company may buy, with its price: of the bank, also with each kind of train
-/// traded in; of the pool; and of each other company, at the least price there is. For that its
-/// president must consent, and may ask for more: all other rules are kept. Fails only if allocation
-/// fails.
+/// Returns every train that a company may buy, with its price: of the bank, also with each kind of
+/// train traded in; of the pool; and of each other company, at the least price there is. For that
+/// its president must consent, and may ask for more: all other rules are kept. Fails only if
+/// allocation fails.
 pub fn trains(
     alloc: Global,
     history: &History,

@@ -1,5 +1,5 @@
--- A bid that stands was made, so a sum that is near it is near some earlier bid; and what is near some bid is near the
--- greatest.
+-- A bid that stands was made, so a sum that is near it is near some earlier bid; and what is near
+-- some bid is near the greatest.
 use Rattle.std.proofs.Common.{◌≡◌, ℕ, ◌+◌, max, ◌==◌, ◌⊎◌, inl, inr, Bool, true, false, ◌||◌, ◌&&◌, nat_lt}
 use Rattle.std.proofs.Common.{if◌then◌else◌, List, [], ◌∷◌, ◌++◌, Option, Some, None, refl, sym, ap, ◌∙◌, arith}
 use Rattle.std.proofs.lemmas.Bool.Decides.{nat_tests}

@@ -56,9 +56,9 @@ fn may_stand_before(order: &Order) -> bool
     matches!(order, Order::Limit { .. } | Order::Par { .. })
 }
 
-/// Returns the rule that an order breaks as a standing line; `None` if it breaks none. A LIMIT breaks
-/// A2 if its private is sold. A PAR breaks A1 if it is not of BO or sets no par value, and so does
-/// every order that is neither.
+/// Returns the rule that an order breaks as a standing line; `None` if it breaks none. A LIMIT
+/// breaks A2 if its private is sold. A PAR breaks A1 if it is not of BO or sets no par value, and
+/// so does every order that is neither.
 pub fn judge_standing(history: &History, order: &Order) -> Option<OpeningRule>
     ensures { result ≡ standing_judgement history.now.events order.now }
 {

@@ -106,7 +106,8 @@ pub company_orders_plain : (file : List ℕ) (round : Round) → SheetsArePlain 
 company_orders_plain file round sheets seat company =
     orders_plain company (parts_for file round seat).opened (sheets seat).1
 
--- what refuses an order, if anything does, is a rule of its family, and not that its condition does not hold
+-- what refuses an order, if anything does, is a rule of its family, and not that its condition does
+-- not hold
 abbrev pub IsOfFamily : Option Refusal → Type 0
 IsOfFamily None = Unit {0}
 IsOfFamily (Some refusal.Condition) = ⊥

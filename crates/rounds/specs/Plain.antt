@@ -1,5 +1,6 @@
--- A line without a condition is judged by the rules of its family alone, and no ruling in the game of a file of version 1
--- is of an order under a condition, or refuses one because its condition does not hold.
+-- A line without a condition is judged by the rules of its family alone, and no ruling in the game
+-- of a file of version 1 is of an order under a condition, or refuses one because its condition
+-- does not hold.
 use Rattle.std.specs.Prelude.{◌≡◌, ℕ, Bool, true, false, ◌&&◌, not, List, Option, None, is_none, option_map}
 use Rattle.std.specs.List.{list_all}
 use Rattle.certs.specs.declared.deal.Sale.{Sale}
@@ -46,8 +47,9 @@ VersionOneIsRuledPlainly =
     (file : List ℕ) (rounds : ℕ) (there : Between) →
     version_of file ≡ One → AreRounds file rounds (before_play file) there → list_all is_plain there.game.events ≡ true
 
--- with no condition an order is judged by its family alone: by the rules of a round of turns, by those of its place in a
--- company's orders, where nothing holds it up, and, if it is a RAISE that is needed, by those of a sale
+-- with no condition an order is judged by its family alone: by the rules of a round of turns, by
+-- those of its place in a company's orders, where nothing holds it up, and, if it is a RAISE that
+-- is needed, by those of a sale
 pub record FamilyAloneJudges : Type 0 where
   pub turns : (events : List Event) (judgement : Order → Option Refusal) (order : Order)
       → under events None judgement order ≡ judgement order

@@ -1,4 +1,5 @@
--- What a file said by the limits of before, 4,194,304 bytes and 4,096 good SHEET lines, and that larger limits keep it.
+-- What a file said by the limits of before, 4,194,304 bytes and 4,096 good SHEET lines, and that
+-- larger limits keep it.
 use Rattle.std.specs.Prelude.{◌≡◌, ℕ, nat_lt, if◌then◌else◌, List, [], ◌∷◌, length, Option, Some, None, Result, Ok, Err}
 use Rattle.order_grammar.specs.Line.{reading_of}
 use Rattle.sheets.specs.File.{Content, content_of, good_lines, is_header, players_named}

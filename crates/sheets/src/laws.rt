@@ -56,8 +56,8 @@ pub fn sheets_have_few_turns()
     ensures { SheetsHaveFewTurns }
 {}
 
-/// States that a file within the former limits, 4,194,304 bytes and 4,096 good SHEET lines, says what
-/// it said then. The larger limits change nothing of it, refused or not.
+/// States that a file within the former limits, 4,194,304 bytes and 4,096 good SHEET lines, says
+/// what it said then. The larger limits change nothing of it, refused or not.
 pub fn larger_limits_change_nothing()
     ensures { LargerLimitsChangeNothing }
 {}

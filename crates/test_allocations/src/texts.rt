@@ -20,8 +20,8 @@ SHEET BOB PR1
 SHEET CYD PR1
 ";
 
-/// The same behind three lines that are unread: a word that is no order's, an order that stands outside
-/// a sheet, and a sheet of a player who is none.
+/// The same behind three lines that are unread: a word that is no order's, an order that stands
+/// outside a sheet, and a sheet of a player who is none.
 pub const UNREAD: &str = "GAME 1830 1
 PLAYERS ANN BOB CYD
 X

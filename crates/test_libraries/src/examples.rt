@@ -1,5 +1,5 @@
-//! The examples at the roots of `order_grammar`, `board` and `best_run`, word for word: `./check docs`
-//! compares them.
+//! The examples at the roots of `order_grammar`, `board` and `best_run`, word for word: `./check
+//! docs` compares them.
 
 use best_run::best;
 use board::{Asker, Board, TurnStep};

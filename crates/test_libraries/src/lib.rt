@@ -4,8 +4,8 @@
 //!
 //! Reading order: `examples` (those at the roots of crates), `lines` (lines read and printed),
 //! `boards` (tiles and tokens), `best` (the greatest revenue), `four_stops` (a network that is no
-//! board), `claims` (the runs of a claim, checked one after the other), `marks` (bits kept, read and
-//! printed), `accepting` (the marks of the best), `money` (cash, shares, events). `bench/agree`
+//! board), `claims` (the runs of a claim, checked one after the other), `marks` (bits kept, read
+//! and printed), `accepting` (the marks of the best), `money` (cash, shares, events). `bench/agree`
 //! compares the search with a slow one on small boards.
 #![tactic(auto)]
 

@@ -1,10 +1,12 @@
-//! A file that goes over to version 2, over readers and writers that give and take as they are told.
+//! A file that goes over to version 2, over readers and writers that give and take as they are
+//! told.
 
 use crate::certifying::{any_write_may_fail, reads_that_may_fail, writes};
 use crate::support::Call;
 use std::test::Fail;
 
-/// A file of version 1 with a line that could be an order in version 2, and with ends of lines that stay.
+/// A file of version 1 with a line that could be an order in version 2, and with ends of lines that
+/// stay.
 const FILE: &str = "
 game  1830 01\r
 PLAYERS ANN BOB CYD

@@ -45,8 +45,8 @@ impl<'a> Write for Watching<'a> {
     }
 }
 
-/// How often a call writes for a file that it reads, a few bytes at a time, and how often before it has
-/// read its end.
+/// How often a call writes for a file that it reads, a few bytes at a time, and how often before it
+/// has read its end.
 fn writes_of(alloc: Global, call: Call, file: &str) -> (usize, usize) {
     let ended = Cell::new(false);
     let mut reader = Watched::new(Telling {
@@ -77,8 +77,8 @@ fn writes_part_by_part_once_all_is_read(rt: HostRuntime) {
     }
 }
 
-/// Whether a call reads no further than the limit of a file, of a reader that gives bytes without an
-/// end, and refuses it as too long.
+/// Whether a call reads no further than the limit of a file, of a reader that gives bytes without
+/// an end, and refuses it as too long.
 fn stops_at_limit(alloc: Global, call: Call) -> bool {
     let mut source = Endless { given: 0 };
     let mut sink = Sink::taking(alloc, 1_000);

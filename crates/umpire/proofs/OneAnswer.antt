@@ -1,5 +1,5 @@
--- An input has one answer: its game has one list of calls, of which one is the first that has no group, or none is; and
--- one report.
+-- An input has one answer: its game has one list of calls, of which one is the first that has no
+-- group, or none is; and one report.
 use Rattle.std.proofs.Common.{◌≡◌, ℕ, List, [], ◌∷◌, ◌++◌, Option, Result, Ok, Err, refl, sym, ap, subst, ◌∙◌}
 use Rattle.certificate.specs.declared.group.Group.{Group}
 use Rattle.operating.specs.Calls.{Call}

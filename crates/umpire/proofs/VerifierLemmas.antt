@@ -1,4 +1,5 @@
--- What a verifier answers: by the next group of its text, of which no more runs are read than there are trains.
+-- What a verifier answers: by the next group of its text, of which no more runs are read than there
+-- are trains.
 use Rattle.std.proofs.Common.{◌≡◌, ℕ, ◌+◌, ◌<◌, ◌≤◌, inl, inr, suc, ℤ, List, [], ◌∷◌, ◌++◌, length, refl, sym, ap, subst}
 use Rattle.std.proofs.Common.{cond, true, false, arith}
 use Rattle.std.proofs.lemmas.List.{length-append}

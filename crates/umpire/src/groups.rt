@@ -28,8 +28,8 @@ pub(crate) fn next_head(text: &[u8]) -> Option<Piece<'_>>
 }
 
 /// Reads a group for this many trains, from its CERT line and the text after that, up to the next
-/// CERT line. `None` is a group that is malformed, or claims more runs than there are trains. So one
-/// run more than that is the most that is held. Fails only if allocation fails.
+/// CERT line. `None` is a group that is malformed, or claims more runs than there are trains. So
+/// one run more than that is the most that is held. Fails only if allocation fails.
 pub(crate) fn read_group(
     alloc: Global,
     head: &[u8],

@@ -17,8 +17,8 @@
 //! `program` (the report, and `run`); `certificates` (those of a game, written), `group_text` (how
 //! a group is written), `parting` (an order file and the text of certificates after it), `groups`
 //! (how one is read from that text), `verifier` (a runner that goes by them), `verification` (the
-//! game of a file, judged by them); `gathering` (a text that is written in long pieces), `migration`
-//! (a file that migrates to version 2); `laws`, `migration_laws`.
+//! game of a file, judged by them); `gathering` (a text that is written in long pieces),
+//! `migration` (a file that migrates to version 2); `laws`, `migration_laws`.
 #![tactic(auto)]
 
 mod certificates;
