@@ -10,4 +10,6 @@ pub mod PresidesByGame
 mod Others
 mod Sales
 pub mod SaleAllowed
+pub mod Dividends
+mod PaidOut
 pub mod Succession

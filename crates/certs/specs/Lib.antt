@@ -6,3 +6,4 @@ pub mod Counted
 pub mod Purchase
 pub mod Sale
 pub mod SaleAct
+pub mod Dividend

@@ -1,5 +1,6 @@
 //! The laws of the definitions. Each is the contract of a function that does nothing.
 ghost use Rattle.certs.specs.Counted.{CountsByGame};
+ghost use Rattle.certs.specs.Dividend.{NoMoreIsPaid};
 ghost use Rattle.certs.specs.President.{FirstWithMostPresides, PresidesByGame};
 
 /// States that the seat that presides is the first with most, beginning with the one that presided:
@@ -18,4 +19,10 @@ pub fn counted_by_the_game()
 /// president as it was last said is at the table.
 pub fn presides_by_the_game()
     ensures { PresidesByGame }
+{}
+
+/// States that in a sound list a company that pays out what its trains earned gets no more than
+/// that from the bank for those who hold its shares.
+pub fn no_more_is_paid()
+    ensures { NoMoreIsPaid }
 {}

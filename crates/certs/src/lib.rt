@@ -1,5 +1,6 @@
 //! The certificates: who holds how many shares of each company, who presides, how many certificates
-//! of a player count against the limit, and what a player may buy and sell.
+//! of a player count against the limit, what a player may buy and sell, and what a company pays for
+//! its shares.
 //!
 //! The holdings are a small table that is read from the totals that a game keeps of its events. A
 //! transfer moves shares and nothing else; then the table gives who presides. The rules of a
@@ -8,13 +9,15 @@
 //!
 //! Reading order: `holdings`, `company_tables` (what they are made of), `rows` (the shares of one
 //! company), `president`, `counted` (the certificates that count), `deal` (what is bought and
-//! sold), `purchase`, `sale`, `sell` (what follows from a sale), `laws` (what decides the
-//! presidency, and that it and what counts are the same by the events of a game).
+//! sold), `purchase`, `sale`, `sell` (what follows from a sale), `dividend` (what a
+//! company pays out), `laws` (what decides the presidency, and that it and what counts are the same
+//! by the events of a game).
 #![tactic(auto)]
 
 mod company_tables;
 mod counted;
 mod deal;
+mod dividend;
 mod holdings;
 pub mod laws;
 mod president;
@@ -24,6 +27,7 @@ mod sale;
 mod sell;
 
 pub use deal::{Purchase, Sale};
+pub use dividend::pay_out;
 pub use holdings::Holdings;
 pub use president::successor;
 pub use purchase::{is_over_six, market_price, may_buy, share_price};

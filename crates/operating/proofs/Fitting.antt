@@ -15,11 +15,11 @@ use Rattle.events.specs.declared.event.Event.TheVariants as event
 use Rattle.totals.proofs.EventAtEnd.{last_said_before}
 use Rattle.totals.proofs.InOrder.{lays_before, lays_grow, tokens_before, tokens_grow}
 use Rattle.history.proofs.Payments.{home_sound, withholding_sound}
-use Rattle.history.proofs.NearlySound.{broken_quiet, quiet_sound}
+use Rattle.certs.proofs.Dividends.{broken_sound}
 use Rattle.totals.specs.LookBack.{Game, with_event}
 use Rattle.totals.specs.Operating.{lays_of, tokens_of}
 use Rattle.history.specs.Sound.{IsSound, LiesFit}
-use Rattle.history.specs.Record.{breaks, broken_recorded}
+use Rattle.history.specs.Record.{broken_recorded}
 use Rattle.totals.specs.Trains.{phase_of}
 use Rattle.map_tables.specs.Fit.{AreFitWithHomes}
 use Rattle.map_tables.specs.Home.{home_of}
@@ -115,15 +115,6 @@ home_sound_after game new company stop place is_home is_place recorded none soun
     subst IsSound (sym (recorded ∙ ap (λ (at : Place). with_event game (event.Home company at))
     (is_place ∙ ap place_of is_home)))
     (home_sound game company (place_of (home_of company)) (home_fits game.events company none sound.fit) sound)
-
--- the word that the bank is broken keeps a list sound
-pub broken_sound : (game : Game) → IsSound game → IsSound (broken_recorded game)
-broken_sound game sound =
-    elim (breaks game.seats game.events) as (λ (b : Bool). IsSound
-    (record { seats = game.seats; events = if b then game.events ++ event.Broken ∷ [] else game.events })) [
-      | true ↦ quiet_sound game event.Broken broken_quiet sound
-      | false ↦ sound
-    ]
 
 -- what a company withholds keeps a list sound
 pub withheld_sound : (game new : Game) (company : Company) (amount : ℕ) → new ≡ withheld game company amount

@@ -5,8 +5,6 @@ pub mod Decided
 pub mod Outcome
 pub mod Answered
 pub mod Played
-pub mod Dividends
-pub mod PaidOut
 pub mod Judged
 pub mod OtherOrders
 pub mod LegalRuns

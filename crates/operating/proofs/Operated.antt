@@ -18,7 +18,7 @@ use Rattle.operating.proofs.ForcedGames.{of_orders_end}
 use Rattle.operating.proofs.TurnGames.{OfEvents, after_withheld, by_each, of_steps}
 use Rattle.operating.proofs.TurnSteps.{OfSteps, of_turn}
 use Rattle.operating.specs.Act.{withheld}
-use Rattle.operating.specs.Dividend.{is_past_pay}
+use Rattle.operating.specs.Pay.{is_past_pay}
 use Rattle.operating.specs.InTurn.{InTurn, in_turn, is_unpaid, pay_done}
 use Rattle.operating.specs.Laws.{CompanyOperates}
 use Rattle.operating.specs.Turn.{IsCompanyTurn, withheld_if_unpaid}

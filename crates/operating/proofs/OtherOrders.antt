@@ -10,7 +10,8 @@ use Rattle.map_tables.specs.declared.rules.TokenRule.{TokenRule}
 use Rattle.map_tables.specs.declared.lay.Lay.{Lay}
 use Rattle.map_tables.specs.declared.place.Place.{Place}
 use Rattle.operating.specs.Act.{withheld}
-use Rattle.operating.specs.Dividend.{paid_out, pay_judgement, pay_ruled, withhold_judgement}
+use Rattle.certs.specs.Dividend.{paid_out}
+use Rattle.operating.specs.Pay.{pay_judgement, pay_ruled, withhold_judgement}
 use Rattle.operating.specs.InTurn.{InTurn, in_turn, is_unpaid, pay_done}
 use Rattle.purchases.specs.Privates.{private_judgement}
 use Rattle.operating.specs.Turn.{OrderLeads, lay_answered, private_ruled, withheld_if_unpaid, token_answered}

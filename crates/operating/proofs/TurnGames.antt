@@ -23,7 +23,7 @@ use Rattle.purchases.proofs.TrainSteps.{of_train_owner}
 use Rattle.operating.proofs.TurnEvents.{IsOfTurn}
 use Rattle.operating.proofs.TurnSteps.{OfSteps, of_turn}
 use Rattle.operating.specs.Act.{has_home_token, with_home, withheld}
-use Rattle.operating.specs.Dividend.{all_paid, paid_for, paid_out, paid_to, paid_to_seats}
+use Rattle.certs.specs.Dividend.{all_paid, paid_for, paid_out, paid_to, paid_to_seats}
 use Rattle.operating.specs.MapState.{map_state_now}
 use Rattle.operating.specs.InTurn.{InTurn}
 use Rattle.purchases.specs.Phases.{after_train, begins_phase, bought, with_phase, with_trade}

@@ -33,7 +33,8 @@ use Rattle.purchases.proofs.Still.{same_judgement}
 use Rattle.operating.proofs.TurnEvents.{IsOfTurn}
 use Rattle.operating.specs.Act.{after_lay, after_token, withheld}
 use Rattle.operating.specs.Best.{BestRuled, best_done, best_earned, best_judgement}
-use Rattle.operating.specs.Dividend.{paid_out, pay_judgement, pay_ruled, withhold_judgement}
+use Rattle.certs.specs.Dividend.{paid_out}
+use Rattle.operating.specs.Pay.{pay_judgement, pay_ruled, withhold_judgement}
 use Rattle.operating.specs.MapState.{map_state_now}
 use Rattle.operating.specs.InTurn.{InTurn, in_turn, is_unpaid, lay_done, line_recorded, pay_done, token_done}
 use Rattle.operating.specs.Judgement.{asker_of}

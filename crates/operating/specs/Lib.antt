@@ -4,7 +4,7 @@ pub mod Act
 pub mod Done
 pub mod InTurn
 pub mod Runs
-pub mod Dividend
+pub mod Pay
 pub mod Ending
 pub mod Turn
 pub mod CompanyTurn

@@ -32,7 +32,7 @@ use Rattle.map_tables.specs.declared.lay.Lay.{Lay}
 use Rattle.map_tables.specs.declared.place.Place.{Place}
 use Rattle.operating.specs.Best.{BestLeads}
 use Rattle.operating.specs.Act.{after_lay, after_token, with_home, withheld}
-use Rattle.operating.specs.Dividend.{after_pay, after_withhold}
+use Rattle.operating.specs.Pay.{after_pay, after_withhold}
 use Rattle.operating.specs.Ending.{EndLeads}
 use Rattle.operating.specs.MapState.{map_state_now}
 use Rattle.operating.specs.InTurn.{InTurn, at_start, in_turn, is_unpaid, lay_done, line_recorded, pay_done, ruled}

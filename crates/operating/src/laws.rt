@@ -1,5 +1,4 @@
 //! The laws of the definitions. Each is the contract of a function that does nothing.
-ghost use Rattle.operating.specs.Dividend.{NoMoreIsPaid};
 ghost use Rattle.operating.specs.Laws.{CompanyOperates, CompanyTurnEnds, HomeTokenLies, OneCompanyTurn, TurnOnlyAdds};
 ghost use Rattle.operating.specs.LegalRuns.{ObeyedRunsAreLegal};
 ghost use Rattle.operating.specs.TurnCalls.{OneListOfTurnCalls, RefusedTurnCallsAreAPrefix, SomeTurnCalls};
@@ -65,10 +64,4 @@ pub fn one_list_of_turn_calls()
 /// turn have left free. So the runs of a turn share no border.
 pub fn obeyed_runs_are_legal()
     ensures { ObeyedRunsAreLegal }
-{}
-
-/// States that in a sound list a company that pays out what its trains earned gets no more than
-/// that from the bank for those who hold its shares.
-pub fn no_more_is_paid()
-    ensures { NoMoreIsPaid }
 {}

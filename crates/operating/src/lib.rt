@@ -16,10 +16,9 @@
 //! `company_turn` (all that lasts for the turn: the functions that rule a line are its methods),
 //! `table` (the game and its board between turns), `map_state` (the tiles and tokens on the map),
 //! `asker` (the company as the rules of the board see it), `home`, `lay` and `token` (what orders
-//! do) with `cost`, `running`, `best`, `withholding`, `dividend`, `train`, `private` (that it
-//! buys), `turn` (the company's orders), `ending` (what it must buy), `playing`, `laws` (what holds
-//! of every turn), `train_laws`, `tile_laws`, `private_laws`, `sale_laws`, `forced_laws`,
-//! `best_laws`.
+//! do) with `cost`, `running`, `best`, `withholding`, `pay`, `train`, `private` (that it buys),
+//! `turn` (the company's orders), `ending` (what it must buy), `playing`, `laws` (what holds of
+//! every turn), `train_laws`, `tile_laws`, `private_laws`, `sale_laws`, `forced_laws`, `best_laws`.
 #![tactic(auto)]
 
 mod asker;
@@ -27,13 +26,13 @@ mod best;
 mod best_laws;
 mod company_turn;
 mod cost;
-mod dividend;
 mod ending;
 mod forced_laws;
 mod home;
 pub mod laws;
 mod lay;
 mod map_state;
+mod pay;
 mod playing;
 mod private;
 mod private_laws;

@@ -1,6 +1,6 @@
 ghost use Rattle.std.specs.Prelude.{◌≡◌, ◌≤◌};
 ghost use Rattle.operating.specs.Best.{best_done};
-ghost use Rattle.operating.specs.Dividend.{is_past_pay};
+ghost use Rattle.operating.specs.Pay.{is_past_pay};
 ghost use Rattle.operating.specs.Runs.{IsCounted, has_any_run, is_past_runs, run_done};
 ghost use Rattle.operating.specs.InTurn.{at_start, is_unpaid, lay_done, pay_done, token_done};
 

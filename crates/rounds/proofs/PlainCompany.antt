@@ -31,8 +31,8 @@ use Rattle.purchases.proofs.TrainSteps.{IsPassedOn, OfClosings, of_bop, of_choic
 use Rattle.purchases.proofs.TrainSteps.{of_trade, of_train_owner}
 use Rattle.operating.specs.Act.{has_home_token, with_home, withheld}
 use Rattle.operating.specs.Best.{BestRuled, best_earned, best_judgement}
-use Rattle.operating.specs.Dividend.{all_paid, paid_for, paid_out, paid_to, paid_to_seats, pay_judgement}
-use Rattle.operating.specs.Dividend.{withhold_judgement}
+use Rattle.certs.specs.Dividend.{all_paid, paid_for, paid_out, paid_to, paid_to_seats}
+use Rattle.operating.specs.Pay.{pay_judgement, withhold_judgement}
 use Rattle.operating.specs.Ending.{EndLeads}
 use Rattle.forced_purchase.specs.Forced.{after_forced, after_raise_line, after_raises, cheapest, concluded, falls_short}
 use Rattle.forced_purchase.specs.Forced.{needed_rule, sale_rule}

@@ -2,10 +2,10 @@ use Rattle.std.proofs.Common.{◌≡◌, OnOk, refl, subst, ap, ◌∙◌, arith
 use Rattle.events.specs.declared.event.Holder.TheVariants as holder
 use Rattle.events.specs.declared.event.Shareholder.TheVariants as place
 use Rattle.totals.specs.LookBack.{Game}
-use Rattle.operating.proofs.Dividends.{all_are_paid, paid_seats, pool_most, seat_most, seats_go_on}
-use Rattle.operating.specs.Dividend.{dividend_of, paid_for}
+use Rattle.certs.proofs.Dividends.{all_are_paid, paid_seats, pool_most, seat_most, seats_go_on}
+use Rattle.certs.specs.Dividend.{dividend_of, paid_for}
 use Rattle.tables.specs.declared.seat.Seat.{Seat}
-use Rattle.operating.proofs.dividend.pay_all.Goals as goal
+use Rattle.certs.proofs.dividend.pay_all.Goals as goal
 
 pub pay_for-requires-clause-most : goal.pay_for-requires-clause-most
 pay_for-requires-clause-most c =

@@ -18,7 +18,7 @@ use Rattle.totals.specs.Shares.{held_by, shares_of}
 use Rattle.history.specs.Sound.{SharesAreHeld}
 use Rattle.history.specs.Record.{broken_recorded}
 use Rattle.totals.specs.Trains.{at_least_zero}
-use Rattle.operating.specs.Dividend.{NoMoreIsPaid, all_paid, dividend_of, paid_for, paid_to, paid_to_seats, per_share}
+use Rattle.certs.specs.Dividend.{NoMoreIsPaid, all_paid, dividend_of, paid_for, paid_to, paid_to_seats, per_share}
 use Rattle.tables.specs.Seat.{all_seats}
 use Rattle.tables.specs.declared.roster.Company.{Company}
 use Rattle.tables.specs.declared.seat.Seat.{Seat}

@@ -1,5 +1,5 @@
-use Rattle.operating.proofs.Dividends.{dividend_recorded_sound}
-use Rattle.operating.proofs.dividend.pay_to.Goals as goal
+use Rattle.certs.proofs.Dividends.{dividend_recorded_sound}
+use Rattle.certs.proofs.dividend.pay_to.Goals as goal
 
 pub returns-clause-sound : goal.returns-clause-sound
 returns-clause-sound c =

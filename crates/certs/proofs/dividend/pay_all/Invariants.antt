@@ -1,9 +1,9 @@
 use Rattle.std.proofs.Common.{◌≡◌, ◌-◌, map}
 use Rattle.std.specs.List.{range_with_len}
-use Rattle.operating.specs.Dividend.{paid_to_seats}
+use Rattle.certs.specs.Dividend.{paid_to_seats}
 use Rattle.history.specs.Sound.{IsSound}
 use Rattle.tables.specs.Seat.{all_seats, seat_at}
-use Rattle.operating.proofs.dividend.pay_all.Given as goal
+use Rattle.certs.proofs.dividend.pay_all.Given as goal
 
 -- the dividends of the seats that are left lead from here where all lead from the start
 abbrev pub invariant-loop-seat : goal.invariant-loop-seat

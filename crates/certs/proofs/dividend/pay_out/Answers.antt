@@ -1,7 +1,7 @@
 use Rattle.market.proofs.Tokens.{move_sound}
 use Rattle.market.specs.Moves.{right_of}
-use Rattle.operating.proofs.Dividends.{paid_out_steps}
-use Rattle.operating.proofs.dividend.pay_out.Goals as goal
+use Rattle.certs.proofs.Dividends.{paid_out_steps}
+use Rattle.certs.proofs.dividend.pay_out.Goals as goal
 
 pub returns-clause-after : goal.returns-clause-after
 returns-clause-after c =

@@ -1,7 +1,7 @@
 -- What a company pays out: each dividend keeps a list sound, no place has more than ten shares, and
 -- what is paid to all is paid step by step.
 use Rattle.std.proofs.Common.{◌≡◌, ℕ, zero, suc, ◌+◌, ◌-◌, ◌<◌, ◌≤◌, ◌==◌, inl, inr, Bool, true, false, if◌then◌else◌}
-use Rattle.std.proofs.Common.{List, [], ◌∷◌, map, pos, ◌≤ℤ◌, refl, sym, subst, ap, ◌∙◌, arith}
+use Rattle.std.proofs.Common.{List, [], ◌∷◌, ◌++◌, map, pos, ◌≤ℤ◌, refl, sym, subst, ap, ◌∙◌, arith}
 use Rattle.std.proofs.lemmas.Bool.{cases_eq}
 use Rattle.std.proofs.lemmas.Int.{ints}
 use Rattle.std.specs.List.{range_with_len}
@@ -16,14 +16,23 @@ use Rattle.totals.specs.LookBack.{Game, with_event}
 use Rattle.history.specs.Money.{IsParty}
 use Rattle.totals.specs.Shares.{held_by, shares_of}
 use Rattle.history.specs.Sound.{IsSound, SharesAreHeld}
-use Rattle.history.specs.Record.{broken_recorded}
+use Rattle.history.specs.Record.{breaks, broken_recorded}
 use Rattle.market.specs.Moves.{right_of}
 use Rattle.market.specs.Token.{with_move}
-use Rattle.operating.proofs.Fitting.{broken_sound}
-use Rattle.operating.specs.Dividend.{all_paid, moved_right, paid_for, paid_out, paid_to, paid_to_seats}
+use Rattle.history.proofs.NearlySound.{broken_quiet, quiet_sound}
+use Rattle.certs.specs.Dividend.{all_paid, moved_right, paid_for, paid_out, paid_to, paid_to_seats}
 use Rattle.tables.specs.Seat.{all_seats, seat_at}
 use Rattle.tables.specs.declared.roster.Company.{Company}
 use Rattle.tables.specs.declared.seat.Seat.{Seat}
+
+-- the word that the bank is broken keeps a list sound
+pub broken_sound : (game : Game) → IsSound game → IsSound (broken_recorded game)
+broken_sound game sound =
+    elim (breaks game.seats game.events) as (λ (b : Bool). IsSound
+    (record { seats = game.seats; events = if b then game.events ++ event.Broken ∷ [] else game.events })) [
+      | true ↦ quiet_sound game event.Broken broken_quiet sound
+      | false ↦ sound
+    ]
 
 -- seats have no fewer than no shares together
 held_not_under : (events : List Event) (company : Company) (seats : List Seat) → SharesAreHeld events
