@@ -1,7 +1,3 @@
--- What the proofs of the desk share.
-pub mod BestRuns
-pub mod Laid
+-- What the proofs of a state share.
 pub mod Orders
-pub mod Refusals
-pub mod RoundParts
 pub mod Stacks

@@ -1,15 +1,12 @@
 //! What is awaited and who owes it, or how the game ended; and what the phase and the set bring.
-ghost use Rattle.std.specs.Prelude.{◌≡◌, is_none};
-ghost use Rattle.sheets.specs.File.{sheet_of};
 
 use crate::stood::Stood;
 use desk_base::Piece::{Bytes, Number, Words};
-use desk_base::{Piece, fill, push};
+use desk_base::{Piece, fill, owes, push};
 use report::name;
 use rounds::End;
-use sheets::Sheets;
 use std::alloc::AllocError;
-use tables::{Money, Round, Seat, certificate_limit};
+use tables::{Money, Seat, certificate_limit};
 
 /// Adds the round that was played last, and the round that is awaited with those who owe a sheet for
 /// it, or how the game ended.
@@ -38,13 +35,6 @@ pub(crate) fn push_awaited(out: &mut Vec<u8>, stood: &Stood) -> Result<(), Alloc
         }
     }
     push(out, &[Words(end)])
-}
-
-/// Whether the player of a seat owes a sheet for a round.
-pub(crate) fn owes(sheets: &Sheets, seat: Seat, round: &Round) -> bool
-    ensures { result ≡ is_none (sheet_of sheets.now seat.0 round.now) }
-{
-    sheets.sheet(seat, round).is_none()
 }
 
 /// Adds the phase, the holder of priority, how many operating rounds the set has, and the limit of

@@ -1,11 +1,10 @@
 //! A game as it stood between two rounds: as its sheets leave it, behind a round, or before one.
 ghost use Rattle.std.specs.Prelude.{IfErr};
-ghost use Rattle.desk.specs.Refusal.{IsOfGame};
+ghost use Rattle.desk_base.specs.Refusal.{IsOfGame};
 ghost use Rattle.rounds.specs.Play.{IsTheGame};
 
-use crate::fault::DeskFault;
 use best_run::Search;
-use desk_base::{end_after, number_after, number_in_set};
+use desk_base::{DeskFault, end_after, number_after, number_in_set};
 use history::History;
 use rounds::{End, Game, Play, Step};
 use sheets::Sheets;

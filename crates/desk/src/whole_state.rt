@@ -3,10 +3,9 @@
 //! Its facts come from the readers of the game's list, or from `purse`, `earnings`, `stack` and `stock_left`, whose
 //! contracts say what they are. The rest is layout.
 ghost use Rattle.std.specs.Prelude.{IfErr, OnOk};
-ghost use Rattle.desk.specs.Refusal.{HasNoState, IsOfGame};
+ghost use Rattle.desk_base.specs.Refusal.{HasNoState, IsOfGame};
 ghost use Rattle.sheets.specs.File.{IsAccepted};
 
-use crate::fault::DeskFault;
 use crate::stack::all_in_order;
 use crate::state_chart::push_chart;
 use crate::state_companies::push_companies;
@@ -15,6 +14,7 @@ use crate::state_players::{push_owners, push_players};
 use crate::state_round::{push_awaited, push_matters};
 use crate::state_stock::{push_laid, push_tiles_left, push_trains};
 use crate::stood::{Moment, Stood, play_before, play_behind, stood_at_last, stood_now};
+use desk_base::DeskFault;
 use rounds::{Play, play};
 use sheets::{Sheets, collect};
 use std::alloc::{AllocError, Global};
@@ -26,7 +26,7 @@ use tables::{Company, Round};
 /// columns, but for those of a private with many bids and of a company with over three privates.
 ///
 /// `Round` where a round is named that was not played, or none was played before which the moment is.
-#[tactic(auto, using(crate::proofs::Refusals::no_state_where_it_fails, crate::proofs::Refusals::no_state_of_game))]
+#[tactic(auto, using(desk_base::proofs::Refusals::no_state_where_it_fails, desk_base::proofs::Refusals::no_state_of_game))]
 pub fn state(alloc: Global, file: &[u8], moment: Moment) -> Result<Vec<u8>, DeskFault>
     ensures accepted { OnOk result (IsAccepted file.now) }
     ensures fault { IfErr result (λ fault. HasNoState fault file.now) }

@@ -1,3 +1,6 @@
 -- What the proofs of the desk's libraries share.
+pub mod BestRuns
 pub mod ComingLemmas
+pub mod Laid
+pub mod Refusals
 pub mod SetLemmas

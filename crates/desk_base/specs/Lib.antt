@@ -1,6 +1,9 @@
 -- What the desk's libraries share.
 pub mod Belongings
 pub mod Coming
+pub mod Fault
+pub mod Laid
 pub mod Reason
+pub mod Refusal
 pub mod SetNumber
 pub mod Stopped

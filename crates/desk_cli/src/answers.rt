@@ -2,9 +2,10 @@
 
 use crate::streams::StreamFault;
 use crate::task::{Job, Task};
-use desk::{DeskFault, Moment, bulletin, round, round_with_rules, runs, state};
-use desk_base::{Reason, all_reasons_text, explain, list_text, reason_text};
+use desk::{Moment, state};
+use desk_base::{DeskFault, Reason, all_reasons_text, explain, list_text, reason_text};
 use desk_check::{Extent, check};
+use desk_round::{bulletin, round, round_with_rules, runs};
 use report::refusal_text;
 use std::alloc::{AllocError, Global};
 use tables::Round;

@@ -1,6 +1,6 @@
 -- Why the desk has no answer.
-use Rattle.desk.specs.declared.fault.DeskFault.{DeskFault}
-use Rattle.desk.specs.declared.fault.DeskFault.TheVariants as desk
+use Rattle.desk_base.specs.declared.fault.DeskFault.{DeskFault}
+use Rattle.desk_base.specs.declared.fault.DeskFault.TheVariants as desk
 use Rattle.sheets.specs.declared.fault.FileFault.{FileFault}
 use Rattle.sheets.specs.declared.fault.FileFault.TheVariants as file
 

@@ -1,11 +1,9 @@
 //! What the trains of each company ran in a round, stop by stop.
 
-use crate::fault::DeskFault;
-use crate::map_state::{best_at, board_at, view_behind};
 use crate::told::{Told, tell};
 use board::Board;
 use desk_base::Piece::{Number, Words};
-use desk_base::{Piece, fill, push};
+use desk_base::{DeskFault, Piece, best_at, board_at, fill, push, view_behind};
 use history::{Event, GameView, History, Ruling, Walk};
 use map_tables::{Place, Run};
 use order_grammar::{Order, print_order};

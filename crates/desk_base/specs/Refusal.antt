@@ -1,7 +1,7 @@
 -- Why the desk has no answer where it is asked for no round: the file is refused by this fault, or memory was refused.
 use Rattle.std.specs.Prelude.{◌≡◌, ℕ, List, Err, ⊤}
-use Rattle.desk.specs.declared.fault.DeskFault.{DeskFault}
-use Rattle.desk.specs.declared.fault.DeskFault.TheVariants.{File, Round, Memory}
+use Rattle.desk_base.specs.declared.fault.DeskFault.{DeskFault}
+use Rattle.desk_base.specs.declared.fault.DeskFault.TheVariants.{File, Round, Memory}
 use Rattle.sheets.specs.File.{content_of}
 
 -- of a file there is no answer, by this fault

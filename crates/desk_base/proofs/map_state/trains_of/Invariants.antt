@@ -1,7 +1,7 @@
 use Rattle.std.proofs.Common.{◌≡◌, [], take}
 use Rattle.std.specs.List.{fold}
 use Rattle.operating.specs.Best.{with_those_held}
-use Rattle.desk.proofs.map_state.trains_of.Given as goal
+use Rattle.desk_base.proofs.map_state.trains_of.Given as goal
 use Rattle.tables.specs.Train.{kinds}
 
 -- those of the kinds so far are there

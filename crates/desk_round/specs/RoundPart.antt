@@ -1,8 +1,8 @@
 -- A round's part of the report of a file: of the round that is asked for, or of the last that was played.
 use Rattle.std.specs.Prelude.{◌≡◌, ◌<◌, ℕ, List, [], length, Option, Some, None, ⊤}
-use Rattle.desk.specs.Refusal.{HasNone}
-use Rattle.desk.specs.declared.fault.DeskFault.{DeskFault}
-use Rattle.desk.specs.declared.fault.DeskFault.TheVariants as desk
+use Rattle.desk_base.specs.Refusal.{HasNone}
+use Rattle.desk_base.specs.declared.fault.DeskFault.{DeskFault}
+use Rattle.desk_base.specs.declared.fault.DeskFault.TheVariants as desk
 use Rattle.totals.specs.LookBack.{round_of}
 use Rattle.report.specs.Report.{round_text_of}
 use Rattle.rounds.specs.Play.{IsTheGame, Played}

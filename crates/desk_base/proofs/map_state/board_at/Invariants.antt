@@ -1,9 +1,9 @@
 use Rattle.std.proofs.Common.{◌≡◌, [], take}
 use Rattle.std.specs.List.{fold}
 use Rattle.board_state.specs.MapState.{map_state_of}
-use Rattle.desk.specs.Laid.{laid_then}
+use Rattle.desk_base.specs.Laid.{laid_then}
 use Rattle.totals.specs.Trains.{phase_of}
-use Rattle.desk.proofs.map_state.board_at.Given as goal
+use Rattle.desk_base.proofs.map_state.board_at.Given as goal
 
 -- the map state by the events so far
 abbrev pub invariant-loop-event : goal.invariant-loop-event

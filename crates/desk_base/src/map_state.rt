@@ -2,7 +2,7 @@
 ghost use Rattle.std.specs.Prelude.{◌≡◌, ◌++◌, IfOk, OnOk, replicate};
 ghost use Rattle.legal_runs.specs.Claim.{ClaimHolds};
 ghost use Rattle.legal_runs.specs.Set.{IsGreatest};
-ghost use Rattle.desk.specs.Laid.{laid_then};
+ghost use Rattle.desk_base.specs.Laid.{laid_then};
 ghost use Rattle.totals.specs.Trains.{at_least_zero};
 ghost use Rattle.operating.specs.Best.{trains_now};
 ghost use Rattle.operating.specs.MapState.{map_state_now};
@@ -17,7 +17,7 @@ use tables::{Company, Kind, Money};
 
 /// The game of this many seats as it stood behind this many of the events along which a walk goes. There
 /// are as many, which the prover does not see where they are gone through by number.
-pub(crate) fn view_behind<'a>(walk: &'a mut Walk, passed: usize, seats: usize) -> GameView<'a> {
+pub fn view_behind<'a>(walk: &'a mut Walk, passed: usize, seats: usize) -> GameView<'a> {
     if passed <= walk.events.len() {
         walk.go(passed);
     }
@@ -25,7 +25,7 @@ pub(crate) fn view_behind<'a>(walk: &'a mut Walk, passed: usize, seats: usize) -
 }
 
 /// The board as a game stood. It fails only if memory is refused.
-pub(crate) fn board_at(alloc: Global, view: &GameView) -> Result<Board, AllocError>
+pub fn board_at(alloc: Global, view: &GameView) -> Result<Board, AllocError>
     ensures { IfOk result (λ board. board ≡ map_state_now view.now.events.now) }
 {
     let mut board = Board::empty(alloc, view.phase());

@@ -1,9 +1,9 @@
 -- Why there is no answer of the desk.
 use Rattle.std.proofs.Common.{ℕ, List}
-use Rattle.desk.specs.Fault.{fault_of_file}
-use Rattle.desk.specs.Refusal.{HasNoState, HasNone, IsOfGame}
-use Rattle.desk.specs.declared.fault.DeskFault.{DeskFault}
-use Rattle.desk.specs.declared.fault.DeskFault.TheVariants as desk
+use Rattle.desk_base.specs.Fault.{fault_of_file}
+use Rattle.desk_base.specs.Refusal.{HasNoState, HasNone, IsOfGame}
+use Rattle.desk_base.specs.declared.fault.DeskFault.{DeskFault}
+use Rattle.desk_base.specs.declared.fault.DeskFault.TheVariants as desk
 use Rattle.sheets.specs.File.{Fails, content_of}
 use Rattle.sheets.specs.declared.fault.FileFault.{FileFault}
 use Rattle.sheets.specs.declared.fault.FileFault.TheVariants.{Header, Players, TooLong, TooManySheets, Memory}

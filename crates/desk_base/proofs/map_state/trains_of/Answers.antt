@@ -4,7 +4,7 @@ use mir.Syntax.{w64}
 use Rattle.operating.proofs.BestLemmas.{same_count}
 use Rattle.purchases.proofs.Folding.{fold_goes_on}
 use Rattle.operating.specs.Best.{with_those_held}
-use Rattle.desk.proofs.map_state.trains_of.Goals as goal
+use Rattle.desk_base.proofs.map_state.trains_of.Goals as goal
 use Rattle.tables.specs.Train.{kinds}
 
 pub loop-kind-preserved : goal.loop-kind-preserved

@@ -1,13 +1,14 @@
 //! What was looked for as an order was refused, where it is at hand: the cash, the price, the limit.
 //! Each is added behind the rule, in brackets.
 
-use crate::map_state::board_at;
 use crate::sheet_line::SheetLine;
 use crate::track::break_of;
 use crate::ways::{push_ways_to_stop, push_ways_to_tile};
 use certs::{Holdings, market_price, share_price};
 use desk_base::Piece::{Bytes, Number, Words};
-use desk_base::{Objection, bad_side, fill, objection_by_view, objection_to, push, push_objection};
+use desk_base::{
+    Objection, bad_side, board_at, fill, objection_by_view, objection_to, push, push_objection,
+};
 use history::{
     GameView, Holder, LayRule, OpeningRule, Party, PrivateRule, Refusal, Ruling, RunRule,
     Shareholder, StockRule, TokenRule, TrainRule,

@@ -1,8 +1,8 @@
 use Rattle.std.proofs.Common.{◌∙◌}
-use Rattle.desk.proofs.BestRuns.{greatest_in_game, holds_in_game}
+use Rattle.desk_base.proofs.BestRuns.{greatest_in_game, holds_in_game}
 use Rattle.operating.specs.Best.{trains_now}
 use Rattle.operating.specs.MapState.{map_state_now}
-use Rattle.desk.proofs.map_state.best_at.Goals as goal
+use Rattle.desk_base.proofs.map_state.best_at.Goals as goal
 
 pub returns-clause-holds : goal.returns-clause-holds
 returns-clause-holds c =

@@ -1,9 +1,9 @@
 //! What is told of a round of the game of a file, where the text is not a part of its report as it stands.
 
 use crate::bulletin_text::bulletin_of;
-use crate::fault::DeskFault;
 use crate::ran::runs_of;
 use crate::round_part::rules_of;
+use desk_base::DeskFault;
 use rounds::play;
 use sheets::{Sheets, collect};
 use std::alloc::Global;

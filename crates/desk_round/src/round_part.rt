@@ -1,15 +1,13 @@
 //! A round's part of the report, and the same with the rules that refused lines broke.
 ghost use Rattle.std.specs.Prelude.{◌≡◌, ◌<◌, IfErr, IfOk, length};
-ghost use Rattle.desk.specs.RoundPart.{HasNoText, IsRoundFault, IsRoundPart, round_asked, text_of_round};
+ghost use Rattle.desk_round.specs.RoundPart.{HasNoText, IsRoundFault, IsRoundPart, round_asked, text_of_round};
 
-use crate::fault::DeskFault;
-use crate::map_state::view_behind;
 use crate::sheet_line::lines_of;
 use crate::sought::Ruled;
 use crate::told::{Told, tell};
 use crate::why::push_why;
 use desk_base::Piece::Bytes;
-use desk_base::{fill, push};
+use desk_base::{DeskFault, fill, push, view_behind};
 use history::{Event, Walk};
 use report::round_text;
 use rounds::{Game, play};
@@ -19,7 +17,7 @@ use tables::Round;
 
 /// The part of the report of a file that tells of a round: of the last that was played, where none is
 /// asked for. `Round` where that round is not played, or none is.
-#[tactic(auto, using(crate::proofs::Refusals::none_where_it_fails, crate::proofs::RoundParts::no_part_where_it_fails))]
+#[tactic(auto, using(desk_base::proofs::Refusals::none_where_it_fails, crate::proofs::RoundParts::no_part_where_it_fails))]
 pub fn round(alloc: Global, file: &[u8], asked: Option<Round>) -> Result<Vec<u8>, DeskFault>
     ensures part { IfOk result (λ text. IsRoundPart file.now asked text.items) }
     ensures fault { IfErr result (IsRoundFault file.now asked) }

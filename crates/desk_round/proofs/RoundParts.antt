@@ -1,10 +1,10 @@
 -- A round's part of the report of a file.
 use Rattle.std.proofs.Common.{◌≡◌, ◌<◌, ℕ, List, [], length, Option, Some, sym, ◌∙◌}
-use Rattle.desk.specs.Refusal.{HasNone}
-use Rattle.desk.specs.RoundPart.{HasNoText, IsGameOf, IsNotPlayed, IsNotPlayedIn, IsRoundFault, IsRoundPart}
-use Rattle.desk.specs.RoundPart.{round_asked, text_of_round}
-use Rattle.desk.specs.declared.fault.DeskFault.{DeskFault}
-use Rattle.desk.specs.declared.fault.DeskFault.TheVariants.{File, Round, Memory}
+use Rattle.desk_base.specs.Refusal.{HasNone}
+use Rattle.desk_round.specs.RoundPart.{HasNoText, IsGameOf, IsNotPlayed, IsNotPlayedIn, IsRoundFault, IsRoundPart}
+use Rattle.desk_round.specs.RoundPart.{round_asked, text_of_round}
+use Rattle.desk_base.specs.declared.fault.DeskFault.{DeskFault}
+use Rattle.desk_base.specs.declared.fault.DeskFault.TheVariants.{File, Round, Memory}
 use Rattle.report.specs.Report.{round_text_of}
 use Rattle.rounds.specs.Play.{IsTheGame, Played}
 use Rattle.tables.specs.declared.round.Round as the_round

@@ -1,17 +1,14 @@
 //! A round for its players: whose turn it was, what each had before it and after, and what each line brought.
 
-use crate::fault::DeskFault;
 use crate::groups::{Group, Whose, groups_of};
-use crate::map_state::view_behind;
 use crate::ran::push_ran;
 use crate::round_part::{round_asked, text_of};
 use crate::sheet_line::{SheetLine, lines_of, sheet_line};
 use crate::sought::Ruled;
-use crate::state_round::owes;
 use crate::why::push_rule;
 use crate::wrapped::{push_wrapped, push_wrapped_lines};
 use desk_base::Piece::{Bytes, Column, Cut, Number, Right, Words};
-use desk_base::{Piece, fill, push, who};
+use desk_base::{DeskFault, Piece, fill, owes, push, view_behind, who};
 use history::{Event, GameView, Holder, PackedRuling, Party, Verdict, Walk};
 use report::name;
 use rounds::{End, Game};

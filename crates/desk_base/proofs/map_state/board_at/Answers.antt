@@ -3,11 +3,11 @@ use Rattle.std.specs.Prelude.{List}
 use Rattle.std.proofs.lemmas.List.{take_all}
 use Rattle.std.specs.List.{fold}
 use Rattle.board_state.specs.MapState.{map_state_of}
-use Rattle.desk.proofs.Laid.{all_laid}
-use Rattle.desk.specs.Laid.{laid_then}
+use Rattle.desk_base.proofs.Laid.{all_laid}
+use Rattle.desk_base.specs.Laid.{laid_then}
 use Rattle.events.specs.declared.event.Event.{Event}
 use Rattle.totals.specs.Trains.{phase_of}
-use Rattle.desk.proofs.map_state.board_at.Goals as goal
+use Rattle.desk_base.proofs.map_state.board_at.Goals as goal
 
 pub returns : goal.returns
 returns c =

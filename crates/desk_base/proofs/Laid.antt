@@ -3,7 +3,7 @@ use Rattle.std.proofs.Common.{◌≡◌, List, [], ◌∷◌, ◌++◌, Option, 
 use Rattle.std.proofs.lemmas.List.{append-nil}
 use Rattle.std.specs.List.{cons_option, fold}
 use Rattle.board_state.specs.MapState.{MapState, map_state_of}
-use Rattle.desk.specs.Laid.{laid_then}
+use Rattle.desk_base.specs.Laid.{laid_then}
 use Rattle.events.specs.Event.{tile_laid, token_placed}
 use Rattle.events.specs.declared.event.Event.{Event}
 use Rattle.totals.specs.Operating.{lays_of, tokens_of}

@@ -1,5 +1,5 @@
 use Rattle.std.proofs.Common.{◌≡◌, ◌++◌, replicate}
-use Rattle.desk.proofs.map_state.push_trains.Given as goal
+use Rattle.desk_base.proofs.map_state.push_trains.Given as goal
 
 -- this many trains of the kind are behind those that were there
 abbrev pub invariant-loop : goal.invariant-loop

@@ -1,0 +1,2 @@
+-- What the proofs on a round share.
+pub mod RoundParts

@@ -1,0 +1,2 @@
+-- What the desk tells of a round.
+pub mod RoundPart
