@@ -1,5 +1,6 @@
--- What a company earned in the last round in which it operated: the sum of what its runs earned there. A company operates
--- in a round where it runs a train or withholds; what it withholds was earned by its runs before.
+-- What a company earned in the last round in which it operated: the sum of what its runs earned
+-- there. A company operates in a round where it runs a train or withholds; what it withholds was
+-- earned by its runs before.
 use Rattle.std.specs.Prelude.{ℕ, ◌+◌, if◌then◌else◌, true, false, List, Option, Some, None}
 use Rattle.std.specs.List.{fold}
 use Rattle.desk.specs.declared.earnings.Earnings.{Earnings}

@@ -1,5 +1,5 @@
--- What is left: the tokens that a company has not placed, the trains that the bank has not sold, and the tiles that do not
--- lie on the map.
+-- What is left: the tokens that a company has not placed, the trains that the bank has not sold,
+-- and the tiles that do not lie on the map.
 use Rattle.std.specs.Prelude.{ℕ, ◌-◌, List, Option, Some, None}
 use Rattle.board.specs.LayRules.{on_map_of}
 use Rattle.events.specs.declared.event.Event.{Event}

@@ -9,8 +9,8 @@ const SHEET: &[u8; 17] = b"SHEET A          ";
 /// Where the name of the round stands on it.
 const ROUND_AT: usize = 8;
 
-/// The round that a word names as a SHEET line would, in either case: `PR1`, `SR1` or `OR1.1`; `None`
-/// where it names none.
+/// Returns the round that a word names as a SHEET line would, in either case: `PR1`, `SR1` or
+/// `OR1.1`; `None` if it names none.
 pub fn read_round(word: &[u8]) -> Option<Round> {
     for byte in word {
         if !byte.is_ascii_alphanumeric() && *byte != b'.' {

@@ -8,7 +8,7 @@ use tables::{Amount, Company, Round};
 /// What a company earned, in the last of the rounds so far in which it operated.
 #[derive(Clone, Copy)]
 pub(crate) struct Earnings {
-    /// That round; `None` where it has operated in none.
+    /// That round; `None` if it has operated in none.
     pub round: Option<Round>,
     /// What its runs earned in it, in dollars.
     pub dollars: u128,
@@ -19,7 +19,7 @@ pub(crate) struct Earnings {
 }
 
 impl Earnings {
-    /// Where this round begins, if one does.
+    /// Returns the earnings after an event that begins this round, if it begins one.
     fn with_round(self, begun: Option<Round>) -> Earnings
         ensures earnings { result ≡ with_round self begun }
         ensures same { result.dollars ≡ self.dollars }
@@ -34,7 +34,8 @@ impl Earnings {
         }
     }
 
-    /// With this sum, if there is one: it is added where the company has operated in this round.
+    /// Adds this sum, if there is one. It is added to the dollars of this round if the company has
+    /// operated in it, and replaces them otherwise.
     fn with_sum(self, sum: Option<Amount>) -> Earnings
         requires { self.dollars ≤ 2 ^ 100 }
         ensures earnings { result ≡ with_sum self sum }
@@ -53,7 +54,7 @@ impl Earnings {
     }
 }
 
-/// What a company earned in the last round in which it operated.
+/// Returns what a company earned in the last round in which it operated.
 pub(crate) fn earnings_of(events: &[Event], company: Company) -> Earnings
     ensures earnings { result ≡ earnings_of company events.now }
     ensures small { result.dollars < 2 ^ 127 }
@@ -72,8 +73,9 @@ pub(crate) fn earnings_of(events: &[Event], company: Company) -> Earnings
     earnings
 }
 
-/// What a company earns by an event with which it operates: a run earns its revenue, and what is
-/// withheld was earned by runs before. `None` for every other event.
+/// Returns what a company earns by an event with which it operates: the revenue of its runs, in
+/// dollars, and 0 for WITHHOLD, since the runs before it earned what it keeps. `None` for every
+/// other event.
 fn earned_by(company: Company, event: &Event) -> Option<Amount>
     ensures { result ≡ earned_by company event.now }
 {

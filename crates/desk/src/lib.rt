@@ -1,12 +1,13 @@
-//! A game as it stands, at its end or between two of its rounds, as text. No call reads or writes a stream.
+//! A game as it stands, at its end or between two of its rounds, as text. No call reads or writes a
+//! stream.
 //!
-//! Each figure comes from a reader of the game's list, or from `purse`, `earnings`, `stack` or `stock_left`, whose
-//! contracts define it. The games of `games/desk/` test the layout.
+//! Each figure comes from a reader of the game's list, or from `purse`, `earnings`, `stack` or
+//! `stock_left`, whose contracts define it. The games of `games/desk/` test the layout.
 //!
-//! Reading order: `asked` (the round that is asked for), `stood` (the game at a moment). Then the figures that the
-//! readers of a game do not have (`purse`, `earnings`, `stack`, `stock_left`), and their layout: `lines`,
-//! `state_round`, `state_players`, `state_companies`, `state_stock`, `state_chart`, `state_map`, `whole_state`
-//! (`state`).
+//! Reading order: `asked` (the round that is asked for), `stood` (the game at a moment). Then the
+//! figures that the readers of a game do not have (`purse`, `earnings`, `stack`, `stock_left`), and
+//! their layout: `lines`, `state_round`, `state_players`, `state_companies`, `state_stock`,
+//! `state_chart`, `state_map`, `whole_state` (`state`).
 #![tactic(auto)]
 
 mod asked;

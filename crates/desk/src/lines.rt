@@ -1,4 +1,4 @@
-//! Where a line of a text goes on, and where it ends.
+//! Places of equal width in a line of text.
 ghost use Rattle.std.specs.Prelude.{◌<◌};
 
 use desk_base::Piece::{Column, Words};
@@ -8,8 +8,8 @@ use std::alloc::AllocError;
 /// The most bytes of a line of tiles.
 const LINE_MOST: usize = 80;
 
-/// What goes on to the next place of the line in hand, where places have this width, or to the next line
-/// where the place would end past the greatest width of a line.
+/// Returns the piece that moves to the next place of the current line, where each place has this
+/// many columns. It begins a new line if the place would end past column 80.
 pub(crate) fn next_place<'a>(text: &[u8], width: usize) -> Piece<'a>
     requires { 0 < width }
 {
@@ -21,7 +21,7 @@ pub(crate) fn next_place<'a>(text: &[u8], width: usize) -> Piece<'a>
     }
 }
 
-/// Ends the line in hand, if anything is on it.
+/// Ends the current line, unless it is empty.
 pub(crate) fn end_open_line(out: &mut Vec<u8>) -> Result<(), AllocError> {
     if width_in_hand(out) == 0 {
         return Ok(());

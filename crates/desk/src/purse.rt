@@ -24,7 +24,7 @@ pub(crate) struct Purse {
     pub worth: Money,
 }
 
-/// What the player of a seat has. The seat is one of six.
+/// Returns what the player of a seat has. The seat is one of six.
 pub(crate) fn purse_of(history: &History, seat: Seat) -> Purse
     requires { seat.0 < 6 }
     ensures cash { result.cash ≡ cash_of history.now.seats history.now.events (party_at seat) }

@@ -24,7 +24,7 @@ const SHOWN: usize = 3;
 /// The letters that stand for the companies' tokens, in the order of the companies.
 const LETTERS: [&str; 8] = ["P", "N", "C", "B", "O", "E", "H", "M"];
 
-/// The letter that stands for a company's token.
+/// Returns the letter that stands for a company's token.
 pub(crate) fn letter(company: Company) -> &'static str {
     LETTERS[company.place()]
 }
@@ -65,7 +65,7 @@ pub(crate) fn push_chart(out: &mut Vec<u8>, history: &History) -> Result<(), All
     Ok(())
 }
 
-/// The mark of a zone; none where a square lies in no zone.
+/// Returns the mark of a zone; nothing for white squares.
 fn mark(zone: Zone) -> &'static str {
     match zone {
         Zone::White => "",
@@ -75,8 +75,8 @@ fn mark(zone: Zone) -> &'static str {
     }
 }
 
-/// Adds the tokens on the squares of a row that lie below this many others, as many as a line shows;
-/// no line where there are none.
+/// Adds the tokens on the squares of a row that lie below this many others, as many as a line
+/// shows; no line where there are none.
 fn push_tokens(out: &mut Vec<u8>, view: &GameView, row: u8, above: usize) -> Result<(), AllocError>
     requires { above < 9 }
 {

@@ -46,8 +46,8 @@ const PLAYERS: usize = 23;
 /// The width of a player's shares.
 const PLAYER: usize = 9;
 
-/// Adds what the companies have, in this order: their figures, their shares, and how many tokens they have
-/// left, with where those lie that they have placed.
+/// Adds what the companies have, in this order: their figures, their shares, and how many tokens
+/// they have left, with where those lie that they have placed.
 pub(crate) fn push_companies(
     out: &mut Vec<u8>,
     stood: &Stood,
@@ -80,8 +80,9 @@ pub(crate) fn push_companies(
     Ok(())
 }
 
-/// Adds the line of a company's figures: its price, its square, the place of its token in the stack there,
-/// its president, and what it has. One that has not floated has few, and one that is not started none.
+/// Adds the line of a company's figures: its price, its square, the place of its token in the stack
+/// there, its president, and what it has. One that has not floated has few, and one that is not
+/// started none.
 fn push_figures(out: &mut Vec<u8>, stood: &Stood, company: Company) -> Result<(), AllocError> {
     let view = stood.history.now();
     push(out, &[Words(company.code())])?;

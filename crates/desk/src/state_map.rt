@@ -51,12 +51,13 @@ pub(crate) fn push_map(out: &mut Vec<u8>, history: &History) -> Result<(), Alloc
     Ok(())
 }
 
-/// The column at which a hex begins.
+/// Returns the column at which a hex begins.
 fn column_of(hex: Hex) -> usize {
     COLUMN * usize::from(hex.column()) - 1
 }
 
-/// Adds what is on a hex: the number and the rotation of the tile that lies there, or what is printed.
+/// Adds what is on a hex: the number and the rotation of the tile that lies there, or what is
+/// printed.
 fn push_tile(out: &mut Vec<u8>, lays: &[Lay], hex: Hex) -> Result<(), AllocError> {
     match tile_on(lays, hex) {
         Some(lay) => fill(
@@ -73,7 +74,7 @@ fn push_tile(out: &mut Vec<u8>, lays: &[Lay], hex: Hex) -> Result<(), AllocError
     }
 }
 
-/// The words for what is printed on a hex.
+/// Returns the words for what is printed on a hex.
 fn print_of(hex: Hex) -> &'static str {
     match hex_kind(hex) {
         HexKind::Grey => "grey",
@@ -122,7 +123,7 @@ fn push_cities(out: &mut Vec<u8>, history: &History, hex: Hex) -> Result<(), All
     Ok(())
 }
 
-/// How many slots each city of a hex has.
+/// Returns how many slots each city of a hex has.
 fn slots_on(lays: &[Lay], hex: Hex) -> u8 {
     match tile_on(lays, hex) {
         Some(lay) => tile(lay.tile).slots,

@@ -49,8 +49,8 @@ pub(crate) fn push_players(out: &mut Vec<u8>, stood: &Stood) -> Result<(), Alloc
     Ok(())
 }
 
-/// Adds the codes of the privates that a player or a company owns, each after a space, from a column on,
-/// and ends the line.
+/// Adds the codes of the privates that a player or a company owns, each after a space, from a
+/// column on, and ends the line.
 pub(crate) fn push_privates(
     out: &mut Vec<u8>,
     history: &History,
@@ -108,7 +108,7 @@ fn push_owner(out: &mut Vec<u8>, stood: &Stood, private: Private) -> Result<(), 
     )
 }
 
-/// The price of an unsold private: its face, but for SV, whose price falls.
+/// Returns the price of an unsold private: its face, but for SV, whose price falls.
 fn price_of(view: &GameView, private: Private) -> Amount
     ensures { result ≡ price_of view.now.events.now private }
 {

@@ -8,8 +8,8 @@ use rounds::End;
 use std::alloc::AllocError;
 use tables::{Money, Seat, certificate_limit};
 
-/// Adds the round that was played last, and the round that is awaited with those who owe a sheet for
-/// it, or how the game ended.
+/// Adds the round that was played last, and the round that is awaited with those who owe a sheet
+/// for it, or how the game ended.
 pub(crate) fn push_awaited(out: &mut Vec<u8>, stood: &Stood) -> Result<(), AllocError> {
     let last = match stood.history.now().round() {
         Some(round) => Piece::Round(round),

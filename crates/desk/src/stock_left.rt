@@ -11,14 +11,14 @@ use history::{GameView, History};
 use map_tables::{Hex, Lay, Place, Stop, TileNo, joined_stop, tile};
 use tables::{Company, Kind, tokens, train};
 
-/// How many tokens a company has not placed.
+/// Returns how many tokens a company has not placed.
 pub(crate) fn tokens_left(view: &GameView, company: Company) -> usize
     ensures { result ≡ tokens_left view.now.events.now company }
 {
     tokens(company).saturating_sub(view.tokens_placed(company))
 }
 
-/// How many trains of a kind the bank has not sold; `None` where their number has no limit.
+/// Returns how many trains of a kind the bank has not sold; `None` if their number has no limit.
 pub(crate) fn trains_left(view: &GameView, kind: Kind) -> Option<usize>
     ensures { result ≡ trains_left view.now.events.now kind }
 {
@@ -26,14 +26,14 @@ pub(crate) fn trains_left(view: &GameView, kind: Kind) -> Option<usize>
     Some(usize::from(number).saturating_sub(view.trains_sold(kind)))
 }
 
-/// How many tiles of a number do not lie on the map, by the tiles that were laid.
+/// Returns how many tiles of a number do not lie on the map, by the tiles that were laid.
 pub(crate) fn tiles_left(lays: &[Lay], number: TileNo) -> usize
     ensures { result ≡ tiles_left lays.now number }
 {
     usize::from(tile(number).count).saturating_sub(on_map_of(lays, number))
 }
 
-/// How many tiles of a number lie on the map.
+/// Returns how many tiles of a number lie on the map.
 #[tactic(auto, unfolding(board::specs::LayRules::on_map_of))]
 fn on_map_of(lays: &[Lay], number: TileNo) -> usize
     ensures { result ≡ on_map_of lays.now number }
@@ -49,7 +49,7 @@ fn on_map_of(lays: &[Lay], number: TileNo) -> usize
     count
 }
 
-/// Whether a tile of a number lies on a hex.
+/// Returns whether a tile of a number lies on a hex.
 fn has_tile(lays: &[Lay], hex: Hex, number: TileNo) -> bool
     ensures { result ≡ is_tile number (tile_on lays.now hex) }
 {
@@ -59,7 +59,7 @@ fn has_tile(lays: &[Lay], hex: Hex, number: TileNo) -> bool
     }
 }
 
-/// The tile that lies on a hex: the last that was laid there.
+/// Returns the tile that lies on a hex: the last that was laid there.
 #[tactic(auto, unfolding(map_tables::specs::OnMap::tile_on))]
 pub(crate) fn tile_on(lays: &[Lay], hex: Hex) -> Option<Lay>
     ensures { result ≡ tile_on lays.now hex }
@@ -72,7 +72,7 @@ pub(crate) fn tile_on(lays: &[Lay], hex: Hex) -> Option<Lay>
     None
 }
 
-/// Whether a company has a token at a stop, among those that were placed.
+/// Returns whether a company has a token at a stop, among those that were placed.
 pub(crate) fn has_token(history: &History, stop: Stop, company: Company) -> bool
     ensures { result ≡ has_token (tokens_of history.now.events) stop company }
 {
@@ -84,7 +84,7 @@ pub(crate) fn has_token(history: &History, stop: Stop, company: Company) -> bool
     false
 }
 
-/// Whether a place names a stop, or a part of it.
+/// Returns whether a place names a stop, or a part of it.
 fn names(stop: Stop, place: Place) -> bool
     ensures { result ≡ names stop place }
 {

@@ -1,4 +1,4 @@
-//! A game as it stood between two rounds: as its sheets leave it, behind a round, or before one.
+//! A game between two rounds: after the last that its sheets play, after a round, or before one.
 ghost use Rattle.std.specs.Prelude.{IfErr};
 ghost use Rattle.desk_base.specs.Refusal.{IsOfGame};
 ghost use Rattle.rounds.specs.Play.{IsTheGame};
@@ -11,12 +11,12 @@ use sheets::Sheets;
 use std::alloc::{AllocError, Global};
 use tables::{Round, Seat};
 
-/// Between which rounds a game is looked at.
+/// A moment between two rounds of a game.
 #[derive(Clone, Copy)]
 pub enum Moment {
-    /// Behind the last round that its sheets play.
+    /// After the last round that its sheets play.
     Last,
-    /// Behind this round.
+    /// After this round.
     After(Round),
     /// Before this round, which was played.
     Before(Round),
@@ -24,20 +24,20 @@ pub enum Moment {
     BeforeLast,
 }
 
-/// A game as it stood.
+/// A game at a moment between two rounds.
 #[derive(Clone, Copy)]
 pub struct Stood<'a> {
     /// The sheets of the whole game.
     pub sheets: &'a Sheets<'a>,
-    /// What had happened.
+    /// All that had happened.
     pub history: &'a History,
     /// The round that came next, or how the game ended.
     pub end: End,
-    /// How many operating rounds the set had, or the set that began with the next round.
+    /// The number of operating rounds of the set, or of the set that the next round begins.
     pub in_set: u8,
 }
 
-/// A game as its sheets leave it.
+/// Returns a game after the last round that its sheets play.
 pub fn stood_at_last<'a>(game: &'a Game<'a>) -> Stood<'a>
     requires { IsTheGame game.now }
 {
@@ -49,7 +49,7 @@ pub fn stood_at_last<'a>(game: &'a Game<'a>) -> Stood<'a>
     }
 }
 
-/// A game as it stood behind the rounds that were played; `None` once play was broken off.
+/// Returns a game after the rounds that were played; `None` once a fault has stopped play.
 pub fn stood_now<'a>(play: &'a Play<'a>) -> Option<Stood<'a>> {
     let history = play.history()?;
     let end = match (play.outcome(), play.last_round()) {
@@ -65,7 +65,8 @@ pub fn stood_now<'a>(play: &'a Play<'a>) -> Option<Stood<'a>> {
     })
 }
 
-/// Plays the game of some sheets up to behind a round; `Round` where it is not played.
+/// Plays the game of some sheets up to the end of a round. Fails with `Round` if that round is not
+/// played.
 pub fn play_behind<'a>(
     alloc: Global,
     sheets: &'a Sheets<'a>,
@@ -85,7 +86,8 @@ pub fn play_behind<'a>(
     }
 }
 
-/// Plays the game of some sheets up to before a round; `Round` where it is not played.
+/// Plays the game of some sheets up to the start of a round. Fails with `Round` if that round is
+/// not played.
 pub fn play_before<'a>(
     alloc: Global,
     sheets: &'a Sheets<'a>,
@@ -107,7 +109,7 @@ pub fn play_before<'a>(
     }
 }
 
-/// Whether a round comes next, and each player has a sheet for it.
+/// Returns whether a round comes next, and each player has a sheet for it.
 fn comes_next(play: &Play, asked: Round) -> bool {
     match stood_now(play) {
         Some(
@@ -120,7 +122,7 @@ fn comes_next(play: &Play, asked: Round) -> bool {
     }
 }
 
-/// Whether each player has a sheet for a round.
+/// Returns whether each player has a sheet for a round.
 fn are_all_there(sheets: &Sheets, round: &Round) -> bool {
     (0..sheets.seats()).all(|seat| sheets.sheet(Seat::at(seat), round).is_some())
 }

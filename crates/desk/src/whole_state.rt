@@ -1,7 +1,7 @@
-//! A game as it stands, as text.
+//! The state of a game, as text.
 //!
-//! Its facts come from the readers of the game's list, or from `purse`, `earnings`, `stack` and `stock_left`, whose
-//! contracts say what they are. The rest is layout.
+//! Its facts come from the readers of the game's list, or from `purse`, `earnings`, `stack` and
+//! `stock_left`, whose contracts say what they are. The rest is layout.
 ghost use Rattle.std.specs.Prelude.{IfErr, OnOk};
 ghost use Rattle.desk_base.specs.Refusal.{HasNoState, IsOfGame};
 ghost use Rattle.sheets.specs.File.{IsAccepted};
@@ -20,12 +20,14 @@ use sheets::{Sheets, collect};
 use std::alloc::{AllocError, Global};
 use tables::{Company, Round};
 
-/// How the game of an order file is at a moment, as text: who owes a sheet, or how the game ended; the phase,
-/// priority, the number of operating rounds of the set and the limit of certificates; players, privates,
-/// companies in operating order, trains and tiles; the stock market and the map. Lines have at most 80
-/// columns, but for those of a private with many bids and of a company with over three privates.
+/// Returns the state of the game of an order file at a moment, as text. It has who owes a sheet, or
+/// how the game ended; the phase, priority, the number of operating rounds of the set and the limit
+/// of certificates; players, privates, companies in operating order, trains and tiles; the stock
+/// market and the map. Lines have at most 80 columns, except those of a private with many bids and
+/// of a company with over three privates.
 ///
-/// `Round` where a round is named that was not played, or none was played before which the moment is.
+/// Fails with `File` if the file is refused, with `Round` if the moment names a round that was not
+/// played, or is before the last round and none was played, and with `Memory` if allocation fails.
 #[tactic(auto, using(desk_base::proofs::Refusals::no_state_where_it_fails, desk_base::proofs::Refusals::no_state_of_game))]
 pub fn state(alloc: Global, file: &[u8], moment: Moment) -> Result<Vec<u8>, DeskFault>
     ensures accepted { OnOk result (IsAccepted file.now) }
@@ -35,7 +37,7 @@ pub fn state(alloc: Global, file: &[u8], moment: Moment) -> Result<Vec<u8>, Desk
     state_at(alloc, &sheets, moment)
 }
 
-/// How the game of some sheets is at a moment.
+/// Returns the state of the game of some sheets at a moment.
 fn state_at(alloc: Global, sheets: &Sheets, moment: Moment) -> Result<Vec<u8>, DeskFault>
     ensures { IfErr result IsOfGame }
 {
@@ -50,7 +52,7 @@ fn state_at(alloc: Global, sheets: &Sheets, moment: Moment) -> Result<Vec<u8>, D
     }
 }
 
-/// How the game of some sheets stood behind a round.
+/// Returns the state of the game of some sheets after a round.
 fn text_behind(alloc: Global, sheets: &Sheets, round: Round) -> Result<Vec<u8>, DeskFault>
     ensures { IfErr result IsOfGame }
 {
@@ -58,7 +60,7 @@ fn text_behind(alloc: Global, sheets: &Sheets, round: Round) -> Result<Vec<u8>, 
     text_of_play(alloc, &play)
 }
 
-/// How the game of some sheets stood before a round.
+/// Returns the state of the game of some sheets before a round.
 fn text_before(alloc: Global, sheets: &Sheets, round: Round) -> Result<Vec<u8>, DeskFault>
     ensures { IfErr result IsOfGame }
 {
@@ -66,7 +68,7 @@ fn text_before(alloc: Global, sheets: &Sheets, round: Round) -> Result<Vec<u8>, 
     text_of_play(alloc, &play)
 }
 
-/// How the game of some sheets stands once they are played.
+/// Returns the state of the game of some sheets after the last round.
 fn state_at_last(alloc: Global, sheets: &Sheets) -> Result<Vec<u8>, DeskFault>
     ensures { IfErr result IsOfGame }
 {
@@ -74,7 +76,7 @@ fn state_at_last(alloc: Global, sheets: &Sheets) -> Result<Vec<u8>, DeskFault>
     Ok(state_text(alloc, &stood_at_last(&game))?)
 }
 
-/// How a game stands that is played as far as this.
+/// Returns the state of a game that was played up to here.
 fn text_of_play(alloc: Global, play: &Play) -> Result<Vec<u8>, DeskFault>
     ensures { IfErr result IsOfGame }
 {
@@ -84,7 +86,7 @@ fn text_of_play(alloc: Global, play: &Play) -> Result<Vec<u8>, DeskFault>
     }
 }
 
-/// The last round that some sheets play; `Round` where they play none.
+/// Returns the last round that some sheets play. Fails with `Round` if they play none.
 fn last_round(alloc: Global, sheets: &Sheets) -> Result<Round, DeskFault>
     ensures { IfErr result IsOfGame }
 {
@@ -95,7 +97,7 @@ fn last_round(alloc: Global, sheets: &Sheets) -> Result<Round, DeskFault>
     }
 }
 
-/// A game as it stood, as text.
+/// Returns the state of a game at a moment, as text. Fails only if allocation fails.
 pub fn state_text(alloc: Global, stood: &Stood) -> Result<Vec<u8>, AllocError> {
     let order = all_in_order(alloc, stood.history)?;
     let mut text = Vec::new(alloc);

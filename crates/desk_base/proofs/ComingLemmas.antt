@@ -1,4 +1,5 @@
--- A round that cannot come never comes: what holds of the round that is awaited holds of each that follows.
+-- A round that cannot come never comes: what holds of the round that is awaited holds of each that
+-- follows.
 use Rattle.std.proofs.Common.{◌≡◌, ℕ, zero, suc, ◌+◌, ◌<◌, ◌≤◌, Bool, true, false, ◌&&◌, ◌||◌, not, nat_le, nat_lt}
 use Rattle.std.proofs.Common.{if◌then◌else◌, List, [], ◌∷◌, ◌++◌, length, refl, sym, ap, subst, ◌∙◌, arith, true≢false}
 use Rattle.std.proofs.lemmas.Bool.{eqb-true, le-leb, le-ltb, ltb-true}
@@ -74,7 +75,8 @@ opens_next (Operating set number) events in_set sold broken opens =
     number in_set sold broken
     (λ more. tt) (λ past. tt)
 
--- ahead of an awaited round, whose set has this many operating rounds, where the bank was broken or not
+-- ahead of an awaited round, whose set has this many operating rounds, where the bank was broken or
+-- not
 record InSets (awaited : Round) (count : ℕ) (broken : Bool) (round : Round) (in_set : ℕ) : Type 0 where
   later : set_of awaited ≤ set_of round
   number : set_of round ≡ set_of awaited → in_set ≡ count

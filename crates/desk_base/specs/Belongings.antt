@@ -6,7 +6,8 @@ use Rattle.tables.specs.declared.roster.Company.{Company}
 use Rattle.tables.specs.declared.seat.Seat.{Seat}
 use Rattle.totals.specs.Shares.{president_of}
 
--- the president that the list says, if it says another than the seat, or none; nothing where it is the seat
+-- the president that the list says, if it says another than the seat, or none; nothing where it is
+-- the seat
 abbrev pub other_than : Option Seat → Seat → Option (Option Seat)
 other_than president seat = if is_president president seat then None else Some president
 

@@ -1,5 +1,6 @@
--- Which rounds may still come: from the round that is awaited on, in the order of all rounds; its set has this many
--- operating rounds, each later one at most three; and if the bank is broken, no later set is played.
+-- Which rounds may still come: from the round that is awaited on, in the order of all rounds; its
+-- set has this many operating rounds, each later one at most three; and if the bank is broken, no
+-- later set is played.
 use Rattle.std.specs.Prelude.{◌≡◌, ◌==◌, ℕ, Bool, true, false, ◌&&◌, ◌||◌, not, nat_le, if◌then◌else◌, List}
 use Rattle.rounds.specs.Play.{AreRounds, Between, Played}
 use Rattle.rounds.specs.declared.following.Next.TheVariants as next

@@ -1,4 +1,4 @@
--- Why the desk has no answer.
+-- Why the desk returns no text.
 use Rattle.desk_base.specs.declared.fault.DeskFault.{DeskFault}
 use Rattle.desk_base.specs.declared.fault.DeskFault.TheVariants as desk
 use Rattle.sheets.specs.declared.fault.FileFault.{FileFault}

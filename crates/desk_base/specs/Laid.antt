@@ -1,5 +1,5 @@
--- What lies on the map after one more event: its tile, if it lays one, behind those that were laid, and its token, if it
--- places one, behind those that were placed.
+-- What lies on the map after one more event: its tile, if it lays one, behind those that were laid,
+-- and its token, if it places one, behind those that were placed.
 use Rattle.std.specs.Prelude.{[], ◌++◌}
 use Rattle.std.specs.List.{cons_option}
 use Rattle.board_state.specs.MapState.{MapState, map_state_of}

@@ -1,4 +1,5 @@
--- Each reason for which a file or a line is refused has a code of its own, the one that a report prints.
+-- Each reason for which a file or a line is refused has a code of its own, the one that a report
+-- prints.
 use Rattle.std.specs.Prelude.{◌≡◌, ◌≢◌, ℕ, List}
 use Rattle.std.specs.Str.{str_to_ascii_lowercase}
 use Rattle.order_grammar.specs.Fault.{code_of}

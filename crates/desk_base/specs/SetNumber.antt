@@ -1,5 +1,5 @@
--- How many operating rounds the set has: as many as the phase gave it as its stock round began. Where a stock round is
--- awaited, it is the set that begins with that round.
+-- How many operating rounds the set has: as many as the phase gave it as its stock round began.
+-- Where a stock round is awaited, it is the set that begins with that round.
 use Rattle.std.specs.Prelude.{◌≡◌, ℕ, List, Option, Some, None}
 use Rattle.std.specs.List.{fold}
 use Rattle.desk_base.specs.declared.set_number.SetSoFar.{SetSoFar}

@@ -1,5 +1,5 @@
--- Between which rounds a game stopped, or past its last: there the game of its file has stopped, with its events and for
--- its reason. A file has one game, so there is no other such place.
+-- Between which rounds a game stopped, or past its last: there the game of its file has stopped,
+-- with its events and for its reason. A file has one game, so there is no other such place.
 use Rattle.std.specs.Prelude.{◌≡◌}
 use Rattle.rounds.specs.Play.{Between, Played, Plays, end_of}
 

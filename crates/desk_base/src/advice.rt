@@ -1,4 +1,5 @@
-//! What the writer of a refused file or line may do about it, by the rule that it breaks, and the small game that shows it.
+//! What the writer of a refused file or line may do, for each rule, and the small game that shows
+//! the rule.
 
 use crate::reason::Reason;
 use history::{OpeningRule, PayRule, PrivateRule, Refusal, StockRule, TrainRule};
@@ -11,11 +12,11 @@ use sheets::FileFault;
 pub struct Advice {
     /// What its writer may do about it.
     pub to_do: &'static str,
-    /// The small game in `games/codes` that shows it; `None` where it is too large to keep.
+    /// The small game in `games/codes` that shows it; `None` if it is too large to keep.
     pub game: Option<&'static str>,
 }
 
-/// Advice that a small game shows.
+/// Returns advice that a small game shows.
 fn shown(to_do: &'static str, game: &'static str) -> Advice {
     Advice {
         to_do,
@@ -23,12 +24,12 @@ fn shown(to_do: &'static str, game: &'static str) -> Advice {
     }
 }
 
-/// Advice without a game, which would be too large to keep.
+/// Returns advice without a game, which would be too large to keep.
 fn untried(to_do: &'static str) -> Advice {
     Advice { to_do, game: None }
 }
 
-/// What may be done where a file or a line is refused for this reason.
+/// Returns what may be done where a file or a line is refused for this reason.
 pub(crate) fn advice_on(reason: Reason) -> Advice {
     match reason {
         Reason::File(fault) => on_file(fault),
@@ -53,7 +54,7 @@ pub(crate) fn advice_on(reason: Reason) -> Advice {
     }
 }
 
-/// Advice on the faults of a file.
+/// Returns advice on the faults of a file.
 fn on_file(fault: FileFault) -> Advice {
     match fault {
         FileFault::Header => shown(
@@ -71,7 +72,7 @@ fn on_file(fault: FileFault) -> Advice {
     }
 }
 
-/// Advice on the faults of a line by itself.
+/// Returns advice on the faults of a line by itself.
 fn on_line(fault: Fault) -> Advice {
     match fault {
         Fault::TooLong => shown("write it shorter", "G1-line-of-1025-bytes"),
@@ -96,7 +97,7 @@ fn on_line(fault: Fault) -> Advice {
     }
 }
 
-/// Advice on the rules of openings.
+/// Returns advice on the rules of openings.
 fn on_opening(rule: OpeningRule) -> Advice {
     match rule {
         OpeningRule::NotOfOpening => shown(
@@ -118,7 +119,7 @@ fn on_opening(rule: OpeningRule) -> Advice {
     }
 }
 
-/// Advice on the rules of stock rounds, and of RAISE.
+/// Returns advice on the rules of stock rounds, and of RAISE.
 fn on_stock(rule: StockRule) -> Advice {
     match rule {
         StockRule::NotOfStock => shown(
@@ -166,7 +167,7 @@ fn on_stock(rule: StockRule) -> Advice {
     }
 }
 
-/// Advice on the rules of lays.
+/// Returns advice on the rules of lays.
 fn on_lay(rule: LayRule) -> Advice {
     match rule {
         LayRule::StepUsed => shown(
@@ -194,7 +195,7 @@ fn on_lay(rule: LayRule) -> Advice {
     }
 }
 
-/// Advice on the rules of tokens.
+/// Returns advice on the rules of tokens.
 fn on_token(rule: TokenRule) -> Advice {
     match rule {
         TokenRule::StepUsed => shown(
@@ -212,7 +213,7 @@ fn on_token(rule: TokenRule) -> Advice {
     }
 }
 
-/// Advice on the rules of runs.
+/// Returns advice on the rules of runs.
 fn on_run(rule: RunRule) -> Advice {
     match rule {
         RunRule::StepUsed => shown(
@@ -239,7 +240,7 @@ fn on_run(rule: RunRule) -> Advice {
     }
 }
 
-/// Advice on the rules of trains.
+/// Returns advice on the rules of trains.
 fn on_train(rule: TrainRule) -> Advice {
     match rule {
         TrainRule::NotOnSale => shown(
@@ -270,7 +271,7 @@ fn on_train(rule: TrainRule) -> Advice {
     }
 }
 
-/// Advice on the rules of privates that companies buy.
+/// Returns advice on the rules of privates that companies buy.
 fn on_private(rule: PrivateRule) -> Advice {
     match rule {
         PrivateRule::TooEarly => shown("wait for phase 3", "P1-before-phase-3"),

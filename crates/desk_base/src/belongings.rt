@@ -1,4 +1,4 @@
-//! Orders that speak of what another has: offers and discards.
+//! Orders about what a seat or a company has: offers, discards, trains of another company.
 ghost use Rattle.std.specs.Prelude.{◌≡◌};
 ghost use Rattle.desk_base.specs.Belongings.{other_president};
 ghost use Rattle.purchases.specs.Discards.{is_president};
@@ -8,7 +8,8 @@ use history::{GameView, Holder};
 use order_grammar::{Offer, Order, TrainSource};
 use tables::{Company, Kind, Seat};
 
-/// Who presides over a company, if another does than a seat; `None` where the seat does.
+/// Returns the president of a company, or `Some(None)` if it has none; `None` if the seat itself
+/// presides.
 pub fn other_president(view: &GameView, company: Company, seat: Seat) -> Option<Option<Seat>>
     ensures { result ≡ other_president view.now.events.now company seat }
 {
@@ -20,15 +21,16 @@ pub fn other_president(view: &GameView, company: Company, seat: Seat) -> Option<
     }
 }
 
-/// Whether a seat presides.
+/// Returns whether a seat presides.
 fn is_president(president: Option<Seat>, seat: Seat) -> bool
     ensures { result ≡ is_president president seat }
 {
     matches!(president, Some(president) if president == seat)
 }
 
-/// Why an order of a seat speaks of what is not its own, or not the seller's, with the code of the rule that it
-/// breaks; `None` where it does not.
+/// Returns why a seat may not give this order, with the code of the rule that it breaks: the seat
+/// does not own the private, does not preside, or the seller has no such train. `None` if nothing
+/// of this holds.
 pub fn objection_by_view(
     view: &GameView,
     seat: Seat,
@@ -62,7 +64,8 @@ pub fn objection_by_view(
     }
 }
 
-/// That a company has no train of a kind, by the code of a rule; `None` where it has one.
+/// Returns the objection that a company has no train of a kind, with this code; `None` if it has
+/// one.
 fn objection_to_train(
     view: &GameView,
     code: &'static str,

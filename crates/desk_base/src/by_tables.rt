@@ -7,8 +7,8 @@ use map_tables::{Lay, Place, hex_kind, neighbour, printed_slots, printed_stops};
 use order_grammar::Order;
 use tables::{Amount, Company, Round, par_square};
 
-/// Why an order of a sheet for a round is wrong whatever the game, with the code of the rule that it breaks;
-/// `None` where the tables do not show it.
+/// Returns why an order of a sheet for a round is wrong whatever the game, with the code of the
+/// rule that it breaks; `None` if the tables do not show it.
 pub fn objection_to(
     round: Round,
     is_open: bool,
@@ -27,7 +27,7 @@ pub fn objection_to(
     }
 }
 
-/// Whether an order of a written turn is none of a round for which the sheet is.
+/// Returns whether an order of a written turn never has a place in such a round.
 fn is_of_other_round(round: Round, order: &Order) -> bool {
     match round {
         Round::Opening(_) => !matches!(order, Order::BuyPrivate(_) | Order::Bid { .. }),
@@ -39,7 +39,8 @@ fn is_of_other_round(round: Round, order: &Order) -> bool {
     }
 }
 
-/// The same of a par value: it is to be one of six, and in an opening BO's.
+/// Returns why a PAR is wrong whatever the game: its value is none of the six, or it is given in an
+/// opening and not for BO.
 fn objection_to_par(
     round: Round,
     company: Company,
@@ -55,7 +56,8 @@ fn objection_to_par(
     Some((if is_opening { "A1" } else { "S8" }, Objection::NoPar))
 }
 
-/// The same of a tile: the hex takes tiles of its kind, and its track leads nowhere that it may not.
+/// Returns why a lay is wrong whatever the game: the hex takes no tiles, or none of this kind, or
+/// the track leads to a side where it may not.
 fn objection_to_lay(lay: Lay) -> Option<(&'static str, Objection)> {
     if !is_open(hex_kind(lay.hex)) {
         return Some(("L2", Objection::Nothing));
@@ -70,7 +72,7 @@ fn objection_to_lay(lay: Lay) -> Option<(&'static str, Objection)> {
     None
 }
 
-/// The same of a token: its place is to be a city's stop.
+/// Returns why a token is wrong whatever the game: its place is no stop of a city.
 fn objection_to_token(place: Place) -> Option<(&'static str, Objection)> {
     if printed_slots(place.hex) == 0 {
         return Some(("K3", Objection::NoCity(place.hex)));
@@ -81,8 +83,8 @@ fn objection_to_token(place: Place) -> Option<(&'static str, Objection)> {
     }
 }
 
-/// The same of a run: it begins and ends at stops, each place lies at the one before it, and the stops that it
-/// names are there.
+/// Returns why a run is wrong whatever the game: it names a stop that is not there, no track can
+/// lead from a place to the next, or an end is no stop.
 fn objection_to_run(places: &[Place]) -> Option<(&'static str, Objection)> {
     let mut before: Option<Place> = None;
     for place in places {
@@ -105,7 +107,8 @@ fn objection_to_run(places: &[Place]) -> Option<(&'static str, Objection)> {
     None
 }
 
-/// Why a place that names a stop names none, by the code of a rule.
+/// Returns the objection that a place names a stop that its hex does not have, with this code;
+/// `None` if it has it, or names none.
 fn objection_to_stop(code: &'static str, place: Place) -> Option<(&'static str, Objection)> {
     if place.stop?.index() < printed_stops(place.hex) {
         return None;

@@ -6,8 +6,8 @@ use crate::set_number::number_after;
 use rounds::{End, Game};
 use tables::{OPERATING_MOST, Round};
 
-/// Whether a round that was not played can still come in a game. One that cannot never comes, whatever
-/// sheets are sent.
+/// Returns whether a round that was not played can still come in a game. If it returns false, the
+/// round never comes, whatever sheets are sent.
 pub fn can_come(game: &Game, round: Round) -> bool
     ensures value { result ≡ can_come game.now.end game.now.game.events round }
     ensures never { result ≡ false → NeverComes game.now round }
@@ -19,7 +19,7 @@ pub fn can_come(game: &Game, round: Round) -> bool
     may_be_ahead(game, round)
 }
 
-/// Whether a round that was not played may be ahead of where a game has stopped.
+/// Returns whether a round that was not played may come after the point where a game has stopped.
 fn may_be_ahead(game: &Game, round: Round) -> bool
     ensures { result ≡ can_come game.now.end game.now.game.events round }
 {
@@ -32,15 +32,15 @@ fn may_be_ahead(game: &Game, round: Round) -> bool
     }
 }
 
-/// Whether a round may be the awaited one or come after it. The set of the awaited round has this
-/// many operating rounds, and if the bank is broken no other set is played.
+/// Returns whether a round may be the awaited one or come after it. The set of the awaited round
+/// has this many operating rounds, and if the bank is broken no other set is played.
 fn may_follow(awaited: Round, in_set: u8, broken: bool, round: Round) -> bool
     ensures { result ≡ may_follow awaited in_set broken round }
 {
     !round.is_before(awaited) && may_come(set_of(awaited), in_set, broken, round)
 }
 
-/// Whether a round may come that is not before the awaited one, of whose set this is the number.
+/// Returns whether a round may come that is not before the awaited one, whose set has this number.
 fn may_come(set: u32, in_set: u8, broken: bool, round: Round) -> bool
     ensures { result ≡ may_come set in_set broken round }
 {
@@ -54,7 +54,7 @@ fn may_come(set: u32, in_set: u8, broken: bool, round: Round) -> bool
     }
 }
 
-/// The set of a round; of an opening the first, which follows it.
+/// Returns the set of a round; of an opening the first, which follows it.
 fn set_of(round: Round) -> u32
     ensures { result ≡ set_of round }
 {

@@ -9,7 +9,8 @@ use crate::text::Piece::{Column, Words};
 use crate::text::fill;
 use std::alloc::{AllocError, Global};
 
-/// The reason that has a code, which may be in either case and between spaces; `None` where there is no such code.
+/// Returns the reason with a code, in letters of either case and between spaces; `None` if no
+/// reason has that code.
 pub fn explain(word: &str) -> Option<Reason>
     ensures { IfSome result (IsItsCode (trim word.now)) }
 {
@@ -18,7 +19,7 @@ pub fn explain(word: &str) -> Option<Reason>
     reason_among(reasons_of(letter.to_ascii_uppercase()), code)
 }
 
-/// The first of some reasons with this code, in either case.
+/// Returns the first of some reasons with this code, in either case.
 fn reason_among(reasons: &'static [Reason], code: &str) -> Option<Reason>
     ensures { MatchOption result
         (All (λ reason. IsNotItsCode code.now reason) reasons.now)
@@ -32,7 +33,8 @@ fn reason_among(reasons: &'static [Reason], code: &str) -> Option<Reason>
     None
 }
 
-/// What there is to say of a reason, a line each: the rule, what to do about it, and the game.
+/// Returns the entry of a reason, in three lines: its code and rule, what to do about it, and the
+/// game that shows it.
 pub fn reason_text(alloc: Global, reason: Reason) -> Result<Vec<u8>, AllocError> {
     let mut text = Vec::new(alloc);
     let advice = advice_on(reason);
@@ -49,7 +51,7 @@ pub fn reason_text(alloc: Global, reason: Reason) -> Result<Vec<u8>, AllocError>
     Ok(text)
 }
 
-/// What there is to say of all reasons, each below an empty line but the first.
+/// Returns the entries of all reasons, with an empty line between two.
 pub fn all_reasons_text(alloc: Global) -> Result<Vec<u8>, AllocError> {
     let mut text = Vec::new(alloc);
     for letter in &LETTERS {
@@ -63,7 +65,7 @@ pub fn all_reasons_text(alloc: Global) -> Result<Vec<u8>, AllocError> {
     Ok(text)
 }
 
-/// All codes with their rules, a line each.
+/// Returns all codes with their rules, a line each.
 pub fn list_text(alloc: Global) -> Result<Vec<u8>, AllocError> {
     let mut text = Vec::new(alloc);
     for letter in &LETTERS {

@@ -6,17 +6,17 @@ use sheets::FileFault;
 use std::alloc::AllocError;
 use thiserror::Error;
 
-/// Why the desk has no answer.
+/// Why the desk returns no text.
 #[derive(Clone, Copy, Debug, PartialEq, Eq, Drop, Error)]
 pub enum DeskFault {
-    /// The order file is refused as a whole.
+    /// The whole order file is refused.
     #[error("the order file is refused: {0}")]
     File(FileFault),
-    /// The round that is asked for is not played.
+    /// The requested round is not played.
     #[error("the round is not played")]
     Round,
-    /// Memory was refused.
-    #[error("memory was refused")]
+    /// Allocation failed.
+    #[error("allocation failed")]
     Memory,
 }
 
@@ -29,7 +29,7 @@ impl From<AllocError> for DeskFault {
     }
 }
 
-/// A file for which memory was refused is not refused itself.
+/// A failed allocation is no fault of the file.
 impl From<FileFault> for DeskFault {
     ghost from_gives = { λ file fault. fault ≡ fault_of_file file };
 

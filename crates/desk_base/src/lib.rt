@@ -1,9 +1,10 @@
-//! What the desk's libraries share: what a code means, how many operating rounds a set has, which rounds can
-//! still come in a game, why an order is wrong, and a text piece by piece.
+//! What the desk's libraries share: what a code means, how many operating rounds a set has, which
+//! rounds can still come in a game, why an order is wrong, and a text piece by piece.
 //!
-//! Reading order: `text` (`Piece`, `push`, `fill`), `reason` (`Reason`), `advice`, `explaining` (`explain`), `set_number`
-//! (`number_in_set`, `end_after`), `coming` (`can_come`), `objection` (`Objection`), `map_facts`, `by_tables` (what
-//! the map and the tables show), `belongings` (what somebody has).
+//! Reading order: `text` (`Piece`, `push`, `fill`), `reason` (`Reason`), `advice`, `explaining`
+//! (`explain`), `set_number` (`number_in_set`, `end_after`), `coming` (`can_come`), `objection`
+//! (`Objection`), `map_facts`, `by_tables` (what the map and the tables show), `belongings` (what
+//! somebody has).
 #![tactic(auto)]
 
 mod advice;

@@ -1,10 +1,11 @@
-//! What the map alone says of track: over which sides it may not lead, and between which hexes it may.
+//! Track by the map alone: over which sides it may not lead, and between which hexes it may.
 
 use board_state::is_open;
 use map_tables::{End, Hex, Lay, Side, hex_kind, laid_links, neighbour, printed_links};
 
-/// The first side to which a tile's track would lead where it may not: no hex lies there, or a border is
-/// closed, or a grey or red hex has no track there; `None` where it has none.
+/// Returns the first side of a tile to which its track may not lead, because the map ends there,
+/// the border is closed, or a grey or red hex there has no track to it; `None` if there is no such
+/// side.
 pub fn bad_side(lay: Lay) -> Option<Side> {
     for link in laid_links(lay).as_slice() {
         for end in &[link.a, link.b] {
@@ -17,7 +18,7 @@ pub fn bad_side(lay: Lay) -> Option<Side> {
     None
 }
 
-/// Whether no track may lead to a side of a hex.
+/// Returns whether no track may lead to a side of a hex.
 fn is_bad(hex: Hex, side: Side) -> bool {
     match neighbour(hex, side) {
         Some(other) => !is_open(hex_kind(other)) && !has_track_at(other, side.facing()),
@@ -25,7 +26,7 @@ fn is_bad(hex: Hex, side: Side) -> bool {
     }
 }
 
-/// Whether the print of a hex has track at a side.
+/// Returns whether the print of a hex has track at a side.
 fn has_track_at(hex: Hex, side: Side) -> bool {
     for link in printed_links(hex).as_slice() {
         if link.a == End::Side(side) || link.b == End::Side(side) {
@@ -35,7 +36,7 @@ fn has_track_at(hex: Hex, side: Side) -> bool {
     false
 }
 
-/// The side of a hex at which another lies; `None` where no track leads from one to the other.
+/// Returns the side of a hex at which another lies; `None` if no track leads from one to the other.
 pub fn side_towards(hex: Hex, other: Hex) -> Option<Side> {
     Side::ALL
         .iter()

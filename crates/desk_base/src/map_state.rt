@@ -1,4 +1,4 @@
-//! What lay on the map as a game stood, and the best that a company's trains could do there.
+//! The map in a state of a game, and the best runs of a company's trains there.
 ghost use Rattle.std.specs.Prelude.{◌≡◌, ◌++◌, IfOk, OnOk, replicate};
 ghost use Rattle.legal_runs.specs.Claim.{ClaimHolds};
 ghost use Rattle.legal_runs.specs.Set.{IsGreatest};
@@ -15,8 +15,9 @@ use legal_runs::Claim;
 use std::alloc::{AllocError, Global};
 use tables::{Company, Kind, Money};
 
-/// The game of this many seats as it stood behind this many of the events along which a walk goes. There
-/// are as many, which the prover does not see where they are gone through by number.
+/// Returns the view of a game of this many seats after this many events of a walk. If the walk has
+/// fewer events, it returns the view where the walk is. (Callers count events, so it has as many;
+/// the prover does not see that.)
 pub fn view_behind<'a>(walk: &'a mut Walk, passed: usize, seats: usize) -> GameView<'a> {
     if passed <= walk.events.len() {
         walk.go(passed);
@@ -24,7 +25,7 @@ pub fn view_behind<'a>(walk: &'a mut Walk, passed: usize, seats: usize) -> GameV
     walk.view(seats)
 }
 
-/// The board as a game stood. It fails only if memory is refused.
+/// Returns the board of a game. Fails only if allocation fails.
 pub fn board_at(alloc: Global, view: &GameView) -> Result<Board, AllocError>
     ensures { IfOk result (λ board. board ≡ map_state_now view.now.events.now) }
 {
@@ -48,8 +49,8 @@ fn lay(board: &mut Board, event: &Event) -> Result<(), AllocError>
     Ok(())
 }
 
-/// The runs by which a company's trains earn the most that they can as a game stood, with what they
-/// earn. It fails only if memory is refused.
+/// Returns runs by which a company's trains earn the most that they can in this state of the game,
+/// with what they earn, in dollars. Fails only if allocation fails.
 pub fn best_at(alloc: Global, view: &GameView, company: Company) -> Result<Claim, AllocError>
     ensures holds { let events = view.now.events.now in
         IfOk result (ClaimHolds (position_now events) company (trains_now events company)) }
@@ -63,7 +64,7 @@ pub fn best_at(alloc: Global, view: &GameView, company: Company) -> Result<Claim
     Ok(found.claim)
 }
 
-/// The trains that a company had, kind by kind. It fails only if memory is refused.
+/// Returns the trains that a company had, kind by kind. Fails only if allocation fails.
 fn trains_of(alloc: Global, view: &GameView, company: Company) -> Result<Vec<Kind>, AllocError>
     ensures { IfOk result (λ trains. trains.items ≡ trains_now view.now.events.now company) }
 {
@@ -74,7 +75,7 @@ fn trains_of(alloc: Global, view: &GameView, company: Company) -> Result<Vec<Kin
     Ok(trains)
 }
 
-/// Adds this many trains of a kind at the end; none where the number is under 0.
+/// Adds this many trains of a kind at the end; none if the number is under 0.
 fn push_trains(trains: &mut Vec<Kind>, kind: Kind, count: TrainCount) -> Result<(), AllocError>
     ensures { OnOk result (trains.new.items
         ≡ trains.old.items ++ replicate (at_least_zero count) kind) }

@@ -1,5 +1,5 @@
-//! Why an order is wrong that breaks a rule: the one cause among those of the rule, and what would be good where
-//! that is known.
+//! Why an order is wrong that breaks a rule: the one cause among those of the rule, and what would
+//! be good where that is known.
 
 use crate::text::Piece::{Bytes, Number, Words};
 use crate::text::{Piece, fill};
@@ -42,7 +42,7 @@ pub enum Objection {
     NoTrain(Company, Kind),
 }
 
-/// The name of a player, if there is one.
+/// Returns the name of a player, if there is one.
 pub fn who<'a>(sheets: &'a Sheets, seat: Option<Seat>) -> Piece<'a> {
     match seat {
         Some(seat) => Bytes(sheets.name(seat).unwrap_or(&[])),
@@ -117,7 +117,7 @@ fn push_kinds(out: &mut Vec<u8>, lay: Lay) -> Result<(), AllocError> {
     fill(out, "; % is a hex for %, and % a tile for %", &pieces)
 }
 
-/// What hexes and tiles of a kind have.
+/// Returns what hexes and tiles of a kind have.
 fn word_of(kind: TileKind) -> &'static str {
     match kind {
         TileKind::Plain => "track alone",

@@ -20,7 +20,7 @@ pub enum Reason {
 }
 
 impl Reason {
-    /// The code that a report prints.
+    /// Returns the code that a report prints.
     pub fn code(self) -> &'static str
         ensures { result.now ≡ code_of_reason self }
     {
@@ -31,7 +31,7 @@ impl Reason {
         }
     }
 
-    /// What is wrong, in a player's words.
+    /// Returns what is wrong, in a player's words.
     pub fn sentence(self) -> &'static str {
         match self {
             Reason::File(fault) => fault.sentence(),
@@ -145,7 +145,7 @@ static CONDITIONS: [Reason; 1] = [Reason::Order(Refusal::Condition)];
 /// The letters with which codes begin, in the order of their table.
 pub(crate) const LETTERS: [u8; 11] = *b"FGIASLKRDTP";
 
-/// The reasons whose codes begin with this letter, in upper case; none for other letters.
+/// Returns the reasons whose codes begin with this letter, in upper case; none for other letters.
 pub(crate) fn reasons_of(letter: u8) -> &'static [Reason] {
     match letter {
         b'F' => &FILES,

@@ -12,8 +12,8 @@ use history::{Event, History};
 use rounds::{End, Game};
 use tables::{Kind, Round, rounds_in_set};
 
-/// The phase, and how many operating rounds the set has that began last. A game begins as if a set had
-/// begun in its first phase.
+/// The phase, and how many operating rounds the set has that began last. A game begins as if a set
+/// had begun in its first phase.
 #[derive(Clone, Copy)]
 pub(crate) struct SetSoFar {
     phase: Kind,
@@ -21,14 +21,14 @@ pub(crate) struct SetSoFar {
 }
 
 impl SetSoFar {
-    /// After one more event.
+    /// Returns the set after one more event.
     fn then(self, event: &Event) -> SetSoFar
         ensures { result ≡ set_then self event.now }
     {
         self.in_phase(event.phase()).at_round(event.round())
     }
 
-    /// Where this phase begins, if one does.
+    /// Returns the set after an event that begins this phase, if it begins one.
     fn in_phase(self, begun: Option<Kind>) -> SetSoFar
         ensures { result ≡ in_phase self begun }
     {
@@ -38,7 +38,8 @@ impl SetSoFar {
         }
     }
 
-    /// Where this round begins, if one does: a stock round begins a set.
+    /// Returns the set after an event that begins this round, if it begins one. A stock round
+    /// begins a set.
     fn at_round(self, begun: Option<Round>) -> SetSoFar
         ensures { result ≡ at_round self begun }
     {
@@ -52,19 +53,20 @@ impl SetSoFar {
     }
 }
 
-/// How many operating rounds the set has that began last, or that begins with the round that is awaited: the
-/// number by which the game was played so far, and by which it goes on.
+/// Returns how many operating rounds the set has that began last, or that begins with the round
+/// that is awaited: the number by which the game was played so far, and by which it goes on.
 #[tactic(auto, using(crate::proofs::SetLemmas::is_number_played))]
 pub fn number_in_set(game: &Game) -> u8
     requires { IsTheGame game.now }
     ensures { IsNumberPlayed game.now result }
 {
-    // A law, which does nothing when it runs: a round adds its own event, and none that begins another.
+    // A law, which does nothing when it runs: a round adds its own event, and none that begins
+    // another.
     rounds::laws::rounds_only_add();
     number_after(game.history(), game.outcome())
 }
 
-/// The same by the list of events, and why play stopped.
+/// Returns that number by the list of events and the reason why play stopped.
 pub fn number_after(history: &History, end: End) -> u8
     ensures { result ≡ number_in_set end history.now.events }
 {
@@ -74,7 +76,7 @@ pub fn number_after(history: &History, end: End) -> u8
     }
 }
 
-/// The phase and the set that a list of events has reached.
+/// Returns the phase and the set that a list of events has reached.
 fn set_of(events: &[Event]) -> SetSoFar
     ensures { result ≡ set_of events.now }
 {
@@ -88,7 +90,7 @@ fn set_of(events: &[Event]) -> SetSoFar
     set
 }
 
-/// What comes after the round that was played last: the next one, or how the game ended.
+/// Returns what comes after the round that was played last: the next one, or how the game ended.
 pub fn end_after(history: &History, round: Round) -> End
     ensures { number_of round ≤ number_most → result ≡ end_after round history.now.events }
 {
@@ -105,7 +107,7 @@ pub fn end_after(history: &History, round: Round) -> End
     }
 }
 
-/// What comes after an operating round, by its set and its number in that set.
+/// Returns what comes after an operating round, by its set and its number in that set.
 fn after_operating(history: &History, set: u32, number: u8) -> End
     requires { bankrupt_in history.now.events ≡ false }
     ensures { set ≤ number_most → result ≡ end_after (Operating set number) history.now.events }

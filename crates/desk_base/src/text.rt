@@ -1,5 +1,4 @@
-//! A text, piece by piece. What is added stands at the end of the text; an error comes only if memory is
-//! refused.
+//! Builds a text piece by piece. Each call adds at its end, and fails only if allocation fails.
 
 use order_grammar::{print_number, print_round};
 use std::alloc::AllocError;
@@ -8,7 +7,7 @@ use tables::{Money, Round};
 /// The least byte that is printed as it is, and the greatest.
 const PRINTABLE: (u8, u8) = (b' ', b'~');
 
-/// The place of a piece among words.
+/// What stands for a piece among words.
 const PLACE: u8 = b'%';
 
 /// A piece of a text.
@@ -24,13 +23,13 @@ pub enum Piece<'a> {
     Right(usize, Money),
     /// A round: `OR2.1`.
     Round(Round),
-    /// Spaces up to this column of the line in hand, the first being 0; none where the line is as long.
+    /// Spaces up to this column of the last line, counted from 0; none if the line is that long.
     Column(usize),
     /// A line of a file, cut to this many bytes. A byte that is no printable ASCII is `?`.
     Cut(&'a [u8], usize),
 }
 
-/// Adds words, with the next of some pieces at each `%`; nothing there where none is left.
+/// Adds words, with the next of some pieces at each `%`, and nothing there once no piece is left.
 pub fn fill(out: &mut Vec<u8>, words: &str, pieces: &[Piece]) -> Result<(), AllocError> {
     let mut left = pieces.iter();
     for byte in words.as_bytes() {
@@ -43,7 +42,7 @@ pub fn fill(out: &mut Vec<u8>, words: &str, pieces: &[Piece]) -> Result<(), Allo
     Ok(())
 }
 
-/// Adds pieces, one behind the other.
+/// Adds pieces in their order.
 pub fn push(out: &mut Vec<u8>, pieces: &[Piece]) -> Result<(), AllocError> {
     for piece in pieces {
         push_piece(out, *piece)?;
@@ -64,7 +63,7 @@ fn push_piece(out: &mut Vec<u8>, piece: Piece) -> Result<(), AllocError> {
     }
 }
 
-/// How many bytes the line in hand has, which is the last of a text.
+/// Returns how many bytes the last line of a text has, which is not ended yet.
 pub fn width_in_hand(text: &[u8]) -> usize {
     for (width, byte) in text.iter().rev().enumerate() {
         if *byte == b'\n' {
@@ -98,7 +97,7 @@ fn push_cut(out: &mut Vec<u8>, line: &[u8]) -> Result<(), AllocError> {
     Ok(())
 }
 
-/// A byte as it is printed.
+/// Returns a byte as it is printed.
 fn printed(byte: u8) -> u8 {
     if PRINTABLE.0 <= byte && byte <= PRINTABLE.1 {
         byte

@@ -14,8 +14,8 @@ came heads = map head_at heads.heads.items
 abbrev pub FirstsAre : Heads → List HeadAt → Type 0
 FirstsAre kept heads = (sent : Sent) → get same_sent kept.first sent ≡ first_line (sheet_key_of sent) heads
 
--- what is kept of them, in a game of at most six: the lines of the first and of the last that begin a sheet, and the sheet
--- that each replaces
+-- what is kept of them, in a game of at most six: the lines of the first and of the last that begin
+-- a sheet, and the sheet that each replaces
 pub record AreKept (heads : Heads) : Type 0 where
   pub few : heads.seats ≤ 6
   pub firsts : FirstsAre heads (came heads)

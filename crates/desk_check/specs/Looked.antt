@@ -1,4 +1,5 @@
--- Which sheets are looked at line by line, and which companies their players are to have orders for.
+-- Which sheets are looked at line by line, and which companies their players are to have orders
+-- for.
 use Rattle.std.specs.Prelude.{Bool, ◌&&◌, ◌||◌, not, List, is_some}
 use Rattle.events.specs.declared.event.Event.{Event}
 use Rattle.purchases.specs.Discards.{is_president}

@@ -1,5 +1,5 @@
--- Sheets that replace others: what was there of the round at the line that replaced one, and before which line the game is
--- looked at again, to tell what has changed since.
+-- Sheets that replace others: what was there of the round at the line that replaced one, and before
+-- which line the game is looked at again, to tell what has changed since.
 use Rattle.std.specs.Prelude.{◌≡◌, ℕ, ◌-◌, ◌==◌, Bool, true, false, ◌&&◌, ◌||◌, if◌then◌else◌, List, [], ◌∷◌, ◌++◌}
 use Rattle.std.specs.Prelude.{length, take, Option, Some, None, Err, is_some}
 use Rattle.std.specs.List.{flat_map, fold}
@@ -36,8 +36,8 @@ before file line = take (length file - length line.from.now) file
 abbrev pub standing_of : Played → Standing
 standing_of played = record { last = round_of played.game.events; end = played.end }
 
--- what is before a line that begins a sheet, as a game: its rounds, each with the line by which every player had sheets
--- for it and those before it, and how far it had come
+-- what is before a line that begins a sheet, as a game: its rounds, each with the line by which
+-- every player had sheets for it and those before it, and how far it had come
 pub record IsTurn (file : List ℕ) (heads : Heads) (head : Head) (turn : Turn) : Type 0 where
   pub played : Played
   pub of_file : played.file ≡ before file head.line
@@ -51,7 +51,8 @@ abbrev pub TurnsAt : List ℕ → Heads → Head → Option Turn → Type 0
 TurnsAt file heads head None = (fault : FileFault) × (content_of (before file head.line) ≡ Err fault)
 TurnsAt file heads head (Some turn) = IsTurn file heads head turn
 
--- a line that replaced a sheet for a round after every player had one for it and for each round before it
+-- a line that replaced a sheet for a round after every player had one for it and for each round
+-- before it
 abbrev pub is_late : Rounds → Head → Bool
 is_late rounds head = is_some head.replaces && is_under (line_kept rounds head.sent.round) head.line.number
 
@@ -67,8 +68,9 @@ turning_then heads rounds turning head =
     then record { head = if fresh then Some head else turning.head; is_fresh = false }
     else record { head = turning.head; is_fresh = fresh }
 
--- where the game turns: of the late lines after the last line by which the last sheet for a round came the first; where
--- there is none after that, the first of those that follow one another without such a line, the last time
+-- where the game turns: of the late lines after the last line by which the last sheet for a round
+-- came the first; where there is none after that, the first of those that follow one another
+-- without such a line, the last time
 abbrev pub turning_of : Heads → Rounds → Turning
 turning_of heads rounds = fold (turning_then heads rounds) (record { head = None; is_fresh = true }) heads.heads.items
 
@@ -82,7 +84,8 @@ abbrev pub line_in_turn : Option Turn → Round → Option ℕ
 line_in_turn None round = None
 line_in_turn (Some turn) round = line_kept turn.rounds round
 
--- what was there of a round when a line came: by then it was played, every player had a sheet for it, or neither
+-- what was there of a round when a line came: by then it was played, every player had a sheet for
+-- it, or neither
 abbrev pub lateness_of : Heads → Rounds → Option Turn → Round → ℕ → Lateness
 lateness_of heads rounds turn round line =
     if is_under (line_kept rounds round) line || is_under (line_in_turn turn round) line

@@ -1,5 +1,5 @@
--- Which rounds of a game were played, and by which line of the file every player had a sheet for a round and for each round
--- of the game before it.
+-- Which rounds of a game were played, and by which line of the file every player had a sheet for a
+-- round and for each round of the game before it.
 use Rattle.std.specs.Prelude.{◌≡◌, ℕ, Bool, List, [], ◌∷◌, ◌++◌, Option, Some, None, is_some, max, unwrap_or}
 use Rattle.std.specs.Prelude.{if◌then◌else◌}
 use Rattle.std.specs.HashMap.{get}
@@ -18,7 +18,8 @@ use Rattle.tables.specs.declared.round.Round.{Round}
 abbrev pub is_begun : List Event → Round → Bool
 is_begun events round = list_any (λ begun. same_round begun round) (rounds_begun events)
 
--- the line by which this many players had sheets for a round too, where by a line they had those for the rounds before
+-- the line by which this many players had sheets for a round too, where by a line they had those
+-- for the rounds before
 abbrev pub by_with : ℕ → List HeadAt → ℕ → Round → ℕ
 by_with seats heads by round = max (unwrap_or (complete_by seats round heads) 0) by
 
@@ -27,14 +28,16 @@ abbrev pub by_then : ℕ → List HeadAt → ℕ → List Round → ℕ
 by_then seats heads by [] = by
 by_then seats heads by (round ∷ rounds) = by_then seats heads (by_with seats heads by round) rounds
 
--- the line by which they had those for a round and for each of these rounds before it, if it is one of these
+-- the line by which they had those for a round and for each of these rounds before it, if it is one
+-- of these
 abbrev pub ready_among : ℕ → List HeadAt → ℕ → List Round → Round → Option ℕ
 ready_among seats heads by [] round = None
 ready_among seats heads by (first ∷ rounds) round =
     let now = by_with seats heads by first in
     option_or (ready_among seats heads now rounds round) (if same_round first round then Some now else None)
 
--- the line by which every player had a sheet for a round and for each round of a game before it, if that is played
+-- the line by which every player had a sheet for a round and for each round of a game before it, if
+-- that is played
 abbrev pub ready_by : Heads → List Event → Round → Option ℕ
 ready_by heads events round = ready_among heads.seats (came heads) 0 (rounds_begun events) round
 

@@ -1,5 +1,5 @@
--- The good SHEET lines of a file: whose sheet for which round each begins, where it is, and which line's sheet it
--- replaces.
+-- The good SHEET lines of a file: whose sheet for which round each begins, where it is, and which
+-- line's sheet it replaces.
 use Rattle.std.specs.Prelude.{◌≡◌, ℕ, zero, suc, ◌+◌, ◌==◌, ◌&&◌, Bool, true, false, if◌then◌else◌, List, [], ◌∷◌, ◌++◌}
 use Rattle.std.specs.Prelude.{Option, Some, None, max, nat_lt, ⊤}
 use Rattle.std.specs.Option.{option_or}
@@ -64,8 +64,8 @@ later_of None other = None
 later_of (Some a) None = None
 later_of (Some a) (Some b) = Some (max a b)
 
--- the line by which each of this many players had a sheet for a round: the latest of those with which a player's first
--- came
+-- the line by which each of this many players had a sheet for a round: the latest of those with
+-- which a player's first came
 abbrev pub complete_by : ℕ → Round → List HeadAt → Option ℕ
 complete_by zero round heads = Some 0
 complete_by (suc seats) round heads = later_of (complete_by seats round heads)

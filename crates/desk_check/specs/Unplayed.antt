@@ -1,5 +1,5 @@
--- What a line of a sheet is that is not played yet: a head, a line that may be taken up, or one that has a fault by
--- itself or whose order has no place where it is.
+-- What a line of a sheet is that is not played yet: a head, a line that may be taken up, or one
+-- that has a fault by itself or whose order has no place where it is.
 use Rattle.std.specs.Prelude.{Bool, true, false, if◌then◌else◌, Result, Ok, Err}
 use Rattle.desk_check.specs.declared.check_reading.Look.{Look}
 use Rattle.desk_check.specs.declared.check_reading.Look.TheVariants.{Head, Good, Bad}

@@ -1,10 +1,10 @@
 //! Words that are nearly one that is known: `C&O` for CO, `NYHN` for NYNH.
 
-/// The longest word that is taken for a slip in another.
+/// The most bytes of a word that is read as a slip in another.
 const WORD_MOST: usize = 9;
 
-/// Whether a word becomes a code by one slip: a letter more, a letter less, another letter, or two letters in
-/// each other's place. Letters of either case are equal.
+/// Returns whether a word becomes a code by one slip: a letter more, a letter less, another letter,
+/// or two letters in each other's place. Letters of either case are equal.
 fn is_slip_of(word: &[u8], code: &[u8]) -> bool {
     let place = first_difference(word, code);
     let (word, code) = (behind(word, place), behind(code, place));
@@ -18,7 +18,7 @@ fn is_slip_of(word: &[u8], code: &[u8]) -> bool {
         || is_turned(word, code)
 }
 
-/// Whether two letters in front of a word are in each other's place, and nothing else is another.
+/// Returns whether a word becomes a code if its first two letters change places.
 fn is_turned(word: &[u8], code: &[u8]) -> bool {
     let ([first, second, ..], [letter, next, ..]) = (word, code) else {
         return false;
@@ -28,7 +28,7 @@ fn is_turned(word: &[u8], code: &[u8]) -> bool {
         && behind(word, 2).eq_ignore_ascii_case(behind(code, 2))
 }
 
-/// The first place at which a word has another letter than a code, or ends.
+/// Returns the first place at which a word has another letter than a code, or ends.
 fn first_difference(word: &[u8], code: &[u8]) -> usize {
     for (place, byte) in word.iter().enumerate() {
         match code.get(place) {
@@ -39,13 +39,13 @@ fn first_difference(word: &[u8], code: &[u8]) -> usize {
     word.len()
 }
 
-/// What of a word is behind this many letters.
+/// Returns a word without its first letters, as many as this.
 fn behind(word: &[u8], letters: usize) -> &[u8] {
     word.get(letters..).unwrap_or(&[])
 }
 
-/// The one of some codes from which a word is one slip away; `None` where none is or several are, or the word is
-/// one of the codes.
+/// Returns the only code that is one slip away from a word; `None` if the word is itself a code, or
+/// no code or several are one slip away, or the word has over 9 bytes.
 pub(crate) fn nearest<'a>(word: &[u8], codes: &[&'a [u8]]) -> Option<&'a [u8]> {
     if word.len() > WORD_MOST {
         return None;

@@ -1,5 +1,5 @@
-//! Which sheets are looked at line by line, and sheets for rounds that are not played: whether the round can
-//! come.
+//! Which sheets are looked at line by line, and sheets for rounds that are not played: whether the
+//! round can come.
 ghost use Rattle.std.specs.Prelude.{◌≡◌};
 ghost use Rattle.desk_check.specs.Heads.{AreKept};
 ghost use Rattle.desk_check.specs.Looked.{is_looked_at};
@@ -13,8 +13,8 @@ use history::{Event, GameView, Walk};
 use rounds::{End, Game};
 use std::alloc::AllocError;
 
-/// Finds the sheets for rounds that are not played, and what is wrong with the lines of the sheets that are
-/// looked at: those of the last round that was played and of later ones, or all.
+/// Finds sheets for rounds that are not played, and what is wrong with the lines of the sheets of
+/// the last round that was played and of later ones, or of all sheets.
 pub(crate) fn look_at_lines<'a>(
     heads: &Heads<'a>,
     game: &Game,
@@ -49,7 +49,8 @@ pub(crate) fn look_at_lines<'a>(
     Ok(())
 }
 
-/// Finds what is wrong with the lines of a sheet, by the game as its round begins, where that is known.
+/// Finds what is wrong with the lines of a sheet, with the state of the game at the start of its
+/// round if that is known.
 fn look_by_game<'a>(
     head: &Head<'a>,
     game: &Game,
@@ -68,7 +69,8 @@ fn look_by_game<'a>(
     look_at_sheet(version, None, head, found)
 }
 
-/// Finds whether a sheet for a round that is not played came early or cannot come; whether it can.
+/// Adds a finding if a sheet is for a round that is not awaited yet, or that cannot come. Returns
+/// whether the round can come.
 fn find_when<'a>(head: &Head<'a>, game: &Game, found: &mut Found<'a>) -> Result<bool, AllocError> {
     let end = game.outcome();
     if !can_come(game, head.sent.round) {
@@ -83,14 +85,14 @@ fn find_when<'a>(head: &Head<'a>, game: &Game, found: &mut Found<'a>) -> Result<
     Ok(true)
 }
 
-/// Whether the sheets for a round are looked at line by line.
+/// Returns whether the sheets for a round are looked at line by line.
 fn is_looked_at(all: bool, is_played: bool, is_last: bool) -> bool
     ensures { result ≡ is_looked_at all is_played is_last }
 {
     all || !is_played || is_last
 }
 
-/// How many events are before the round that began last.
+/// Returns how many events come before the start of the last round.
 fn place_of_last(events: &[Event]) -> usize {
     let mut place = 0;
     for (passed, event) in events.iter().enumerate() {

@@ -1,4 +1,4 @@
-//! What would be good in the place of a line with a fault, where that is known.
+//! What to write in place of a line with a fault, if that is known.
 
 use crate::check_codes::nearest;
 use crate::check_words::words_of;
@@ -34,7 +34,7 @@ static FIRSTS: [&[u8]; 20] = [
     b"WITHHOLD",
 ];
 
-/// The words and codes that stand behind them.
+/// The words and codes that may follow them.
 static CODES: [&[u8]; 25] = [
     b"PRR", b"NYC", b"CPR", b"BO", b"CO", b"ERIE", b"NYNH", b"BM", b"SV", b"CS", b"DH", b"MH",
     b"CA", b"BOP", b"IPO", b"POOL", b"BANK", b"TRADE", b"BEST", b"SWAP", b"PRICE", b"PHASE",
@@ -64,7 +64,7 @@ static STRAYS: [(&[u8], &str); 16] = [
 /// The ends of lines of a mail that is quoted-printable.
 static QUOTED: [&[u8]; 3] = [b"=20", b"=", b"=0D"];
 
-/// Adds what would be good in the place of a line with a fault, where that is known.
+/// Adds what to write in place of a line with a fault, if that is known.
 pub(crate) fn push_hint(
     out: &mut Vec<u8>,
     sheets: &Sheets,
@@ -86,7 +86,7 @@ pub(crate) fn push_hint(
     }
 }
 
-/// Adds the name of the first stray byte of a line, where it has one.
+/// Adds the name of the first stray byte of a line, if it has one.
 pub(crate) fn push_stray(out: &mut Vec<u8>, line: &[u8]) -> Result<(), AllocError> {
     match stray_in(line) {
         Some(stray) => fill(out, ", here %", &[Words(stray)]),
@@ -94,7 +94,7 @@ pub(crate) fn push_stray(out: &mut Vec<u8>, line: &[u8]) -> Result<(), AllocErro
     }
 }
 
-/// The name of the first stray byte of a line; `None` where it has none with a name.
+/// Returns the name of the first stray byte of a line; `None` if it has no such byte.
 fn stray_in(line: &[u8]) -> Option<&'static str> {
     for (at, _) in line.iter().enumerate() {
         for (stray, name) in &STRAYS {
@@ -106,12 +106,12 @@ fn stray_in(line: &[u8]) -> Option<&'static str> {
     None
 }
 
-/// Whether a line ends as those of a mail do that is quoted-printable.
+/// Returns whether a line ends as a line of quoted-printable mail does.
 fn ends_quoted(line: &[u8]) -> bool {
     QUOTED.iter().any(|end| line.ends_with(end))
 }
 
-/// Whether a line is a condition without an order.
+/// Returns whether a line is a condition without an order.
 fn is_condition_alone(line: &[u8]) -> bool {
     let (words, count) = words_of(line);
     let [first, kind, ..] = words;
@@ -125,7 +125,8 @@ fn is_condition_alone(line: &[u8]) -> bool {
     }
 }
 
-/// Adds the codes that are nearest to words of a line, from one on; of the first word alone where that is meant.
+/// Adds the nearest code to each word of a line, from this one on; to the first word alone if
+/// `from` is 0.
 fn push_nearest(
     out: &mut Vec<u8>,
     line: &[u8],
@@ -150,12 +151,12 @@ fn push_write(out: &mut Vec<u8>, word: &[u8], code: &[u8]) -> Result<(), AllocEr
     fill(out, "; for % write %", &[Cut(word, 12), Bytes(code)])
 }
 
-/// Whether a word has a digit, as a number and a place do.
+/// Returns whether a word has a digit, as numbers and places have.
 fn has_digit(word: &[u8]) -> bool {
     word.iter().any(|byte| byte.is_ascii_digit())
 }
 
-/// Adds the name of a player that is nearest to that of a SHEET line.
+/// Adds the name of a player that is nearest to the name of a SHEET line.
 fn push_player(out: &mut Vec<u8>, sheets: &Sheets, line: &[u8]) -> Result<(), AllocError> {
     let mut names: [&[u8]; PLAYERS_MOST] = [b""; PLAYERS_MOST];
     for seat in 0..PLAYERS_MOST {

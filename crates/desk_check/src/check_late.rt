@@ -16,8 +16,8 @@ use std::alloc::{AllocError, Global};
 use std::collections::HashMap;
 use tables::Round;
 
-/// The rounds of a game that were played, each with the number of the line of the file by which every player
-/// had a sheet for it and for each round before it.
+/// The rounds of a game that were played, each with the number of the line of the file by which
+/// every player had a sheet for it and for each round before it.
 #[derive(Drop)]
 pub(crate) struct Rounds {
     lines: HashMap<Round, usize>,
@@ -26,7 +26,7 @@ pub(crate) struct Rounds {
 }
 
 impl Rounds {
-    /// The rounds of the game of the file with these SHEET lines.
+    /// Returns the rounds of the game of the file with these SHEET lines.
     pub(crate) fn of(alloc: Global, heads: &Heads, game: &Game) -> Result<Rounds, AllocError>
         requires { AreKept heads.now }
         ensures { IfOk result (λ rounds. AreRoundsOf heads.now rounds game.now.game.events) }
@@ -55,8 +55,8 @@ impl Rounds {
         Ok(())
     }
 
-    /// The number of the line by which every player had a sheet for a round and for each round before it;
-    /// `None` where it was not played.
+    /// Returns the number of the line by which every player had a sheet for a round and for each
+    /// round before it; `None` if it was not played.
     pub(crate) fn line(&self, round: Round) -> Option<usize>
         ensures { result ≡ line_kept self.now round }
     {
@@ -64,7 +64,7 @@ impl Rounds {
     }
 }
 
-/// Whether a line, if there is one, comes before another.
+/// Returns whether a line, if there is one, comes before another.
 fn is_under(line: Option<usize>, number: usize) -> bool
     ensures { result ≡ is_under line number }
 {
@@ -74,7 +74,7 @@ fn is_under(line: Option<usize>, number: usize) -> bool
     }
 }
 
-/// How far a game has come.
+/// Returns how far a game has come.
 fn standing_of(game: &Game) -> Standing
     ensures { result ≡ standing_of game.now }
 {
@@ -95,9 +95,9 @@ struct Turn {
     standing: Standing,
 }
 
-/// Finds the sheets that replace others: whether the round was played by then, and where the game turns how
-/// far it had come before, and comes now. (What is before a line of a file that is not refused is not refused
-/// either, from its PLAYERS line on.)
+/// Finds the sheets that replace others, and whether their round was played by then. At the line
+/// where the game changes it also finds how far the game had come before, and comes now. (If a file
+/// is not refused, what precedes a line after its PLAYERS line is not refused either.)
 pub(crate) fn find_replaced<'a>(
     alloc: Global,
     file: &'a [u8],
@@ -123,7 +123,8 @@ pub(crate) fn find_replaced<'a>(
     }
 }
 
-/// Adds each sheet that replaces another, where the game turns at this head and these sheets are before it.
+/// Adds each sheet that replaces another, where the game turns at this head and these sheets are
+/// before it.
 fn add_turned<'a>(
     alloc: Global,
     sheets: &Sheets,
@@ -179,7 +180,7 @@ fn add_replaced<'a>(
     Ok(())
 }
 
-/// What was there of a round when a line replaced a sheet for it.
+/// Returns whether a round was played, complete or still open when a line replaced a sheet for it.
 fn lateness_of(head: &Head, heads: &Heads, rounds: &Rounds, turn: &Option<Turn>) -> Lateness
     requires { AreKept heads.now }
     ensures { result ≡ lateness_of heads.now rounds.now turn.now
@@ -200,7 +201,7 @@ fn lateness_of(head: &Head, heads: &Heads, rounds: &Rounds, turn: &Option<Turn>)
     }
 }
 
-/// Where the game turns, as far as the SHEET lines were looked at.
+/// The line before which the game is played once more, by the SHEET lines so far.
 #[derive(Clone, Copy)]
 struct Turning<'a> {
     /// The line, if there is one.
@@ -209,9 +210,10 @@ struct Turning<'a> {
     is_fresh: bool,
 }
 
-/// The line before which the game is looked at: of the lines that replaced sheets for played rounds the
-/// first after the last line by which all players had a sheet for a round; where there is none after that,
-/// the first of those that follow one another without such a line, the last time.
+/// Returns the line before which the game is played once more. Late lines replace a sheet for a
+/// played round; completing lines are those by which all players had a sheet for a round. It is the
+/// first late line after the last completing line; if there is none, the first late line of the
+/// last series of late lines without a completing line between them.
 fn turning_head<'a>(heads: &Heads<'a>, rounds: &Rounds) -> Option<Head<'a>>
     requires { AreKept heads.now }
     ensures { result ≡ (turning_of heads.now rounds.now).head }

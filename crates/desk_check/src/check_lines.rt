@@ -54,7 +54,7 @@ impl<'a> Iterator for FileLines<'a> {
     }
 }
 
-/// Whether a line counts nowhere: it has no words and at most 1,024 bytes.
+/// Returns whether a line counts nowhere: it has no words and at most 1,024 bytes.
 #[tactic(auto, unfolding(sheets::specs::Text::is_blank))]
 pub(crate) fn is_blank(line: &[u8]) -> bool
     ensures { result ≡ is_blank line.now }

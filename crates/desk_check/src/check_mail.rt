@@ -1,6 +1,6 @@
 //! Lines that look like mail.
 
-/// The words with which the lines of a mail's head begin, and those of what it quotes.
+/// The first words of the headers of a mail, and of the lines that it quotes.
 static HEADS: [&str; 8] = [
     "From:",
     "To:",
@@ -12,8 +12,8 @@ static HEADS: [&str; 8] = [
     ">",
 ];
 
-/// Whether a line looks like one of a mail: of its head, `From: Ann`; quoted, `> TURN`; or the one that
-/// says who is quoted, `On Friday Bob wrote:`.
+/// Returns whether a line looks like mail: a header `From: Ann`, a quoted line `> TURN`, or `On
+/// Friday Bob wrote:`.
 pub(crate) fn is_mail(line: &[u8]) -> bool {
     if !matches!(
         line.first(),

@@ -2,8 +2,8 @@
 
 use tables::{Company, Private};
 
-/// The words of at most eight letters with which a report's lines begin, and those that are in the place
-/// of a name.
+/// The words of at most eight letters with which a report's lines begin, and those that are in the
+/// place of a name.
 static WORDS: [&str; 40] = [
     "AID", "AWAITING", "BANK", "BANKRUPT", "BIDS", "BOUGHT", "BROKEN", "CLOSED", "COMPANY",
     "DIVIDEND", "END", "FILE", "FLOATS", "FORCED", "GAME", "GIVEN", "HOME", "IPO", "LAID", "LEFT",
@@ -11,7 +11,7 @@ static WORDS: [&str; 40] = [
     "RUNS", "RUSTED", "SELLS", "SOLD", "TOKEN", "TRADED", "TRAIN", "UNREAD", "WITHHELD", "WORTH",
 ];
 
-/// What a name is besides, in words; `None` where it is a name alone.
+/// Returns what else a name means, in words; `None` if it means nothing else.
 pub(crate) fn likeness_of(name: &[u8]) -> Option<&'static str> {
     for company in &Company::ALL {
         if company.code().as_bytes() == name {

@@ -1,4 +1,4 @@
-//! A company's orders as far as they stand in a sheet: which steps of its turn they have passed.
+//! The steps of a company's turn that the orders of a sheet have passed.
 
 use desk_base::Objection;
 use order_grammar::Order;
@@ -14,18 +14,19 @@ const PAY: u8 = 3;
 
 const TRAIN: u8 = 4;
 
-/// What the orders of a company's turn so far have come to, those under a condition left out.
+/// The step that the orders of a company's turn have reached. Orders under a condition do not
+/// count.
 #[derive(Clone, Copy)]
 pub(crate) struct Block {
-    /// The last step that they have.
+    /// The last step of these orders.
     step: u8,
-    /// Whether a train is to run, be it under a condition.
+    /// Whether a train is to run, even under a condition.
     has_run: bool,
     /// Whether RUN BEST is among them.
     has_best: bool,
 }
 
-/// The step to which an order belongs; `None` where it belongs to any.
+/// Returns the step of an order; `None` if it may come at any step.
 fn step_of(order: &Order) -> Option<u8> {
     match order {
         Order::Lay(_) => Some(LAY),
@@ -38,7 +39,7 @@ fn step_of(order: &Order) -> Option<u8> {
 }
 
 impl Block {
-    /// No orders.
+    /// Returns a block without orders.
     pub(crate) fn none() -> Block {
         Block {
             step: LAY,
@@ -47,7 +48,7 @@ impl Block {
         }
     }
 
-    /// With one more order, which may be under a condition.
+    /// Returns the block with one more order, which may be under a condition.
     pub(crate) fn with(self, order: &Order, is_conditional: bool) -> Block {
         let is_run = matches!(order, Order::Run { .. } | Order::RunBest);
         let has_run = self.has_run || is_run;
@@ -61,7 +62,8 @@ impl Block {
         }
     }
 
-    /// Why an order cannot be obeyed behind these, with the code of the rule; `None` where it may be.
+    /// Returns why an order cannot be obeyed after these, with the code of the rule; `None` if it
+    /// may be.
     pub(crate) fn objection(self, order: &Order) -> Option<(&'static str, Objection)> {
         let step = step_of(order)?;
         let (behind, is_run) = (step < self.step, step == RUN);

@@ -1,4 +1,5 @@
-//! One pass over the lines of a file: its SHEET lines, and what is outside of sheets or looks like mail.
+//! One pass over the lines of a file: its SHEET lines, lines outside sheets, and lines that look
+//! like mail.
 ghost use Rattle.std.specs.Prelude.{◌≡◌, ◌≤◌, ◌++◌, IfOk, OnOk, length};
 ghost use Rattle.desk_check.specs.Heads.{AreKept, came};
 ghost use Rattle.desk_check.specs.SheetLines.{head_here, heads_in};
@@ -17,7 +18,7 @@ use sheets::Sheets;
 use std::alloc::{AllocError, Global};
 use tables::Seat;
 
-/// How many lines that are not blank are before the first sheet may begin: the header and the players.
+/// How many lines that are not blank precede the sheets: the header and the players.
 const PREAMBLE: usize = 2;
 
 /// How far a pass over a file has come.
@@ -29,11 +30,12 @@ pub(crate) struct Pass<'a> {
     pub(crate) found: Found<'a>,
     /// How many lines of the preamble have come.
     preamble: usize,
-    /// The number of the line that begins the sheet that is open; `None` where none is.
+    /// The number of the line that begins the sheet that is open; `None` if none is.
     open: Option<usize>,
 }
 
-/// Passes over the file of some sheets: its good SHEET lines, and what was found on the way.
+/// Reads the lines of a file once, for its good SHEET lines and what there is to report of other
+/// lines.
 #[tactic(auto, using(crate::proofs::HeadLemmas::heads_step, crate::proofs::HeadLemmas::heads_end))]
 pub(crate) fn pass_over<'a>(
     alloc: Global,
@@ -125,8 +127,8 @@ fn look_at_names<'a>(
     Ok(())
 }
 
-/// The code of a line that is in no sheet: its own fault, or that it is a sheet of nobody who plays, or out
-/// of place.
+/// Returns the fault of a line that is in no sheet: its own; otherwise an unknown player if it is a
+/// SHEET line, or out of place.
 #[tactic(auto, unfolding(sheets::specs::File::unread_fault))]
 fn unread_fault(sheets: &Sheets, line: &[u8]) -> Fault
     ensures { result ≡ unread_fault (version_of sheets.now) line.now }

@@ -1,5 +1,5 @@
-//! A sheet line by line: faults, orders without a place, and what can be seen to be wrong before its round is
-//! played.
+//! A sheet line by line: faults, orders without a place, and what can be seen to be wrong before
+//! its round is played.
 ghost use Rattle.std.specs.Prelude.{◌≡◌, Ok};
 ghost use Rattle.desk_check.specs.Unplayed.{has_place, look_of};
 ghost use Rattle.sheets.specs.Part.{line_read, opens_part};
@@ -22,7 +22,7 @@ use tables::{Company, Round};
 struct Reader<'v, 'g> {
     /// The version of the file.
     version: Version,
-    /// The game as the sheet's round begins; `None` where that is not known.
+    /// The game as the sheet's round begins; `None` if that is not known.
     view: Option<&'v GameView<'g>>,
     /// How many lines were numbered.
     number: u32,
@@ -34,9 +34,9 @@ struct Reader<'v, 'g> {
     begun: [Option<usize>; 8],
 }
 
-/// Finds what is wrong with the lines of a sheet of a file of some version, and the companies that it leaves without
-/// orders, by the game as its round begins, where that is known. Of lines past `LINES_MOST`, which have one fault
-/// whatever they say, only the first is read.
+/// Finds what is wrong with the lines of a sheet of a file of some version, and the companies that
+/// it leaves without orders, by the game as its round begins, where that is known. Of lines past
+/// `LINES_MOST`, which have one fault whatever they say, only the first is read.
 pub(crate) fn look_at_sheet<'a>(
     version: Version,
     view: Option<&GameView>,
@@ -147,7 +147,7 @@ enum Look {
     Bad(Fault),
 }
 
-/// What a line of a sheet for a round is, before the first head or behind it.
+/// Returns what a line of a sheet for a round is, before its first head or after it.
 fn look_at(line: &NumberedLine, round: Round, is_open: bool) -> Look
     ensures { result ≡ look_of round is_open (line_read line.now).reading }
 {
@@ -159,7 +159,7 @@ fn look_at(line: &NumberedLine, round: Round, is_open: bool) -> Look
     }
 }
 
-/// Whether an order begins a written turn of a sheet for a round, or a company's orders.
+/// Returns whether an order begins a written turn of a sheet for a round, or a company's orders.
 fn is_head(round: Round, order: &Order) -> bool
     ensures { result ≡ opens_part round (Ok order.now) }
 {
@@ -169,8 +169,8 @@ fn is_head(round: Round, order: &Order) -> bool
     }
 }
 
-/// Whether an order has a place in a sheet for a round, in a written turn or a company's orders or
-/// before the first.
+/// Returns whether an order has a place in a sheet for a round, in a written turn or a company's
+/// orders or before the first.
 fn has_place(round: Round, order: &Order, is_open: bool) -> bool
     ensures { result ≡ has_place round is_open order.now }
 {

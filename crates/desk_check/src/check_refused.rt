@@ -43,7 +43,7 @@ pub(crate) struct Refusal<'a> {
     pub(crate) cause: Cause<'a>,
 }
 
-/// Why a file is refused by this fault.
+/// Returns why a file is refused by this fault.
 pub(crate) fn refusal_of(file: &[u8], fault: FileFault) -> Refusal<'_> {
     let (line, cause) = match fault {
         FileFault::TooLong | FileFault::Memory => {
@@ -62,7 +62,8 @@ pub(crate) fn refusal_of(file: &[u8], fault: FileFault) -> Refusal<'_> {
     Refusal { line, cause }
 }
 
-/// The line of a file behind this many that are not blank.
+/// Returns the first line of a file that is not blank, after this many such lines; `None` if there
+/// is none.
 fn written_line(file: &[u8], before: usize) -> Option<FileLine<'_>> {
     if file.len() > FILE_MOST {
         return None;
@@ -84,7 +85,7 @@ fn written_line(file: &[u8], before: usize) -> Option<FileLine<'_>> {
     None
 }
 
-/// What is wrong with the first line of a file that is not blank.
+/// Returns what is wrong with the first line of a file that is not blank.
 fn cause_of_header(file: &[u8], line: Option<FileLine>) -> &'static str {
     let Some(FileLine { text, .. }) = line else {
         return "it has no line that is not blank; the first is to be GAME 1830 1";
@@ -113,7 +114,8 @@ fn cause_of_header(file: &[u8], line: Option<FileLine>) -> &'static str {
     }
 }
 
-/// Whether a text is UTF-16: it begins with its mark, or has a zero byte in front.
+/// Returns whether a text is UTF-16: it begins with a mark of UTF-16, or its first or second byte
+/// is 0.
 fn is_wide(file: &[u8]) -> bool {
     matches!(
         file,
@@ -121,7 +123,7 @@ fn is_wide(file: &[u8]) -> bool {
     )
 }
 
-/// What is wrong with the line after the header.
+/// Returns what is wrong with the line after the header.
 fn cause_of_players<'a>(line: Option<FileLine<'a>>) -> Cause<'a> {
     let Some(FileLine { text, .. }) = line else {
         return Cause::Said("no PLAYERS line follows the header");
@@ -139,7 +141,7 @@ fn cause_of_players<'a>(line: Option<FileLine<'a>>) -> Cause<'a> {
     }
 }
 
-/// What is wrong with the names of a PLAYERS line.
+/// Returns what is wrong with the names of a PLAYERS line.
 fn cause_of_names(line: &[u8]) -> Cause<'_> {
     let (words, count) = words_of(line);
     let names = match words.get(1..count) {
@@ -154,7 +156,7 @@ fn cause_of_names(line: &[u8]) -> Cause<'_> {
     Cause::Said("it names no 3 to 6 different players")
 }
 
-/// What is wrong with a name behind others; `None` where it is one.
+/// Returns what is wrong with a name after these others; `None` if nothing is.
 fn cause_of_name(name: &[u8], others: &[&[u8]]) -> Option<&'static str> {
     for byte in name {
         if !byte.is_ascii_alphanumeric() {

@@ -6,14 +6,14 @@ ghost use Rattle.purchases.specs.Discards.{is_president};
 use history::GameView;
 use tables::{Company, Seat};
 
-/// Whether a seat presides over a company that operates.
+/// Returns whether a seat presides over a company that operates.
 pub(crate) fn has_to_order(view: &GameView, company: Company, seat: Seat) -> bool
     ensures { result ≡ has_to_order view.now.events.now company seat }
 {
     view.president(company) == Some(seat) && view.floated(company) && view.square(company).is_some()
 }
 
-/// Whether a seat presides.
+/// Returns whether a seat presides.
 fn is_president(president: Option<Seat>, seat: Seat) -> bool
     ensures { result ≡ is_president president seat }
 {

@@ -27,7 +27,7 @@ pub(crate) struct Head<'a> {
     pub(crate) line: FileLine<'a>,
     /// The sheet that it begins.
     pub(crate) sent: Sent,
-    /// The number of the line that began the same sheet last before; `None` where none did.
+    /// The number of the line that began the same sheet last before; `None` if none did.
     pub(crate) replaces: Option<usize>,
 }
 
@@ -45,7 +45,7 @@ pub(crate) struct Heads<'a> {
 }
 
 impl<'a> Heads<'a> {
-    /// None, in a game of this many players.
+    /// Returns no heads yet, in a game of this many players.
     pub(crate) fn none(alloc: Global, seats: usize) -> Heads<'a>
         requires { seats ≤ 6 }
         ensures none { came result ≡ [] }
@@ -80,7 +80,8 @@ impl<'a> Heads<'a> {
         Ok(())
     }
 
-    /// The number of the line by which every player had a sheet for a round; `None` where one has none.
+    /// Returns the number of the line by which every player had a sheet for a round; `None` if one
+    /// has none.
     pub(crate) fn complete_by(&self, round: Round) -> Option<usize>
         requires { AreKept self.now }
         ensures { result ≡ complete_by self.now.seats round (came self.now) }
@@ -94,7 +95,7 @@ impl<'a> Heads<'a> {
         Some(by)
     }
 
-    /// Whether the sheet that a line begins counts: no later one replaces it.
+    /// Returns whether the sheet that a line begins counts: no later one replaces it.
     pub(crate) fn counts(&self, head: &Head) -> bool
         requires { AreKept self.now }
         ensures { result ≡ is_at (last_line (sheet_key_of head.now.sent) (came self.now))
@@ -118,7 +119,7 @@ pub(crate) enum Beginning {
     Other,
 }
 
-/// What a line begins.
+/// Returns what a line begins.
 #[tactic(auto, unfolding(sheets::specs::File::begins, sheets::specs::File::is_sheet_line))]
 pub(crate) fn begun_by(sheets: &Sheets, line: &[u8]) -> Beginning
     ensures { Begins (players_of sheets.now) line.now result }
@@ -132,8 +133,8 @@ pub(crate) fn begun_by(sheets: &Sheets, line: &[u8]) -> Beginning
     }
 }
 
-/// The sheet that a line begins whose first word is SHEET, if it begins one. (Apart from its caller, which
-/// would else clear the room for a line that is read with each line that is not.)
+/// Returns the sheet that a line begins whose first word is SHEET, if it begins one. (A function of
+/// its own, since its caller would otherwise zero 848 bytes for each line.)
 #[inline(never)]
 fn sheet_named(sheets: &Sheets, line: &[u8]) -> Option<Sent>
     ensures { option_map sheet_key_of result
@@ -152,7 +153,7 @@ fn sheet_named(sheets: &Sheets, line: &[u8]) -> Option<Sent>
     })
 }
 
-/// The seat of the player with a name; `None` where nobody who plays has it.
+/// Returns the seat of the player with a name; `None` if no player has it.
 #[tactic(auto, using(crate::proofs::NameLemmas::pointwise_is_same_word))]
 fn seat_of(sheets: &Sheets, name: &Name) -> Option<Seat>
     ensures { result ≡ seat_from 0 (players_of sheets.now) name.now }

@@ -1,5 +1,5 @@
-//! What `check` finds, as text: a line for each finding, with the number of the line in the file, its text,
-//! and what there is to say of it.
+//! What `check` finds, as text: a line for each finding, with the number of the line in the file,
+//! its text, and what there is to say of it.
 
 use crate::check_found::{Finding, Found, Lateness, Matter, Standing};
 use crate::check_hints::push_hint;
@@ -110,8 +110,8 @@ pub(crate) fn push_rule(
     )
 }
 
-/// Adds what there is to say of a sheet that replaces that of a line; where the game turns there, how far it
-/// had come before, and how far it comes now.
+/// Adds what there is to say of a sheet that replaces that of a line; where the game turns there,
+/// how far it had come before, and how far it comes now.
 fn push_replaced(
     out: &mut Vec<u8>,
     line: usize,
@@ -198,7 +198,7 @@ pub(crate) fn push_refusal(
     )
 }
 
-/// What there is to say of a cause.
+/// Returns the three pieces that say a cause.
 fn said(cause: Cause) -> (Piece, Piece, Piece) {
     match cause {
         Cause::Said(words) => (NOTHING, NOTHING, Words(words)),

@@ -5,7 +5,7 @@ use tables::PLAYERS_MOST;
 /// How many words of a line are looked at: the most of a PLAYERS line.
 pub(crate) const WORDS_MOST: usize = 1 + PLAYERS_MOST;
 
-/// The first words of a line before its comment, and how many it has there.
+/// Returns the first words of a line before its comment, and how many words it has there.
 pub(crate) fn words_of(line: &[u8]) -> ([&[u8]; WORDS_MOST], usize) {
     let mut words: [&[u8]; WORDS_MOST] = [b""; WORDS_MOST];
     let mut count = 0;
@@ -26,7 +26,7 @@ pub(crate) fn words_of(line: &[u8]) -> ([&[u8]; WORDS_MOST], usize) {
     (words, count)
 }
 
-/// What of a text is before its first space or comment.
+/// Returns a text up to its first space or comment.
 fn word_in_front(text: &[u8]) -> &[u8] {
     for (length, byte) in text.iter().enumerate() {
         if *byte == b' ' || *byte == b'#' {

@@ -1,4 +1,4 @@
-//! What a report does not tell of a file, before it hurts.
+//! Lints an order file.
 ghost use Rattle.std.specs.Prelude.{◌≤◌, length};
 ghost use Rattle.desk_check.specs.Heads.{AreKept};
 ghost use Rattle.sheets.specs.Limits.{file_most};
@@ -14,32 +14,32 @@ use rounds::{Game, play};
 use sheets::{FileFault, Sheets, collect};
 use std::alloc::{AllocError, Global};
 
-/// How much is told of a file.
+/// How much of a file is reported.
 #[derive(Clone, Copy)]
 pub struct Extent {
-    /// Whether the lines of rounds that were played long ago are told, too.
+    /// Whether to report lines of all rounds, not only of the last that was played and later ones.
     pub all: bool,
-    /// The line of the file from which on it is told.
+    /// The first line of the file that is reported.
     pub from: usize,
 }
 
-/// What there is to tell of a file.
+/// The findings of a file.
 #[derive(Drop)]
 pub struct Findings {
     /// A line for each finding, in the order of the file; empty where there is none.
     pub text: Vec<u8>,
-    /// Why the file is refused; `None` where it is not.
+    /// Why the file is refused; `None` if it is not.
     pub refused: Option<FileFault>,
 }
 
-/// Looks through a file for what its report does not tell: which line it is refused for, and why; or its
-/// lines that are in no sheet or look like mail, names that are taken for something else, sheets that
-/// replace others, sheets for rounds that are not played, and what is wrong with the lines of these and of
-/// the sheets of the last round that was played, or of all of them. It plays the
-/// game of the file, and at most one more: that of what is before a sheet that replaces one of a round
-/// that was played.
+/// Lints a file. If it is refused, it reports the line and the reason. Otherwise it reports lines
+/// that are in no sheet or look like mail, names that mean something else, sheets that replace
+/// others, sheets for rounds that are not played, and what is wrong with the lines of the sheets of
+/// the last round that was played and of later ones, or of all sheets. It plays the game of the
+/// file, and at most one more: that of the lines before a sheet that replaces one of a played
+/// round.
 ///
-/// It fails only if memory is refused.
+/// Fails only if allocation fails.
 pub fn check(alloc: Global, file: &[u8], extent: Extent) -> Result<Findings, AllocError> {
     let mut findings = Findings {
         text: Vec::new(alloc),
@@ -49,7 +49,7 @@ pub fn check(alloc: Global, file: &[u8], extent: Extent) -> Result<Findings, All
     Ok(findings)
 }
 
-/// Adds what there is to tell of a file.
+/// Adds the findings of a file.
 fn look_through(
     alloc: Global,
     file: &[u8],
@@ -67,7 +67,7 @@ fn look_through(
     }
 }
 
-/// Adds what there is to tell of the file of some sheets.
+/// Adds the findings of a file that is not refused.
 fn look_at_sheets(
     alloc: Global,
     file: &[u8],
@@ -82,7 +82,7 @@ fn look_at_sheets(
     push_found(text, sheets, &mut pass.found)
 }
 
-/// Finds what there is to tell of the game of some sheets, by the SHEET lines of their file.
+/// Adds the findings of the game of some sheets, by the SHEET lines of their file.
 fn look_at_game<'a>(
     alloc: Global,
     file: &'a [u8],
@@ -96,8 +96,8 @@ fn look_at_game<'a>(
     look_at_rounds(alloc, file, extent, &pass.heads, &game, &mut pass.found)
 }
 
-/// Finds the sheets that replace others, those for rounds that are not played, and what is wrong in these and
-/// in those of the last round that was played.
+/// Finds the sheets that replace others, those for rounds that are not played, and what is wrong in
+/// these and in those of the last round that was played.
 fn look_at_rounds<'a>(
     alloc: Global,
     file: &'a [u8],

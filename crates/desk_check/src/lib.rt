@@ -1,14 +1,13 @@
-//! What a report does not tell of an order file, before it hurts: `check`. It takes the allocator and the bytes of
-//! the file, and gives text.
+//! Lints an order file: `check` takes the allocator and the bytes of the file, and returns text.
 //!
-//! The facts come from contracts: the lines of a file and their numbers, the sheets that they begin, which sheet
-//! replaces which, which rounds were played by then, which can still come, and the fault of a line. How they are
-//! laid out is tested by the games of `games/desk/`.
+//! The facts come from contracts: the lines of a file and their numbers, the sheets that they
+//! begin, which sheet replaces which, which rounds were played by then, which can still come, and
+//! the fault of a line. How they are laid out is tested by the games of `games/desk/`.
 //!
-//! Reading order: `check_lines` (the lines of a file), `check_mail`, `check_names`, `check_found` (what is found),
-//! `check_sheets` (the SHEET lines), `check_pass` (one pass over a file), `check_late` (sheets that replace
-//! others), `check_early` (sheets for rounds to come), `check_refused` (refused files), `check_text` (the text),
-//! `checking` (`check`).
+//! Reading order: `check_lines` (the lines of a file), `check_mail`, `check_names`, `check_found`
+//! (what is found), `check_sheets` (the SHEET lines), `check_pass` (one pass over a file),
+//! `check_late` (sheets that replace others), `check_early` (sheets for rounds to come),
+//! `check_refused` (refused files), `check_text` (the text), `checking` (`check`).
 #![tactic(auto)]
 
 mod check_codes;

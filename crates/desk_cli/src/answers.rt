@@ -10,7 +10,7 @@ use report::refusal_text;
 use std::alloc::{AllocError, Global};
 use tables::Round;
 
-/// The status where the answer is written.
+/// The status if the text is written.
 const WRITTEN: u8 = 0;
 
 /// The status for a command line that names no task, or a round that is not played.
@@ -19,7 +19,7 @@ pub(crate) const MISUSED: u8 = 1;
 /// The status for a refused file.
 const REFUSED: u8 = 2;
 
-/// The status where there is something to tell of a file.
+/// The status if `check` found something.
 const TOLD: u8 = 3;
 
 /// Where more is said of a refused file.
@@ -31,7 +31,7 @@ const NO_ROUND: &str = "that round is not played";
 /// The same, where none was named.
 const NOTHING_PLAYED: &str = "no round is played yet";
 
-/// What the program answers.
+/// What the program writes, and its status.
 #[derive(Drop)]
 pub(crate) struct Answer<'a> {
     /// What is written to standard output.
@@ -44,7 +44,7 @@ pub(crate) struct Answer<'a> {
     pub(crate) status: u8,
 }
 
-/// The answer to a task for an order file.
+/// Returns what to write for a task and an order file.
 pub(crate) fn answer_to<'a>(
     alloc: Global,
     file: &[u8],
@@ -78,7 +78,7 @@ struct Asking {
     before: bool,
 }
 
-/// What is told of the game of a file.
+/// Returns the text of a word about the game of a file.
 fn told_of(alloc: Global, file: &[u8], asked: Asking) -> Result<Vec<u8>, DeskFault> {
     match asked.job {
         Job::State => state(alloc, file, moment_of(asked)),
@@ -88,7 +88,8 @@ fn told_of(alloc: Global, file: &[u8], asked: Asking) -> Result<Vec<u8>, DeskFau
     }
 }
 
-/// The part of the report of a round, with the rules that refused lines broke where they are asked for.
+/// Returns the part of the report of a round, with the rules that refused lines broke where they
+/// are asked for.
 fn told_of_round(alloc: Global, file: &[u8], asked: Asking) -> Result<Vec<u8>, DeskFault> {
     if asked.why {
         round_with_rules(alloc, file, asked.round)
@@ -97,7 +98,7 @@ fn told_of_round(alloc: Global, file: &[u8], asked: Asking) -> Result<Vec<u8>, D
     }
 }
 
-/// The moment for which the state is asked.
+/// Returns the moment for which the state is asked.
 fn moment_of(asked: Asking) -> Moment {
     match (asked.round, asked.before) {
         (None, false) => Moment::Last,
@@ -107,8 +108,8 @@ fn moment_of(asked: Asking) -> Moment {
     }
 }
 
-/// The answer with what is told of a game, of a round that is named or not, or with why nothing is. For a refused file it is the line that
-/// its report has.
+/// Returns what to write for the text of a game, or for the reason why there is none. `is_named` is
+/// whether the command line names a round. For a refused file the text is the line of its report.
 fn answer_with<'a>(
     alloc: Global,
     is_named: bool,
@@ -129,7 +130,7 @@ fn answer_with<'a>(
     }
 }
 
-/// An answer with a text, what is said of it, and the status.
+/// Returns an `Answer` with this text, this note on standard error, and this status.
 fn answered<'a>(text: Vec<u8>, note: &'static str, status: u8) -> Answer<'a> {
     Answer {
         text,
@@ -139,7 +140,7 @@ fn answered<'a>(text: Vec<u8>, note: &'static str, status: u8) -> Answer<'a> {
     }
 }
 
-/// The answer of `check`: its findings.
+/// Returns what `check` writes: its findings.
 fn checked<'a>(alloc: Global, file: &[u8], extent: Extent) -> Result<Answer<'a>, StreamFault> {
     let findings = check(alloc, file, extent)?;
     let status = if findings.refused.is_some() {
@@ -152,7 +153,7 @@ fn checked<'a>(alloc: Global, file: &[u8], extent: Extent) -> Result<Answer<'a>,
     Ok(answered(findings.text, "", status))
 }
 
-/// The answer of `explain`: what codes mean, or a list of them where none is named.
+/// Returns what `explain` writes: what codes mean, or a list of all codes if none is named.
 fn explained<'a>(alloc: Global, task: &Task<'a>) -> Result<Answer<'a>, StreamFault> {
     if task.all {
         return Ok(answered(all_reasons_text(alloc)?, "", WRITTEN));
@@ -179,7 +180,7 @@ fn explained<'a>(alloc: Global, task: &Task<'a>) -> Result<Answer<'a>, StreamFau
     }
 }
 
-/// Adds what there is to say of a code, below an empty line where something is above.
+/// Adds the entry of a code, after an empty line if the text is not empty.
 fn push_reason(alloc: Global, text: &mut Vec<u8>, reason: Reason) -> Result<(), AllocError> {
     if !text.is_empty() {
         text.push(b'\n')?;

@@ -1,9 +1,9 @@
-//! The desk's program. Each of its words but `explain` reads an order file from standard input, and each
-//! writes text to standard output: `round` a round's part of the report, ready to be mailed; `state` how the
-//! game stands.
+//! The desk's program. Each of its words but `explain` reads an order file from standard input, and
+//! each writes text to standard output: `round` a round's part of the report, ready to be mailed;
+//! `state` how the game stands.
 //!
-//! Reading order: `task` (the command line), `streams` (standard input and output), `answers` (what is
-//! written, and the status), `version`.
+//! Reading order: `task` (the command line), `streams` (standard input and output), `answers` (what
+//! is written, and the status), `version`.
 #![tactic(auto)]
 
 mod answers;
@@ -20,7 +20,7 @@ use std::process::ExitCode;
 use std::rt::Runtime;
 use std::{env, io};
 
-/// The status where a read or a write failed, or memory was refused.
+/// The status if a read, a write or an allocation failed.
 const FAILED: u8 = 4;
 
 fn main(rt: HostRuntime) -> ExitCode {
@@ -32,7 +32,7 @@ fn main(rt: HostRuntime) -> ExitCode {
     }
 }
 
-/// The words of the command line.
+/// Returns the words of the command line.
 fn words(rt: &HostRuntime) -> io::Result<Vec<String>> {
     Ok(env::args(rt)?.collect(rt.alloc())?)
 }
@@ -62,7 +62,7 @@ fn no_task(rt: &HostRuntime, error: &Error) -> ExitCode {
     }
 }
 
-/// Reads standard input and writes what is asked for; the status.
+/// Reads standard input and writes what is asked for. Returns the status.
 fn perform(rt: &HostRuntime, task: &Task) -> Result<u8, StreamFault> {
     let file = if task.needs_file() {
         read_file(rt.alloc(), rt.reader())?
@@ -85,13 +85,14 @@ fn end(rt: &HostRuntime, outcome: Result<u8, StreamFault>) -> ExitCode {
     }
 }
 
-/// Ends the program where a stream failed or memory was refused: what failed on standard error.
+/// Ends the program after a failed read, write or allocation, and says on standard error which it
+/// was.
 fn fail(rt: &HostRuntime, fault: StreamFault) -> ExitCode {
     let _ = eprintln!(rt; "{}", fault.word());
     ExitCode::from(FAILED)
 }
 
-/// Ends the program for what is wrong with the command line.
+/// Ends the program, and says what is wrong with the command line.
 fn misuse(rt: &HostRuntime, what: &str) -> ExitCode {
     let _ = eprintln!(rt; "error: {what}");
     ExitCode::from(MISUSED)

@@ -5,19 +5,19 @@ use std::alloc::{AllocError, Global};
 use std::io;
 use std::io::{Read, Write};
 
-/// Why the program ends without its answer.
+/// Why the program ends without its text.
 #[derive(Clone, Copy)]
 pub(crate) enum StreamFault {
     /// A read failed.
     Read,
     /// A write failed.
     Write,
-    /// Memory was refused.
+    /// Allocation failed.
     Memory,
 }
 
 impl StreamFault {
-    /// What is said on standard error.
+    /// Returns what is said on standard error.
     pub(crate) fn word(self) -> &'static str {
         match self {
             StreamFault::Read => "desk: standard input could not be read",

@@ -1,5 +1,5 @@
-//! The command line: which word was given, and what stands behind it. A word is a row of `WORDS`, and one
-//! case of `answer_to`.
+//! The command line: a word, and what follows it. Each word is a row of `WORDS`, and a case of
+//! `answer_to`.
 
 use crate::version::VERSION;
 use clap::{Arg, ArgAction, ArgMatches, Command, Error};
@@ -31,13 +31,13 @@ pub(crate) struct Task<'a> {
     pub(crate) job: Job,
     /// The round that is named, if one is.
     pub(crate) round: Option<Round>,
-    /// Whether to tell which rules were broken.
+    /// Whether to write which rules were broken.
     pub(crate) why: bool,
-    /// Whether to tell how it stood before the round.
+    /// Whether to write the state before the round.
     pub(crate) before: bool,
-    /// Whether to tell all that there is.
+    /// Whether to write all that there is.
     pub(crate) all: bool,
-    /// The line of the file from which on it is told.
+    /// The first line of the file that is reported.
     pub(crate) from: usize,
     /// The codes that are named.
     pub(crate) codes: Vec<&'a str>,
@@ -53,7 +53,7 @@ pub(crate) enum Asked<'a> {
 }
 
 impl Task<'_> {
-    /// Whether an order file is to be read for it.
+    /// Returns whether an order file is to be read for it.
     pub(crate) fn needs_file(&self) -> bool {
         !matches!(self.job, Job::Explain)
     }
@@ -132,7 +132,8 @@ static WORDS: [Word; 6] = [
     },
 ];
 
-/// What the command line asks for. An error is what to print: what is wrong, the help or the version.
+/// Returns what the command line asks for. An error has the text to print: what is wrong, the help
+/// or the version.
 pub(crate) fn asked_by<'a>(alloc: Global, words: &'a [String]) -> Result<Asked<'a>, Error> {
     let matches = command_line(alloc)?.try_get_matches_from(words)?;
     let Some((name, given)) = matches.subcommand() else {
@@ -144,7 +145,7 @@ pub(crate) fn asked_by<'a>(alloc: Global, words: &'a [String]) -> Result<Asked<'
     }
 }
 
-/// What a command line may ask for.
+/// Returns what a command line may ask for.
 fn command_line<'a>(alloc: Global) -> Result<Command<'a>, AllocError> {
     let mut command = Command::new(alloc, "desk")
         .about(
@@ -159,7 +160,7 @@ fn command_line<'a>(alloc: Global) -> Result<Command<'a>, AllocError> {
     Ok(command)
 }
 
-/// A word with what may stand behind it.
+/// Returns a word with what may follow it.
 fn command_of<'a>(alloc: Global, word: &'static Word) -> Result<Command<'a>, AllocError> {
     let mut command = Command::new(alloc, word.name)
         .about(word.about)
@@ -170,7 +171,7 @@ fn command_of<'a>(alloc: Global, word: &'static Word) -> Result<Command<'a>, All
     Ok(command)
 }
 
-/// What may stand behind a word, with what its help says of it.
+/// Returns what may follow a word, with its help.
 fn argument_of<'a>(alloc: Global, operand: Operand) -> Arg<'a> {
     match operand {
         Operand::Round => {
@@ -188,12 +189,12 @@ fn argument_of<'a>(alloc: Global, operand: Operand) -> Arg<'a> {
     }
 }
 
-/// A word with two dashes in front that is there or not.
+/// Returns a flag: `--` and this name.
 fn flag<'a>(alloc: Global, name: &'static str) -> Arg<'a> {
     Arg::new(alloc, name).long(name).action(ArgAction::SetTrue)
 }
 
-/// The row of a word; `None` where there is no such word.
+/// Returns the row of a word; `None` if there is no such word.
 fn word_named(name: &str) -> Option<&'static Word> {
     for word in &WORDS {
         if word.name == name {
@@ -203,7 +204,7 @@ fn word_named(name: &str) -> Option<&'static Word> {
     None
 }
 
-/// What is asked for by a word with what was given behind it.
+/// Returns what a word and what follows it ask for.
 fn task_of<'a>(
     alloc: Global,
     word: &Word,
@@ -229,7 +230,7 @@ fn task_of<'a>(
     Ok(Asked::Task(task))
 }
 
-/// Takes what was given behind a word; what is wrong with it, if anything is.
+/// Takes what was given after a word. Returns what is wrong with it; `None` if nothing is.
 fn take_operand(task: &mut Task, given: &ArgMatches, operand: Operand) -> Option<&'static str> {
     match operand {
         Operand::Round => {

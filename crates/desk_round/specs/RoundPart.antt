@@ -1,4 +1,5 @@
--- A round's part of the report of a file: of the round that is asked for, or of the last that was played.
+-- A round's part of the report of a file: of the round that is asked for, or of the last that was
+-- played.
 use Rattle.std.specs.Prelude.{◌≡◌, ◌<◌, ℕ, List, [], length, Option, Some, None, ⊤}
 use Rattle.desk_base.specs.Refusal.{HasNone}
 use Rattle.desk_base.specs.declared.fault.DeskFault.{DeskFault}
@@ -34,7 +35,8 @@ pub record IsRoundPart (file : List ℕ) (asked : Option Round) (text : List ℕ
 abbrev pub IsNotPlayed : Played → Option Round → Type 0
 IsNotPlayed played asked = text_of_round played asked ≡ []
 
--- there is no text of the round that is asked for of a game, for this fault: it was not played, or memory was refused
+-- there is no text of the round that is asked for of a game, for this fault: it was not played, or
+-- allocation failed
 abbrev pub HasNoText : Played → Option Round → DeskFault → Type 0
 HasNoText played asked desk.Round = IsNotPlayed played asked
 HasNoText played asked desk.Memory = ⊤
@@ -46,7 +48,8 @@ pub record IsNotPlayedIn (file : List ℕ) (asked : Option Round) : Type 0 where
   pub of_file : IsGameOf file played
   pub none : IsNotPlayed played (round_asked played asked)
 
--- when each fault comes: the round is not played; the file is refused by that fault; memory may be refused at any time
+-- when each fault comes: the round is not played; the file is refused by that fault; allocation may
+-- fail at any time
 abbrev pub IsRoundFault : List ℕ → Option Round → DeskFault → Type 0
 IsRoundFault file asked desk.Round = IsNotPlayedIn file asked
 IsRoundFault file asked fault = HasNone fault file

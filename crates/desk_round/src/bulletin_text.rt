@@ -1,4 +1,5 @@
-//! A round for its players: whose turn it was, what each had before it and after, and what each line brought.
+//! The bulletin of a round: whose turn it was, what each had before and after, and what each line
+//! brought.
 
 use crate::groups::{Group, Whose, groups_of};
 use crate::ran::push_ran;
@@ -29,7 +30,8 @@ struct Telling<'a> {
     lines: &'a [SheetLine<'a>],
 }
 
-/// A round of a game, of the last that was played where none is asked for; `Round` where there is none.
+/// Returns the bulletin of a round of a game, of the last that was played if none is named. Fails
+/// with `Round` if there is none.
 pub(crate) fn bulletin_of(
     alloc: Global,
     game: &Game,
@@ -49,7 +51,7 @@ pub(crate) fn bulletin_of(
     Ok(told(telling, text.as_slice())?)
 }
 
-/// A round of a game, whose part of the report is this text.
+/// Returns the bulletin of a round whose part of the report is this text.
 fn told<'a>(telling: Telling<'a>, text: &[u8]) -> Result<Vec<u8>, AllocError> {
     let mut out = Vec::new(telling.alloc);
     fill(&mut out, "ROUND %\n", &[Piece::Round(telling.round)])?;
@@ -59,7 +61,8 @@ fn told<'a>(telling: Telling<'a>, text: &[u8]) -> Result<Vec<u8>, AllocError> {
 }
 
 impl Telling<'_> {
-    /// Adds the groups of a round's events, whose lines in the report are these, behind the line of the round.
+    /// Adds the groups of a round's events, whose lines in the report are these, behind the line of
+    /// the round.
     fn push_groups(&self, out: &mut Vec<u8>, text: &[u8]) -> Result<(), AllocError> {
         let events = self.game.history().events();
         let groups = groups_of(self.alloc, self.lines, events, self.round)?;
@@ -169,7 +172,7 @@ impl Telling<'_> {
         Ok(())
     }
 
-    /// Adds a line of a sheet that was ruled; where it was refused with the rule that it broke.
+    /// Adds a ruled line of a sheet, and the rule that it broke if it was refused.
     fn push_ruled(
         &self,
         out: &mut Vec<u8>,
@@ -233,7 +236,7 @@ struct Had {
     square: Option<Square>,
 }
 
-/// What a company or a player had in a view of the game; nothing, where it is nobody.
+/// Returns what a company or a player had at a moment; 0 for nobody.
 fn had_at(view: &GameView, whose: Whose) -> Had {
     match whose {
         Whose::Company(company) => Had {
@@ -265,7 +268,7 @@ fn push_square(out: &mut Vec<u8>, square: Option<Square>) -> Result<(), AllocErr
     fill(out, "% %%", &pieces)
 }
 
-/// The event of the line that was ruled last among some; `None` where none was.
+/// Returns the last event that rules a line; `None` if none does.
 fn last_ruled(events: &[Event]) -> Option<&Event> {
     events
         .iter()
@@ -273,12 +276,12 @@ fn last_ruled(events: &[Event]) -> Option<&Event> {
         .find(|event| matches!(event, Event::Ruled { .. }))
 }
 
-/// What of a text is behind its first line.
+/// Returns a text without its first line.
 fn behind_line(text: &[u8]) -> &[u8] {
     first_line(text).map_or(text, |first| first.rest)
 }
 
-/// The round that was played behind another; `None` where none was.
+/// Returns the round that was played after another; `None` if none was.
 fn round_behind(events: &[Event], round: Round) -> Option<Round> {
     let mut is_behind = false;
     for event in events {

@@ -1,25 +1,25 @@
-//! The events of a round in groups: each is of a company's turn, of a player's, or of nobody's.
+//! The events of a round in groups: each belongs to the turn of a company, of a player, or to none.
 
 use crate::sheet_line::{SheetLine, sheet_line};
 use history::Event;
 use std::alloc::{AllocError, Global};
 use tables::{Company, Round, Seat};
 
-/// Whose turn some events are of.
+/// Whose turn some events belong to.
 #[derive(Clone, Copy, PartialEq, Eq)]
 pub(crate) enum Whose {
     /// A company's.
     Company(Company),
     /// A player's.
     Seat(Seat),
-    /// Nobody's: what comes before the turns of a round and behind them.
+    /// No turn: what comes before the turns of a round and after them.
     Nobody,
 }
 
-/// Some events of a round, one behind the other.
+/// Consecutive events of a round.
 #[derive(Clone, Copy)]
 pub(crate) struct Group {
-    /// Whose turn they are of.
+    /// Whose turn they belong to.
     pub(crate) whose: Whose,
     /// How many events are before them.
     pub(crate) from: usize,
@@ -27,7 +27,8 @@ pub(crate) struct Group {
     pub(crate) to: usize,
 }
 
-/// The groups of the events of a round, its own event left out, by the lines of the sheets for it. It fails only if memory is refused.
+/// Returns the groups of the events of a round, without the event that begins it. Fails only if
+/// allocation fails.
 pub(crate) fn groups_of(
     alloc: Global,
     lines: &[SheetLine],
@@ -79,12 +80,13 @@ fn push_any(groups: &mut Vec<Group>, group: Option<Group>) -> Result<(), AllocEr
     Ok(())
 }
 
-/// The company among whose orders a line is, if it is among some.
+/// Returns the company among whose orders a line is, if it is among some.
 fn company_of(lines: &[SheetLine], seat: Seat, line: u32) -> Option<Company> {
     sheet_line(lines, seat, line)?.company
 }
 
-/// Whose turn an event is of, where it was somebody's before, and a seat has just passed or has not.
+/// Returns whose turn an event belongs to. `now` is whose turn the event before it belongs to, and
+/// `has_passed` whether that event is a pass.
 fn whose_turn(lines: &[SheetLine], now: Whose, has_passed: bool, event: &Event) -> Whose {
     match event {
         Event::Ruled { seat, line, .. } => match company_of(lines, *seat, *line) {

@@ -1,10 +1,11 @@
-//! A round of a game: its part of the report, the rules that refused lines broke, what its trains ran, and the round
-//! as its players read it. Each public call takes the allocator and the bytes of an order file, and returns text. No
-//! call reads or writes a stream.
+//! A round of a game: its part of the report, the rules that refused lines broke, what its trains
+//! ran, and the round as its players read it. Each public call takes the allocator and the bytes of
+//! an order file, and returns text. No call reads or writes a stream.
 //!
-//! Reading order: `round_part` (`round`), `told` (the game of a file), `sheet_line` (the lines of the sheets), `why`
-//! (the rule that a line broke), `sought` (the figures behind it), `track` and `ways` (where track breaks or leads),
-//! `ran` (`runs`), `groups` (whose turn an event belongs to), `wrapped`, `bulletin_text` (`bulletin`).
+//! Reading order: `round_part` (`round`), `told` (the game of a file), `sheet_line` (the lines of
+//! the sheets), `why` (the rule that a line broke), `sought` (the figures behind it), `track` and
+//! `ways` (where track breaks or leads), `ran` (`runs`), `groups` (whose turn an event belongs to),
+//! `wrapped`, `bulletin_text` (`bulletin`).
 #![tactic(auto)]
 
 mod bulletin_text;

@@ -12,15 +12,16 @@ use rounds::Game;
 use std::alloc::{AllocError, Global};
 use tables::{Amount, Company, Kind, Money, Round};
 
-/// What each company ran in a round of the game of a file, as lines that a sheet could hold, each with
-/// what its stops are worth and their sum; under a RUN BEST that was obeyed, runs that earn the most. Where
-/// nothing ran, a line says so. Without a round it is the last in which a company ran, or the last that was
-/// played where none has. `Round` where the round that is asked for is not played, or none is played.
+/// Returns what each company ran in a round of the game of a file, as lines that a sheet could
+/// have, each with the values of its stops and their sum. For an obeyed RUN BEST it gives runs that
+/// earn the most. If nothing ran, a line says so. If no round is named, it is the last in which a
+/// company ran, or the last that was played if none ran. Fails with `Round` if the named round is
+/// not played, or none is.
 pub fn runs(alloc: Global, file: &[u8], asked: Option<Round>) -> Result<Vec<u8>, DeskFault> {
     tell(alloc, file, asked, Told::Runs)
 }
 
-/// What each company ran in a round of a game.
+/// Returns what each company ran in a round of a game.
 pub(crate) fn runs_of(
     alloc: Global,
     game: &Game,
@@ -32,8 +33,8 @@ pub(crate) fn runs_of(
     Ok(out)
 }
 
-/// The round that is asked for, if it is played; else the last in which a company ran, or the last that was
-/// played where none has.
+/// Returns the named round if it is played; if none is named, the last in which a company ran, or
+/// the last that was played if none ran. Fails with `Round` otherwise.
 fn round_with_runs(events: &[Event], asked: Option<Round>) -> Result<Round, DeskFault> {
     let mut begun = Err(DeskFault::Round);
     let mut last = Err(DeskFault::Round);
@@ -81,8 +82,8 @@ fn push_runs(
     push(out, &[Words(end)])
 }
 
-/// Adds what a company earned by the order that a ruling obeys, and by which runs; nothing where it
-/// obeys none.
+/// Adds what a company earned by an obeyed order, and by which runs; nothing if the ruling is of no
+/// obeyed order.
 fn push_earned(
     alloc: Global,
     out: &mut Vec<u8>,
@@ -103,7 +104,8 @@ fn push_earned(
     push_ran(alloc, out, view, company, ruling)
 }
 
-/// Adds the runs of a company by the order that a ruling obeys, a line each; nothing where it obeys none.
+/// Adds the runs of a company by an obeyed order, a line each; nothing if the ruling is of no
+/// obeyed order.
 pub(crate) fn push_ran(
     alloc: Global,
     out: &mut Vec<u8>,
@@ -151,7 +153,7 @@ fn push_run(out: &mut Vec<u8>, board: &Board, kind: Kind, run: &Run) -> Result<(
     push_values(out, board, run.as_slice())
 }
 
-/// What the stops of a run are worth together, in dollars.
+/// Returns what the stops of a run are worth together, in dollars.
 fn sum_of(board: &Board, places: &[Place]) -> Amount {
     let mut sum: Amount = 0;
     for place in places {

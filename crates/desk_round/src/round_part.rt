@@ -15,8 +15,9 @@ use sheets::{Sheets, collect, first_line};
 use std::alloc::{AllocError, Global};
 use tables::Round;
 
-/// The part of the report of a file that tells of a round: of the last that was played, where none is
-/// asked for. `Round` where that round is not played, or none is.
+/// Returns the part of a file's report about a round; about the last that was played if none is
+/// named. Fails with `File` if the file is refused, with `Round` if that round is not played, or
+/// none is, and with `Memory` if allocation fails.
 #[tactic(auto, using(desk_base::proofs::Refusals::none_where_it_fails, crate::proofs::RoundParts::no_part_where_it_fails))]
 pub fn round(alloc: Global, file: &[u8], asked: Option<Round>) -> Result<Vec<u8>, DeskFault>
     ensures part { IfOk result (λ text. IsRoundPart file.now asked text.items) }
@@ -26,7 +27,7 @@ pub fn round(alloc: Global, file: &[u8], asked: Option<Round>) -> Result<Vec<u8>
     part_in(alloc, &sheets, asked)
 }
 
-/// That part of the report of some sheets.
+/// Returns that part of the report of some sheets.
 #[tactic(auto, using(crate::proofs::RoundParts::part_of_file, crate::proofs::RoundParts::no_part_of_file))]
 fn part_in(alloc: Global, sheets: &Sheets, asked: Option<Round>) -> Result<Vec<u8>, DeskFault>
     ensures part { IfOk result (λ text. IsRoundPart sheets.now asked text.items) }
@@ -36,8 +37,8 @@ fn part_in(alloc: Global, sheets: &Sheets, asked: Option<Round>) -> Result<Vec<u
     text_of(alloc, &game, round_asked(&game, asked))
 }
 
-/// The same, with the rule that it broke under each line that was refused: two spaces, its code and the
-/// rule in words, with what was looked for where it is at hand.
+/// Returns the same text with a line below each refused line: two spaces, the code and the sentence
+/// of the rule that it broke, and the figures that the rule compared, if they are known.
 pub fn round_with_rules(
     alloc: Global,
     file: &[u8],
@@ -46,7 +47,7 @@ pub fn round_with_rules(
     tell(alloc, file, asked, Told::Rules)
 }
 
-/// That part of the report of a game, with these rules.
+/// Returns that part of the report of a game, with these rules.
 pub(crate) fn rules_of(
     alloc: Global,
     game: &Game,
@@ -61,7 +62,7 @@ pub(crate) fn rules_of(
     Ok(out)
 }
 
-/// The text of a round of a game, if it is one; `Round` where there is none.
+/// Returns the text of a round of a game. Fails with `Round` if it was not played.
 #[tactic(auto, using(crate::proofs::RoundParts::without_text))]
 pub(crate) fn text_of(
     alloc: Global,
@@ -82,7 +83,7 @@ pub(crate) fn text_of(
     Ok(text)
 }
 
-/// The round that is asked for; the last that was played, where none is; `None` before the first.
+/// Returns the named round; the last that was played if none is named; `None` before the first.
 pub(crate) fn round_asked(game: &Game, asked: Option<Round>) -> Option<Round>
     ensures { result ≡ round_asked game.now asked }
 {
@@ -92,8 +93,8 @@ pub(crate) fn round_asked(game: &Game, asked: Option<Round>) -> Option<Round>
     }
 }
 
-/// Adds the text of a round, with the rule that it broke under each line that was refused. The lines
-/// of the events are first in the text, one for each.
+/// Adds the text of a round, with the broken rule below each refused line. The text begins with one
+/// line for each event.
 fn push_with_rules(
     alloc: Global,
     out: &mut Vec<u8>,

@@ -1,4 +1,5 @@
-//! The lines of the sheets for a round, by their numbers: their text, and the company to whose orders each belongs.
+//! The lines of the sheets for a round, by their numbers: their text, and the company to whose
+//! orders each belongs.
 
 use order_grammar::Order;
 use sheets::{LINES_MOST, Sheets, UnreadLine};
@@ -14,11 +15,12 @@ pub(crate) struct SheetLine<'a> {
     number: u32,
     /// Its bytes.
     pub(crate) text: &'a [u8],
-    /// The company whose orders it is among; `None` where it is among none.
+    /// The company whose orders it is among; `None` if it is among none.
     pub(crate) company: Option<Company>,
 }
 
-/// The lines of all sheets for a round, up to the last that may be an order. It fails only if memory is refused.
+/// Returns the lines of all sheets for a round, up to the last that may be an order. Fails only if
+/// allocation fails.
 pub(crate) fn lines_of<'a>(
     alloc: Global,
     sheets: &Sheets<'a>,
@@ -61,7 +63,7 @@ fn push_sheet<'a>(
     Ok(())
 }
 
-/// The company whose orders a head begins, if it begins some.
+/// Returns the company whose orders a head begins; `None` for other heads.
 fn company_of(head: UnreadLine) -> Option<Company> {
     match head.read().order() {
         Ok(Order::Company(company)) => Some(*company),
@@ -69,7 +71,8 @@ fn company_of(head: UnreadLine) -> Option<Company> {
     }
 }
 
-/// The line with this number in the sheet of a seat, among those of all sheets; `None` where there is none.
+/// Returns the line with this number in the sheet of a seat, among those of all sheets; `None` if
+/// there is none.
 pub(crate) fn sheet_line<'a>(
     lines: &[SheetLine<'a>],
     seat: Seat,

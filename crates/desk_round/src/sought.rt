@@ -1,5 +1,5 @@
-//! What was looked for as an order was refused, where it is at hand: the cash, the price, the limit.
-//! Each is added behind the rule, in brackets.
+//! The figures that a rule compared when it refused an order: the cash, the price, the limit. Each
+//! is added after the rule, in brackets.
 
 use crate::sheet_line::SheetLine;
 use crate::track::break_of;
@@ -251,8 +251,8 @@ fn push_by_tables(
     }
 }
 
-/// Adds why an order breaks a rule, where what lies on the map or what somebody has shows it, or what is left of
-/// the rule.
+/// Adds why an order breaks a rule, where what lies on the map or what somebody has shows it, or
+/// what is left of the rule.
 fn push_by_view(
     alloc: Global,
     out: &mut Vec<u8>,
@@ -288,7 +288,7 @@ fn push_by_view(
     }
 }
 
-/// The name of the colour that a hex has by now.
+/// Returns the name of the colour of a hex at a moment of the game.
 fn colour_of(view: &GameView, hex: Hex) -> &'static str {
     let mut colour = printed_colour(hex);
     for event in view.events {
@@ -306,7 +306,7 @@ fn colour_of(view: &GameView, hex: Hex) -> &'static str {
     }
 }
 
-/// The highest bid on a private, in dollars; 0 where there is none.
+/// Returns the highest bid on a private, in dollars; 0 where there is none.
 fn highest_bid(view: &GameView, private: Private) -> Amount {
     let mut highest = 0;
     for seat in 0..PLAYERS_MOST {
@@ -317,7 +317,8 @@ fn highest_bid(view: &GameView, private: Private) -> Amount {
     highest
 }
 
-/// What an order to start a company, or to buy of one, costs, in dollars; nothing for other orders.
+/// Returns what an order to start a company, or to buy of one, costs, in dollars; nothing for other
+/// orders.
 fn cost_of(view: &GameView, order: &Order) -> Money {
     match order {
         Order::Par { price, .. } => 2 * Money::from(*price),
@@ -326,7 +327,7 @@ fn cost_of(view: &GameView, order: &Order) -> Money {
     }
 }
 
-/// Which train the bank sells: the first kind of which it has not sold all.
+/// Returns which train the bank sells: the first kind of which it has not sold all.
 fn on_sale(view: &GameView) -> Option<Kind> {
     for kind in &Kind::ALL {
         match train(*kind).number {
@@ -359,7 +360,8 @@ fn push_of_condition(
     }
 }
 
-/// Adds what the company in hand has; of each that the player presides over, where it is not known which.
+/// Adds what the company in hand has; of each that the player presides over, where it is not known
+/// which.
 fn push_cash(out: &mut Vec<u8>, ruled: Ruled) -> Result<(), AllocError> {
     let (mut words, mut end) = (" (% has %", "");
     for company in &Company::ALL {

@@ -1,4 +1,4 @@
-//! What is told of a round of the game of a file, where the text is not a part of its report as it stands.
+//! The texts of a round of the game of a file, other than its part of the report.
 
 use crate::bulletin_text::bulletin_of;
 use crate::ran::runs_of;
@@ -9,7 +9,7 @@ use sheets::{Sheets, collect};
 use std::alloc::Global;
 use tables::Round;
 
-/// What is told of a round.
+/// Which text of a round is asked for.
 #[derive(Clone, Copy)]
 pub(crate) enum Told {
     /// What its trains ran.
@@ -20,7 +20,7 @@ pub(crate) enum Told {
     Bulletin,
 }
 
-/// Tells of a round of the game of a file.
+/// Returns a text of a round of the game of a file.
 pub(crate) fn tell(
     alloc: Global,
     file: &[u8],
@@ -31,7 +31,7 @@ pub(crate) fn tell(
     tell_in(alloc, &sheets, asked, told)
 }
 
-/// The same of some sheets.
+/// Returns a text of a round of the game of some sheets.
 fn tell_in(
     alloc: Global,
     sheets: &Sheets,
@@ -46,9 +46,10 @@ fn tell_in(
     }
 }
 
-/// A round of the game of a file for its players, of the last that was played where none is asked for: whose
-/// turn it was, what each had before and after, and what each line brought, in lines of at most 80 columns; and
-/// who owes a sheet for the next round. `Round` where the round is not played, or none is.
+/// Returns the bulletin of a round of the game of a file, of the last that was played if none is
+/// named: whose turn it was, what each had before and after, what each line brought, in lines of at
+/// most 80 columns, and who owes a sheet for the next round. Fails with `Round` if the round is not
+/// played, or none is.
 pub fn bulletin(alloc: Global, file: &[u8], asked: Option<Round>) -> Result<Vec<u8>, DeskFault> {
     tell(alloc, file, asked, Told::Bulletin)
 }

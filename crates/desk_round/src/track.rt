@@ -5,8 +5,8 @@ use desk_base::side_towards;
 use map_tables::{End, Hex, Link, Place, Stop, neighbour};
 use reach::Network;
 
-/// The first two hexes of a run between which it breaks: there is no track from where it is in the one to the
-/// other, or on to the stop that it names there. `None` where it breaks nowhere.
+/// Returns the first two hexes between which a run breaks, because no track leads from the place in
+/// the first to the place in the second; `None` if it breaks nowhere.
 pub(crate) fn break_of(board: &Board, places: &[Place]) -> Option<(Hex, Hex)> {
     let first = places.first()?;
     let (mut hex, mut end) = (first.hex, End::Stop(first.stop?));
@@ -20,8 +20,8 @@ pub(crate) fn break_of(board: &Board, places: &[Place]) -> Option<(Hex, Hex)> {
     None
 }
 
-/// Where a train is in a hex that it comes to from an end of track in another; `None` where no track leads it
-/// there.
+/// Returns the end of track at which a train is in the hex of a place, if it comes from this end in
+/// another hex; `None` if no track leads it there.
 fn end_at(board: &Board, hex: Hex, end: End, place: Place) -> Option<End> {
     let side = side_towards(hex, place.hex)?;
     if !is_linked(board, hex, end, End::Side(side)) {
@@ -38,19 +38,19 @@ fn end_at(board: &Board, hex: Hex, end: End, place: Place) -> Option<End> {
     }
 }
 
-/// Whether two ends of track in a hex are joined.
+/// Returns whether two ends of track in a hex are joined.
 fn is_linked(board: &Board, hex: Hex, one: End, other: End) -> bool {
     board.links(hex).as_slice().iter().any(|link| (link.a == one && link.b == other)
         || (link.a == other && link.b == one))
 }
 
-/// The hexes from which track leads over a border to a link; `None` where no hex lies, or the link does not end
-/// there.
+/// Returns the hexes from which track leads over a border to a link; `None` if no hex lies, or the
+/// link does not end there.
 pub(crate) fn hexes_behind(hex: Hex, link: &Link) -> [Option<Hex>; 2] {
     [hex_behind(hex, link.a), hex_behind(hex, link.b)]
 }
 
-/// The hex behind an end of track in a hex.
+/// Returns the hex behind an end of track in a hex.
 fn hex_behind(hex: Hex, end: End) -> Option<Hex> {
     match end {
         End::Side(side) => neighbour(hex, side),
@@ -58,7 +58,7 @@ fn hex_behind(hex: Hex, end: End) -> Option<Hex> {
     }
 }
 
-/// Whether a link touches a stop.
+/// Returns whether a link touches a stop.
 pub(crate) fn touches(link: &Link, stop: Stop) -> bool {
     link.a == End::Stop(stop.number) || link.b == End::Stop(stop.number)
 }

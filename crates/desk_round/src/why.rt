@@ -1,4 +1,4 @@
-//! Why a line was refused: the rule that it broke, and what was looked for where it is at hand.
+//! Why a line was refused: the rule that it broke, and the figures that the rule compared.
 
 use crate::sheet_line::sheet_line;
 use crate::sought::{Ruled, push_sought};
@@ -10,7 +10,7 @@ use std::alloc::{AllocError, Global};
 /// How many columns of a line with a fault are shown.
 const COLUMNS: usize = 60;
 
-/// Adds a line with the rule that a line of a sheet broke; nothing where it was obeyed.
+/// Adds a line with the rule that a line of a sheet broke; nothing if it was obeyed.
 pub(crate) fn push_why<'a>(
     alloc: Global,
     out: &mut Vec<u8>,
@@ -26,8 +26,8 @@ pub(crate) fn push_why<'a>(
     fill(out, "\n", &[])
 }
 
-/// Adds the rule that a line of a sheet broke, with its code and what was looked for; nothing where it was
-/// obeyed.
+/// Adds the rule that a line of a sheet broke, with its code and the figures that it compared;
+/// nothing if it was obeyed.
 pub(crate) fn push_rule<'a>(
     alloc: Global,
     out: &mut Vec<u8>,

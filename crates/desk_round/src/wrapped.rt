@@ -7,8 +7,8 @@ use std::alloc::AllocError;
 /// The most columns of a line.
 const COLUMNS: usize = 80;
 
-/// Adds the words of a text behind the line in hand, and ends the line. A word that would end past the last column
-/// begins a new line at a column; one that is longer than a line is alone on its line.
+/// Adds the words of a text to the current line, and ends it. A word that would end past column 80
+/// begins a new line at this column. A word longer than a line is alone on its line.
 pub(crate) fn push_wrapped(
     out: &mut Vec<u8>,
     column: usize,
@@ -25,7 +25,7 @@ pub(crate) fn push_wrapped(
     push(out, &[Words("\n")])
 }
 
-/// Adds the lines of a text, each wrapped so, from a column on.
+/// Adds the lines of a text from this column on, each wrapped.
 pub(crate) fn push_wrapped_lines(
     out: &mut Vec<u8>,
     column: usize,
@@ -46,7 +46,7 @@ pub(crate) fn push_wrapped_lines(
     Ok(())
 }
 
-/// Adds a word, if it has letters, behind a space unless one is there.
+/// Adds a word after a space, unless a space is there or the word is empty.
 fn push_word(out: &mut Vec<u8>, column: usize, word: &[u8]) -> Result<(), AllocError> {
     if word.is_empty() {
         return Ok(());

@@ -1,4 +1,5 @@
--- The lay in hand is at the end of those that are left: it lies on the hex, or leaves what lay there.
+-- The lay in hand is at the end of those that are left: it lies on the hex, or leaves what lay
+-- there.
 use Rattle.std.proofs.Common.{sym, ◌∙◌}
 use Rattle.board_state.proofs.Tiles.{tile_here, tile_before}
 use Rattle.desk.proofs.stock_left.tile_on.Goals as goal
