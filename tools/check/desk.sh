@@ -105,6 +105,26 @@ try_every_word() {
   count "each word of the desk on $1" "${why# }"
 }
 
+# play_session FOLDER: a game of which each round was sent first as in ROUND.sent and then mended as in ROUND.sheets. Before the round
+# is played, `check` tells of what was sent as ROUND.told has it, and of the mended sheets nothing. No line is refused in the end.
+play_session() {
+  local so_far=$scratch/so-far from name sheets
+  : > "$so_far"
+  for sheets in "$1"/*.sheets; do
+    name=${sheets%.sheets} from=$(($(wc -l < "$so_far") + 1))
+    if [ -f "$name.sent" ]; then
+      cat "$so_far" "$name.sent" | "$desk" check --from "$from" > "$scratch/out" 2> "$scratch/err"
+      judge "$name as it was sent" "${PIPESTATUS[1]}" 3 "$name.told" none
+    fi
+    cat "$sheets" >> "$so_far"
+    "$desk" check --from "$from" < "$so_far" > "$scratch/out" 2> "$scratch/err"
+    judge "$name as it was mended" $? 0 /dev/null none
+  done
+  "$program" report < "$so_far" > "$scratch/report"
+  count "the report of $1" "$(grep -E ' REFUSED |^(UNREAD|LEFT|FILE) ' "$scratch/report" | head -n 1)"
+  count "the end of $1" "$([ "$(tail -n 1 "$scratch/report")" = "$(cat "$1/end")" ] || echo 'it is another')"
+}
+
 # formats: the document that has the table of the codes.
 formats() { echo docs/players/formats.md; }
 
@@ -112,6 +132,7 @@ formats() { echo docs/players/formats.md; }
 # for each of their rounds.
 check_desk() {
   side_by_side play_desk_text games/desk/*.text
+  play_session games/desk/ten-rounds
   explain_codes "$(formats)"
   look_at_codes "$(formats)"
   [ "${1:-}" != quick ] || return 0
@@ -127,6 +148,10 @@ desk_must_fail() {
   mkdir -p "$wrong"
   cp "$text.orders" "$text.status" "$wrong" && changed "$text.text" "$wrong/${text##*/}.text"
   sees 'a changed text of the desk' 1 play_desk_text "$wrong/${text##*/}.text"
+  cp -r games/desk/ten-rounds "$wrong/told" && changed games/desk/ten-rounds/05-OR2.1.told "$wrong/told/05-OR2.1.told"
+  sees 'a changed finding of a session' 1 play_session "$wrong/told"
+  cp -r games/desk/ten-rounds "$wrong/mended" && cp "$wrong/mended/10-OR4.1.sent" "$wrong/mended/10-OR4.1.sheets"
+  sees 'a session whose last round is not mended' 2 play_session "$wrong/mended"
   printf '### All codes\n\n| G1 | Another meaning. | Nothing. |\n\n### Codes of lines\n' > "$wrong/formats.md"
   sees 'another meaning of a code' 1 explain_codes "$wrong/formats.md"
   grep -v '^| A3 |' "$(formats)" > "$wrong/formats.md"
