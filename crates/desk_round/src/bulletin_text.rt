@@ -6,11 +6,12 @@ use crate::ran::push_ran;
 use crate::round_part::{round_asked, text_of};
 use crate::sheet_line::{SheetLine, lines_of, sheet_line};
 use crate::sought::Ruled;
-use crate::why::push_rule;
+use crate::why::{FAULTY_COLUMNS, push_rule};
 use crate::wrapped::{push_wrapped, push_wrapped_lines};
 use desk_base::Piece::{Bytes, Column, Cut, Number, Right, Words};
 use desk_base::{DeskFault, Piece, fill, owes, push, view_behind, who};
-use history::{Event, GameView, Holder, PackedRuling, Party, Verdict, Walk};
+use history::{Event, GameView, Holder, PackedRuling, Party, Ruling, Verdict, Walk};
+use order_grammar::{print_condition, print_order};
 use report::name;
 use rounds::{End, Game};
 use sheets::first_line;
@@ -181,12 +182,8 @@ impl Telling<'_> {
         number: u32,
         ruling: &PackedRuling,
     ) -> Result<(), AllocError> {
-        let text: &[u8] = match sheet_line(self.lines, seat, number) {
-            Some(line) => line.text,
-            None => &[],
-        };
         let mut shown = Vec::new(self.alloc);
-        push(&mut shown, &[Cut(text, text.len())])?;
+        self.push_line(&mut shown, seat, number, &ruling.ruling())?;
         push(out, &[Right(4, Money::from(number)), Words("  ")])?;
         push_wrapped(out, BROUGHT + 4, shown.as_slice())?;
         if let Verdict::Obeyed = ruling.verdict() {
@@ -206,6 +203,31 @@ impl Telling<'_> {
         push_wrapped(out, BROUGHT + 4, why.as_slice())
     }
 
+    /// Adds a line of a sheet: its order as the report prints it, or the columns of a line with a fault that are shown.
+    fn push_line(
+        &self,
+        out: &mut Vec<u8>,
+        seat: Seat,
+        number: u32,
+        ruling: &Ruling,
+    ) -> Result<(), AllocError> {
+        match ruling {
+            Ruling::Obeyed { condition, order }
+            | Ruling::Refused {
+                condition,
+                order,
+                ..
+            } => {
+                print_condition(out, condition.as_ref())?;
+                print_order(out, order)
+            }
+            Ruling::Faulty(_) => match sheet_line(self.lines, seat, number) {
+                Some(line) => push(out, &[Cut(line.text, FAULTY_COLUMNS)]),
+                None => Ok(()),
+            },
+        }
+    }
+
     /// Adds what comes next, and who owes a sheet for it.
     fn push_next(&self, out: &mut Vec<u8>) -> Result<(), AllocError> {
         let events = self.game.history().events();
@@ -219,13 +241,14 @@ impl Telling<'_> {
         };
         fill(out, "\nNEXT %: sheets are owed by", &[Piece::Round(round)])?;
         let sheets = self.game.sheets();
+        let mut names = Vec::new(self.alloc);
         for seat in 0..sheets.seats() {
             let seat = Seat::at(seat);
             if owes(sheets, seat, &round) {
-                fill(out, " %", &[Bytes(name(sheets, seat))])?;
+                fill(&mut names, " %", &[Bytes(name(sheets, seat))])?;
             }
         }
-        fill(out, "\n", &[])
+        push_wrapped(out, BROUGHT, names.as_slice())
     }
 }
 

@@ -8,7 +8,7 @@ use history::{PackedRuling, Verdict};
 use std::alloc::{AllocError, Global};
 
 /// How many columns of a line with a fault are shown.
-const COLUMNS: usize = 60;
+pub(crate) const FAULTY_COLUMNS: usize = 60;
 
 /// Adds a line with the rule that a line of a sheet broke; nothing if it was obeyed.
 pub(crate) fn push_why<'a>(
@@ -48,7 +48,7 @@ pub(crate) fn push_rule<'a>(
         None => None,
     };
     if let (Verdict::Faulty(_), Some(line)) = (ruling.verdict(), line) {
-        fill(out, ": %", &[Cut(line.text, COLUMNS)])?;
+        fill(out, ": %", &[Cut(line.text, FAULTY_COLUMNS)])?;
     }
     push_sought(alloc, out, Ruled { company, ..ruled }, &ruling.ruling())
 }
