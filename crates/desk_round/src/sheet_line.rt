@@ -2,9 +2,13 @@
 //! orders each belongs.
 
 use order_grammar::Order;
-use sheets::{LINES_MOST, Sheets, UnreadLine};
+use sheets::{Sheets, UnreadLine};
 use std::alloc::{AllocError, Global};
 use tables::{Company, Round, Seat};
+
+/// How many lines of a sheet are kept. Those past the 512th all have the same fault, and few sheets
+/// have more.
+const LINES_KEPT: u32 = 1_024;
 
 /// A line of a sheet.
 #[derive(Clone, Copy)]
@@ -19,8 +23,8 @@ pub(crate) struct SheetLine<'a> {
     pub(crate) company: Option<Company>,
 }
 
-/// Returns the lines of all sheets for a round, up to the last that may be an order. Fails only if
-/// allocation fails.
+/// Returns the lines of all sheets for a round, up to the last that is kept. Fails only if allocation
+/// fails.
 pub(crate) fn lines_of<'a>(
     alloc: Global,
     sheets: &Sheets<'a>,
@@ -42,7 +46,7 @@ fn push_sheet<'a>(
 ) -> Result<(), AllocError> {
     let mut parts = sheets.parts(seat, round);
     let mut company = None;
-    for _ in 0..LINES_MOST {
+    for _ in 0..LINES_KEPT {
         let line = match parts.take_line() {
             Some(line) => line,
             None => match parts.take_head() {
@@ -72,12 +76,15 @@ fn company_of(head: UnreadLine) -> Option<Company> {
 }
 
 /// Returns the line with this number in the sheet of a seat, among those of all sheets; `None` if
-/// there is none.
+/// there is none, or it is not kept.
 pub(crate) fn sheet_line<'a>(
     lines: &[SheetLine<'a>],
     seat: Seat,
     number: u32,
 ) -> Option<SheetLine<'a>> {
+    if number > LINES_KEPT {
+        return None;
+    }
     for line in lines {
         if line.number == number && line.seat == seat {
             return Some(*line);
