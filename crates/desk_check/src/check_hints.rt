@@ -76,6 +76,9 @@ pub(crate) fn push_hint(
         Fault::UnknownWord | Fault::WrongWords if ends_quoted(line) => {
             fill(out, "; mail put the = at its end (quoted-printable)", &[])
         }
+        Fault::WrongWords if has_quoted_sign(line) => {
+            fill(out, "; mail wrote =3D for = (quoted-printable)", &[])
+        }
         Fault::UnknownWord => push_nearest(out, line, 0, &FIRSTS),
         Fault::WrongWords if is_condition_alone(line) => {
             fill(out, "; its order is to stand on the same line", &[])
@@ -109,6 +112,18 @@ fn stray_in(line: &[u8]) -> Option<&'static str> {
 /// Returns whether a line ends as a line of quoted-printable mail does.
 fn ends_quoted(line: &[u8]) -> bool {
     QUOTED.iter().any(|end| line.ends_with(end))
+}
+
+/// Returns whether a line has a sign of equality as a quoted-printable mail writes it.
+fn has_quoted_sign(line: &[u8]) -> bool {
+    let mut rest = line;
+    while let [_, behind @ ..] = rest {
+        if rest.starts_with(b"=3D") {
+            return true;
+        }
+        rest = behind;
+    }
+    false
 }
 
 /// Returns whether a line is a condition without an order.
