@@ -59,7 +59,7 @@ pub fn push_objection(
     match reason {
         Objection::Nothing => Ok(()),
         Objection::Passed => fill(out, "; the orders above it have passed its step", &[]),
-        Objection::NoRun => fill(out, "; no RUN stands above it", &[]),
+        Objection::NoRun => fill(out, "; no valid RUN stands above it", &[]),
         Objection::Best => fill(out, "; RUN BEST stands above it", &[]),
         Objection::Stops(hex) => push_stops(out, hex),
         Objection::NoCity(hex) => fill(out, "; % has no city", &[Bytes(hex.text().as_slice())]),
