@@ -125,17 +125,24 @@ play_session() {
   count "the end of $1" "$([ "$(tail -n 1 "$scratch/report")" = "$(cat "$1/end")" ] || echo 'it is another')"
 }
 
+# try_damaged N: each word of the desk on so many damaged files.
+try_damaged() { take_over bench/damaged "$1" "$desk" "$program"; }
+
 # formats: the document that has the table of the codes.
 formats() { echo docs/players/formats.md; }
 
-# check_desk: with the word quick it plays the games of games/desk and the codes, and leaves out the rest, which plays games anew
-# for each of their rounds.
+# check_desk: with the word quick it plays the games of games/desk and the codes, tries few damaged files, and leaves out the rest,
+# which plays games anew for each of their rounds.
 check_desk() {
   side_by_side play_desk_text games/desk/*.text
   play_session games/desk/ten-rounds
   explain_codes "$(formats)"
   look_at_codes "$(formats)"
-  [ "${1:-}" != quick ] || return 0
+  if [ "${1:-}" = quick ]; then
+    try_damaged 20
+    return
+  fi
+  try_damaged 100
   side_by_side play_rounds games/*.orders
   side_by_side play_runs games/*.orders games/certificates/certs-*.orders
   has_best games/best-run-of-two-trains.orders || count 'the best runs, written out' 'there are none'
@@ -161,5 +168,7 @@ desk_must_fail() {
   desk=$(stub 'exit 5')
   sees 'runs that are not written out' 1 play_runs "games/$it.orders"
   sees 'a word with a status that it may not have' 1 try_every_word "games/$it.orders"
+  desk=$(stub 'exit 0')
+  sees 'a desk that writes nothing on damaged files' all try_damaged 2
   desk=$2
 }
