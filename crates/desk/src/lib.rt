@@ -27,5 +27,6 @@ mod whole_state;
 
 pub use asked::read_round;
 pub use desk_base::{DeskFault, best_at};
+pub use stock_left::tiles_left;
 pub use stood::{Moment, Stood, play_before, play_behind, stood_at_last, stood_now};
 pub use whole_state::{state, state_text};

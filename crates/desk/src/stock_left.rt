@@ -27,7 +27,7 @@ pub(crate) fn trains_left(view: &GameView, kind: Kind) -> Option<usize>
 }
 
 /// Returns how many tiles of a number do not lie on the map, by the tiles that were laid.
-pub(crate) fn tiles_left(lays: &[Lay], number: TileNo) -> usize
+pub fn tiles_left(lays: &[Lay], number: TileNo) -> usize
     ensures { result ≡ tiles_left lays.now number }
 {
     usize::from(tile(number).count).saturating_sub(on_map_of(lays, number))

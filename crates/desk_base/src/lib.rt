@@ -27,7 +27,7 @@ pub use coming::can_come;
 pub use explaining::{all_reasons_text, explain, list_text, reason_text};
 pub use fault::DeskFault;
 pub use map_facts::{bad_side, side_towards};
-pub use map_state::{best_at, board_at, view_behind};
+pub use map_state::{best_at, board_at, trains_of, view_behind};
 pub use objection::{Objection, push_objection, who};
 pub use owed::owes;
 pub use reason::Reason;

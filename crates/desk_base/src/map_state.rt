@@ -65,7 +65,7 @@ pub fn best_at(alloc: Global, view: &GameView, company: Company) -> Result<Claim
 }
 
 /// Returns the trains that a company had, kind by kind. Fails only if allocation fails.
-fn trains_of(alloc: Global, view: &GameView, company: Company) -> Result<Vec<Kind>, AllocError>
+pub fn trains_of(alloc: Global, view: &GameView, company: Company) -> Result<Vec<Kind>, AllocError>
     ensures { IfOk result (λ trains. trains.items ≡ trains_now view.now.events.now company) }
 {
     let mut trains = Vec::new(alloc);

@@ -5,6 +5,7 @@ use crate::task::{Job, Task};
 use desk::{Moment, state};
 use desk_base::{DeskFault, Reason, all_reasons_text, explain, list_text, reason_text};
 use desk_check::{Extent, check};
+use desk_moves::{LayForm, MovesFault, Question, TrialForm, answer, trial};
 use desk_round::{bulletin, round, round_with_rules, runs};
 use report::refusal_text;
 use std::alloc::{AllocError, Global};
@@ -59,6 +60,13 @@ pub(crate) fn answer_to<'a>(
             from: task.from,
         };
         return checked(alloc, file, extent);
+    }
+    if let Job::Lays | Job::May | Job::Best | Job::Trial | Job::Hex = task.job {
+        return moves_answered(
+            alloc,
+            task.round.is_some(),
+            moves_told_of(alloc, file, task),
+        );
     }
     let asked = Asking {
         job: task.job,
@@ -130,6 +138,53 @@ fn answer_with<'a>(
     }
 }
 
+/// Returns what there is to say of moves in the game of a file.
+fn moves_told_of(alloc: Global, file: &[u8], task: &Task) -> Result<Vec<u8>, MovesFault> {
+    let question = match (task.job, task.company, task.hex) {
+        (Job::Lays, Some(company), _) => Question::Lays {
+            company,
+            form: LayForm {
+                best: task.best,
+                lines: task.lines,
+            },
+        },
+        (Job::Best, Some(company), _) => Question::Best {
+            company,
+            trains: task.trains.as_slice(),
+        },
+        (Job::Hex, _, Some(hex)) => Question::Hex(hex),
+        (Job::May, _, _) => {
+            let name = task.names.as_slice().first();
+            Question::May(name.map_or(&[], |name| name.as_bytes()))
+        }
+        _ => return trial_told_of(alloc, file, task),
+    };
+    answer(alloc, file, task.round, question)
+}
+
+/// Returns the text of a trial.
+fn trial_told_of(alloc: Global, file: &[u8], task: &Task) -> Result<Vec<u8>, MovesFault> {
+    let form = if task.why {
+        TrialForm::Rules
+    } else {
+        TrialForm::Bulletin
+    };
+    trial(alloc, file, task.names.as_slice(), form)
+}
+
+/// Returns an `Answer` with the text of moves, or with why there is none.
+fn moves_answered<'a>(
+    alloc: Global,
+    is_named: bool,
+    told: Result<Vec<u8>, MovesFault>,
+) -> Result<Answer<'a>, StreamFault> {
+    match told {
+        Ok(text) => Ok(answered(text, "", WRITTEN)),
+        Err(MovesFault::Desk(fault)) => answer_with(alloc, is_named, Err(fault)),
+        Err(MovesFault::Asked(why)) => Ok(answered(Vec::new(alloc), why.sentence(), MISUSED)),
+    }
+}
+
 /// Returns an `Answer` with this text, this note on standard error, and this status.
 fn answered<'a>(text: Vec<u8>, note: &'static str, status: u8) -> Answer<'a> {
     Answer {
@@ -158,12 +213,12 @@ fn explained<'a>(alloc: Global, task: &Task<'a>) -> Result<Answer<'a>, StreamFau
     if task.all {
         return Ok(answered(all_reasons_text(alloc)?, "", WRITTEN));
     }
-    if task.codes.is_empty() {
+    if task.names.is_empty() {
         return Ok(answered(list_text(alloc)?, "", WRITTEN));
     }
     let mut text = Vec::new(alloc);
     let mut unknown = None;
-    for code in &task.codes {
+    for code in &task.names {
         match explain(code) {
             Some(reason) => push_reason(alloc, &mut text, reason)?,
             None => unknown = Some(*code),

@@ -4,8 +4,10 @@
 use crate::version::VERSION;
 use clap::{Arg, ArgAction, ArgMatches, Command, Error};
 use desk::read_round;
+use desk_moves::{read_company, read_hex, read_kind};
+use map_tables::Hex;
 use std::alloc::{AllocError, Global};
-use tables::Round;
+use tables::{Company, Kind, Round};
 
 /// What a word of the program writes.
 #[derive(Clone, Copy)]
@@ -22,6 +24,16 @@ pub(crate) enum Job {
     State,
     /// A round for its players.
     Bulletin,
+    /// What a company may lay, and where it may place its next token.
+    Lays,
+    /// What a player may do.
+    May,
+    /// The best runs of a company.
+    Best,
+    /// How the round that is awaited would come out by the sheets that are there.
+    Trial,
+    /// A hex as it is.
+    Hex,
 }
 
 /// What the program is asked for.
@@ -39,8 +51,18 @@ pub(crate) struct Task<'a> {
     pub(crate) all: bool,
     /// The first line of the file that is reported.
     pub(crate) from: usize,
-    /// The codes that are named.
-    pub(crate) codes: Vec<&'a str>,
+    /// Whether to write order lines alone.
+    pub(crate) lines: bool,
+    /// Whether to tell what the best runs would earn.
+    pub(crate) best: bool,
+    /// The company that is named, if one is.
+    pub(crate) company: Option<Company>,
+    /// The hex that is named, if one is.
+    pub(crate) hex: Option<Hex>,
+    /// The trains that are named.
+    pub(crate) trains: Vec<Kind>,
+    /// The codes or players that are named.
+    pub(crate) names: Vec<&'a str>,
 }
 
 /// What a command line asks for.
@@ -84,10 +106,26 @@ enum Operand {
     From,
     /// Codes, or none.
     Codes,
+    /// `--lines`.
+    Lines,
+    /// `--best`.
+    Best,
+    /// `--after ROUND`.
+    After,
+    /// A company.
+    Company,
+    /// A hex.
+    Hex,
+    /// Trains, or none.
+    Trains,
+    /// A player.
+    Player,
+    /// Players, or none.
+    Players,
 }
 
 /// The words, as the help lists them.
-static WORDS: [Word; 6] = [
+static WORDS: [Word; 11] = [
     Word {
         name: "round",
         about: "Writes a round's part of the report",
@@ -129,6 +167,46 @@ static WORDS: [Word; 6] = [
         example: "Example: desk bulletin OR2.1 < our-game.orders",
         job: Job::Bulletin,
         operands: &[Operand::Round],
+    },
+    Word {
+        name: "lays",
+        about: "Writes what a company may lay, and where it may place its next token",
+        example: "Example: desk lays PRR --best < our-game.orders",
+        job: Job::Lays,
+        operands: &[
+            Operand::Company,
+            Operand::Best,
+            Operand::Lines,
+            Operand::After,
+        ],
+    },
+    Word {
+        name: "may",
+        about: "Writes what a player may buy, bid and sell, and what not",
+        example: "Example: desk may ANN < our-game.orders",
+        job: Job::May,
+        operands: &[Operand::Player, Operand::After],
+    },
+    Word {
+        name: "best",
+        about: "Writes the best runs of a company, with its trains or with others",
+        example: "Example: desk best CO 4 4 D < our-game.orders",
+        job: Job::Best,
+        operands: &[Operand::Company, Operand::Trains, Operand::After],
+    },
+    Word {
+        name: "trial",
+        about: "Writes how the next round would come out, with an empty sheet where one is owed",
+        example: "Example: cat our-game.orders my-sheet | desk trial",
+        job: Job::Trial,
+        operands: &[Operand::Players, Operand::Why],
+    },
+    Word {
+        name: "hex",
+        about: "Writes a hex as it is: tile, stops, tokens, and what meets at its sides",
+        example: "Example: desk hex H10 < our-game.orders",
+        job: Job::Hex,
+        operands: &[Operand::Hex, Operand::After],
     },
 ];
 
@@ -186,6 +264,35 @@ fn argument_of<'a>(alloc: Global, operand: Operand) -> Arg<'a> {
         Operand::Codes => Arg::new(alloc, "CODE")
             .num_args(0..)
             .help("The codes, as G3; a list of them all if none is named"),
+        Operand::Lines => {
+            flag(alloc, "lines").help("Write order lines, each with four spaces and its price")
+        }
+        Operand::Best => {
+            flag(alloc, "best").help("Tell what the company's best runs would earn after each")
+        }
+        Operand::After => Arg::new(alloc, "after")
+            .long("after")
+            .value_name("ROUND")
+            .help("As it stood after this round, as OR2.1"),
+        Operand::Company => {
+            Arg::new(alloc, "COMPANY")
+                .required(true)
+                .help("The company, as PRR")
+        }
+        Operand::Hex => Arg::new(alloc, "HEX")
+            .required(true)
+            .help("The hex, as H10"),
+        Operand::Trains => Arg::new(alloc, "TRAIN")
+            .num_args(0..)
+            .help("The trains, as 4 4 D; those that it has if none is named"),
+        Operand::Player => {
+            Arg::new(alloc, "PLAYER")
+                .required(true)
+                .help("The player's name")
+        }
+        Operand::Players => Arg::new(alloc, "PLAYER")
+            .num_args(0..)
+            .help("All who owe a sheet; not looked at if none is named"),
     }
 }
 
@@ -217,17 +324,54 @@ fn task_of<'a>(
         before: false,
         all: false,
         from: 1,
-        codes: Vec::new(alloc),
+        lines: false,
+        best: false,
+        company: None,
+        hex: None,
+        trains: Vec::new(alloc),
+        names: Vec::new(alloc),
     };
     for operand in word.operands {
         if let Some(wrong) = take_operand(&mut task, given, *operand) {
             return Ok(Asked::Nothing(wrong));
         }
-        if let (Operand::Codes, Some(codes)) = (operand, given.get_strs("CODE")) {
-            task.codes = Vec::from_slice(alloc, codes)?;
+        if let Some(wrong) = take_list(alloc, &mut task, given, *operand)? {
+            return Ok(Asked::Nothing(wrong));
         }
     }
     Ok(Asked::Task(task))
+}
+
+/// Takes what was given after a word that may have several operands. Returns what is wrong with
+/// them; `None` if nothing is.
+fn take_list<'a>(
+    alloc: Global,
+    task: &mut Task<'a>,
+    given: &ArgMatches<'a>,
+    operand: Operand,
+) -> Result<Option<&'static str>, AllocError> {
+    let name = match operand {
+        Operand::Codes => "CODE",
+        Operand::Player | Operand::Players => "PLAYER",
+        Operand::Trains => "TRAIN",
+        _ => return Ok(None),
+    };
+    let Some(words) = given.get_strs(name) else {
+        return Ok(None);
+    };
+    if let Operand::Trains = operand {
+        for word in words {
+            match read_kind(word.as_bytes()) {
+                Some(kind) => task.trains.push(kind)?,
+                None => return Ok(Some(
+                    "this names no trains; 2, 3, 4, 5, 6 and D are kinds of them",
+                )),
+            }
+        }
+    } else {
+        task.names = Vec::from_slice(alloc, words)?;
+    }
+    Ok(None)
 }
 
 /// Takes what was given after a word. Returns what is wrong with it; `None` if nothing is.
@@ -251,7 +395,28 @@ fn take_operand(task: &mut Task, given: &ArgMatches, operand: Operand) -> Option
                 Err(_) => return Some("behind --from the number of a line of the file is to stand"),
             }
         }
-        Operand::Codes => {}
+        Operand::Lines => task.lines = given.get_flag("lines"),
+        Operand::Best => task.best = given.get_flag("best"),
+        Operand::After => {
+            let word = given.get_str("after")?;
+            task.round = read_round(word.as_bytes());
+            if task.round.is_none() {
+                return Some("this names no round; PR1, SR1 and OR1.1 are names of rounds");
+            }
+        }
+        Operand::Company => {
+            task.company = read_company(given.get_str("COMPANY")?.as_bytes());
+            if task.company.is_none() {
+                return Some("there is no such company; PRR is one");
+            }
+        }
+        Operand::Hex => {
+            task.hex = read_hex(given.get_str("HEX")?.as_bytes());
+            if task.hex.is_none() {
+                return Some("the map has no such hex; H10 is one");
+            }
+        }
+        Operand::Codes | Operand::Trains | Operand::Player | Operand::Players => {}
     }
     None
 }

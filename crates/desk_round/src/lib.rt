@@ -20,6 +20,7 @@ mod ways;
 mod why;
 mod wrapped;
 
-pub use ran::runs;
+pub use ran::{push_run, runs};
 pub use round_part::{round, round_with_rules};
 pub use told::bulletin;
+pub use wrapped::push_wrapped;

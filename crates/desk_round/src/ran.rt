@@ -142,7 +142,7 @@ fn push_best(
 }
 
 /// Adds the line of a run: its order, what it earns, and what each of its stops is worth.
-fn push_run(out: &mut Vec<u8>, board: &Board, kind: Kind, run: &Run) -> Result<(), AllocError> {
+pub fn push_run(out: &mut Vec<u8>, board: &Board, kind: Kind, run: &Run) -> Result<(), AllocError> {
     let order = Order::Run {
         kind,
         run: run.duplicate(),

@@ -9,11 +9,7 @@ const COLUMNS: usize = 80;
 
 /// Adds the words of a text to the current line, and ends it. A word that would end past column 80
 /// begins a new line at this column. A word longer than a line is alone on its line.
-pub(crate) fn push_wrapped(
-    out: &mut Vec<u8>,
-    column: usize,
-    text: &[u8],
-) -> Result<(), AllocError> {
+pub fn push_wrapped(out: &mut Vec<u8>, column: usize, text: &[u8]) -> Result<(), AllocError> {
     let mut from = 0;
     for (at, byte) in text.iter().enumerate() {
         if *byte == b' ' {

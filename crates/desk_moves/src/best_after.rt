@@ -1,0 +1,75 @@
+//! What a company's trains would earn at their best: now, and after a lay or a token.
+ghost use Rattle.std.specs.Prelude.{◌≡◌, IfOk};
+ghost use Rattle.board_state.specs.MapState.{position_of, with_lay, with_token};
+ghost use Rattle.legal_runs.specs.Set.{IsGreatestMoney};
+ghost use Rattle.operating.specs.Act.{with_home};
+ghost use Rattle.operating.specs.MapState.{map_state_now};
+
+use crate::fault::MovesFault;
+use crate::turn_start::board_at_start;
+use best_run::Search;
+use board::Board;
+use desk_base::DeskFault;
+use history::History;
+use legal_runs::Runner;
+use map_tables::{Lay, Place};
+use std::alloc::Global;
+use tables::{Company, Kind, Money, Round};
+
+/// A company with its trains, as its turn begins.
+#[derive(Clone, Copy)]
+pub(crate) struct Trains<'a> {
+    pub(crate) alloc: Global,
+    pub(crate) history: &'a History,
+    pub(crate) company: Company,
+    pub(crate) kinds: &'a [Kind],
+}
+
+impl Trains<'_> {
+    /// Returns the greatest revenue of the trains now, in dollars. The error is `Memory`.
+    pub(crate) fn best_now(self) -> Result<Money, MovesFault>
+        ensures { IfOk result (IsGreatestMoney
+            (position_of (map_state_now (with_home self.history.now self.company).events))
+            self.company self.kinds.now) }
+    {
+        let board = board_at_start(self.alloc, self.history, self.company)?;
+        self.best_on(&board)
+    }
+
+    /// Returns the greatest revenue of the trains after a lay, in dollars. The error is `Memory`.
+    pub(crate) fn best_after_lay(self, lay: Lay) -> Result<Money, MovesFault>
+        ensures { IfOk result (IsGreatestMoney
+            (position_of (with_lay (map_state_now (with_home self.history.now self.company).events) lay))
+            self.company self.kinds.now) }
+    {
+        let mut board = board_at_start(self.alloc, self.history, self.company)?;
+        board.put_lay(lay)?;
+        self.best_on(&board)
+    }
+
+    /// Returns the greatest revenue of the trains after a token, in dollars. The error is `Memory`.
+    pub(crate) fn best_after_token(self, place: Place) -> Result<Money, MovesFault>
+        ensures { IfOk result (IsGreatestMoney
+            (position_of (with_token (map_state_now (with_home self.history.now self.company).events)
+            place self.company)) self.company self.kinds.now) }
+    {
+        let mut board = board_at_start(self.alloc, self.history, self.company)?;
+        board.put_token(place, self.company)?;
+        self.best_on(&board)
+    }
+
+    /// Returns the greatest revenue of the trains on a board, in dollars. The error is `Memory`.
+    fn best_on(self, board: &Board) -> Result<Money, MovesFault>
+        ensures { IfOk result
+            (IsGreatestMoney (position_of board.now) self.company self.kinds.now) }
+    {
+        // A search takes no account of the round.
+        let any_round = Round::Operating { set: 1, number: 1 };
+        let mut search = Search::new(self.alloc);
+        match search.earn(board, any_round, self.company, self.kinds) {
+            Ok(revenue) => Ok(revenue),
+            // An allocation failed: passed on.
+            Err(_) => Err(MovesFault::Desk(DeskFault::Memory)),
+        }
+    }
+}

@@ -1,0 +1,82 @@
+ghost use Rattle.std.specs.Prelude.{◌≡◌};
+ghost use Rattle.desk.specs.declared.fault.DeskFault.TheVariants.{Memory};
+ghost use Rattle.desk.specs.Fault.{fault_of_file};
+ghost use Rattle.desk_moves.specs.Fault.{of_desk};
+
+use desk_base::DeskFault;
+use sheets::FileFault;
+use std::alloc::AllocError;
+
+/// Why a question about moves has no answer.
+#[derive(Clone, Copy)]
+pub enum MovesFault {
+    /// The file is refused, the round is not played, or an allocation failed.
+    Desk(DeskFault),
+    /// The game cannot answer it.
+    Asked(NoAnswer),
+}
+
+/// Why a game cannot answer a question.
+#[derive(Clone, Copy)]
+pub enum NoAnswer {
+    /// The game is over.
+    GameOver,
+    /// The company is not started.
+    NotStarted,
+    /// The company has no president.
+    NoPresident,
+    /// Nobody who plays has that name.
+    NoSuchPlayer,
+    /// The company has no train, and none is named.
+    NoTrains,
+    /// A kind is named more often than there are such trains.
+    TooManyOfKind,
+    /// A kind is named whose trains have rusted.
+    Rusted,
+    /// More trains are named than a company may have in this phase.
+    OverLimit,
+    /// A player owes a sheet who is not among those that are named.
+    OwesToo,
+}
+
+impl NoAnswer {
+    /// Returns a sentence that says so.
+    pub fn sentence(self) -> &'static str {
+        match self {
+            NoAnswer::GameOver => "the game is over by then",
+            NoAnswer::NotStarted => "that company is not started",
+            NoAnswer::NoPresident => "that company has no president",
+            NoAnswer::NoSuchPlayer => "nobody who plays has that name",
+            NoAnswer::NoTrains => "that company has no train; name some, as in `best PRR 2 2`",
+            NoAnswer::TooManyOfKind => "there are not so many trains of one kind",
+            NoAnswer::Rusted => "trains of one of these kinds have rusted",
+            NoAnswer::OverLimit => "a company may not have so many trains in this phase",
+            NoAnswer::OwesToo => "somebody who is not named owes a sheet as well",
+        }
+    }
+}
+
+impl From<DeskFault> for MovesFault {
+    ghost from_gives = { λ fault moves. moves ≡ of_desk fault };
+
+    fn from(fault: DeskFault) -> MovesFault {
+        MovesFault::Desk(fault)
+    }
+}
+
+impl From<AllocError> for MovesFault {
+    ghost from_gives = { λ _ fault. fault ≡ of_desk Memory };
+
+    fn from(_error: AllocError) -> MovesFault {
+        // An allocation failed: passed on.
+        MovesFault::Desk(DeskFault::Memory)
+    }
+}
+
+impl From<FileFault> for MovesFault {
+    ghost from_gives = { λ file fault. fault ≡ of_desk (fault_of_file file) };
+
+    fn from(fault: FileFault) -> MovesFault {
+        MovesFault::Desk(DeskFault::from(fault))
+    }
+}

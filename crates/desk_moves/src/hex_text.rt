@@ -1,0 +1,151 @@
+//! A hex as it is: its colour and tile, its terrain, its stops, and what meets at its sides.
+
+use crate::hex_sides::push_sides;
+use crate::turn_start::board_now;
+use board::Board;
+use board_state::OnMap;
+use desk::Stood;
+use desk_base::Piece::{Bytes, Column, Number, Right, Words};
+use desk_base::{fill, push};
+use history::Holder;
+use map_tables::{
+    Colour, Hex, HexKind, Stop, StopNumber, TileKind, hex_kind, joined_stop, printed_colour,
+    printed_slots, printed_stops, private_hexes, terrain_cost, tile,
+};
+use reach::Network;
+use report::name;
+use std::alloc::{AllocError, Global};
+use tables::{Company, Money, Private};
+
+/// Returns a hex as text. Fails only if allocation fails.
+pub(crate) fn hex_text(alloc: Global, stood: &Stood, hex: Hex) -> Result<Vec<u8>, AllocError> {
+    let board = board_now(alloc, stood.history)?;
+    let mut text = Vec::new(alloc);
+    push_ground(&mut text, &board, hex)?;
+    push_blocked(&mut text, stood, hex)?;
+    push_stops(&mut text, &board, hex)?;
+    push_sides(&mut text, &board, hex)?;
+    Ok(text)
+}
+
+/// Adds the hex, its colour, the tile that lies there, what it takes, and the cost of its terrain.
+fn push_ground(out: &mut Vec<u8>, board: &Board, hex: Hex) -> Result<(), AllocError> {
+    let text = hex.text();
+    let name = Bytes(text.as_slice());
+    let takes = Words(takes_of(hex));
+    let colour = match (hex_kind(hex), board.tile_on(hex)) {
+        (HexKind::Grey, _) => "grey",
+        (HexKind::Red, _) => "red",
+        (_, Some(lay)) => name_of(tile(lay.tile).colour),
+        (_, None) => name_of(printed_colour(hex)),
+    };
+    fill(
+        out,
+        "HEX               %\nTAKES             %\nCOLOUR            %\nTILE",
+        &[name, takes, Words(colour)],
+    )?;
+    match board.tile_on(hex) {
+        Some(lay) => {
+            let number = Number(Money::from(lay.tile.number()));
+            let turns = Number(lay.rot.turns() as Money);
+            let swap = Words(if lay.swap { " SWAP" } else { "" });
+            fill(out, "%%, rotation %%\n", &[Column(18), number, turns, swap])?;
+        }
+        None => fill(out, "%none\n", &[Column(18)])?,
+    }
+    let cost = Number(Money::from(terrain_cost(hex)));
+    let paid = if board.tile_on(hex).is_some() {
+        ", paid"
+    } else {
+        ""
+    };
+    match terrain_cost(hex) {
+        0 => Ok(()),
+        _ => fill(out, "TERRAIN           %%\n", &[cost, Words(paid)]),
+    }
+}
+
+/// Returns what tiles a hex takes, in words.
+fn takes_of(hex: Hex) -> &'static str {
+    match hex_kind(hex) {
+        HexKind::Grey | HexKind::Red => "no tile",
+        HexKind::Open(kind) => match kind {
+            TileKind::Plain => "tiles with track alone",
+            TileKind::Town => "tiles with a town",
+            TileKind::TwoTowns => "tiles with two towns",
+            TileKind::City => "tiles with a city",
+            TileKind::CityB => "tiles with a city B",
+            TileKind::CitiesNY => "tiles with the cities NY",
+            TileKind::CitiesOO => "tiles with two cities OO",
+        },
+    }
+}
+
+/// Returns the name of a colour.
+fn name_of(colour: Colour) -> &'static str {
+    match colour {
+        Colour::White => "white",
+        Colour::Yellow => "yellow",
+        Colour::Green => "green",
+        Colour::Brown => "brown",
+    }
+}
+
+/// Adds that no tile may be laid, if a player owns the private of the hex.
+fn push_blocked(out: &mut Vec<u8>, stood: &Stood, hex: Hex) -> Result<(), AllocError> {
+    for private in &Private::ALL {
+        let is_its = private_hexes(*private).iter().any(|its| *its == hex);
+        if let Some(Holder::Seat(seat)) = stood.history.owner(*private)
+            && is_its
+        {
+            let code = Words(private.code());
+            let owner = Bytes(name(stood.sheets, seat));
+            fill(out, "CLOSED            while % owns %\n", &[owner, code])?;
+        }
+    }
+    Ok(())
+}
+
+/// Adds the stops of a hex: what each is worth now, and its slots with their tokens.
+fn push_stops(out: &mut Vec<u8>, board: &Board, hex: Hex) -> Result<(), AllocError> {
+    if printed_stops(hex) == 0 {
+        return Ok(());
+    }
+    fill(out, "\nSTOP    VALUE  SLOTS  TOKENS\n", &[])?;
+    for number in &[StopNumber::First, StopNumber::Second] {
+        let stop = Stop {
+            hex,
+            number: *number,
+        };
+        if number.index() < printed_stops(hex) {
+            push_stop(out, board, stop)?;
+        }
+    }
+    Ok(())
+}
+
+/// Adds a stop: its name, its value, how many slots it has, and the companies whose tokens are there.
+fn push_stop(out: &mut Vec<u8>, board: &Board, stop: Stop) -> Result<(), AllocError> {
+    let place = stop.place().text();
+    let value = Money::from(board.value(stop));
+    let slots = match board.tile_on(stop.hex) {
+        Some(lay) => tile(lay.tile).slots,
+        None => printed_slots(stop.hex),
+    };
+    push(
+        out,
+        &[
+            Bytes(place.as_slice()),
+            Column(8),
+            Right(5, value),
+            Right(7, Money::from(slots)),
+            Column(21),
+        ],
+    )?;
+    for company in &Company::ALL {
+        if board.token(joined_stop(stop), *company) {
+            fill(out, " %", &[Words(company.code())])?;
+        }
+    }
+    fill(out, "\n", &[])
+}

@@ -1,0 +1,68 @@
+//! A company's lays and tokens as order lines, each as a sheet could hold it, four spaces, and its price.
+ghost use Rattle.std.specs.Prelude.{◌≡◌, ◌++◌, IfOk, OnOk};
+ghost use Rattle.std.specs.List.{flat_map};
+ghost use Rattle.desk_moves.specs.Lines.{AreLines, lay_line, priced_line, token_line};
+ghost use Rattle.operating.specs.Act.{with_home};
+
+use crate::turn_start::{asker_at_start, board_at_start};
+use history::History;
+use map_tables::{Lay, Place};
+use moves::{Priced, lays, tokens};
+use order_grammar::{Order, print_number, print_order};
+use std::alloc::{AllocError, Global};
+use tables::{Company, Money};
+
+/// Between an order and its price.
+const GAP: &[u8; 4] = b"    ";
+
+/// Returns every lay and every token of a company as its turn begins, a line each: the order, four
+/// spaces, and its price in dollars. Lays come first, in the order of hex, tile, rotation and SWAP;
+/// then tokens, in that of hex and stop. Fails only if allocation fails.
+pub(crate) fn line_text(
+    alloc: Global,
+    history: &History,
+    company: Company,
+) -> Result<Vec<u8>, AllocError>
+    ensures { IfOk result (λ text.
+        AreLines (with_home history.now company) company text.items) }
+{
+    let board = board_at_start(alloc, history, company)?;
+    let asker = asker_at_start(history, company);
+    let lays = lays(alloc, &board, &asker)?;
+    let tokens = tokens(alloc, &board, &asker)?;
+    let mut text = Vec::new(alloc);
+    push_lay_lines(&mut text, lays.as_slice())?;
+    push_token_lines(&mut text, tokens.as_slice())?;
+    Ok(text)
+}
+
+/// Adds the lines of some lays.
+fn push_lay_lines(out: &mut Vec<u8>, lays: &[Priced<Lay>]) -> Result<(), AllocError>
+    ensures { OnOk result (out.new.items ≡ out.old.items ++ flat_map lay_line lays.now) }
+{
+    for lay in lays {
+        push_priced_line(out, &Order::Lay(lay.what), lay.price)?;
+    }
+    Ok(())
+}
+
+/// Adds the lines of some tokens.
+fn push_token_lines(out: &mut Vec<u8>, tokens: &[Priced<Place>]) -> Result<(), AllocError>
+    ensures { OnOk result (out.new.items ≡ out.old.items ++ flat_map token_line tokens.now) }
+{
+    for token in tokens {
+        push_priced_line(out, &Order::Token(token.what), token.price)?;
+    }
+    Ok(())
+}
+
+/// Adds the line of an order with its price.
+fn push_priced_line(out: &mut Vec<u8>, order: &Order, price: Money) -> Result<(), AllocError>
+    ensures { OnOk result (out.new.items ≡ out.old.items ++ priced_line order.now price) }
+{
+    print_order(out, order)?;
+    out.extend_from_slice(GAP)?;
+    print_number(out, price)?;
+    out.push(b'\n')?;
+    Ok(())
+}

@@ -1,0 +1,208 @@
+//! What a player's companies may buy in an operating round.
+
+use crate::may_line::{push_may, push_may_not, push_note_column};
+use desk::Stood;
+use desk_base::Piece::{Bytes, Column, Number, Words};
+use desk_base::{fill, push};
+use history::{History, Holder, Party, Refusal, TrainSeller};
+use market::operating_order;
+use moves::{Priced, owned_privates, trains};
+use order_grammar::{Order, TrainSource};
+use purchases::{Purchase, judge_private, judge_purchase, sells};
+use report::name;
+use sheets::Sheets;
+use std::alloc::{AllocError, Global};
+use tables::{Amount, Company, Kind, Money, Private, Seat, face, limit};
+
+/// A company of a player's, in a game as it stood.
+#[derive(Clone, Copy)]
+struct Buyer<'a> {
+    alloc: Global,
+    sheets: &'a Sheets<'a>,
+    history: &'a History,
+    seat: Seat,
+    company: Company,
+}
+
+/// Adds what each company of a player's may buy with the cash of now, and what it might be expected to
+/// buy and may not: companies that operate first, in their order, and then those that are not floated.
+pub(crate) fn push_of_operating(
+    alloc: Global,
+    out: &mut Vec<u8>,
+    stood: &Stood,
+    seat: Seat,
+) -> Result<(), AllocError> {
+    for company in operating_order(stood.history).as_slice() {
+        if stood.history.now().president(*company) == Some(seat) {
+            let buyer = Buyer {
+                alloc,
+                sheets: stood.sheets,
+                history: stood.history,
+                seat,
+                company: *company,
+            };
+            buyer.push_all(out)?;
+        }
+    }
+    for company in &Company::ALL {
+        let is_his = stood.history.now().president(*company) == Some(seat);
+        if is_his && !stood.history.floated(*company) {
+            fill(
+                out,
+                "\nCOMPANY %%not floated\n",
+                &[Words(company.code()), Column(18)],
+            )?;
+        }
+    }
+    Ok(())
+}
+
+impl Buyer<'_> {
+    /// Adds the company with its cash and trains, and what it may buy and may not.
+    fn push_all(self, out: &mut Vec<u8>) -> Result<(), AllocError> {
+        self.push_heading(out)?;
+        let trains = trains(self.alloc, self.history, self.company)?;
+        for train in &trains {
+            self.push_train(out, *train)?;
+        }
+        let privates = owned_privates(self.alloc, self.history, self.company)?;
+        for private in &privates {
+            self.push_private(out, *private)?;
+        }
+        self.push_trains_not_bought(out, trains.as_slice())?;
+        self.push_privates_not_bought(out, privates.as_slice())
+    }
+
+    /// Adds the company's code, its cash, and its trains of how many.
+    fn push_heading(self, out: &mut Vec<u8>) -> Result<(), AllocError> {
+        let cash = Number(self.cash());
+        let code = Words(self.company.code());
+        fill(out, "\nCOMPANY %%cash %, trains", &[code, Column(18), cash])?;
+        let mut none = " none";
+        for kind in &Kind::ALL {
+            for _ in 0..self.history.trains(Some(self.company), *kind) {
+                fill(out, " %", &[Words(kind.code())])?;
+                none = "";
+            }
+        }
+        let most = Number(limit(self.history.phase()) as Money);
+        fill(out, "% of %\n", &[Words(none), most])
+    }
+
+    /// Returns what the company has, in dollars.
+    fn cash(self) -> Money {
+        self.history.cash(Party::of_company(self.company))
+    }
+
+    /// Adds a train that the company may buy, with who must consent, and up to which price.
+    fn push_train(self, out: &mut Vec<u8>, train: Priced<Purchase>) -> Result<(), AllocError> {
+        push_may(out, &order_of_train(train.what), train.price)?;
+        if let TrainSeller::Company(seller) = train.what.from {
+            let president = self.history.now().president(seller);
+            self.push_up_to(out, self.cash(), president)?;
+        }
+        fill(out, "\n", &[])
+    }
+
+    /// Adds a private that the company may buy, with who must consent, and up to which price.
+    fn push_private(self, out: &mut Vec<u8>, private: Priced<Private>) -> Result<(), AllocError> {
+        let order = Order::BuyOwnedPrivate {
+            private: private.what,
+            price: least_price(private.what),
+        };
+        push_may(out, &order, private.price)?;
+        let most = 2 * Money::from(face(private.what));
+        let owner = match self.history.owner(private.what) {
+            Some(Holder::Seat(seat)) => Some(seat),
+            _ => None,
+        };
+        self.push_up_to(out, most.min(self.cash()), owner)?;
+        fill(out, "\n", &[])
+    }
+
+    /// Adds up to which price a purchase may be made, and who must consent, if it is not the player.
+    fn push_up_to(
+        self,
+        out: &mut Vec<u8>,
+        most: Money,
+        giver: Option<Seat>,
+    ) -> Result<(), AllocError> {
+        push_note_column(out)?;
+        fill(out, "up to %", &[Number(most)])?;
+        match giver {
+            Some(giver) if giver != self.seat => {
+                fill(out, ", if % offers it", &[Bytes(name(self.sheets, giver))])
+            }
+            _ => Ok(()),
+        }
+    }
+
+    /// Adds each kind that the bank sells of which the company may buy none, with why.
+    fn push_trains_not_bought(
+        self,
+        out: &mut Vec<u8>,
+        listed: &[Priced<Purchase>],
+    ) -> Result<(), AllocError> {
+        for kind in &Kind::ALL {
+            let purchase = Purchase {
+                kind: *kind,
+                from: TrainSeller::Bank,
+                trade_in: None,
+                asked: None,
+            };
+            if !sells(&self.history.now(), *kind) || listed.iter().any(|one| one.what == purchase) {
+                continue;
+            }
+            if let Some(rule) = judge_purchase(self.history, self.company, purchase) {
+                let order = order_of_train(purchase);
+                push_may_not(self.alloc, out, &order, Refusal::Train(rule))?;
+            }
+        }
+        Ok(())
+    }
+
+    /// Adds each private of a player that the company may not buy, with why.
+    fn push_privates_not_bought(
+        self,
+        out: &mut Vec<u8>,
+        listed: &[Priced<Private>],
+    ) -> Result<(), AllocError> {
+        for private in &Private::ALL {
+            let is_players = matches!(self.history.owner(*private), Some(Holder::Seat(_)));
+            if !is_players || listed.iter().any(|one| one.what == *private) {
+                continue;
+            }
+            let price = least_price(*private);
+            if let Some(rule) = judge_private(self.history, self.company, *private, price) {
+                let order = Order::BuyOwnedPrivate {
+                    private: *private,
+                    price,
+                };
+                push_may_not(self.alloc, out, &order, Refusal::Private(rule))?;
+            }
+        }
+        Ok(())
+    }
+}
+
+/// Returns the order of the purchase of a train.
+fn order_of_train(purchase: Purchase) -> Order {
+    let from = match (purchase.from, purchase.trade_in) {
+        (TrainSeller::Bank, None) => TrainSource::Bank,
+        (TrainSeller::Bank, Some(kind)) => TrainSource::Trade(kind),
+        (TrainSeller::BankPool, _) => TrainSource::BankPool,
+        (TrainSeller::Company(seller), _) => TrainSource::Company {
+            seller,
+            price: purchase.asked.unwrap_or(0),
+        },
+    };
+    Order::BuyTrain {
+        kind: purchase.kind,
+        from,
+    }
+}
+
+/// Returns the least price of a private: half of its face value.
+fn least_price(private: Private) -> Amount {
+    face(private) / 2
+}

@@ -1,0 +1,141 @@
+//! A trial: the file with an empty sheet for each player who owes one, played one round on. Nothing of it
+//! is kept.
+ghost use Rattle.std.specs.Prelude.{◌≡◌, ◌++◌, ◌≤◌, IfErr, IfOk, OnOk, is_none};
+ghost use Rattle.desk_moves.specs.Trial.{empty_sheet, sheet_owed, sheets_owed_before, tried_file};
+ghost use Rattle.desk_moves.specs.Trial.{with_line_end};
+ghost use Rattle.report.specs.Line.{name_of};
+ghost use Rattle.sheets.specs.File.{players_of, sheet_of};
+ghost use Rattle.std.specs.Prelude.{length};
+
+use crate::fault::{MovesFault, NoAnswer};
+use crate::may_text::seat_named;
+use desk_round::{bulletin, round_with_rules};
+use order_grammar::print_round;
+use report::name;
+use rounds::{End, play};
+use sheets::{Sheets, collect};
+use std::alloc::{AllocError, Global};
+use tables::{Round, Seat};
+
+/// How a trial is told.
+#[derive(Clone, Copy)]
+pub enum TrialForm {
+    /// As a bulletin.
+    Bulletin,
+    /// As the round's part of the report, with the rules that refused lines broke.
+    Rules,
+}
+
+/// Returns how the round that is awaited would come out if each player who owes a sheet for it sent an
+/// empty one. If players are named, they must be all who owe one. The error is the fault of the file,
+/// that the game is over, that nobody has a name, that somebody who is not named owes a sheet, or
+/// `Memory`.
+pub fn trial(
+    alloc: Global,
+    file: &[u8],
+    players: &[&str],
+    form: TrialForm,
+) -> Result<Vec<u8>, MovesFault> {
+    let sheets = collect(alloc, file)?;
+    let round = round_awaited(alloc, &sheets)?;
+    must_name_all(&sheets, players, round)?;
+    let tried = tried_file(alloc, file, &sheets, round)?;
+    match form {
+        TrialForm::Bulletin => Ok(bulletin(alloc, tried.as_slice(), Some(round))?),
+        TrialForm::Rules => Ok(round_with_rules(alloc, tried.as_slice(), Some(round))?),
+    }
+}
+
+/// Returns the round that is awaited. The error says that the game is over, or is `Memory`.
+fn round_awaited(alloc: Global, sheets: &Sheets) -> Result<Round, MovesFault> {
+    let game = play(alloc, sheets)?;
+    match game.outcome() {
+        End::Awaiting(round) => Ok(round),
+        End::Bank | End::Bankrupt => Err(MovesFault::Asked(NoAnswer::GameOver)),
+    }
+}
+
+/// Fails unless each name is a player's, and those who owe a sheet for a round are all named, if anybody
+/// is.
+fn must_name_all(sheets: &Sheets, players: &[&str], round: Round) -> Result<(), MovesFault> {
+    for player in players {
+        if seat_named(sheets, player.as_bytes()).is_none() {
+            return Err(MovesFault::Asked(NoAnswer::NoSuchPlayer));
+        }
+    }
+    for seat in 0..sheets.seats() {
+        let seat = Seat::at(seat);
+        if !players.is_empty() && owes(sheets, seat, round) && !is_named(sheets, players, seat) {
+            return Err(MovesFault::Asked(NoAnswer::OwesToo));
+        }
+    }
+    Ok(())
+}
+
+/// Returns whether the player of a seat is among those that are named.
+fn is_named(sheets: &Sheets, players: &[&str], seat: Seat) -> bool {
+    players.iter().any(|player| name(sheets, seat).eq_ignore_ascii_case(player.as_bytes()))
+}
+
+/// Returns an order file with an empty sheet at its end for each player who owes one for a round, and for
+/// no other. Fails only if allocation fails.
+fn tried_file(
+    alloc: Global,
+    file: &[u8],
+    sheets: &Sheets,
+    round: Round,
+) -> Result<Vec<u8>, AllocError>
+    requires { sheets.now ≡ file.now }
+    ensures { IfOk result (λ tried. tried.items ≡ tried_file file.now round) }
+{
+    let mut tried = Vec::from_slice(alloc, file)?;
+    end_line(&mut tried)?;
+    for seat in 0..sheets.seats() {
+        push_owed(&mut tried, sheets, Seat::at(seat), round)?;
+    }
+    Ok(tried)
+}
+
+/// Ends the last line of a text, if it has no end.
+fn end_line(text: &mut Vec<u8>) -> Result<(), AllocError>
+    ensures { OnOk result (text.new.items ≡ with_line_end text.old.items) }
+{
+    match text.as_slice().last() {
+        Some(b'\n') | None => Ok(()),
+        Some(_) => Ok(text.push(b'\n')?),
+    }
+}
+
+/// Adds an empty sheet for a round, if the player of a seat owes one.
+fn push_owed(out: &mut Vec<u8>, sheets: &Sheets, seat: Seat, round: Round) -> Result<(), AllocError>
+    ensures { OnOk result (out.new.items ≡ out.old.items ++ sheet_owed sheets.now round seat.0) }
+{
+    if owes(sheets, seat, round) {
+        push_empty_sheet(out, sheets, seat, round)?;
+    }
+    Ok(())
+}
+
+/// Adds an empty sheet of the player of a seat for a round.
+fn push_empty_sheet(
+    out: &mut Vec<u8>,
+    sheets: &Sheets,
+    seat: Seat,
+    round: Round,
+) -> Result<(), AllocError>
+    ensures { OnOk result (out.new.items ≡ out.old.items ++ empty_sheet sheets.now round seat.0) }
+{
+    out.extend_from_slice(b"SHEET ")?;
+    out.extend_from_slice(name(sheets, seat))?;
+    out.push(b' ')?;
+    print_round(out, &round)?;
+    out.push(b'\n')?;
+    Ok(())
+}
+
+/// Returns whether the player of a seat owes a sheet for a round.
+fn owes(sheets: &Sheets, seat: Seat, round: Round) -> bool
+    ensures { result ≡ is_none (sheet_of sheets.now seat.0 round) }
+{
+    sheets.sheet(seat, &round).is_none()
+}
