@@ -292,7 +292,7 @@ fn argument_of<'a>(alloc: Global, operand: Operand) -> Arg<'a> {
         }
         Operand::Players => Arg::new(alloc, "PLAYER")
             .num_args(0..)
-            .help("All who owe a sheet; not looked at if none is named"),
+            .help("Those who owe a sheet; the trial fails if somebody else does too"),
     }
 }
 

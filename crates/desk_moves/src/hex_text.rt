@@ -17,6 +17,9 @@ use report::name;
 use std::alloc::{AllocError, Global};
 use tables::{Company, Money, Private};
 
+/// The column in front of the tokens of a stop.
+const TOKENS: usize = 21;
+
 /// Returns a hex as text. Fails only if allocation fails.
 pub(crate) fn hex_text(alloc: Global, stood: &Stood, hex: Hex) -> Result<Vec<u8>, AllocError> {
     let board = board_now(alloc, stood.history)?;
@@ -139,12 +142,11 @@ fn push_stop(out: &mut Vec<u8>, board: &Board, stop: Stop) -> Result<(), AllocEr
             Column(8),
             Right(5, value),
             Right(7, Money::from(slots)),
-            Column(21),
         ],
     )?;
     for company in &Company::ALL {
         if board.token(joined_stop(stop), *company) {
-            fill(out, " %", &[Words(company.code())])?;
+            fill(out, "% %", &[Column(TOKENS), Words(company.code())])?;
         }
     }
     fill(out, "\n", &[])
