@@ -92,13 +92,13 @@ what_came() {
 try_every_word() {
   local words status why=
   for words in round 'round --why' 'round OR1.1' runs 'runs SR1' state 'state SR1' 'state --before' bulletin check \
-    'check --all' 'check --from 9'; do
+    'check --all' 'check --from 9' 'lays PRR' 'may ANN' 'best NYC 2' trial 'hex H10'; do
     # shellcheck disable=SC2086
     "$desk" $words < "$1" > "$scratch/out" 2> "$scratch/err"
     status=$?
     case $words,$status in
       check*,2 | *,0 | check*,3) [ ! -s "$scratch/err" ] || why+=" $words says something;" ;;
-      *,2 | round*,1 | runs*,1 | state*,1 | bulletin*,1) [ -s "$scratch/err" ] || why+=" $words says nothing;" ;;
+      *,2 | round*,1 | runs*,1 | state*,1 | bulletin*,1 | lays*,1 | may*,1 | best*,1 | trial*,1) [ -s "$scratch/err" ] || why+=" $words says nothing;" ;;
       *) why+=" $words ends with status $status;" ;;
     esac
   done
@@ -128,6 +128,21 @@ play_session() {
 # try_damaged N: each word of the desk on so many damaged files.
 try_damaged() { take_over bench/damaged "$1" "$desk" "$program"; }
 
+# moves_games: ten games with operating rounds, of which each listed lay and token is tried.
+moves_games() {
+  local name
+  for name in a-city-by-dh a-train-by-offer arrival conditions dh-for-a-company first-dividend gift three-companies-build \
+    three-presidents-deal two-lays-by-cs; do
+    echo "games/$name.orders"
+  done
+}
+
+# try_moves DESK: what that desk lists as lays and tokens is obeyed, and nothing else, before the last operating round of ten games.
+try_moves() {
+  # shellcheck disable=SC2046
+  take_over bench/moves -p "$program" -d "$1" -r 1 -n 500 $(moves_games)
+}
+
 # formats: the document that has the table of the codes.
 formats() { echo docs/players/formats.md; }
 
@@ -143,6 +158,7 @@ check_desk() {
     return
   fi
   try_damaged 100
+  try_moves "$desk"
   side_by_side play_rounds games/*.orders
   side_by_side play_runs games/*.orders games/certificates/certs-*.orders
   has_best games/best-run-of-two-trains.orders || count 'the best runs, written out' 'there are none'
@@ -165,6 +181,9 @@ desk_must_fail() {
   sees 'a table that lacks a code' 1 look_at_codes "$wrong/formats.md"
   cp "games/$it.orders" "$wrong" && sed 's/^ROUND.*/&./' "games/$it.report" > "$wrong/$it.report"
   sees 'a round that is not as in the report' 1 play_rounds "$wrong/$it.orders"
+  desk=$(stub 'exit 5')
+  sees 'lays that are not listed' some try_moves "$desk"
+  sees 'a lay that is listed and not obeyed' some try_moves "$(stub "echo 'LAY 1 H12 0    0'")"
   desk=$(stub 'exit 5')
   sees 'runs that are not written out' 1 play_runs "games/$it.orders"
   sees 'a word with a status that it may not have' 1 try_every_word "games/$it.orders"

@@ -1,5 +1,5 @@
 -- Why a question about moves has no answer.
-use Rattle.desk.specs.declared.fault.DeskFault.{DeskFault}
+use Rattle.desk_base.specs.declared.fault.DeskFault.{DeskFault}
 use Rattle.desk_moves.specs.declared.fault.MovesFault.{MovesFault}
 use Rattle.desk_moves.specs.declared.fault.MovesFault.TheVariants.{Desk}
 

@@ -1,6 +1,6 @@
 ghost use Rattle.std.specs.Prelude.{◌≡◌};
-ghost use Rattle.desk.specs.declared.fault.DeskFault.TheVariants.{Memory};
-ghost use Rattle.desk.specs.Fault.{fault_of_file};
+ghost use Rattle.desk_base.specs.declared.fault.DeskFault.TheVariants.{Memory};
+ghost use Rattle.desk_base.specs.Fault.{fault_of_file};
 ghost use Rattle.desk_moves.specs.Fault.{of_desk};
 
 use desk_base::DeskFault;
