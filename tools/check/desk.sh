@@ -98,7 +98,9 @@ try_every_word() {
     status=$?
     case $words,$status in
       check*,2 | *,0 | check*,3) [ ! -s "$scratch/err" ] || why+=" $words says something;" ;;
-      *,2 | round*,1 | runs*,1 | state*,1 | bulletin*,1 | lays*,1 | may*,1 | best*,1 | trial*,1) [ -s "$scratch/err" ] || why+=" $words says nothing;" ;;
+      *,2 | round*,1 | runs*,1 | state*,1 | bulletin*,1 | lays*,1 | may*,1 | best*,1 | trial*,1 | hex*,1)
+        [ -s "$scratch/err" ] || why+=" $words says nothing;"
+        ;;
       *) why+=" $words ends with status $status;" ;;
     esac
   done
@@ -137,11 +139,8 @@ moves_games() {
   done
 }
 
-# try_moves DESK: what that desk lists as lays and tokens is obeyed, and nothing else, before the last operating round of ten games.
-try_moves() {
-  # shellcheck disable=SC2046
-  take_over bench/moves -p "$program" -d "$1" -r 1 -n 500 $(moves_games)
-}
+# try_moves DESK GAME..: what that desk lists as lays and tokens is obeyed, and nothing else, before the last operating round of games.
+try_moves() { take_over bench/moves -p "$program" -d "$1" -r 1 "${@:2}"; }
 
 # formats: the document that has the table of the codes.
 formats() { echo docs/players/formats.md; }
@@ -158,7 +157,8 @@ check_desk() {
     return
   fi
   try_damaged 100
-  try_moves "$desk"
+  # shellcheck disable=SC2046
+  try_moves "$desk" $(moves_games)
   side_by_side play_rounds games/*.orders
   side_by_side play_runs games/*.orders games/certificates/certs-*.orders
   has_best games/best-run-of-two-trains.orders || count 'the best runs, written out' 'there are none'
@@ -181,9 +181,8 @@ desk_must_fail() {
   sees 'a table that lacks a code' 1 look_at_codes "$wrong/formats.md"
   cp "games/$it.orders" "$wrong" && sed 's/^ROUND.*/&./' "games/$it.report" > "$wrong/$it.report"
   sees 'a round that is not as in the report' 1 play_rounds "$wrong/$it.orders"
-  desk=$(stub 'exit 5')
-  sees 'lays that are not listed' some try_moves "$desk"
-  sees 'a lay that is listed and not obeyed' some try_moves "$(stub "echo 'LAY 1 H12 0    0'")"
+  sees 'lays that are not listed' all try_moves "$(stub 'exit 0')" games/first-dividend.orders
+  sees 'a lay that is listed and not obeyed' all try_moves "$(stub "echo 'LAY 1 H12 0    0'")" games/two-lays-by-cs.orders
   desk=$(stub 'exit 5')
   sees 'runs that are not written out' 1 play_runs "games/$it.orders"
   sees 'a word with a status that it may not have' 1 try_every_word "games/$it.orders"
