@@ -26,7 +26,7 @@ try_desk_words() {
     # shellcheck disable=SC2086
     "$desk" ${words/,/ } < /dev/null > "$scratch/out" 2> "$scratch/err"
     words="desk ${words/,/ }" status=$?
-    [[ $words != *' '*' --help' ]] || grep -q '^Example: desk ' "$scratch/out" || count "$words" 'it has no example'
+    [[ $words != *' '*' --help' ]] || grep -q '^Example: .*desk ' "$scratch/out" || count "$words" 'it has no example'
     cp "$scratch/out" "$scratch/help"
     [ -s "$scratch/help" ] || count "$words" 'it writes nothing'
     judge "$words" "$status" 0 "$scratch/help" none

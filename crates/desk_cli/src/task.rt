@@ -290,9 +290,9 @@ fn argument_of<'a>(alloc: Global, operand: Operand) -> Arg<'a> {
                 .required(true)
                 .help("The player's name")
         }
-        Operand::Players => Arg::new(alloc, "PLAYER")
-            .num_args(0..)
-            .help("Those who owe a sheet; the trial fails if somebody else does too"),
+        Operand::Players => Arg::new(alloc, "PLAYER").num_args(0..).help(
+            "Those who owe a sheet; the trial fails if somebody else does too",
+        ),
     }
 }
 

@@ -6,7 +6,8 @@ use Rattle.operating.specs.Judgement.{asker_of}
 use Rattle.tables.specs.declared.roster.Company.{Company}
 use Rattle.totals.specs.LookBack.{Game}
 
--- the home token that is placed as a company's turn begins changes neither its cash nor who owns the privates
+-- the home token that is placed as a company's turn begins changes neither its cash nor who owns
+-- the privates
 abbrev pub HomeChangesNoAsker : Type 0
 HomeChangesNoAsker =
     (game : Game) (company : Company)

@@ -1,5 +1,5 @@
--- The file that a trial plays: an order file with an empty sheet at its end for each player who owes one for a round, and
--- for no other.
+-- The file that a trial plays: an order file with an empty sheet at its end for each player who
+-- owes one for a round, and for no other.
 use Rattle.std.specs.Prelude.{ℕ, ◌==◌, if◌then◌else◌, List, [], ◌∷◌, ◌++◌, Option, Some, None, codes, is_none, last, length}
 use Rattle.std.specs.List.{flat_map, range_with_len}
 use Rattle.order_grammar.specs.Print.{text_of_round}

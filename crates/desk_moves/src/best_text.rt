@@ -18,9 +18,9 @@ use legal_runs::Claim;
 use std::alloc::{AllocError, Global};
 use tables::{Company, Kind, Money, limit, rusts, train};
 
-/// Returns the best runs of a company as its turn begins, as the desk writes runs: with these trains, or
-/// with those that it has if there are none. The error says what is wrong with the trains, or is
-/// `Memory`.
+/// Returns the best runs of a company as its turn begins, as the desk writes runs: with these
+/// trains, or with those that it has if there are none. The error says what is wrong with the
+/// trains, or is `Memory`.
 pub(crate) fn best_text(
     alloc: Global,
     history: &History,
@@ -52,8 +52,8 @@ fn text_with(
     Ok(text)
 }
 
-/// Returns the greatest revenue of a company's trains on a board, with runs that earn it. Fails only if
-/// allocation fails.
+/// Returns the greatest revenue of a company's trains on a board, with runs that earn it. Fails
+/// only if allocation fails.
 fn best_claim(
     alloc: Global,
     board: &Board,
@@ -84,8 +84,8 @@ fn push_claim(
     Ok(())
 }
 
-/// Fails unless a company may have these trains in a phase, some of which may come only later: no kind
-/// has rusted, there are as many of each, and the limit allows as many.
+/// Fails unless a company may have these trains in a phase, some of which may come only later: no
+/// kind has rusted, there are as many of each, and the limit allows as many.
 fn may_have(phase: Kind, trains: &[Kind]) -> Result<(), MovesFault> {
     for kind in &Kind::ALL {
         let named = trains

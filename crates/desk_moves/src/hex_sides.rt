@@ -17,8 +17,8 @@ const HERE: usize = 18;
 /// The column of the track of the neighbour.
 const THERE: usize = 32;
 
-/// Adds each side of a hex with its neighbour, where the track of the hex leads from there, and where the
-/// neighbour's does.
+/// Adds each side of a hex with its neighbour, where the track of the hex leads from there, and
+/// where the neighbour's does.
 pub(crate) fn push_sides(out: &mut Vec<u8>, board: &Board, hex: Hex) -> Result<(), AllocError> {
     fill(out, "\nSIDE         HEX  TRACK TO      ITS TRACK TO\n", &[])?;
     for side in &Side::ALL {
@@ -117,8 +117,8 @@ fn push_end(out: &mut Vec<u8>, hex: Hex, end: End) -> Result<(), AllocError> {
     }
 }
 
-/// Returns what is said of a neighbour to which no track may lead: one that is grey or red and has no
-/// track at that side.
+/// Returns what is said of a neighbour to which no track may lead: one that is grey or red and has
+/// no track at that side.
 fn closed_by(board: &Board, hex: Hex, side: Side) -> &'static str {
     let has_track = board
         .links(hex)

@@ -127,7 +127,8 @@ fn push_stops(out: &mut Vec<u8>, board: &Board, hex: Hex) -> Result<(), AllocErr
     Ok(())
 }
 
-/// Adds a stop: its name, its value, how many slots it has, and the companies whose tokens are there.
+/// Adds a stop: its name, its value, how many slots it has, and the companies whose tokens are
+/// there.
 fn push_stop(out: &mut Vec<u8>, board: &Board, stop: Stop) -> Result<(), AllocError> {
     let place = stop.place().text();
     let value = Money::from(board.value(stop));

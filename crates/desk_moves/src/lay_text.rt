@@ -1,5 +1,5 @@
-//! A company's lays and tokens for a reader: for each hex and tile the rotations, with what is left of the
-//! tile and the price; where asked for, what the company's trains would earn after each.
+//! A company's lays and tokens for a reader: for each hex and tile the rotations, with what is left
+//! of the tile and the price; where asked for, what the company's trains would earn after each.
 
 use crate::best_after::Trains;
 use crate::fault::{MovesFault, NoAnswer};
@@ -23,8 +23,8 @@ const ROTATIONS: usize = 24;
 /// The column of the rotations behind a revenue.
 const BEHIND_REVENUE: usize = 38;
 
-/// Returns what a company may lay and where it may place its next token as its turn begins, as text. The
-/// error says that the game is over, or is `Memory`.
+/// Returns what a company may lay and where it may place its next token as its turn begins, as
+/// text. The error says that the game is over, or is `Memory`.
 pub(crate) fn lay_text(
     alloc: Global,
     stood: &Stood,
@@ -214,7 +214,8 @@ fn push_revenue(out: &mut Vec<u8>, best: Money, now: Money) -> Result<(), AllocE
     push(out, &[Right(7, best), Right(7, best.saturating_sub(now))])
 }
 
-/// Adds the rotation of a lay, and each other that gives the same track, by the lays from this one on.
+/// Adds the rotation of a lay, and each other that gives the same track, by the lays from this one
+/// on.
 fn push_rotations(out: &mut Vec<u8>, from: &[Priced<Lay>], lay: Lay) -> Result<(), AllocError> {
     let mut sign = "";
     for other in from {

@@ -1,16 +1,17 @@
-//! What may be done in a game, for its players: the tiles that a company may lay, its tokens, its best
-//! runs; what a player may buy, bid and sell; what a hex is; and a trial of the sheets that are there.
+//! What may be done in a game, for its players: the tiles that a company may lay, its tokens, its
+//! best runs; what a player may buy, bid and sell; what a hex is; and a trial of the sheets that
+//! are there.
 //!
-//! Each answer is made from the lists of `moves`, which ask the calls that rule lines, or by the search
-//! that a RUN BEST uses. Each call takes the allocator and the bytes of an order file, and returns text;
-//! no call reads or writes a stream.
+//! Each answer is made from the lists of `moves`, which ask the calls that rule lines, or by the
+//! search that a RUN BEST uses. Each call takes the allocator and the bytes of an order file, and
+//! returns text; no call reads or writes a stream.
 //!
-//! Reading order: `fault` (why there is no answer), `words` (companies, hexes and trains on a command
-//! line), `told` (`answer`: the game that is asked), `turn_start` (a company as its turn begins),
-//! `line_text` (its lays and tokens as order lines), `best_after` and `lay_text` (the same for a reader,
-//! with revenues), `turn_order` (who operates before it), `best_text` (its best runs), `may_text` (what
-//! a player may do) with `may_opening`, `may_stock`, `may_operating` and `may_line`, `hex_text` with
-//! `hex_sides`, `trial` (`trial`).
+//! Reading order: `fault` (why there is no answer), `words` (companies, hexes and trains on a
+//! command line), `told` (`answer`: the game that is asked), `turn_start` (a company as its turn
+//! begins), `line_text` (its lays and tokens as order lines), `best_after` and `lay_text` (the same
+//! for a reader, with revenues), `turn_order` (who operates before it), `best_text` (its best
+//! runs), `may_text` (what a player may do) with `may_opening`, `may_stock`, `may_operating` and
+//! `may_line`, `hex_text` with `hex_sides`, `trial` (`trial`).
 #![tactic(auto)]
 
 mod best_after;

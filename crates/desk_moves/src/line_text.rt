@@ -1,4 +1,5 @@
-//! A company's lays and tokens as order lines, each as a sheet could hold it, four spaces, and its price.
+//! A company's lays and tokens as order lines, each as a sheet could hold it, four spaces, and its
+//! price.
 ghost use Rattle.std.specs.Prelude.{◌≡◌, ◌++◌, IfOk, OnOk};
 ghost use Rattle.std.specs.List.{flat_map};
 ghost use Rattle.desk_moves.specs.Lines.{AreLines, lay_line, priced_line, token_line};

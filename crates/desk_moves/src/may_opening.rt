@@ -12,8 +12,8 @@ use privates::judge;
 use std::alloc::{AllocError, Global};
 use tables::{Amount, Private, Seat, face};
 
-/// Adds the privates that a player may buy, and the least bid on each on which they may bid; and of the
-/// other unsold ones why they may not.
+/// Adds the privates that a player may buy, and the least bid on each on which they may bid; and of
+/// the other unsold ones why they may not.
 pub(crate) fn push_of_opening(
     alloc: Global,
     out: &mut Vec<u8>,

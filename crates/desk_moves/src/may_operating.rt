@@ -24,8 +24,9 @@ struct Buyer<'a> {
     company: Company,
 }
 
-/// Adds what each company of a player's may buy with the cash of now, and what it might be expected to
-/// buy and may not: companies that operate first, in their order, and then those that are not floated.
+/// Adds what each company of a player's may buy with the cash of now, and what it might be expected
+/// to buy and may not: companies that operate first, in their order, and then those that are not
+/// floated.
 pub(crate) fn push_of_operating(
     alloc: Global,
     out: &mut Vec<u8>,
@@ -120,7 +121,8 @@ impl Buyer<'_> {
         fill(out, "\n", &[])
     }
 
-    /// Adds up to which price a purchase may be made, and who must consent, if it is not the player.
+    /// Adds up to which price a purchase may be made, and who must consent, if it is not the
+    /// player.
     fn push_up_to(
         self,
         out: &mut Vec<u8>,

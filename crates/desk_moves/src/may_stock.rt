@@ -18,8 +18,8 @@ const LEAST_PAR: Amount = 67;
 /// Where a share may be bought.
 const SOURCES: [ShareSource; 2] = [ShareSource::InitialOffering, ShareSource::BankPool];
 
-/// Adds what a player may buy, sell and exchange as their turn begins, and what they might expect and may
-/// not.
+/// Adds what a player may buy, sell and exchange as their turn begins, and what they might expect
+/// and may not.
 pub(crate) fn push_of_stock(
     alloc: Global,
     out: &mut Vec<u8>,
@@ -133,7 +133,8 @@ fn push_square(out: &mut Vec<u8>, square: Square) -> Result<(), AllocError> {
     fill(out, "% %%", &pieces)
 }
 
-/// Adds the exchange of MH, if the player owns it: where the share comes from, or why there is none.
+/// Adds the exchange of MH, if the player owns it: where the share comes from, or why there is
+/// none.
 fn push_exchange(
     alloc: Global,
     out: &mut Vec<u8>,

@@ -15,8 +15,8 @@ use sheets::Sheets;
 use std::alloc::{AllocError, Global};
 use tables::{Money, Round, Seat, certificate_limit};
 
-/// Returns what the player of a name may do in the round that comes next, as their turn begins, if it
-/// began now. The error says that nobody has that name or that the game is over, or is `Memory`.
+/// Returns what the player of a name may do in the round that comes next, as their turn begins, if
+/// it began now. The error says that nobody has that name or that the game is over, or is `Memory`.
 pub(crate) fn may_text(alloc: Global, stood: &Stood, player: &[u8]) -> Result<Vec<u8>, MovesFault> {
     let Some(seat) = seat_named(stood.sheets, player) else {
         return Err(MovesFault::Asked(NoAnswer::NoSuchPlayer));

@@ -1,4 +1,5 @@
-//! What is asked, and the game that answers it: as its sheets leave it, or as it stood after a round.
+//! What is asked, and the game that answers it: as its sheets leave it, or as it stood after a
+//! round.
 
 use crate::best_text::best_text;
 use crate::fault::{MovesFault, NoAnswer};
@@ -43,8 +44,8 @@ pub struct LayForm {
 }
 
 /// Returns the answer to a question as text, by the game of an order file: after a round, or as its
-/// sheets leave it if none is named. The error is the fault of the file, `Round` if the round is not
-/// played, why the game has no answer, or `Memory` if an allocation fails.
+/// sheets leave it if none is named. The error is the fault of the file, `Round` if the round is
+/// not played, why the game has no answer, or `Memory` if an allocation fails.
 pub fn answer(
     alloc: Global,
     file: &[u8],

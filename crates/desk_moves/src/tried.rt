@@ -1,5 +1,5 @@
-//! A trial: the file with an empty sheet for each player who owes one, played one round on. Nothing of it
-//! is kept.
+//! A trial: the file with an empty sheet for each player who owes one, played one round on. Nothing
+//! of it is kept.
 ghost use Rattle.std.specs.Prelude.{◌≡◌, ◌++◌, ◌≤◌, IfErr, IfOk, OnOk, is_none};
 ghost use Rattle.desk_moves.specs.Trial.{empty_sheet, sheet_owed, sheets_owed_before, tried_file};
 ghost use Rattle.desk_moves.specs.Trial.{with_line_end};
@@ -26,10 +26,10 @@ pub enum TrialForm {
     Rules,
 }
 
-/// Returns how the round that is awaited would come out if each player who owes a sheet for it sent an
-/// empty one. If players are named, they must be all who owe one. The error is the fault of the file,
-/// that the game is over, that nobody has a name, that somebody who is not named owes a sheet, or
-/// `Memory`.
+/// Returns how the round that is awaited would come out if each player who owes a sheet for it sent
+/// an empty one. If players are named, they must be all who owe one. The error is the fault of the
+/// file, that the game is over, that nobody has a name, that somebody who is not named owes a
+/// sheet, or `Memory`.
 pub fn trial(
     alloc: Global,
     file: &[u8],
@@ -55,8 +55,8 @@ fn round_awaited(alloc: Global, sheets: &Sheets) -> Result<Round, MovesFault> {
     }
 }
 
-/// Fails unless each name is a player's, and those who owe a sheet for a round are all named, if anybody
-/// is.
+/// Fails unless each name is a player's, and those who owe a sheet for a round are all named, if
+/// anybody is.
 fn must_name_all(sheets: &Sheets, players: &[&str], round: Round) -> Result<(), MovesFault> {
     for player in players {
         if seat_named(sheets, player.as_bytes()).is_none() {
@@ -77,8 +77,8 @@ fn is_named(sheets: &Sheets, players: &[&str], seat: Seat) -> bool {
     players.iter().any(|player| name(sheets, seat).eq_ignore_ascii_case(player.as_bytes()))
 }
 
-/// Returns an order file with an empty sheet at its end for each player who owes one for a round, and for
-/// no other. Fails only if allocation fails.
+/// Returns an order file with an empty sheet at its end for each player who owes one for a round,
+/// and for no other. Fails only if allocation fails.
 fn tried_file(
     alloc: Global,
     file: &[u8],

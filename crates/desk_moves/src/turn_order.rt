@@ -8,9 +8,9 @@ use rounds::End;
 use std::alloc::AllocError;
 use tables::{Company, Round};
 
-/// Adds what is played before a company's next turn: the round that comes next, if it is no operating
-/// round, and the companies before it in the operating order of now. The price of a company that is not
-/// floated sets no place in it.
+/// Adds what is played before a company's next turn: the round that comes next, if it is no
+/// operating round, and the companies before it in the operating order of now. The price of a
+/// company that is not floated sets no place in it.
 pub(crate) fn push_before(
     out: &mut Vec<u8>,
     stood: &Stood,

@@ -1,5 +1,5 @@
-//! A company as its next turn begins, if it began now: on the map and with the cash of now, with its
-//! home token.
+//! A company as its next turn begins, if it began now: on the map and with the cash of now, with
+//! its home token.
 ghost use Rattle.std.specs.Prelude.{◌≡◌, IfOk, OnOk, map};
 ghost use Rattle.board_state.specs.MapState.{map_state_of};
 ghost use Rattle.desk_moves.specs.Start.{AskerAtStart, tokens_at_start};
@@ -19,8 +19,8 @@ use map_tables::{Place, Stop, home, joined_stop};
 use std::alloc::{AllocError, Global};
 use tables::{Company, Private};
 
-/// Returns the board as a company's turn begins: with the tiles and tokens of now, and with its home
-/// token. Fails only if allocation fails.
+/// Returns the board as a company's turn begins: with the tiles and tokens of now, and with its
+/// home token. Fails only if allocation fails.
 #[tactic(auto, using(crate::proofs::StartLemmas::board_at_start))]
 pub(crate) fn board_at_start(
     alloc: Global,

@@ -203,7 +203,8 @@ impl Telling<'_> {
         push_wrapped(out, BROUGHT + 4, why.as_slice())
     }
 
-    /// Adds a line of a sheet: its order as the report prints it, or the columns of a line with a fault that are shown.
+    /// Adds a line of a sheet: its order as the report prints it, or the columns of a line with a
+    /// fault that are shown.
     fn push_line(
         &self,
         out: &mut Vec<u8>,

@@ -23,8 +23,8 @@ pub(crate) struct SheetLine<'a> {
     pub(crate) company: Option<Company>,
 }
 
-/// Returns the lines of all sheets for a round, up to the last that is kept. Fails only if allocation
-/// fails.
+/// Returns the lines of all sheets for a round, up to the last that is kept. Fails only if
+/// allocation fails.
 pub(crate) fn lines_of<'a>(
     alloc: Global,
     sheets: &Sheets<'a>,
