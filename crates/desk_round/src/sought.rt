@@ -10,11 +10,11 @@ use desk_base::{
     Objection, bad_side, board_at, fill, objection_by_view, objection_to, push, push_objection,
 };
 use history::{
-    GameView, Holder, LayRule, OpeningRule, Party, PrivateRule, Refusal, Ruling, RunRule,
+    Event, GameView, Holder, LayRule, OpeningRule, Party, PrivateRule, Refusal, Ruling, RunRule,
     Shareholder, StockRule, TokenRule, TrainRule,
 };
 use map_tables::{Colour, Hex, Lay, neighbour, printed_colour, tile};
-use order_grammar::{Condition, Order};
+use order_grammar::{Condition, Order, TrainSource};
 use report::name;
 use sheets::Sheets;
 use std::alloc::{AllocError, Global};
@@ -79,7 +79,9 @@ pub(crate) fn push_sought<'a>(
         order,
     };
     match rule {
+        Refusal::Opening(OpeningRule::NotOfOpening) => push_of_par(out, ruled, *rule, order),
         Refusal::Opening(rule) => refused.push_of_opening(out, *rule),
+        Refusal::Stock(StockRule::NoExchange) => refused.push_of_exchange(out),
         Refusal::Stock(rule) => refused.push_of_stock(out, *rule),
         Refusal::Condition => push_of_condition(out, view, *condition),
         _ => {
@@ -171,6 +173,23 @@ impl<'a> Refused<'a> {
         }
     }
 
+    /// Adds why MH cannot be exchanged: who owns it, or what the seat and the bank have of NYC.
+    fn push_of_exchange(&self, out: &mut Vec<u8>) -> Result<(), AllocError> {
+        let owner = self.view.owner(Private::MohawkHudson);
+        if owner != Some(Holder::Seat(self.seat)) {
+            let reason = Objection::Owner(Private::MohawkHudson, owner);
+            return push_objection(out, self.sheets, reason);
+        }
+        let company = Company::NewYorkCentral;
+        let pieces = [
+            Bytes(name(self.sheets, self.seat)),
+            Number(self.view.shares(company, Shareholder::Seat(self.seat))),
+            Number(self.view.shares(company, Shareholder::InitialOffering)),
+            Number(self.view.shares(company, Shareholder::BankPool)),
+        ];
+        fill(out, " (% has % of NYC, % are in IPO, % in POOL)", &pieces)
+    }
+
     /// Adds the one cause among those of a rule of an operating round, where it is at hand.
     fn push_cause(
         &self,
@@ -237,6 +256,19 @@ fn push_bad_side(out: &mut Vec<u8>, lay: Lay) -> Result<(), AllocError> {
     fill(out, ")", &[])
 }
 
+/// Adds why a PAR of an opening is none: it is not BO's, or names no par value.
+fn push_of_par(
+    out: &mut Vec<u8>,
+    ruled: Ruled,
+    rule: Refusal,
+    order: &Order,
+) -> Result<(), AllocError> {
+    match objection_to(ruled.round, false, order) {
+        Some((code, reason)) if code == rule.code() => push_objection(out, ruled.sheets, reason),
+        _ => Ok(()),
+    }
+}
+
 /// Adds why an order breaks a rule, where the map and the tables alone show it.
 fn push_by_tables(
     alloc: Global,
@@ -272,6 +304,21 @@ fn push_by_view(
             }
         }
         (Refusal::Token(TokenRule::NoFreeSlot), _) => fill(out, " (no slot is free)", &[]),
+        (Refusal::Pay(_), _) => push_of_pay(out, ruled),
+        (Refusal::Private(PrivateRule::NoConsent), Order::BuyOwnedPrivate { private, .. }) => {
+            let reason = Objection::Owner(*private, ruled.view.owner(*private));
+            push_objection(out, ruled.sheets, reason)
+        }
+        (
+            Refusal::Train(TrainRule::NoConsent),
+            Order::BuyTrain {
+                from: TrainSource::Company { seller, price },
+                ..
+            },
+        ) if *price > 0 => {
+            let reason = Objection::President(*seller, ruled.view.president(*seller));
+            push_objection(out, ruled.sheets, reason)
+        }
         (Refusal::Lay(LayRule::WrongTile), Order::Lay(lay)) => {
             let hex = lay.hex.text();
             let colour = Words(colour_of(ruled.view, lay.hex));
@@ -286,6 +333,34 @@ fn push_by_view(
             _ => Ok(()),
         },
     }
+}
+
+/// Adds whether the company in hand has paid or withheld, or has earned nothing.
+fn push_of_pay(out: &mut Vec<u8>, ruled: Ruled) -> Result<(), AllocError> {
+    let Some(company) = ruled.company else {
+        return Ok(());
+    };
+    let words = if has_paid(ruled.view, company) {
+        " (% has paid or withheld)"
+    } else {
+        " (% has earned nothing)"
+    };
+    fill(out, words, &[Words(company.code())])
+}
+
+/// Returns whether a company has paid or withheld in the round in hand.
+fn has_paid(view: &GameView, its: Company) -> bool {
+    let mut has_paid = false;
+    for event in view.events {
+        match event {
+            Event::Round(_) => has_paid = false,
+            Event::Dividend { company, .. } | Event::Withheld { company, .. } => {
+                has_paid = has_paid || *company == its;
+            }
+            _ => {}
+        }
+    }
+    has_paid
 }
 
 /// Returns the name of the colour of a hex at a moment of the game.
@@ -346,12 +421,12 @@ fn push_of_condition(
 ) -> Result<(), AllocError> {
     match condition {
         Some(Condition::Price(company, _)) => {
-            let price = Number(Money::from(market_price(view, company)));
-            fill(
-                out,
-                " (the price of % is %)",
-                &[Words(company.code()), price],
-            )
+            let (code, price) = (Words(company.code()), market_price(view, company));
+            if price == 0 {
+                return fill(out, " (% has no price)", &[code]);
+            }
+            let price = Number(Money::from(price));
+            fill(out, " (the price of % is %)", &[code, price])
         }
         Some(Condition::Phase(_)) => {
             fill(out, " (the phase is %)", &[Words(view.phase().code())])
