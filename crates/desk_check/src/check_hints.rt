@@ -151,7 +151,7 @@ fn push_nearest(
     let (words, count) = words_of(line);
     let end = if from == 0 { 1 } else { count };
     for (place, word) in words.iter().enumerate() {
-        if place < from || place >= end || has_digit(word) {
+        if place < from || place >= end || has_digit(word) || is_first(word) {
             continue;
         }
         if let Some(code) = nearest(word, codes) {
@@ -164,6 +164,11 @@ fn push_nearest(
 /// Adds what to write for a word.
 fn push_write(out: &mut Vec<u8>, word: &[u8], code: &[u8]) -> Result<(), AllocError> {
     fill(out, "; for % write %", &[Cut(word, 12), Bytes(code)])
+}
+
+/// Returns whether a word begins some form of line, as that of an order under a condition does.
+fn is_first(word: &[u8]) -> bool {
+    FIRSTS.iter().any(|first| word.eq_ignore_ascii_case(first))
 }
 
 /// Returns whether a word has a digit, as numbers and places have.
