@@ -1,5 +1,5 @@
 -- What the desk says of moves.
 pub mod Fault
 pub mod Lines
-pub mod Start
 pub mod Trial
+pub mod Start

@@ -1,5 +1,5 @@
--- The lays and tokens of a company as order lines: those that it may make as its turn begins, all
--- of them and no others, in their order, each with its price behind four spaces.
+-- The lays and tokens of a company as order lines: those that it may make as its turn begins, all of them and no others,
+-- in their order, each with its price behind four spaces.
 use Rattle.std.specs.Prelude.{◌≡◌, ℕ, List, [], ◌∷◌, ◌++◌, codes, ℤ}
 use Rattle.std.specs.Fmt.{signed_decimal}
 use Rattle.std.specs.List.{flat_map}
@@ -25,8 +25,7 @@ lay_line lay = priced_line (order.Lay lay.what) lay.price
 abbrev pub token_line : Priced Place → List ℕ
 token_line token = priced_line (order.Token token.what) token.price
 
--- these are the lines of the lays and tokens that a company may make as its turn begins in this
--- game
+-- these are the lines of the lays and tokens that a company may make as its turn begins in this game
 pub record AreLines (game : Game) (company : Company) (text : List ℕ) : Type 0 where
   pub lays : List (Priced Lay)
   pub are_lays : AreLaysAtStart game company lays

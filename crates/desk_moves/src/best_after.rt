@@ -1,9 +1,8 @@
 //! What a company's trains would earn at their best: now, and after a lay or a token.
-ghost use Rattle.std.specs.Prelude.{◌≡◌, IfOk};
+ghost use Rattle.std.specs.Prelude.{IfOk};
 ghost use Rattle.board_state.specs.MapState.{position_of, with_lay, with_token};
+ghost use Rattle.desk_moves.specs.Start.{map_at_start};
 ghost use Rattle.legal_runs.specs.Set.{IsGreatestMoney};
-ghost use Rattle.operating.specs.Act.{with_home};
-ghost use Rattle.operating.specs.MapState.{map_state_now};
 
 use crate::fault::MovesFault;
 use crate::turn_start::board_at_start;
@@ -28,9 +27,8 @@ pub(crate) struct Trains<'a> {
 impl Trains<'_> {
     /// Returns the greatest revenue of the trains now, in dollars. The error is `Memory`.
     pub(crate) fn best_now(self) -> Result<Money, MovesFault>
-        ensures { IfOk result (IsGreatestMoney
-            (position_of (map_state_now (with_home self.history.now self.company).events))
-            self.company self.kinds.now) }
+        ensures { let its = self.entry in IfOk result (IsGreatestMoney
+            (position_of (map_at_start its.history.now its.company)) its.company its.kinds.now) }
     {
         let board = board_at_start(self.alloc, self.history, self.company)?;
         self.best_on(&board)
@@ -38,9 +36,9 @@ impl Trains<'_> {
 
     /// Returns the greatest revenue of the trains after a lay, in dollars. The error is `Memory`.
     pub(crate) fn best_after_lay(self, lay: Lay) -> Result<Money, MovesFault>
-        ensures { IfOk result (IsGreatestMoney
-            (position_of (with_lay (map_state_now (with_home self.history.now self.company).events) lay))
-            self.company self.kinds.now) }
+        ensures { let its = self.entry in IfOk result (IsGreatestMoney
+            (position_of (with_lay (map_at_start its.history.now its.company) lay))
+            its.company its.kinds.now) }
     {
         let mut board = board_at_start(self.alloc, self.history, self.company)?;
         board.put_lay(lay)?;
@@ -49,9 +47,9 @@ impl Trains<'_> {
 
     /// Returns the greatest revenue of the trains after a token, in dollars. The error is `Memory`.
     pub(crate) fn best_after_token(self, place: Place) -> Result<Money, MovesFault>
-        ensures { IfOk result (IsGreatestMoney
-            (position_of (with_token (map_state_now (with_home self.history.now self.company).events)
-            place self.company)) self.company self.kinds.now) }
+        ensures { let its = self.entry in IfOk result (IsGreatestMoney
+            (position_of (with_token (map_at_start its.history.now its.company) place its.company))
+            its.company its.kinds.now) }
     {
         let mut board = board_at_start(self.alloc, self.history, self.company)?;
         board.put_token(place, self.company)?;
@@ -60,8 +58,8 @@ impl Trains<'_> {
 
     /// Returns the greatest revenue of the trains on a board, in dollars. The error is `Memory`.
     fn best_on(self, board: &Board) -> Result<Money, MovesFault>
-        ensures { IfOk result
-            (IsGreatestMoney (position_of board.now) self.company self.kinds.now) }
+        ensures { let its = self.entry in
+            IfOk result (IsGreatestMoney (position_of board.now) its.company its.kinds.now) }
     {
         // A search takes no account of the round.
         let any_round = Round::Operating { set: 1, number: 1 };

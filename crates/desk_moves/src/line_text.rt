@@ -42,9 +42,16 @@ fn push_lay_lines(out: &mut Vec<u8>, lays: &[Priced<Lay>]) -> Result<(), AllocEr
     ensures { OnOk result (out.new.items ≡ out.old.items ++ flat_map lay_line lays.now) }
 {
     for lay in lays {
-        push_priced_line(out, &Order::Lay(lay.what), lay.price)?;
+        push_lay_line(out, lay)?;
     }
     Ok(())
+}
+
+/// Adds the line of a lay.
+fn push_lay_line(out: &mut Vec<u8>, lay: &Priced<Lay>) -> Result<(), AllocError>
+    ensures { OnOk result (out.new.items ≡ out.old.items ++ lay_line lay.now) }
+{
+    push_priced_line(out, &Order::Lay(lay.what), lay.price)
 }
 
 /// Adds the lines of some tokens.
@@ -52,9 +59,16 @@ fn push_token_lines(out: &mut Vec<u8>, tokens: &[Priced<Place>]) -> Result<(), A
     ensures { OnOk result (out.new.items ≡ out.old.items ++ flat_map token_line tokens.now) }
 {
     for token in tokens {
-        push_priced_line(out, &Order::Token(token.what), token.price)?;
+        push_token_line(out, token)?;
     }
     Ok(())
+}
+
+/// Adds the line of a token.
+fn push_token_line(out: &mut Vec<u8>, token: &Priced<Place>) -> Result<(), AllocError>
+    ensures { OnOk result (out.new.items ≡ out.old.items ++ token_line token.now) }
+{
+    push_priced_line(out, &Order::Token(token.what), token.price)
 }
 
 /// Adds the line of an order with its price.

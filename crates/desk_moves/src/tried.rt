@@ -1,11 +1,8 @@
 //! A trial: the file with an empty sheet for each player who owes one, played one round on. Nothing
 //! of it is kept.
-ghost use Rattle.std.specs.Prelude.{◌≡◌, ◌++◌, ◌≤◌, IfErr, IfOk, OnOk, is_none};
-ghost use Rattle.desk_moves.specs.Trial.{empty_sheet, sheet_owed, sheets_owed_before, tried_file};
-ghost use Rattle.desk_moves.specs.Trial.{with_line_end};
-ghost use Rattle.report.specs.Line.{name_of};
-ghost use Rattle.sheets.specs.File.{players_of, sheet_of};
-ghost use Rattle.std.specs.Prelude.{length};
+ghost use Rattle.std.specs.Prelude.{◌≡◌, ◌++◌, IfOk, OnOk, is_none};
+ghost use Rattle.desk_moves.specs.Trial.{empty_sheet, has_open_line, sheet_owed, tried_file, with_line_end};
+ghost use Rattle.sheets.specs.File.{sheet_of};
 
 use crate::fault::{MovesFault, NoAnswer};
 use crate::may_text::seat_named;
@@ -100,9 +97,19 @@ fn tried_file(
 fn end_line(text: &mut Vec<u8>) -> Result<(), AllocError>
     ensures { OnOk result (text.new.items ≡ with_line_end text.old.items) }
 {
-    match text.as_slice().last() {
-        Some(b'\n') | None => Ok(()),
-        Some(_) => Ok(text.push(b'\n')?),
+    if has_open_line(text.as_slice()) {
+        text.push(b'\n')?;
+    }
+    Ok(())
+}
+
+/// Returns whether the last line of a text has no end.
+fn has_open_line(text: &[u8]) -> bool
+    ensures { result ≡ has_open_line text.now }
+{
+    match text.get(text.len().saturating_sub(1)) {
+        Some(last) => *last != b'\n',
+        None => false,
     }
 }
 

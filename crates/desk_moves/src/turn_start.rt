@@ -1,8 +1,7 @@
 //! A company as its next turn begins, if it began now: on the map and with the cash of now, with
 //! its home token.
-ghost use Rattle.std.specs.Prelude.{◌≡◌, IfOk, OnOk, map};
-ghost use Rattle.board_state.specs.MapState.{map_state_of};
-ghost use Rattle.desk_moves.specs.Start.{AskerAtStart, tokens_at_start};
+ghost use Rattle.std.specs.Prelude.{◌≡◌, IfOk, map};
+ghost use Rattle.desk_moves.specs.Start.{map_at_start};
 ghost use Rattle.map_tables.specs.OnMap.{has_token, names};
 ghost use Rattle.operating.specs.Act.{has_home_token, with_home};
 ghost use Rattle.operating.specs.InTurn.{at_start};
@@ -10,7 +9,6 @@ ghost use Rattle.operating.specs.Judgement.{asker_of, is_companys, is_players};
 ghost use Rattle.operating.specs.MapState.{map_state_now};
 ghost use Rattle.tables.specs.Roster.{privates};
 ghost use Rattle.totals.specs.LookBack.{owner_in};
-ghost use Rattle.totals.specs.Operating.{lays_of, tokens_of};
 
 use board::{Asker, Board, TurnStep};
 use board_state::same_stop;
@@ -21,19 +19,18 @@ use tables::{Company, Private};
 
 /// Returns the board as a company's turn begins: with the tiles and tokens of now, and with its
 /// home token. Fails only if allocation fails.
-#[tactic(auto, using(crate::proofs::StartLemmas::board_at_start))]
 pub(crate) fn board_at_start(
     alloc: Global,
     history: &History,
     company: Company,
 ) -> Result<Board, AllocError>
-    ensures { IfOk result (λ board.
-        board ≡ map_state_now (with_home history.now company).events) }
+    ensures { IfOk result (λ board. board ≡ map_at_start history.now company) }
 {
     let mut board = board_now(alloc, history)?;
-    if !has_home_token(history, company) {
-        board.put_token(home(company).place(), company)?;
+    if has_home_token(history, company) {
+        return Ok(board);
     }
+    board.put_token(home(company).place(), company)?;
     Ok(board)
 }
 
@@ -76,7 +73,6 @@ fn names(stop: Stop, place: Place) -> bool
 }
 
 /// Returns a company as the rules of the board see it as its turn begins.
-#[tactic(auto, using(crate::proofs::StartLemmas::asker_at_start))]
 pub(crate) fn asker_at_start(history: &History, company: Company) -> Asker
     ensures { result ≡ asker_of (with_home history.now company) company at_start }
 {
