@@ -95,9 +95,9 @@ compile_edits() {
     here=() later=()
     rm -rf "$copy"
     copy_tree "$copy"
-    # (the program calls all crates that have wrong bodies but treasury and the desk's, which then
+    # (the program calls all crates that have wrong bodies but treasury, moves and the desk's, which then
     # are compiled too)
-    sed -i '/^umpire_cli:/ s/$/ treasury desk_base desk_check desk desk_round/' "$copy/crates.txt"
+    sed -i '/^umpire_cli:/ s/$/ treasury moves desk_base desk_check desk desk_round desk_moves/' "$copy/crates.txt"
     for edit in "$@"; do
       read_edit "$edit" "$copy/crates/$(crate_of "$edit")"
       if [ -n "$why" ]; then
