@@ -116,12 +116,10 @@ fn ends_quoted(line: &[u8]) -> bool {
 
 /// Returns whether a line has a sign of equality as a quoted-printable mail writes it.
 fn has_quoted_sign(line: &[u8]) -> bool {
-    let mut rest = line;
-    while let [_, behind @ ..] = rest {
-        if rest.starts_with(b"=3D") {
+    for (at, _) in line.iter().enumerate() {
+        if line[at..].starts_with(b"=3D") {
             return true;
         }
-        rest = behind;
     }
     false
 }
@@ -168,7 +166,12 @@ fn push_write(out: &mut Vec<u8>, word: &[u8], code: &[u8]) -> Result<(), AllocEr
 
 /// Returns whether a word begins some form of line, as that of an order under a condition does.
 fn is_first(word: &[u8]) -> bool {
-    FIRSTS.iter().any(|first| word.eq_ignore_ascii_case(first))
+    for first in &FIRSTS {
+        if word.eq_ignore_ascii_case(first) {
+            return true;
+        }
+    }
+    false
 }
 
 /// Returns whether a word has a digit, as numbers and places have.

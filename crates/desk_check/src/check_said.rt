@@ -4,7 +4,7 @@ use crate::check_found::Said;
 use crate::check_hints::push_hint;
 use crate::check_text::push_rule;
 use desk_base::Piece::{Number, Words};
-use desk_base::{fill, push_objection, who};
+use desk_base::{Objection, fill, push_objection, who};
 use order_grammar::Fault;
 use sheets::Sheets;
 use std::alloc::AllocError;
@@ -33,7 +33,11 @@ pub(crate) fn push_said(
         }
         Said::Breaks(code, reason) => {
             push_rule(out, "", code)?;
-            push_objection(out, sheets, reason)
+            push_objection(out, sheets, reason)?;
+            match reason {
+                Objection::NoTrain(..) => fill(out, " as the round begins", &[]),
+                _ => Ok(()),
+            }
         }
         Said::Presided(company, president) => {
             let words = "% presides over %: nobody looks at these orders";
