@@ -5,7 +5,7 @@ use crate::task::{Job, Task};
 use desk::{Moment, state};
 use desk_base::{DeskFault, Reason, all_reasons_text, explain, list_text, reason_text};
 use desk_check::{Extent, check};
-use desk_moves::{LayForm, MovesFault, Question, TrialForm, answer, trial};
+use desk_moves::{LayForm, MovesFault, Progress, Question, TrialForm, answer, trial};
 use desk_round::{bulletin, round, round_with_rules, runs};
 use report::refusal_text;
 use std::alloc::{AllocError, Global};
@@ -46,10 +46,11 @@ pub(crate) struct Answer<'a> {
 }
 
 /// Returns what to write for a task and an order file.
-pub(crate) fn answer_to<'a>(
+pub(crate) fn answer_to<'a, P: Progress>(
     alloc: Global,
     file: &[u8],
     task: &Task<'a>,
+    progress: &mut P,
 ) -> Result<Answer<'a>, StreamFault> {
     if let Job::Explain = task.job {
         return explained(alloc, task);
@@ -65,7 +66,7 @@ pub(crate) fn answer_to<'a>(
         return moves_answered(
             alloc,
             task.round.is_some(),
-            moves_told_of(alloc, file, task),
+            moves_told_of(alloc, file, task, progress),
         );
     }
     let asked = Asking {
@@ -139,7 +140,12 @@ fn answer_with<'a>(
 }
 
 /// Returns what there is to say of moves in the game of a file.
-fn moves_told_of(alloc: Global, file: &[u8], task: &Task) -> Result<Vec<u8>, MovesFault> {
+fn moves_told_of<P: Progress>(
+    alloc: Global,
+    file: &[u8],
+    task: &Task,
+    progress: &mut P,
+) -> Result<Vec<u8>, MovesFault> {
     let question = match (task.job, task.company, task.hex) {
         (Job::Lays, Some(company), _) => Question::Lays {
             company,
@@ -159,7 +165,7 @@ fn moves_told_of(alloc: Global, file: &[u8], task: &Task) -> Result<Vec<u8>, Mov
         }
         _ => return trial_told_of(alloc, file, task),
     };
-    answer(alloc, file, task.round, question)
+    answer(alloc, file, task.round, question, progress)
 }
 
 /// Returns the text of a trial.

@@ -3,17 +3,19 @@
 //! `state` how the game stands.
 //!
 //! Reading order: `task` (the command line), `streams` (standard input and output), `answers` (what
-//! is written, and the status), `version`.
+//! is written, and the status), `waiting` (what is said while that takes long), `version`.
 #![tactic(auto)]
 
 mod answers;
 mod streams;
 mod task;
 mod version;
+mod waiting;
 
 use crate::answers::{MISUSED, answer_to};
 use crate::streams::{StreamFault, read_file, write_text};
 use crate::task::{Asked, Task, asked_by};
+use crate::waiting::Waiting;
 use clap::Error;
 use clap::error::ErrorKind;
 use std::process::ExitCode;
@@ -69,7 +71,8 @@ fn perform(rt: &HostRuntime, task: &Task) -> Result<u8, StreamFault> {
     } else {
         Vec::new(rt.alloc())
     };
-    let answer = answer_to(rt.alloc(), file.as_slice(), task)?;
+    let mut waiting = Waiting::new(rt);
+    let answer = answer_to(rt.alloc(), file.as_slice(), task, &mut waiting)?;
     write_text(io::writer(rt), answer.text.as_slice())?;
     if !answer.note.is_empty() {
         let _ = eprintln!(rt; "desk: {}{}", answer.note, answer.about);

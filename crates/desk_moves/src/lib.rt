@@ -6,12 +6,12 @@
 //! search that a RUN BEST uses. Each call takes the allocator and the bytes of an order file, and
 //! returns text; no call reads or writes a stream.
 //!
-//! Reading order: `fault` (why there is no answer), `words` (companies, hexes and trains on a
-//! command line), `told` (`answer`: the game that is asked), `turn_start` (a company as its turn
-//! begins), `line_text` (its lays and tokens as order lines), `best_after` and `lay_text` (the same
-//! for a reader, with revenues), `turn_order` (who operates before it), `best_text` (its best
-//! runs), `may_text` (what a player may do) with `may_opening`, `may_stock`, `may_operating` and
-//! `may_line`, `hex_text` with `hex_sides`, `trial` (`trial`).
+//! Reading order: `fault` (why there is no answer), `progress` (how far one is), `words` (companies,
+//! hexes and trains on a command line), `told` (`answer`: the game that is asked), `turn_start` (a
+//! company as its turn begins), `line_text` (its lays and tokens as order lines), `lay_text` (the
+//! same for a reader), `best_after` and `lay_best` (with revenues), `turn_order` (who operates
+//! before it), `best_text` (its best runs), `may_text` (what a player may do) with `may_opening`,
+//! `may_stock`, `may_operating` and `may_line`, `hex_text` with `hex_sides`, `tried` (`trial`).
 #![tactic(auto)]
 
 mod best_after;
@@ -19,6 +19,7 @@ mod best_text;
 mod fault;
 mod hex_sides;
 mod hex_text;
+mod lay_best;
 mod lay_text;
 mod line_text;
 mod may_line;
@@ -26,6 +27,7 @@ mod may_opening;
 mod may_operating;
 mod may_stock;
 mod may_text;
+mod progress;
 mod told;
 mod tried;
 mod turn_order;
@@ -33,6 +35,7 @@ mod turn_start;
 mod words;
 
 pub use fault::{MovesFault, NoAnswer};
+pub use progress::Progress;
 pub use told::{LayForm, Question, answer};
 pub use tried::{TrialForm, trial};
 pub use words::{read_company, read_hex, read_kind};

@@ -7,10 +7,11 @@ use crate::hex_text::hex_text;
 use crate::lay_text::lay_text;
 use crate::line_text::line_text;
 use crate::may_text::may_text;
+use crate::progress::Progress;
 use desk::{Stood, play_behind, stood_at_last, stood_now};
 use desk_base::DeskFault;
 use map_tables::Hex;
-use rounds::play;
+use rounds::{End, play};
 use sheets::{Sheets, collect};
 use std::alloc::Global;
 use tables::{Company, Kind, Round};
@@ -46,49 +47,61 @@ pub struct LayForm {
 /// Returns the answer to a question as text, by the game of an order file: after a round, or as its
 /// sheets leave it if none is named. The error is the fault of the file, `Round` if the round is
 /// not played, why the game has no answer, or `Memory` if an allocation fails.
-pub fn answer(
+pub fn answer<P: Progress>(
     alloc: Global,
     file: &[u8],
     after: Option<Round>,
     question: Question,
+    progress: &mut P,
 ) -> Result<Vec<u8>, MovesFault> {
     let sheets = collect(alloc, file)?;
     match after {
-        Some(round) => answer_after(alloc, &sheets, round, question),
-        None => answer_at_last(alloc, &sheets, question),
+        Some(round) => answer_after(alloc, &sheets, round, question, progress),
+        None => answer_at_last(alloc, &sheets, question, progress),
     }
 }
 
 /// Returns the answer by the game of some sheets as they leave it.
-fn answer_at_last(
+fn answer_at_last<P: Progress>(
     alloc: Global,
     sheets: &Sheets,
     question: Question,
+    progress: &mut P,
 ) -> Result<Vec<u8>, MovesFault> {
     let game = play(alloc, sheets)?;
-    answer_by(alloc, &stood_at_last(&game), question)
+    answer_by(alloc, &stood_at_last(&game), question, progress)
 }
 
 /// Returns the answer by the game of some sheets as it stood after a round.
-fn answer_after(
+fn answer_after<P: Progress>(
     alloc: Global,
     sheets: &Sheets,
     round: Round,
     question: Question,
+    progress: &mut P,
 ) -> Result<Vec<u8>, MovesFault> {
     let play = play_behind(alloc, sheets, round)?;
     match stood_now(&play) {
-        Some(stood) => answer_by(alloc, &stood, question),
+        Some(stood) => answer_by(alloc, &stood, question, progress),
         None => Err(MovesFault::Desk(DeskFault::Round)),
     }
 }
 
 /// Returns the answer by a game as it stood.
-fn answer_by(alloc: Global, stood: &Stood, question: Question) -> Result<Vec<u8>, MovesFault> {
+fn answer_by<P: Progress>(
+    alloc: Global,
+    stood: &Stood,
+    question: Question,
+    progress: &mut P,
+) -> Result<Vec<u8>, MovesFault> {
     match question {
         Question::Lays { company, form } => {
+            must_go_on(stood)?;
             must_have_president(stood, company)?;
-            answer_of_lays(alloc, stood, company, form)
+            if form.lines && !form.best {
+                return Ok(line_text(alloc, stood.history, company)?);
+            }
+            lay_text(alloc, stood, company, form, progress)
         }
         Question::May(name) => may_text(alloc, stood, name),
         Question::Best { company, trains } => {
@@ -99,17 +112,11 @@ fn answer_by(alloc: Global, stood: &Stood, question: Question) -> Result<Vec<u8>
     }
 }
 
-/// Returns the lays and tokens of a company, in a form.
-fn answer_of_lays(
-    alloc: Global,
-    stood: &Stood,
-    company: Company,
-    form: LayForm,
-) -> Result<Vec<u8>, MovesFault> {
-    if form.lines && !form.best {
-        Ok(line_text(alloc, stood.history, company)?)
-    } else {
-        lay_text(alloc, stood, company, form)
+/// Fails with `GameOver` if no round comes next.
+fn must_go_on(stood: &Stood) -> Result<(), MovesFault> {
+    match stood.end {
+        End::Awaiting(_) => Ok(()),
+        End::Bank | End::Bankrupt => Err(MovesFault::Asked(NoAnswer::GameOver)),
     }
 }
 

@@ -1,0 +1,49 @@
+//! What is said on standard error while a text takes long.
+
+use desk_moves::Progress;
+use std::rt::Runtime;
+use std::time::Instant;
+
+/// How many seconds pass before the first word, and between two.
+const PAUSE: u64 = 2;
+
+/// Says every two seconds how far a text is.
+#[derive(Drop)]
+pub(crate) struct Waiting<'a> {
+    rt: &'a HostRuntime,
+    /// When the first lay had been tried; `None` before, and without a clock.
+    begun: Option<Instant>,
+    /// How often something was said.
+    told: u64,
+}
+
+impl<'a> Waiting<'a> {
+    /// Returns one that has said nothing.
+    pub(crate) fn new(rt: &'a HostRuntime) -> Waiting<'a> {
+        Waiting {
+            rt,
+            begun: None,
+            told: 0,
+        }
+    }
+
+    /// Returns how many seconds have passed since the first lay had been tried.
+    fn seconds(&mut self) -> u64 {
+        if self.begun.is_none() {
+            self.begun = Instant::now(self.rt).ok();
+        }
+        match &self.begun {
+            Some(begun) => begun.elapsed(self.rt).map_or(0, |passed| passed.as_secs()),
+            None => 0,
+        }
+    }
+}
+
+impl Progress for Waiting<'_> {
+    fn tell(&mut self, done: usize, of: usize) {
+        if self.seconds() / PAUSE > self.told {
+            self.told = self.told.saturating_add(1);
+            let _ = eprintln!(self.rt; "desk: {done} of {of} lays and tokens are tried");
+        }
+    }
+}
