@@ -14,14 +14,15 @@ play_desk_text() {
   judge "$name" $? "$status" "$1" none
 }
 
-# explain_codes FILE: of each code the desk says what the table of that document says, and names a game that there is.
+# explain_codes FILE: of each code, in lower case and between spaces, the desk says what the table of that document says, and names a
+# game that there is.
 explain_codes() {
   local row code game why all=0
   while IFS= read -r row; do
     [[ $row =~ ^\|\ ([A-Z][0-9]+)\ \|\ (.*)\ \|\ (.*)\ \|$ ]] || continue
     code=${BASH_REMATCH[1]} why='' all=$((all + 1))
     printf '%s: %s\nTo do: %s\n' "$code" "${BASH_REMATCH[2]}" "${BASH_REMATCH[3]}" > "$scratch/owed"
-    "$desk" explain "$code" < /dev/null > "$scratch/out" 2> "$scratch/err" || why="its status is $?"
+    "$desk" explain " ${code,,} " < /dev/null > "$scratch/out" 2> "$scratch/err" || why="its status is $?"
     head -n 2 "$scratch/out" | cmp -s - "$scratch/owed" || why="it does not say what $1 says"
     game=$(sed -n 's/^Game: //p' "$scratch/out")
     [[ $code == F[34] || ( $game == games/codes/$code-* && -f $game ) ]] || why='it names no game'
