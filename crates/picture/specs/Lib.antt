@@ -1,0 +1,5 @@
+pub mod Points
+pub mod Curves
+pub mod Tags
+pub mod Reading
+pub mod Written

@@ -1,0 +1,87 @@
+//! A link as a curve.
+ghost use Rattle.std.specs.Prelude.{◌≡◌};
+ghost use Rattle.picture.specs.Curves.{end_point};
+
+use crate::bend::{Bend, bend_between, is_clockwise};
+use crate::look::Look;
+use crate::point::{Point, Ring, border_point, on_ring};
+use map_tables::{End, Side, StopNumber};
+
+/// How a curve goes from its first point to its last.
+#[derive(Clone, Copy)]
+pub enum Way {
+    /// Straight.
+    Line,
+    /// Along a circle of this radius; `clockwise` tells which of two.
+    Arc {
+        radius: i32,
+        clockwise: bool,
+    },
+    /// Towards this point first, and from there to the end.
+    Towards(Point),
+}
+
+/// A link as a curve.
+#[derive(Clone, Copy)]
+pub struct Curve {
+    pub from: Point,
+    pub way: Way,
+    pub to: Point,
+}
+
+/// The radius of the arc round a corner.
+const SHARP: i32 = 30;
+
+/// The radius of the arc past a side.
+const GENTLE: i32 = 90;
+
+/// Returns how the way through a hex goes from a side to another.
+pub fn way_across(from: Side, to: Side) -> Way {
+    let radius = match bend_between(from, to) {
+        Bend::Straight => return Way::Line,
+        Bend::Sharp(_) => SHARP,
+        Bend::Gentle(_) => GENTLE,
+    };
+    Way::Arc {
+        radius,
+        clockwise: is_clockwise(from, to),
+    }
+}
+
+/// Returns the point towards which the way between a side and a stop leaves the side.
+pub fn towards(look: &Look, side: Side, stop: StopNumber) -> Point {
+    match look.bend_at(stop) {
+        Some(Bend::Sharp(_)) => on_ring(Ring::Far, side),
+        _ => on_ring(Ring::HalfWay, side),
+    }
+}
+
+/// Returns a link between two ends as a curve, where the stops have these places.
+pub fn curve_of(look: &Look, places: (Point, Point), a: End, b: End) -> Curve
+    ensures from { result.from ≡ end_point places a }
+    ensures to { result.to ≡ end_point places b }
+{
+    let way = match (a, b) {
+        (End::Side(from), End::Side(to)) => way_across(from, to),
+        (End::Side(side), End::Stop(stop)) | (End::Stop(stop), End::Side(side)) => {
+            Way::Towards(towards(look, side, stop))
+        }
+        (End::Stop(_), End::Stop(_)) => Way::Line,
+    };
+    Curve {
+        from: end_point(places, a),
+        way,
+        to: end_point(places, b),
+    }
+}
+
+/// Returns the point of an end of a link: the middle of its side, or the place of its stop.
+pub fn end_point(places: (Point, Point), end: End) -> Point
+    ensures { result ≡ end_point places end }
+{
+    match end {
+        End::Side(side) => border_point(side),
+        End::Stop(StopNumber::First) => places.0,
+        End::Stop(StopNumber::Second) => places.1,
+    }
+}

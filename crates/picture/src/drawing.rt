@@ -1,0 +1,202 @@
+//! The track and the stops of a hex, drawn round its centre.
+
+use crate::curve::{Way, curve_of};
+use crate::look::{Look, Stops};
+use crate::piece::Piece;
+use crate::piece::Piece::{At, Number, Point as To, Words};
+use crate::point::Point;
+use crate::strands::{ENDS, end_number, strands};
+use crate::tag::{Attr, Tag};
+use crate::writer::Writer;
+use map_tables::StopNumber;
+use tables::{Company, Money};
+
+/// What lies in a slot of a city.
+#[derive(Clone, Copy)]
+pub enum Marker {
+    /// Nothing.
+    Free,
+    /// A token.
+    Token(Company),
+    /// Nothing yet: the slot is kept for the home token of this company.
+    Kept(Company),
+}
+
+/// The letters of the companies' tokens, in the order of the roster.
+const LETTERS: [&str; 8] = ["P", "N", "C", "B", "O", "E", "H", "M"];
+
+/// Returns the letter of a company's token.
+pub fn letter(company: Company) -> &'static str {
+    LETTERS[company.place()]
+}
+
+/// Draws the track of a hex, a strand above the other, each black on white.
+pub fn draw_track(out: &mut Writer, look: &Look) {
+    let strands = strands(look.links.as_slice());
+    for strand in 0..ENDS {
+        if has_strand(look, &strands, strand) {
+            draw_strand(out, look, &strands, strand, "u");
+            draw_strand(out, look, &strands, strand, "t");
+        }
+    }
+}
+
+/// Returns whether a link of a hex is in a strand.
+fn has_strand(look: &Look, strands: &[usize; ENDS], strand: usize) -> bool {
+    for link in look.links.as_slice() {
+        if strands[end_number(link.a)] == strand {
+            return true;
+        }
+    }
+    false
+}
+
+/// Draws the links of a strand as one path of a class.
+fn draw_strand(
+    out: &mut Writer,
+    look: &Look,
+    strands: &[usize; ENDS],
+    strand: usize,
+    class: &'static str,
+) {
+    let places = look.places();
+    out.begin(Tag::Path);
+    out.attr(Attr::Class);
+    out.put(&[Words(class)]);
+    out.attr(Attr::D);
+    for link in look.links.as_slice() {
+        if strands[end_number(link.a)] == strand {
+            let curve = curve_of(look, places, link.a, link.b);
+            out.put(&[Words("M"), To(curve.from)]);
+            put_way(out, curve.way, curve.to);
+        }
+    }
+    out.end();
+}
+
+/// Adds how a path goes on from where it is to a point.
+pub fn put_way(out: &mut Writer, way: Way, to: Point) {
+    match way {
+        Way::Line => out.put(&[Words("L"), To(to)]),
+        Way::Towards(by) => out.put(&[Words("Q"), To(by), Words(gap(to)), To(to)]),
+        Way::Arc { radius, clockwise } => out.put(
+            &[
+                Words("A"),
+                At(radius),
+                Words(" "),
+                At(radius),
+                Words(if clockwise { " 0 0 1" } else { " 0 0 0" }),
+                Words(gap(to)),
+                To(to),
+            ],
+        ),
+    }
+}
+
+/// Returns what parts a number from a point behind it: a space, or nothing where a minus follows.
+fn gap(point: Point) -> &'static str {
+    if point.x < 0 { "" } else { " " }
+}
+
+/// Draws the stops of a hex with what lies in their slots; in a hex of two with their numbers.
+pub fn draw_stops(out: &mut Writer, look: &Look, markers: &[[Marker; 2]; 2]) {
+    if look.count > 0 {
+        draw_stop(out, look, StopNumber::First, &markers[0]);
+    }
+    if look.count > 1 {
+        draw_stop(out, look, StopNumber::Second, &markers[1]);
+    }
+}
+
+/// Draws a stop of a hex.
+fn draw_stop(out: &mut Writer, look: &Look, stop: StopNumber, markers: &[Marker; 2]) {
+    match look.stops {
+        Stops::Area => {}
+        Stops::Towns => draw_town(out, look, stop),
+        Stops::Cities => draw_city(out, look, stop, markers),
+    }
+}
+
+/// Draws a town.
+fn draw_town(out: &mut Writer, look: &Look, stop: StopNumber) {
+    let place = look.place(stop);
+    draw_sign(out, "#v", place);
+    if look.count > 1 {
+        put_label(out, "n", place.down(4), Number(stop.index() as Money));
+    }
+}
+
+/// Draws a city with what lies in its slots.
+fn draw_city(out: &mut Writer, look: &Look, stop: StopNumber, markers: &[Marker; 2]) {
+    let (first, second) = look.slot_places(stop);
+    if look.slots > 1 {
+        draw_bar(out, "k", first, second);
+        draw_bar(out, "l", first, second);
+    }
+    draw_slot(out, first, markers[0]);
+    if look.slots > 1 {
+        draw_slot(out, second, markers[1]);
+    }
+    if look.count > 1 {
+        let place = look.number_place(stop);
+        draw_sign(out, "#q", place);
+        put_label(out, "n", place.down(4), Number(stop.index() as Money));
+    }
+}
+
+/// Draws the ground between two slots.
+fn draw_bar(out: &mut Writer, class: &'static str, from: Point, to: Point) {
+    out.begin(Tag::Path);
+    out.attr(Attr::Class);
+    out.put(&[Words(class)]);
+    out.attr(Attr::D);
+    out.put(&[Words("M"), To(from), Words("L"), To(to)]);
+    out.end();
+}
+
+/// Draws a slot with what lies in it.
+fn draw_slot(out: &mut Writer, place: Point, marker: Marker) {
+    draw_sign(out, "#s", place);
+    match marker {
+        Marker::Free => {}
+        Marker::Token(company) => draw_token(out, "#t", company, place),
+        Marker::Kept(company) => draw_token(out, "#r", company, place),
+    }
+}
+
+/// Draws a token of a company, by the first letters of what is drawn.
+pub fn draw_token(out: &mut Writer, sign: &'static str, company: Company, place: Point) {
+    out.begin(Tag::Use);
+    out.attr(Attr::Href);
+    out.put(&[Words(sign), Words(letter(company))]);
+    put_at(out, place);
+    out.end();
+}
+
+/// Draws a sign.
+pub fn draw_sign(out: &mut Writer, sign: &'static str, place: Point) {
+    out.begin(Tag::Use);
+    out.attr(Attr::Href);
+    out.put(&[Words(sign)]);
+    put_at(out, place);
+    out.end();
+}
+
+/// Adds where an element is.
+pub fn put_at(out: &mut Writer, place: Point) {
+    out.attr(Attr::X);
+    out.put(&[At(place.x)]);
+    out.attr(Attr::Y);
+    out.put(&[At(place.y)]);
+}
+
+/// Draws a text of a class.
+pub fn put_label(out: &mut Writer, class: &'static str, place: Point, piece: Piece) {
+    out.begin(Tag::Text);
+    out.attr(Attr::Class);
+    out.put(&[Words(class)]);
+    put_at(out, place);
+    out.within();
+    out.put(&[piece]);
+    out.end();
+}

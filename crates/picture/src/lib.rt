@@ -1,0 +1,40 @@
+//! Pictures of hexes and tiles, and a writer of elements that leaves no element open.
+//!
+//! All geometry is in whole numbers, as tables and a few total functions: `Look` is what shows in a
+//! hex, with the place of each stop; `curve_of` is a link of it as a curve, and `strands` says which
+//! links hang together. `Writer` writes elements: `begin` and `end` keep a list of those that are
+//! open, and `finish` ends what is left. In a contract a reader that knows nothing of the writer
+//! goes over the bytes: what it finds open is what the writer holds open, so that no page is
+//! ill-formed. Beside constant words only numbers, rounds, places and names get in, and of a name
+//! only letters and digits.
+//!
+//! The definitions, in `specs/`: `Points` (the points of a hex), `Curves` (the ends of a link, and
+//! how it bends), `Tags` (the names of elements), `Reading` (the reader), `Written` (what a
+//! writer keeps).
+//!
+//! Reading order: `point`, `bend`, `look` (what shows in a hex, and where), `curve`, `strands`,
+//! `labels` (where there is room for a label), `tag`, `writer`, `piece`, `drawing` (a hex's track and stops).
+#![tactic(auto)]
+
+mod bend;
+mod curve;
+mod drawing;
+mod labels;
+mod look;
+mod piece;
+mod point;
+mod strands;
+mod tag;
+mod writer;
+
+pub use bend::{Bend, bend_between};
+pub use curve::{Curve, Way, curve_of, towards, way_across};
+pub use drawing::{
+    Marker, draw_sign, draw_stops, draw_token, draw_track, letter, put_at, put_label, put_way,
+};
+pub use labels::{cost_point, kind_point, private_point, value_point};
+pub use look::{Look, Shade, Stops};
+pub use piece::Piece;
+pub use point::{Point, Ring, border_point, on_ring};
+pub use tag::{Attr, Tag};
+pub use writer::Writer;

@@ -1,0 +1,247 @@
+//! What shows in a hex: its links, its stops, and where each stop is.
+ghost use Rattle.std.specs.Prelude.{◌≡◌};
+ghost use Rattle.map_tables.specs.Lay.{laid_links_of};
+ghost use Rattle.map_tables.specs.Print.{printed_links_of};
+
+use crate::bend::{Bend, bend_between};
+use crate::point::{Point, Ring, on_ring};
+use map_tables::{
+    Colour, End, Hex, HexKind, Lay, Link, Links, Side, StopNumber, TileKind, TileNo, hex_kind,
+    laid_links, printed_colour, printed_links, printed_slots, printed_stops, printed_value, tile,
+};
+use tables::Amount;
+
+/// The ground of a hex: the colour of its tile or of its print.
+#[derive(Clone, Copy)]
+pub enum Shade {
+    White,
+    Yellow,
+    Green,
+    Brown,
+    Grey,
+    Red,
+}
+
+/// What the stops of a hex are.
+#[derive(Clone, Copy)]
+pub enum Stops {
+    Towns,
+    Cities,
+    /// A red area.
+    Area,
+}
+
+/// What shows in a hex.
+#[derive(Drop)]
+pub struct Look {
+    pub hex: Hex,
+    /// The tile that lies there; `None` for its print.
+    pub lay: Option<Lay>,
+    pub links: Links,
+    pub shade: Shade,
+    pub stops: Stops,
+    /// How many stops it has, from 0 to 2.
+    pub count: usize,
+    /// How many tokens each of its stops takes, from 0 to 2.
+    pub slots: u8,
+    /// What each of its stops is worth, in dollars; of a red area before phase 5.
+    pub value: Amount,
+}
+
+/// How far the slots of a city of two lie from its place.
+const SLOT: Point = Point { x: 15, y: 0 };
+
+/// The place of the city of H12, which has track past it.
+const PAST: Point = Point { x: 0, y: -22 };
+
+impl Look {
+    /// Returns what a tile shows on its hex.
+    pub fn laid(lay: Lay) -> Look
+        ensures { result.links.items ≡ laid_links_of lay }
+    {
+        let entry = tile(lay.tile);
+        Look {
+            hex: lay.hex,
+            lay: Some(lay),
+            links: laid_links(lay),
+            shade: shade_of(entry.colour),
+            stops: stops_of(entry.kind),
+            count: entry.kind.stops(),
+            slots: entry.slots,
+            value: entry.value,
+        }
+    }
+
+    /// Returns what is printed on a hex.
+    pub fn printed(hex: Hex) -> Look
+        ensures { result.links.items ≡ printed_links_of hex }
+    {
+        let slots = printed_slots(hex);
+        let (shade, stops) = match hex_kind(hex) {
+            HexKind::Open(kind) => (shade_of(printed_colour(hex)), stops_of(kind)),
+            HexKind::Grey if slots > 0 => (Shade::Grey, Stops::Cities),
+            HexKind::Grey => (Shade::Grey, Stops::Towns),
+            HexKind::Red => (Shade::Red, Stops::Area),
+        };
+        Look {
+            hex,
+            lay: None,
+            links: printed_links(hex),
+            shade,
+            stops,
+            count: printed_stops(hex),
+            slots,
+            value: printed_value(hex).before_phase_five,
+        }
+    }
+
+    /// Returns the two sides to which a stop has track, or the first two if there are more.
+    pub fn sides(&self, stop: StopNumber) -> (Option<Side>, Option<Side>) {
+        let mut sides = (None, None);
+        for link in self.links.as_slice() {
+            if let Some(side) = side_to(link, stop) {
+                sides = match sides {
+                    (None, _) => (Some(side), None),
+                    (Some(first), None) => (Some(first), Some(side)),
+                    both => both,
+                };
+            }
+        }
+        sides
+    }
+
+    /// Returns how the way through a stop bends, if it has two sides and may lie off the centre; `None` otherwise.
+    pub(crate) fn bend_at(&self, stop: StopNumber) -> Option<Bend> {
+        if self.is_on_its_own() {
+            return None;
+        }
+        match self.sides(stop) {
+            (Some(first), Some(second)) => Some(bend_between(first, second)),
+            _ => None,
+        }
+    }
+
+    /// Returns whether its stop lies where the hex has room, whatever its sides: an area or a city alone.
+    fn is_on_its_own(&self) -> bool {
+        match self.stops {
+            Stops::Area => true,
+            Stops::Cities => self.count < 2,
+            Stops::Towns => false,
+        }
+    }
+
+    /// Returns the places of stop 0 and stop 1.
+    pub fn places(&self) -> (Point, Point) {
+        (self.place(StopNumber::First), self.place(StopNumber::Second))
+    }
+
+    /// Returns the place of a stop.
+    pub fn place(&self, stop: StopNumber) -> Point {
+        if let Some(bend) = self.bend_at(stop) {
+            return self.place_on(bend, self.leaning(stop));
+        }
+        if self.count < 2 {
+            return if let Hex::H12 = self.hex { PAST } else { Point::CENTRE };
+        }
+        match (self.sides(stop).0, stop) {
+            (Some(side), _) => on_ring(Ring::HalfWay, side),
+            (None, StopNumber::First) => on_ring(Ring::HalfWay, Side::West),
+            (None, StopNumber::Second) => on_ring(Ring::HalfWay, Side::East),
+        }
+    }
+
+    /// Returns the place of a stop on the way from a side to another, which may lean to one of them.
+    fn place_on(&self, bend: Bend, leaning: Option<Side>) -> Point {
+        match (bend, leaning) {
+            (Bend::Sharp(corner), _) => match self.stops {
+                Stops::Towns => on_ring(Ring::Sharp, corner),
+                Stops::Cities | Stops::Area => on_ring(Ring::SharpCity, corner),
+            },
+            (Bend::Straight, None) => Point::CENTRE,
+            (Bend::Straight, Some(side)) => on_ring(Ring::HalfWay, side),
+            (Bend::Gentle(past), None) => on_ring(Ring::Gentle, past),
+            (Bend::Gentle(past), Some(side)) => {
+                on_ring(Ring::HalfWay, side).plus(on_ring(Ring::Leaning, past))
+            }
+        }
+    }
+
+    /// Returns the side to which a stop leans, so that it is apart from the other; `None` for most.
+    fn leaning(&self, stop: StopNumber) -> Option<Side> {
+        let lay = self.lay?;
+        let stop = if lay.swap { stop.other() } else { stop };
+        let side = match (lay.tile, stop) {
+            (TileNo::T55 | TileNo::T66 | TileNo::T68, StopNumber::First) => Side::NorthEast,
+            (TileNo::T55 | TileNo::T68, StopNumber::Second) => Side::West,
+            (TileNo::T56 | TileNo::T67 | TileNo::T69, StopNumber::First) => Side::SouthWest,
+            (TileNo::T56, StopNumber::Second) => Side::NorthEast,
+            (TileNo::T67 | TileNo::T69, StopNumber::Second) => Side::East,
+            _ => return None,
+        };
+        Some(side.turned(lay.rot))
+    }
+
+    /// Returns the places of a city's two slots; where it has one, that is at the place of the city.
+    pub fn slot_places(&self, stop: StopNumber) -> (Point, Point) {
+        let place = self.place(stop);
+        let offset = match self.bend_at(stop) {
+            Some(Bend::Sharp(corner)) => on_ring(Ring::SharpSlot, corner),
+            _ => SLOT,
+        };
+        if self.slots < 2 {
+            (place, place)
+        } else {
+            (place.minus(offset), place.plus(offset))
+        }
+    }
+
+    /// Returns where the number of a city is, in a hex of two.
+    pub(crate) fn number_place(&self, stop: StopNumber) -> Point {
+        match self.bend_at(stop) {
+            Some(Bend::Sharp(corner)) if self.slots == 2 => on_ring(Ring::SharpNumber, corner),
+            _ => beside(self.place(stop), self.place(stop.other())),
+        }
+    }
+}
+
+/// Returns the point beside a city that is away from the other one.
+fn beside(place: Point, other: Point) -> Point {
+    let away = place.minus(other);
+    let x = if away.x > 9 {
+        12
+    } else if away.x < -9 {
+        -12
+    } else {
+        0
+    };
+    place.plus(Point {
+        x,
+        y: if away.y < 0 { -12 } else { 12 },
+    })
+}
+
+/// Returns the side from which a link leads to a stop; `None` where it does not.
+fn side_to(link: &Link, stop: StopNumber) -> Option<Side> {
+    match (link.a, link.b) {
+        (End::Side(side), End::Stop(its)) if its.index() == stop.index() => Some(side),
+        _ => None,
+    }
+}
+
+/// Returns the ground of a colour.
+fn shade_of(colour: Colour) -> Shade {
+    match colour {
+        Colour::White => Shade::White,
+        Colour::Yellow => Shade::Yellow,
+        Colour::Green => Shade::Green,
+        Colour::Brown => Shade::Brown,
+    }
+}
+
+/// Returns what the stops of a hex of a kind are.
+fn stops_of(kind: TileKind) -> Stops {
+    match kind {
+        TileKind::Plain | TileKind::Town | TileKind::TwoTowns => Stops::Towns,
+        TileKind::City | TileKind::CityB | TileKind::CitiesNY | TileKind::CitiesOO => Stops::Cities,
+    }
+}

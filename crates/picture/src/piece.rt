@@ -1,0 +1,97 @@
+//! What a writer puts into a page beside tags.
+
+use crate::point::Point;
+use crate::writer::Writer;
+use map_tables::{Hex, Place};
+use tables::{Money, Round};
+
+/// A piece of a text or of a value.
+#[derive(Clone, Copy)]
+pub enum Piece<'a> {
+    /// Constant words.
+    Words(&'static str),
+    /// The name of a player. Only its letters and digits are written.
+    Name(&'a [u8]),
+    /// A letter, as that of a row.
+    Letter(u8),
+    /// A number in digits.
+    Number(Money),
+    /// A small number in digits, as a coordinate.
+    At(i32),
+    /// A point as it stands in the data of a path: its coordinates, parted by a space or by the minus
+    /// of the second.
+    Point(Point),
+    /// A round: `OR2.1`.
+    Round(Round),
+    /// A hex: `H12`.
+    Hex(Hex),
+    /// A place: `H12.0`.
+    Place(Place),
+}
+
+/// Adds a piece where a writer is.
+pub(crate) fn put_piece(out: &mut Writer, piece: Piece) {
+    match piece {
+        Piece::Words(words) => put_bytes(out, words.as_bytes()),
+        Piece::Name(name) => put_name(out, name),
+        Piece::Letter(letter) => put_name(out, &[letter]),
+        Piece::Number(number) => put_number(out, number),
+        Piece::At(number) => put_small(out, number),
+        Piece::Point(point) => put_point(out, point),
+        Piece::Round(round) => put_round(out, round),
+        Piece::Hex(hex) => put_bytes(out, hex.text().as_slice()),
+        Piece::Place(place) => put_bytes(out, place.text().as_slice()),
+    }
+}
+
+/// Adds bytes of constant words or of digits.
+fn put_bytes(out: &mut Writer, bytes: &[u8]) {
+    for byte in bytes {
+        out.put_byte(*byte);
+    }
+}
+
+/// Adds the letters and digits of a name.
+fn put_name(out: &mut Writer, name: &[u8]) {
+    for byte in name {
+        if byte.is_ascii_alphanumeric() {
+            out.put_byte(*byte);
+        }
+    }
+}
+
+/// Adds a number in digits.
+fn put_number(out: &mut Writer, number: Money) {
+    let mut buffer = itoa::Buffer::new();
+    put_bytes(out, buffer.format(number).as_bytes());
+}
+
+/// Adds a small number in digits.
+fn put_small(out: &mut Writer, number: i32) {
+    let mut buffer = itoa::Buffer::new();
+    put_bytes(out, buffer.format(number).as_bytes());
+}
+
+/// Adds the coordinates of a point.
+fn put_point(out: &mut Writer, point: Point) {
+    put_small(out, point.x);
+    if point.y >= 0 {
+        out.put_byte(b' ');
+    }
+    put_small(out, point.y);
+}
+
+/// Adds a round.
+fn put_round(out: &mut Writer, round: Round) {
+    let (word, number) = match round {
+        Round::Opening(number) => ("PR", number),
+        Round::Stock(number) => ("SR", number),
+        Round::Operating { set, .. } => ("OR", set),
+    };
+    put_bytes(out, word.as_bytes());
+    put_number(out, Money::from(number));
+    if let Round::Operating { number, .. } = round {
+        out.put_byte(b'.');
+        put_number(out, Money::from(number));
+    }
+}

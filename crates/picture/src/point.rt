@@ -1,0 +1,119 @@
+//! Points of a hex. The centre is 0,0, the side is 60 long, and y grows downwards.
+ghost use Rattle.std.specs.Prelude.{◌≡◌};
+ghost use Rattle.picture.specs.Points.{border_point};
+
+use map_tables::Side;
+
+/// A point of a picture. A side of a hex is 60 long; `x` grows to the right and `y` downwards.
+#[derive(Clone, Copy)]
+pub struct Point {
+    pub x: i32,
+    pub y: i32,
+}
+
+impl Point {
+    /// The centre of a hex.
+    pub const CENTRE: Point = Point { x: 0, y: 0 };
+
+    /// Returns the point that lies as far from this one as another lies from the centre.
+    pub fn plus(self, other: Point) -> Point {
+        Point {
+            x: self.x.saturating_add(other.x),
+            y: self.y.saturating_add(other.y),
+        }
+    }
+
+    /// Returns the point that lies as far from this one, the other way.
+    pub fn minus(self, other: Point) -> Point {
+        Point {
+            x: self.x.saturating_sub(other.x),
+            y: self.y.saturating_sub(other.y),
+        }
+    }
+
+    /// Returns the point this far below it.
+    pub fn down(self, by: i32) -> Point {
+        self.plus(Point { x: 0, y: by })
+    }
+}
+
+/// Six points round a hex, by the number of the side that they belong to.
+macro_rules! round {
+    ($($x:literal $y:literal),*) => { [$(Point { x: $x, y: $y }),*] };
+}
+
+/// Half way from the centre to the middle of each side.
+const HALF_WAY: [Point; 6] = round!(-13 23, -26 0, -13 -23, 13 -23, 26 0, 13 23);
+
+/// Two thirds of that way.
+const FAR: [Point; 6] = round!(-17 30, -35 0, -17 -30, 17 -30, 35 0, 17 30);
+
+/// The middle of the gentle curve past each side, between the two sides next to it.
+const GENTLE: [Point; 6] = round!(-7 12, -14 0, -7 -12, 7 -12, 14 0, 7 12);
+
+/// How far a stop that leans to an end of such a curve is moved towards the side past which it goes.
+const LEANING: [Point; 6] = round!(-2 3, -4 0, -2 -3, 2 -3, 4 0, 2 3);
+
+/// The middle of the sharp curve round the corner behind each side.
+const SHARP: [Point; 6] = round!(-26 15, -26 -15, 0 -30, 26 -15, 26 15, 0 30);
+
+/// A city on that curve.
+const SHARP_CITY: [Point; 6] = round!(-24 14, -24 -14, 0 -28, 24 -14, 24 14, 0 28);
+
+/// How far the slots of a city of two on that curve lie from its place.
+const SHARP_SLOT: [Point; 6] = round!(8 13, 8 -13, 15 0, 8 13, 8 -13, 15 0);
+
+/// The number of a city of two slots on that curve.
+const SHARP_NUMBER: [Point; 6] = round!(-11 6, -11 -6, 0 -13, 11 -6, 11 6, 0 13);
+
+/// Labels in the corners behind the sides.
+const CORNER: [Point; 6] = round!(-35 20, -35 -20, 0 -32, 35 -20, 35 20, 0 32);
+
+/// The number of each side, outside, in pictures of tiles.
+const DIGIT: [Point; 6] = round!(-32 59, -60 4, -32 -51, 32 -51, 60 4, 32 59);
+
+/// Returns the middle of a side.
+pub fn border_point(side: Side) -> Point
+    ensures { result ≡ border_point side }
+{
+    match side {
+        Side::SouthWest => Point { x: -26, y: 45 },
+        Side::West => Point { x: -52, y: 0 },
+        Side::NorthWest => Point { x: -26, y: -45 },
+        Side::NorthEast => Point { x: 26, y: -45 },
+        Side::East => Point { x: 52, y: 0 },
+        Side::SouthEast => Point { x: 26, y: 45 },
+    }
+}
+
+/// Which of the points round a hex.
+#[derive(Clone, Copy)]
+pub enum Ring {
+    HalfWay,
+    Far,
+    Gentle,
+    Leaning,
+    Sharp,
+    SharpCity,
+    SharpSlot,
+    SharpNumber,
+    Corner,
+    Digit,
+}
+
+/// Returns one of the points round a hex, by the side that it belongs to.
+pub fn on_ring(ring: Ring, side: Side) -> Point {
+    let points = match ring {
+        Ring::HalfWay => &HALF_WAY,
+        Ring::Far => &FAR,
+        Ring::Gentle => &GENTLE,
+        Ring::Leaning => &LEANING,
+        Ring::Sharp => &SHARP,
+        Ring::SharpCity => &SHARP_CITY,
+        Ring::SharpSlot => &SHARP_SLOT,
+        Ring::SharpNumber => &SHARP_NUMBER,
+        Ring::Corner => &CORNER,
+        Ring::Digit => &DIGIT,
+    };
+    points[side.number()]
+}

@@ -1,0 +1,213 @@
+//! A writer of elements.
+ghost use Rattle.std.specs.Prelude.{◌≡◌, ◌++◌, ◌-◌, [], ◌∷◌, IfOk, length, true};
+ghost use Rattle.picture.specs.Reading.{IsWellFormed};
+ghost use Rattle.picture.specs.Written.{IsRead, is_apart, is_plain};
+ghost use Rattle.picture.specs.declared.writer.Spot.TheVariants.{Between};
+
+use crate::piece::{Piece, put_piece};
+use crate::tag::{Attr, Tag};
+use std::alloc::{AllocError, Global};
+
+/// What stands at the head of each page, within which its title and style are written.
+const PROLOGUE: &str = "<!DOCTYPE html>\n<html lang=\"en\">\n<head>\n<meta charset=\"utf-8\">\n\
+    <meta name=\"viewport\" content=\"width=device-width, initial-scale=1\">\n";
+
+/// Where a writer is.
+#[derive(Clone, Copy)]
+pub enum Spot {
+    /// Between tags.
+    Between,
+    /// Behind the name in the start tag of this element.
+    Naming(Tag),
+    /// In a value of that start tag.
+    Valued(Tag),
+}
+
+/// A writer of a page. It keeps the elements that are open, so that each is ended, the innermost
+/// first. Once an allocation has failed it writes nothing more, and `finish` returns the error.
+#[derive(Drop)]
+pub struct Writer {
+    text: Vec<u8>,
+    /// The open elements whose start tags have ended.
+    stack: Vec<Tag>,
+    spot: Spot,
+    fault: Option<AllocError>,
+    ghost read: { IsRead text.items stack.items spot fault },
+}
+
+impl Writer {
+    /// Returns a writer of a page, in its head.
+    pub fn page(alloc: Global) -> Writer {
+        let mut text = Vec::new(alloc);
+        let mut stack = Vec::new(alloc);
+        let mut fault = None;
+        add(&mut text, &mut fault, PROLOGUE);
+        keep(&mut stack, &mut fault, Tag::Html);
+        keep(&mut stack, &mut fault, Tag::Head);
+        Writer {
+            text,
+            stack,
+            spot: Spot::Between,
+            fault,
+        }
+    }
+
+    /// Begins an element in the innermost one that is open.
+    #[tactic(auto, using(crate::proofs::ReadLemmas::begun))]
+    pub fn begin(&mut self, tag: Tag) {
+        self.within();
+        add(&mut self.text, &mut self.fault, "<");
+        add(&mut self.text, &mut self.fault, tag.name());
+        self.spot = Spot::Naming(tag);
+    }
+
+    /// Begins a value in the start tag of the element that was begun last. It does nothing where that
+    /// tag has ended.
+    pub fn attr(&mut self, attr: Attr) {
+        match self.spot {
+            Spot::Between => {}
+            Spot::Naming(tag) => {
+                add(&mut self.text, &mut self.fault, attr.opening());
+                self.spot = Spot::Valued(tag);
+            }
+            Spot::Valued(_) => {
+                add(&mut self.text, &mut self.fault, "\"");
+                add(&mut self.text, &mut self.fault, attr.opening());
+            }
+        }
+    }
+
+    /// Ends the start tag in which the writer is, if it is in one: what follows is a child.
+    pub fn within(&mut self)
+        ensures { self.new.spot ≡ Between }
+    {
+        match self.spot {
+            Spot::Between => {}
+            Spot::Naming(tag) => {
+                add(&mut self.text, &mut self.fault, ">");
+                keep(&mut self.stack, &mut self.fault, tag);
+            }
+            Spot::Valued(tag) => {
+                add(&mut self.text, &mut self.fault, "\">");
+                keep(&mut self.stack, &mut self.fault, tag);
+            }
+        }
+        self.spot = Spot::Between;
+    }
+
+    /// Adds pieces to the value in which the writer is, or else to the children of the innermost open
+    /// element.
+    pub fn put(&mut self, pieces: &[Piece]) {
+        for piece in pieces {
+            put_piece(self, *piece);
+        }
+    }
+
+    /// Adds a byte where the writer is, unless it is one that has a meaning in tags.
+    pub(crate) fn put_byte(&mut self, byte: u8) {
+        self.settle();
+        if is_plain(byte) && self.fault.is_none() {
+            self.push_plain(byte);
+        }
+    }
+
+    /// Ends a start tag that has no values so far, if the writer is in one.
+    fn settle(&mut self)
+        ensures { is_apart self.new.spot ≡ true }
+    {
+        if let Spot::Naming(_) = self.spot {
+            self.within();
+        }
+    }
+
+    /// Adds a byte that has no meaning in tags.
+    #[tactic(auto, using(crate::proofs::ReadLemmas::plain_kept))]
+    fn push_plain(&mut self, byte: u8)
+        requires apart { is_apart self.old.spot ≡ true }
+        requires plain { is_plain byte ≡ true }
+    {
+        if let Err(error) = self.text.push(byte) {
+            self.fault = Some(AllocError::from(error));
+        }
+    }
+
+    /// Ends the innermost open element.
+    pub fn end(&mut self) {
+        match self.spot {
+            Spot::Naming(tag) if tag.is_sole() => {
+                add(&mut self.text, &mut self.fault, "/>");
+                self.spot = Spot::Between;
+            }
+            Spot::Valued(tag) if tag.is_sole() => {
+                add(&mut self.text, &mut self.fault, "\"/>");
+                self.spot = Spot::Between;
+            }
+            _ => {
+                self.within();
+                self.close();
+            }
+        }
+    }
+
+    /// Writes the end tag of the innermost element whose start tag has ended, if there is one.
+    #[tactic(auto, using(crate::proofs::ReadLemmas::closed_by))]
+    fn close(&mut self)
+        requires { self.old.spot ≡ Between }
+        ensures spot { self.new.spot ≡ Between }
+        ensures fewer { length self.new.stack.items ≡ length self.old.stack.items - 1 }
+    {
+        if let Some(tag) = self.stack.pop() {
+            add(&mut self.text, &mut self.fault, "</");
+            add(&mut self.text, &mut self.fault, tag.name());
+            add(&mut self.text, &mut self.fault, ">");
+        }
+    }
+
+    /// Ends all that is open. Returns the page, or the error if an allocation has failed.
+    pub fn finish(self) -> Result<Vec<u8>, AllocError>
+        ensures { IfOk result (λ page. IsWellFormed page.items) }
+    {
+        let mut writer = self;
+        writer.within();
+        while !writer.stack.is_empty() {
+            writer.close();
+        }
+        let Writer { text, fault, .. } = writer;
+        match fault {
+            None => Ok(text),
+            // An allocation failed: passed on.
+            Some(error) => Err(error),
+        }
+    }
+}
+
+/// Adds words to a text, unless an allocation has failed before.
+fn add(text: &mut Vec<u8>, fault: &mut Option<AllocError>, words: &str)
+    ensures before { fault.new ≡ None → fault.old ≡ None }
+    ensures added { fault.new ≡ None → text.new.items ≡ text.old.items ++ words.now }
+{
+    if fault.is_none() {
+        if let Err(error) = text.extend_from_slice(words.as_bytes()) {
+            *fault = Some(error);
+        }
+    }
+}
+
+/// Adds an element to those that are open, unless an allocation has failed before.
+fn keep(stack: &mut Vec<Tag>, fault: &mut Option<AllocError>, tag: Tag)
+    ensures before { fault.new ≡ None → fault.old ≡ None }
+    ensures kept { fault.new ≡ None → stack.new.items ≡ stack.old.items ++ tag ∷ [] }
+{
+    if fault.is_none() {
+        if let Err(error) = stack.push(tag) {
+            *fault = Some(AllocError::from(error));
+        }
+    }
+}
+
+/// Returns whether a byte has no meaning in tags: it is no `<` and no quotation mark.
+fn is_plain(byte: u8) -> bool
+    ensures { result ≡ is_plain byte }
+{
+    byte != b'<' && byte != b'"'
+}
