@@ -6,7 +6,7 @@ use Rattle.picture.specs.Reading.{Read, read_at, reading, step, between, naming,
 use Rattle.picture.specs.Tags.{name_of_tag}
 use Rattle.picture.specs.Written.{open_names, read_by, is_plain, is_apart}
 use Rattle.picture.specs.declared.tag.Tag.{Tag}
-use Rattle.picture.specs.declared.tag.Tag.TheVariants.{Html, Head, Title, Style, Body, Header, H1, H2, Paragraph, Nav, Anchor, Main, Listing, Item, Small, Bold, Section, Svg, Desc, Defs, Path, Circle, Group, Text, TextSpan, Use, Polyline, Table, Caption, TableHead, TableBody, Row, Heading, Cell, Division, Span}
+use Rattle.picture.specs.declared.tag.Tag.TheVariants.{Html, Head, Title, Style, Body, Header, H1, H2, H3, Paragraph, Nav, Anchor, Main, Listing, Item, Small, Bold, Section, Svg, Desc, Defs, Path, Circle, Group, Text, TextSpan, Use, Polyline, Table, Caption, TableHead, TableBody, Row, Heading, Cell, Division, Span}
 use Rattle.picture.specs.declared.writer.Spot.{Spot}
 use Rattle.picture.specs.declared.writer.Spot.TheVariants.{Between, Naming, Valued}
 
@@ -25,6 +25,7 @@ named_by Body names = refl
 named_by Header names = refl
 named_by H1 names = refl
 named_by H2 names = refl
+named_by H3 names = refl
 named_by Paragraph names = refl
 named_by Nav names = refl
 named_by Anchor names = refl
@@ -73,6 +74,7 @@ closing_by Body names = refl
 closing_by Header names = refl
 closing_by H1 names = refl
 closing_by H2 names = refl
+closing_by H3 names = refl
 closing_by Paragraph names = refl
 closing_by Nav names = refl
 closing_by Anchor names = refl

@@ -2,7 +2,7 @@
 use Rattle.std.specs.Prelude.{ℕ, Bool, List, ◌||◌, bytes_eq, codes}
 use Rattle.picture.specs.declared.tag.Tag.{Tag}
 use Rattle.picture.specs.declared.tag.Attr.{Attr}
-use Rattle.picture.specs.declared.tag.Tag.TheVariants.{Html, Head, Title, Style, Body, Header, H1, H2, Paragraph, Nav, Anchor, Main, Listing, Item, Small, Bold, Section, Svg, Desc, Defs, Path, Circle, Group, Text, TextSpan, Use, Polyline, Table, Caption, TableHead, TableBody, Row, Heading, Cell, Division, Span}
+use Rattle.picture.specs.declared.tag.Tag.TheVariants.{Html, Head, Title, Style, Body, Header, H1, H2, H3, Paragraph, Nav, Anchor, Main, Listing, Item, Small, Bold, Section, Svg, Desc, Defs, Path, Circle, Group, Text, TextSpan, Use, Polyline, Table, Caption, TableHead, TableBody, Row, Heading, Cell, Division, Span}
 use Rattle.picture.specs.declared.tag.Attr.TheVariants.{Class, Id, Href, X, Y, D, R, Fill, Stroke, StrokeWidth, Dash, Points, Transform, ViewBox, Role, Scope, Hidden, Width, Height, Xmlns}
 
 -- the name of an element
@@ -15,6 +15,7 @@ name_of_tag Body = codes "body"
 name_of_tag Header = codes "header"
 name_of_tag H1 = codes "h1"
 name_of_tag H2 = codes "h2"
+name_of_tag H3 = codes "h3"
 name_of_tag Paragraph = codes "p"
 name_of_tag Nav = codes "nav"
 name_of_tag Anchor = codes "a"

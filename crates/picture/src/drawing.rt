@@ -2,7 +2,6 @@
 
 use crate::curve::{Way, curve_of};
 use crate::look::{Look, Stops};
-use crate::piece::Piece;
 use crate::piece::Piece::{At, Number, Point as To, Words};
 use crate::point::Point;
 use crate::strands::{ENDS, end_number, strands};
@@ -20,14 +19,6 @@ pub enum Marker {
     Token(Company),
     /// Nothing yet: the slot is kept for the home token of this company.
     Kept(Company),
-}
-
-/// The letters of the companies' tokens, in the order of the roster.
-const LETTERS: [&str; 8] = ["P", "N", "C", "B", "O", "E", "H", "M"];
-
-/// Returns the letter of a company's token.
-pub fn letter(company: Company) -> &'static str {
-    LETTERS[company.place()]
 }
 
 /// Draws the track of a hex, a strand above the other, each black on white.
@@ -60,9 +51,7 @@ fn draw_strand(
     class: &'static str,
 ) {
     let places = look.places();
-    out.begin(Tag::Path);
-    out.attr(Attr::Class);
-    out.put(&[Words(class)]);
+    out.begin_as(Tag::Path, class);
     out.attr(Attr::D);
     for link in look.links.as_slice() {
         if strands[end_number(link.a)] == strand {
@@ -120,9 +109,9 @@ fn draw_stop(out: &mut Writer, look: &Look, stop: StopNumber, markers: &[Marker;
 /// Draws a town.
 fn draw_town(out: &mut Writer, look: &Look, stop: StopNumber) {
     let place = look.place(stop);
-    draw_sign(out, "#v", place);
+    out.sign("#v", place);
     if look.count > 1 {
-        put_label(out, "n", place.down(4), Number(stop.index() as Money));
+        out.label("n", place.down(4), &[Number(stop.index() as Money)]);
     }
 }
 
@@ -130,8 +119,9 @@ fn draw_town(out: &mut Writer, look: &Look, stop: StopNumber) {
 fn draw_city(out: &mut Writer, look: &Look, stop: StopNumber, markers: &[Marker; 2]) {
     let (first, second) = look.slot_places(stop);
     if look.slots > 1 {
-        draw_bar(out, "k", first, second);
-        draw_bar(out, "l", first, second);
+        let bar = [Words("M"), To(first), Words("L"), To(second)];
+        out.path("k", &bar);
+        out.path("l", &bar);
     }
     draw_slot(out, first, markers[0]);
     if look.slots > 1 {
@@ -139,64 +129,17 @@ fn draw_city(out: &mut Writer, look: &Look, stop: StopNumber, markers: &[Marker;
     }
     if look.count > 1 {
         let place = look.number_place(stop);
-        draw_sign(out, "#q", place);
-        put_label(out, "n", place.down(4), Number(stop.index() as Money));
+        out.sign("#q", place);
+        out.label("n", place.down(4), &[Number(stop.index() as Money)]);
     }
-}
-
-/// Draws the ground between two slots.
-fn draw_bar(out: &mut Writer, class: &'static str, from: Point, to: Point) {
-    out.begin(Tag::Path);
-    out.attr(Attr::Class);
-    out.put(&[Words(class)]);
-    out.attr(Attr::D);
-    out.put(&[Words("M"), To(from), Words("L"), To(to)]);
-    out.end();
 }
 
 /// Draws a slot with what lies in it.
 fn draw_slot(out: &mut Writer, place: Point, marker: Marker) {
-    draw_sign(out, "#s", place);
+    out.sign("#s", place);
     match marker {
         Marker::Free => {}
-        Marker::Token(company) => draw_token(out, "#t", company, place),
-        Marker::Kept(company) => draw_token(out, "#r", company, place),
+        Marker::Token(company) => out.token("#t", company, place),
+        Marker::Kept(company) => out.token("#r", company, place),
     }
-}
-
-/// Draws a token of a company, by the first letters of what is drawn.
-pub fn draw_token(out: &mut Writer, sign: &'static str, company: Company, place: Point) {
-    out.begin(Tag::Use);
-    out.attr(Attr::Href);
-    out.put(&[Words(sign), Words(letter(company))]);
-    put_at(out, place);
-    out.end();
-}
-
-/// Draws a sign.
-pub fn draw_sign(out: &mut Writer, sign: &'static str, place: Point) {
-    out.begin(Tag::Use);
-    out.attr(Attr::Href);
-    out.put(&[Words(sign)]);
-    put_at(out, place);
-    out.end();
-}
-
-/// Adds where an element is.
-pub fn put_at(out: &mut Writer, place: Point) {
-    out.attr(Attr::X);
-    out.put(&[At(place.x)]);
-    out.attr(Attr::Y);
-    out.put(&[At(place.y)]);
-}
-
-/// Draws a text of a class.
-pub fn put_label(out: &mut Writer, class: &'static str, place: Point, piece: Piece) {
-    out.begin(Tag::Text);
-    out.attr(Attr::Class);
-    out.put(&[Words(class)]);
-    put_at(out, place);
-    out.within();
-    out.put(&[piece]);
-    out.end();
 }

@@ -13,12 +13,13 @@
 //! writer keeps).
 //!
 //! Reading order: `point`, `bend`, `look` (what shows in a hex, and where), `curve`, `strands`,
-//! `labels` (where there is room for a label), `tag`, `writer`, `piece`, `drawing` (a hex's track and stops).
+//! `labels` (where there is room for a label), `tag`, `writer`, `piece`, `elements`, `drawing` (a hex's track and stops).
 #![tactic(auto)]
 
 mod bend;
 mod curve;
 mod drawing;
+mod elements;
 mod labels;
 mod look;
 mod piece;
@@ -29,9 +30,8 @@ mod writer;
 
 pub use bend::{Bend, bend_between};
 pub use curve::{Curve, Way, curve_of, towards, way_across};
-pub use drawing::{
-    Marker, draw_sign, draw_stops, draw_token, draw_track, letter, put_at, put_label, put_way,
-};
+pub use drawing::{Marker, draw_stops, draw_track, put_way};
+pub use elements::letter;
 pub use labels::{cost_point, kind_point, private_point, value_point};
 pub use look::{Look, Shade, Stops};
 pub use piece::Piece;

@@ -1,0 +1,233 @@
+//! The tables of companies, privates and trains.
+
+use crate::players_part::put_privates;
+use crate::scene::Scene;
+use crate::table_forms::{
+    NOTHING, begin_row, begin_table, put_caption, put_company, put_head, put_number, put_row_head,
+};
+use desk::{before_in_stack, earnings_of, operates, tokens_left, trains_left};
+use history::{GameView, Holder, Party};
+use map_tables::{home, private_hexes};
+use picture::Piece::{Hex, Letter, Name, Number, Place, Round, Words};
+use picture::{Tag, Writer};
+use tables::{Company, Kind, Money, Private, Seat, face, price, revenue, rusts, train};
+
+/// Adds what each company has, in this order.
+pub(crate) fn put_companies(out: &mut Writer, scene: &Scene, order: &[Company]) {
+    begin_table(out, "companies", "wide");
+    put_caption(out, "Companies", "(those that operate in operating order)");
+    put_head(
+        out,
+        &[
+            "Company", "Name", "President", "#Price", "Square", "#Cash", "#Last run", "Round", "Trains",
+            "Tokens", "#Left", "Privates",
+        ],
+    );
+    out.begin(Tag::TableBody);
+    for company in order {
+        put_row(out, scene, *company);
+    }
+    out.end();
+    out.end();
+}
+
+/// Returns the name of a company.
+fn name_of(company: Company) -> &'static str {
+    match company {
+        Company::Pennsylvania => "Pennsylvania",
+        Company::NewYorkCentral => "New York Central",
+        Company::CanadianPacific => "Canadian Pacific",
+        Company::BaltimoreOhio => "Baltimore &amp; Ohio",
+        Company::ChesapeakeOhio => "Chesapeake &amp; Ohio",
+        Company::Erie => "Erie",
+        Company::NewHaven => "New York, New Haven &amp; Hartford",
+        Company::BostonMaine => "Boston &amp; Maine",
+    }
+}
+
+/// Adds the row of a company.
+fn put_row(out: &mut Writer, scene: &Scene, company: Company) {
+    let view = scene.history.now();
+    begin_row(out, "");
+    put_company(out, company);
+    out.element(Tag::Cell, &[Words(name_of(company))]);
+    match view.president(company) {
+        Some(seat) => out.element(Tag::Cell, &[Name(scene.name(seat))]),
+        None => out.element(Tag::Cell, &[Words(NOTHING)]),
+    }
+    put_square(out, &view, company);
+    if operates(&view, company) {
+        put_treasury(out, scene, company);
+    } else {
+        let words = if view.is_started(company) { "not floated" } else { "not started" };
+        out.element(Tag::Cell, &[]);
+        out.element(Tag::Cell, &[]);
+        out.element(Tag::Cell, &[]);
+        out.element(Tag::Cell, &[Words(words)]);
+    }
+    put_places(out, scene, company);
+    put_number(out, tokens_left(&view, company) as Money);
+    put_privates(out, scene, Holder::Company(company));
+    out.end();
+}
+
+/// Adds the price of a company's share, its square, and the place of its token there.
+fn put_square(out: &mut Writer, view: &GameView, company: Company) {
+    let Some(square) = view.square(company) else {
+        put_number(out, 0);
+        out.element(Tag::Cell, &[Words(NOTHING)]);
+        return;
+    };
+    put_number(out, Money::from(price(square)));
+    let place = before_in_stack(view, square, company) as Money + 1;
+    out.element(
+        Tag::Cell,
+        &[
+            Letter(b'A'.saturating_add(square.row)),
+            Number(Money::from(square.column)),
+            Words(" no. "),
+            Number(place),
+        ],
+    );
+}
+
+/// Adds a company's cash, its last revenue with the round, and its trains.
+fn put_treasury(out: &mut Writer, scene: &Scene, company: Company) {
+    out.element_as(Tag::Cell, "num", &[Number(scene.history.cash(Party::of_company(company)))]);
+    let earnings = earnings_of(scene.history.events(), company);
+    match earnings.round {
+        Some(round) => {
+            out.element_as(Tag::Cell, "num", &[Number(earnings.dollars as Money)]);
+            out.element(Tag::Cell, &[Round(round)]);
+        }
+        None => {
+            put_number(out, 0);
+            out.element(Tag::Cell, &[Words(NOTHING)]);
+        }
+    }
+    out.begin(Tag::Cell);
+    out.within();
+    let mut before = "";
+    for kind in Kind::ALL {
+        for _ in 0..scene.history.trains(Some(company), kind) {
+            out.put(&[Words(before), Words(kind.code())]);
+            before = " ";
+        }
+    }
+    if before.is_empty() {
+        out.put(&[Words("none")]);
+    }
+    out.end();
+}
+
+/// Adds a cell with the places of a company's tokens; before the first with its home.
+fn put_places(out: &mut Writer, scene: &Scene, company: Company) {
+    out.begin(Tag::Cell);
+    out.within();
+    let mut before = "";
+    for token in scene.history.tokens() {
+        if token.1 == company {
+            out.put(&[Words(before), Place(token.0)]);
+            before = " ";
+        }
+    }
+    if before.is_empty() {
+        out.put(&[Words("home "), Place(home(company).place())]);
+    }
+    out.end();
+}
+
+/// Adds who owns each private, with its price and the bids on it while it is unsold.
+pub(crate) fn put_owners(out: &mut Writer, scene: &Scene) {
+    begin_table(out, "privates", "");
+    put_caption(out, "Privates", "");
+    put_head(out, &["Private", "#Face", "#Price", "#Revenue", "Hexes", "Owner", "Bids"]);
+    out.begin(Tag::TableBody);
+    for private in Private::ALL {
+        put_private(out, scene, private);
+    }
+    out.end();
+    out.end();
+}
+
+/// Adds the row of a private.
+fn put_private(out: &mut Writer, scene: &Scene, private: Private) {
+    let view = scene.history.now();
+    let is_sold = view.is_sold(private);
+    begin_row(out, "");
+    put_row_head(out, &[Words(private.code())]);
+    put_number(out, Money::from(face(private)));
+    put_number(out, if is_sold { 0 } else { price_of(&view, private) });
+    put_number(out, Money::from(revenue(private)));
+    out.begin(Tag::Cell);
+    out.within();
+    let mut before = "";
+    for hex in private_hexes(private) {
+        out.put(&[Words(before), Hex(*hex)]);
+        before = " ";
+    }
+    out.end();
+    match view.owner(private) {
+        Some(Holder::Seat(seat)) => out.element(Tag::Cell, &[Name(scene.name(seat))]),
+        Some(Holder::Company(company)) => out.element(Tag::Cell, &[Words(company.code())]),
+        None if is_sold => out.element(Tag::Cell, &[Words("closed")]),
+        None => out.element(Tag::Cell, &[Words("unsold")]),
+    }
+    put_bids(out, scene, private);
+    out.end();
+}
+
+/// Returns the price of an unsold private: its face, but for SV, whose price falls.
+fn price_of(view: &GameView, private: Private) -> Money {
+    match private {
+        Private::SchuylkillValley => Money::from(view.sv_price()),
+        _ => Money::from(face(private)),
+    }
+}
+
+/// Adds a cell with the bids on a private.
+fn put_bids(out: &mut Writer, scene: &Scene, private: Private) {
+    out.begin(Tag::Cell);
+    out.within();
+    let mut before = "";
+    for number in 0..scene.seats {
+        let seat = Seat::at(number);
+        if let Some(bid) = scene.history.bid(private, seat) {
+            out.put(&[Words(before), Name(scene.name(seat)), Words(" "), Number(bid)]);
+            before = ", ";
+        }
+    }
+    if before.is_empty() {
+        out.put(&[Words(NOTHING)]);
+    }
+    out.end();
+}
+
+/// Adds how many trains of each kind the bank and its pool have, their price, and when they rust.
+pub(crate) fn put_trains(out: &mut Writer, scene: &Scene) {
+    begin_table(out, "trains", "");
+    put_caption(out, "Trains", "");
+    put_head(out, &["Train", "#Bank", "#Pool", "#Price", "Stops", "Rusts"]);
+    out.begin(Tag::TableBody);
+    for kind in Kind::ALL {
+        begin_row(out, "");
+        put_row_head(out, &[Words(kind.code())]);
+        match trains_left(&scene.history.now(), kind) {
+            Some(left) => put_number(out, left as Money),
+            None => out.element_as(Tag::Cell, "num", &[Words("any")]),
+        }
+        put_number(out, Money::from(scene.history.trains(None, kind)));
+        put_number(out, Money::from(train(kind).price));
+        match kind.stops() {
+            Some(stops) => out.element(Tag::Cell, &[Number(stops as Money)]),
+            None => out.element(Tag::Cell, &[Words("all")]),
+        }
+        match rusts(kind) {
+            Some(other) => out.element(Tag::Cell, &[Words("at the first "), Words(other.code())]),
+            None => out.element(Tag::Cell, &[Words("never")]),
+        }
+        out.end();
+    }
+    out.end();
+    out.end();
+}

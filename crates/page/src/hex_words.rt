@@ -1,0 +1,217 @@
+//! A hex in words.
+
+use crate::scene::Scene;
+use crate::tokens::{is_kept, private_in};
+use desk::has_token;
+use history::Holder;
+use map_tables::{
+    End, Hex, HexKind, Link, Stop, StopNumber, TileKind, hex_kind, printed_value, terrain_cost, tile,
+};
+use picture::Piece::{Hex as Named, Number, Place, Words};
+use picture::{Look, Shade, Stops, Tag, Writer};
+use tables::{Company, Money, Private};
+
+/// Adds a title that says in words what shows in a hex.
+pub(crate) fn put_title(out: &mut Writer, scene: &Scene, look: &Look) {
+    out.begin(Tag::Title);
+    out.within();
+    out.put(&[Named(look.hex), Words(": ")]);
+    match look.stops {
+        Stops::Area => put_area(out, look),
+        Stops::Towns | Stops::Cities => {
+            put_ground(out, look);
+            put_kind(out, look);
+            put_links(out, look);
+            put_stops(out, scene, look);
+            put_terrain(out, scene, look);
+        }
+    }
+    out.end();
+}
+
+/// Adds a red area: what it is worth, and its sides.
+fn put_area(out: &mut Writer, look: &Look) {
+    let value = printed_value(look.hex);
+    out.put(
+        &[
+            Words("red area "),
+            Words(area_name(look.hex)),
+            Words(", worth "),
+            Number(Money::from(value.before_phase_five)),
+            Words(", from phase 5 on "),
+            Number(Money::from(value.from_phase_five)),
+            Words(";"),
+        ],
+    );
+    put_sides(out, look, StopNumber::First);
+}
+
+/// Returns the name of a red area that lies in two hexes.
+pub(crate) fn area_name(hex: Hex) -> &'static str {
+    match hex {
+        Hex::I1 | Hex::J2 => "Gulf",
+        Hex::A9 | Hex::A11 => "Can. West",
+        _ => "",
+    }
+}
+
+/// Adds the ground of a hex, and the tile that lies there.
+fn put_ground(out: &mut Writer, look: &Look) {
+    out.put(&[Words(shade_word(look.shade))]);
+    match look.lay {
+        None => out.put(&[Words(", printed")]),
+        Some(lay) => out.put(
+            &[
+                Words(", tile "),
+                Number(Money::from(lay.tile.number())),
+                Words(", rotation "),
+                Number(lay.rot.turns() as Money),
+                Words(if lay.swap { ", swapped" } else { "" }),
+            ],
+        ),
+    }
+}
+
+/// Returns the word for a ground.
+fn shade_word(shade: Shade) -> &'static str {
+    match shade {
+        Shade::White => "white",
+        Shade::Yellow => "yellow",
+        Shade::Green => "green",
+        Shade::Brown => "brown",
+        Shade::Grey => "grey",
+        Shade::Red => "red",
+    }
+}
+
+/// Returns the kind by which a hex takes tiles, if it is one of those with letters.
+pub(crate) fn kind_letters(look: &Look) -> Option<&'static str> {
+    let kind = match (look.lay, hex_kind(look.hex)) {
+        (Some(lay), _) => tile(lay.tile).kind,
+        (None, HexKind::Open(kind)) => kind,
+        (None, HexKind::Grey | HexKind::Red) => return None,
+    };
+    match kind {
+        TileKind::CityB => Some("B"),
+        TileKind::CitiesNY => Some("NY"),
+        TileKind::CitiesOO => Some("OO"),
+        TileKind::Plain | TileKind::Town | TileKind::TwoTowns | TileKind::City => None,
+    }
+}
+
+/// Adds the kind by which a hex takes tiles.
+fn put_kind(out: &mut Writer, look: &Look) {
+    if let Some(letters) = kind_letters(look) {
+        out.put(&[Words("; kind "), Words(letters)]);
+    }
+}
+
+/// Adds the track that leads from side to side.
+fn put_links(out: &mut Writer, look: &Look) {
+    let mut before = "; track ";
+    for link in look.links.as_slice() {
+        if let Link {
+            a: End::Side(from),
+            b: End::Side(to),
+            ..
+        } = link
+        {
+            let (from, to) = (from.number() as Money, to.number() as Money);
+            out.put(&[Words(before), Number(from), Words("-"), Number(to)]);
+            before = " ";
+        }
+    }
+}
+
+/// Adds the stops, each with what it is worth, its sides, its slots and its tokens.
+fn put_stops(out: &mut Writer, scene: &Scene, look: &Look) {
+    if look.count > 0 {
+        put_stop(out, scene, look, StopNumber::First);
+    }
+    if look.count > 1 {
+        put_stop(out, scene, look, StopNumber::Second);
+    }
+}
+
+/// Adds a stop.
+fn put_stop(out: &mut Writer, scene: &Scene, look: &Look, number: StopNumber) {
+    let stop = Stop {
+        hex: look.hex,
+        number,
+    };
+    let (word, is_city) = match look.stops {
+        Stops::Cities => ("; city ", true),
+        Stops::Towns | Stops::Area => ("; town ", false),
+    };
+    out.put(&[Words(word), Place(stop.place())]);
+    if look.value > 0 {
+        out.put(&[Words(" worth "), Number(Money::from(look.value))]);
+    }
+    put_sides(out, look, number);
+    if is_city {
+        out.put(&[Words(", slots "), Number(Money::from(look.slots))]);
+        put_tokens(out, scene, stop);
+    }
+}
+
+/// Adds the sides to which a stop has track.
+fn put_sides(out: &mut Writer, look: &Look, stop: StopNumber) {
+    let mut before = " sides ";
+    for link in look.links.as_slice() {
+        if let (End::Side(side), End::Stop(its)) = (link.a, link.b) {
+            if its.index() == stop.index() {
+                out.put(&[Words(before), Number(side.number() as Money)]);
+                before = " ";
+            }
+        }
+    }
+}
+
+/// Adds the tokens of a city, and the companies for which a slot is kept.
+fn put_tokens(out: &mut Writer, scene: &Scene, stop: Stop) {
+    let mut before = ": ";
+    for company in Company::ALL {
+        if has_token(scene.history, stop, company) {
+            out.put(&[Words(before), Words(company.code())]);
+            before = " ";
+        }
+    }
+    for company in Company::ALL {
+        if is_kept(scene.history, stop, company) {
+            out.put(&[Words(", one kept for "), Words(company.code())]);
+        }
+    }
+}
+
+/// Adds the cost of the terrain, where no tile lies, and the private of the hex.
+fn put_terrain(out: &mut Writer, scene: &Scene, look: &Look) {
+    let cost = terrain_cost(look.hex);
+    if look.lay.is_none() && cost > 0 {
+        out.put(&[Words("; costs "), Number(Money::from(cost))]);
+    }
+    for private in Private::ALL {
+        if private_in(private, look.hex) {
+            put_private(out, scene, private);
+        }
+    }
+}
+
+/// Adds a private of the hex, if a player owns it or nobody does yet.
+fn put_private(out: &mut Writer, scene: &Scene, private: Private) {
+    let view = scene.history.now();
+    match view.owner(private) {
+        Some(Holder::Seat(seat)) => out.put(
+            &[
+                Words("; barred by "),
+                Words(private.code()),
+                Words(" of "),
+                picture::Piece::Name(scene.name(seat)),
+            ],
+        ),
+        Some(Holder::Company(_)) => {}
+        None if !view.is_sold(private) => {
+            out.put(&[Words("; private "), Words(private.code()), Words(" not sold yet")])
+        }
+        None => {}
+    }
+}

@@ -1,0 +1,306 @@
+//! What each player was worth and what each share cost, round by round: two charts of lines, and a table.
+ghost use Rattle.std.specs.Prelude.{IfSome, ◌≤◌, ◌<◌};
+
+use crate::record::Entry;
+use crate::route_lines::DASHES;
+use crate::scene::Scene;
+use crate::signs::put_line_colour;
+use crate::table_forms::{
+    NOTHING, begin_head, begin_row, begin_table, end_head, put_caption, put_heading, put_row_head,
+};
+use crate::tiles_part::begin_section;
+use picture::Piece::{Name, Number, Round, Words};
+use picture::{Attr, Point, Tag, Writer, letter};
+use tables::{Company, Money, Seat};
+
+/// What a line of a chart shows.
+#[derive(Clone, Copy)]
+enum Series {
+    /// What the player of a seat is worth.
+    Worth(usize),
+    /// What a share of a company costs.
+    Price(Company),
+}
+
+/// The lines of the players, by their seats.
+const WORTHS: [Series; 6] = [
+    Series::Worth(0), Series::Worth(1), Series::Worth(2), Series::Worth(3), Series::Worth(4),
+    Series::Worth(5),
+];
+
+/// The lines of the companies, in the order of the roster.
+const PRICES: [Series; 8] = [
+    Series::Price(Company::Pennsylvania), Series::Price(Company::NewYorkCentral),
+    Series::Price(Company::CanadianPacific), Series::Price(Company::BaltimoreOhio),
+    Series::Price(Company::ChesapeakeOhio), Series::Price(Company::Erie),
+    Series::Price(Company::NewHaven), Series::Price(Company::BostonMaine),
+];
+
+/// The colours of the players' lines, by their seats.
+const INKS: [&str; 6] = ["#1f4e9c", "#b3261e", "#1f7a3d", "#7a3b8f", "#9a5b00", "#333"];
+
+/// The left end of the lines, how wide they are, where 0 is, and how high the greatest value.
+const LEFT: usize = 60;
+const WIDTH: usize = 780;
+const BOTTOM: usize = 320;
+const HEIGHT: usize = 300;
+
+/// The least distance of the names at the ends of the lines.
+const APART: usize = 17;
+
+/// The greatest value that a chart shows, in dollars.
+const VALUE_MOST: usize = 1_000_000;
+
+/// How many parts a chart has from 0 to its greatest value.
+const PARTS: usize = 4;
+
+/// The most rounds whose names stand below a chart.
+const NAMES_MOST: usize = 14;
+
+/// Adds the history of a game.
+pub(crate) fn put_history(out: &mut Writer, scene: &Scene, entries: &[Entry]) {
+    begin_section(out, "history", "History", "");
+    if entries.is_empty() {
+        out.element(Tag::Paragraph, &[Words("No round has been played.")]);
+    } else {
+        put_plot(out, scene, entries, "Worth of the players", &WORTHS[..scene.seats]);
+        put_plot(out, scene, entries, "Prices of the companies' shares", &PRICES);
+        put_figures(out, scene, entries);
+    }
+    out.end();
+}
+
+/// Adds a chart of some lines.
+fn put_plot(
+    out: &mut Writer,
+    scene: &Scene,
+    entries: &[Entry],
+    words: &'static str,
+    series: &[Series],
+) {
+    let most = top_of(entries, series);
+    out.element(Tag::H3, &[Words(words)]);
+    out.begin_as(Tag::Svg, "plot");
+    out.value(Attr::ViewBox, &[Words("0 0 1000 360")]);
+    out.value(Attr::Role, &[Words("img")]);
+    out.element(Tag::Title, &[Words(words)]);
+    out.element(Tag::Desc, &[Words("A line each, round by round. The table below has the figures.")]);
+    put_grid(out, most);
+    put_rounds(out, entries);
+    for (number, line) in series.iter().enumerate() {
+        put_line(out, entries, *line, number, most);
+    }
+    put_names(out, scene, entries, series, most);
+    out.end();
+}
+
+/// Returns the value of a line behind a round, in dollars, from 0 up to `VALUE_MOST`; `None` before it begins.
+fn value_of(entry: &Entry, series: Series) -> Option<usize>
+    ensures { IfSome result (λ value. value ≤ 1000000) }
+{
+    match series {
+        Series::Worth(seat) => Some(within(*entry.worths.get(seat)?)),
+        Series::Price(company) => Some(within(Money::from(entry.prices[company.place()]?))),
+    }
+}
+
+/// Returns a sum of dollars, or the nearest one that a chart shows.
+fn within(sum: Money) -> usize
+    ensures { result ≤ 1000000 }
+{
+    if sum < 0 {
+        0
+    } else if sum > VALUE_MOST as Money {
+        VALUE_MOST
+    } else {
+        sum as usize
+    }
+}
+
+/// Returns the greatest value that a chart has room for: at least each value of its lines.
+fn top_of(entries: &[Entry], series: &[Series]) -> usize
+    ensures { 0 < result }
+{
+    let mut most = PARTS;
+    for entry in entries {
+        for line in series {
+            if let Some(value) = value_of(entry, *line) {
+                most = most.max(value);
+            }
+        }
+    }
+    PARTS * rounded(most / PARTS + 1)
+}
+
+/// Returns a round number that is at least as great, if there is one up to `VALUE_MOST`.
+fn rounded(least: usize) -> usize
+    ensures least { 0 < result }
+    ensures most { result ≤ 1000000 }
+{
+    for step in [
+        10, 20, 25, 50, 100, 200, 250, 500, 1_000, 2_000, 2_500, 5_000, 10_000, 20_000, 50_000, 100_000,
+    ] {
+        if least <= step {
+            return step;
+        }
+    }
+    VALUE_MOST
+}
+
+/// Returns how far down a value is drawn.
+fn height_of(value: usize, most: usize) -> usize
+    requires value { value ≤ 1000000 }
+    requires most { 0 < most }
+    ensures { result ≤ 320 }
+{
+    BOTTOM.saturating_sub(HEIGHT * value / most)
+}
+
+/// Returns how far to the right a round is drawn, of so many.
+fn across(number: usize, count: usize) -> usize {
+    let last = count.saturating_sub(1).max(1);
+    LEFT.saturating_add(WIDTH.saturating_mul(number) / last)
+}
+
+/// Adds the lines across a chart, with their values.
+fn put_grid(out: &mut Writer, most: usize)
+    requires { 0 < most }
+{
+    for part in 0..5 {
+        let value = (most / PARTS).saturating_mul(part).min(VALUE_MOST);
+        let down = Number(height_of(value, most) as Money);
+        out.path("grid", &[Words("M60 "), down, Words("H840")]);
+        let y = height_of(value, most) as i32 + 4;
+        out.label("axis", Point { x: 54, y }, &[Number(value as Money)]);
+    }
+}
+
+/// Adds the names of some of the rounds.
+fn put_rounds(out: &mut Writer, entries: &[Entry]) {
+    let step = entries.len() / NAMES_MOST + 1;
+    for (number, entry) in entries.iter().enumerate() {
+        if number % step == 0 {
+            let x = across(number, entries.len()).min(1_000) as i32;
+            out.label("when", Point { x, y: 340 }, &[Round(entry.round)]);
+        }
+    }
+}
+
+/// Adds a line.
+fn put_line(out: &mut Writer, entries: &[Entry], line: Series, number: usize, most: usize)
+    requires { 0 < most }
+{
+    out.begin_as(Tag::Polyline, "ser");
+    match line {
+        Series::Worth(seat) => out.value(Attr::Stroke, &[Words(INKS[seat % INKS.len()])]),
+        Series::Price(company) => put_line_colour(out, company),
+    }
+    let dash = DASHES[number % DASHES.len()];
+    if !dash.is_empty() {
+        out.value(Attr::Dash, &[Words(dash)]);
+    }
+    out.attr(Attr::Points);
+    let mut before = "";
+    for (place, entry) in entries.iter().enumerate() {
+        if let Some(value) = value_of(entry, line) {
+            let x = Number(across(place, entries.len()) as Money);
+            let y = Number(height_of(value, most) as Money);
+            out.put(&[Words(before), x, Words(","), y]);
+            before = " ";
+        }
+    }
+    out.end();
+}
+
+/// Adds the names at the ends of the lines, apart from one another: from the greatest value down, each at the end of its
+/// line or below the name before.
+fn put_names(out: &mut Writer, scene: &Scene, entries: &[Entry], series: &[Series], most: usize)
+    requires { 0 < most }
+{
+    let Some(last) = entries.last() else {
+        return;
+    };
+    let mut least = 0;
+    let mut is_named = [false; 8];
+    for _ in series {
+        if let Some(number) = next_name(last, series, &is_named) {
+            if let (Some(named), Some(line)) = (is_named.get_mut(number), series.get(number)) {
+                *named = true;
+                if let Some(value) = value_of(last, *line) {
+                    let end = height_of(value, most);
+                    let y = end.max(least).min(1_000);
+                    put_name(out, scene, *line, end, y);
+                    least = y + APART;
+                }
+            }
+        }
+    }
+}
+
+/// Returns the line of the greatest last value that has no name yet; `None` if each has one.
+fn next_name(last: &Entry, series: &[Series], is_named: &[bool; 8]) -> Option<usize> {
+    let mut found = None;
+    let mut greatest = 0;
+    for (number, line) in series.iter().enumerate() {
+        if let (Some(value), Some(false)) = (value_of(last, *line), is_named.get(number)) {
+            if found.is_none() || value > greatest {
+                found = Some(number);
+                greatest = value;
+            }
+        }
+    }
+    found
+}
+
+/// Adds the name of a line, and what leads from its end to it.
+fn put_name(out: &mut Writer, scene: &Scene, line: Series, end: usize, y: usize) {
+    let from = Number(end as Money);
+    let to = Number(y as Money);
+    out.path("lead", &[Words("M842 "), from, Words("L862 "), to]);
+    let place = Point {
+        x: 866,
+        y: y.min(1_000) as i32 + 5,
+    };
+    match line {
+        Series::Worth(seat) => {
+            let name = scene.name(Seat::at(seat.min(255)));
+            out.label("name", place, &[Name(name)]);
+        }
+        Series::Price(company) => {
+            let code = Words(company.code());
+            out.label("name", place, &[Words(letter(company)), Words(" "), code]);
+        }
+    }
+}
+
+/// Adds the table of the figures.
+fn put_figures(out: &mut Writer, scene: &Scene, entries: &[Entry]) {
+    begin_table(out, "figures", "wide");
+    put_caption(out, "Worth of the players and prices of shares", "(after each round)");
+    begin_head(out);
+    put_heading(out, "", &[Words("Round")]);
+    for number in 0..scene.seats {
+        put_heading(out, "num", &[Name(scene.name(Seat::at(number)))]);
+    }
+    for company in Company::ALL {
+        put_heading(out, "num", &[Words(company.code())]);
+    }
+    end_head(out);
+    out.begin(Tag::TableBody);
+    for entry in entries {
+        begin_row(out, "");
+        put_row_head(out, &[Round(entry.round)]);
+        for worth in &entry.worths[..scene.seats] {
+            out.element(Tag::Cell, &[Number(*worth)]);
+        }
+        for price in &entry.prices {
+            match price {
+                Some(price) => out.element(Tag::Cell, &[Number(Money::from(*price))]),
+                None => out.element(Tag::Cell, &[Words(NOTHING)]),
+            }
+        }
+        out.end();
+    }
+    out.end();
+    out.end();
+}

@@ -1,0 +1,217 @@
+//! The map: its grounds, track, routes, stops and labels, in layers.
+
+use crate::hex_words::{area_name, kind_letters, put_title};
+use crate::route_lines::{put_lines, put_tags};
+use crate::routes::{Routes, centre};
+use crate::scene::{Scene, look_at};
+use crate::signs::{put_legend, put_signs};
+use crate::tokens::{markers_in, private_in};
+use history::Holder;
+use map_tables::{Hex, Lay, printed_value, terrain_cost};
+use picture::Piece::{Hex as Named, Number, Round, Words};
+use picture::{
+    Attr, Look, Point, Shade, Stops, Tag, Writer, cost_point, draw_stops, draw_track, kind_point,
+    private_point, value_point,
+};
+use std::alloc::{AllocError, Global};
+use tables::{Kind, Money, Private};
+
+/// The closed borders of the map.
+const CLOSED: &str = "M378 474L402 460M586 294L610 280M662 294L638 280M846 204L870 190";
+
+/// Adds the map with the routes. Fails only if allocation fails.
+pub(crate) fn put_map(
+    alloc: Global,
+    out: &mut Writer,
+    scene: &Scene,
+    routes: &Routes,
+) -> Result<(), AllocError> {
+    out.begin_as(Tag::Svg, "map");
+    out.value(Attr::ViewBox, &[Words("0 0 1302 1040")]);
+    out.value(Attr::Role, &[Words("img")]);
+    out.element(Tag::Title, &[Words("Map")]);
+    out.begin(Tag::Desc);
+    out.within();
+    out.put(&[Words("Map of the hexes with tiles, tokens and routes")]);
+    if let Some(round) = routes.round {
+        out.put(&[Words(" of "), Round(round)]);
+    }
+    out.put(&[Words(". The tables below have the same in words.")]);
+    out.end();
+    put_signs(out);
+    put_grounds(out, scene);
+    put_tracks(out, scene);
+    put_lines(out, scene, routes.routes.as_slice());
+    out.begin_as(Tag::Group, "top");
+    for hex in Hex::ALL {
+        put_labels(out, scene, &look_at(scene.history, hex));
+    }
+    put_tags(alloc, out, routes.routes.as_slice())?;
+    put_legend(out);
+    out.end();
+    out.end();
+    Ok(())
+}
+
+/// Adds the ground of each hex, with its title.
+fn put_grounds(out: &mut Writer, scene: &Scene) {
+    out.begin_as(Tag::Group, "ground");
+    for hex in Hex::ALL {
+        let look = look_at(scene.history, hex);
+        out.begin(Tag::Use);
+        out.value(Attr::Href, &[Words("#h")]);
+        put_shade(out, look.shade);
+        out.place_at(centre(hex));
+        put_title(out, scene, &look);
+        out.end();
+        out.put(&[Words("\n")]);
+    }
+    out.end();
+}
+
+/// Adds the class of a ground.
+pub(crate) fn put_shade(out: &mut Writer, shade: Shade) {
+    let class = match shade {
+        Shade::White => "w",
+        Shade::Yellow => "y",
+        Shade::Green => "g",
+        Shade::Brown => "b",
+        Shade::Grey => "e",
+        Shade::Red => "r",
+    };
+    out.value(Attr::Class, &[Words(class)]);
+}
+
+/// Adds the rim by which a ground is known without its colour, if it has one.
+pub(crate) fn put_rim(out: &mut Writer, shade: Shade) {
+    match shade {
+        Shade::White | Shade::Yellow => {}
+        Shade::Green => out.sign("#fg", Point::CENTRE),
+        Shade::Brown => out.sign("#fb", Point::CENTRE),
+        Shade::Grey => out.sign("#fe", Point::CENTRE),
+        Shade::Red => out.sign("#fr", Point::CENTRE),
+    }
+}
+
+/// Adds the rim and the track of each hex, and the closed borders.
+fn put_tracks(out: &mut Writer, scene: &Scene) {
+    out.begin_as(Tag::Group, "top");
+    for hex in Hex::ALL {
+        let look = look_at(scene.history, hex);
+        if has_drawing(&look) {
+            out.begin_at(centre(hex));
+            put_rim(out, look.shade);
+            draw_track(out, &look);
+            out.end();
+        }
+    }
+    out.path("wa", &[Words(CLOSED)]);
+    out.path("wb", &[Words(CLOSED)]);
+    out.end();
+}
+
+/// Returns whether a hex has track or a rim.
+fn has_drawing(look: &Look) -> bool {
+    !look.links.is_empty() || !matches!(look.shade, Shade::White | Shade::Yellow)
+}
+
+/// Adds the stops of a hex with their tokens, and its labels.
+fn put_labels(out: &mut Writer, scene: &Scene, look: &Look) {
+    out.begin_at(centre(look.hex));
+    draw_stops(out, look, &markers_in(scene.history, look.hex, look.slots));
+    match look.stops {
+        Stops::Area => put_area(out, scene, look.hex),
+        Stops::Towns | Stops::Cities => {
+            put_value(out, look);
+            put_cost(out, look);
+            put_privates(out, scene, look.hex);
+        }
+    }
+    out.label("c", Point { x: 0, y: -45 }, &[Named(look.hex)]);
+    if let Some(lay) = look.lay {
+        put_tile(out, lay);
+    }
+    out.end();
+}
+
+/// Adds the two values of a red area, of which the one that counts now is white on black, and its name.
+fn put_area(out: &mut Writer, scene: &Scene, hex: Hex) {
+    let is_late = matches!(scene.history.phase(), Kind::Five | Kind::Six | Kind::Diesel);
+    let (left, right) = if is_late { (("o", "f"), ("x", "pw")) } else { (("x", "pw"), ("o", "f")) };
+    let value = printed_value(hex);
+    out.path(left.0, &[Words("M-34-11H0V11H-34z")]);
+    out.path(right.0, &[Words("M0-11H34V11H0z")]);
+    out.label(left.1, Point { x: -17, y: 5 }, &[Number(Money::from(value.before_phase_five))]);
+    out.label(right.1, Point { x: 17, y: 5 }, &[Number(Money::from(value.from_phase_five))]);
+    let y = if let Hex::I1 | Hex::J2 = hex { 28 } else { -20 };
+    out.label("a", Point { x: 0, y }, &[Words(area_name(hex))]);
+}
+
+/// Adds what the stops are worth, and the kind of the hex.
+pub(crate) fn put_value(out: &mut Writer, look: &Look) {
+    if let (Some(place), true) = (value_point(look), look.value > 0) {
+        out.sign("#d", place);
+        out.label("p", place.down(5), &[Number(Money::from(look.value))]);
+    }
+    if let (Some(place), Some(letters)) = (kind_point(look), kind_letters(look)) {
+        out.label("m", place.down(5), &[Words(letters)]);
+    }
+}
+
+/// Adds the cost of the terrain, where no tile lies.
+fn put_cost(out: &mut Writer, look: &Look) {
+    let cost = terrain_cost(look.hex);
+    if look.lay.is_some() || cost == 0 {
+        return;
+    }
+    let place = cost_point(look.hex);
+    out.sign(if cost == 80 { "#h80" } else { "#h120" }, place);
+    out.label("a", place.down(12), &[Number(Money::from(cost))]);
+}
+
+/// Adds the codes of the privates of a hex that players own, or nobody yet.
+fn put_privates(out: &mut Writer, scene: &Scene, hex: Hex) {
+    let view = scene.history.now();
+    for private in Private::ALL {
+        if private_in(private, hex) {
+            match view.owner(private) {
+                Some(Holder::Seat(_)) => put_private(out, private, hex, "x", "n"),
+                Some(Holder::Company(_)) => {}
+                None if !view.is_sold(private) => put_private(out, private, hex, "o", "a"),
+                None => {}
+            }
+        }
+    }
+}
+
+/// Adds the code of a private in a box, with the classes of both.
+fn put_private(
+    out: &mut Writer,
+    private: Private,
+    hex: Hex,
+    around: &'static str,
+    within: &'static str,
+) {
+    let place = private_point(private, hex);
+    let (half, rest) = match private {
+        Private::BaltimoreOhio => (15, "h30v16h-30z"),
+        _ => (12, "h24v16h-24z"),
+    };
+    let corner = place.minus(Point { x: half, y: 8 });
+    out.path(around, &[Words("M"), picture::Piece::Point(corner), Words(rest)]);
+    out.label(within, place.down(4), &[Words(private.code())]);
+}
+
+/// Adds the number of a tile and its rotation; an `s` where its stops are swapped.
+fn put_tile(out: &mut Writer, lay: Lay) {
+    out.label(
+        "i",
+        Point { x: 0, y: 52 },
+        &[
+            Number(Money::from(lay.tile.number())),
+            Words("/"),
+            Number(lay.rot.turns() as Money),
+            Words(if lay.swap { "s" } else { "" }),
+        ],
+    );
+}

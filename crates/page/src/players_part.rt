@@ -1,0 +1,133 @@
+//! The table of players and shares.
+
+use crate::scene::Scene;
+use crate::table_forms::{
+    NOTHING, begin_head, begin_heading, begin_row, begin_table, end_head, put_caption, put_heading,
+    put_number, put_row_head, put_some, put_token,
+};
+use desk::purse_of;
+use history::{Holder, Shareholder};
+use picture::Piece::{Name, Number, Words};
+use picture::{Tag, Writer};
+use tables::{Company, Money, Private, Seat, price};
+
+/// Adds what each player has, and the shares of each company by their holders.
+pub(crate) fn put_players(out: &mut Writer, scene: &Scene) {
+    begin_table(out, "players", "wide");
+    put_caption(
+        out,
+        "Players and shares",
+        "(P presides; &#9654; has priority; free is cash less bids)",
+    );
+    begin_head(out);
+    put_heading(out, "", &[Words("Player")]);
+    for word in ["Cash", "Free", "Certs", "Worth"] {
+        put_heading(out, "num", &[Words(word)]);
+    }
+    for company in Company::ALL {
+        begin_heading(out, "num");
+        put_token(out, company);
+        out.put(&[Words(company.code())]);
+        out.end();
+    }
+    put_heading(out, "", &[Words("Privates")]);
+    put_heading(out, "", &[Words("Sheet")]);
+    end_head(out);
+    out.begin(Tag::TableBody);
+    for number in 0..scene.seats {
+        put_player(out, scene, Seat::at(number));
+    }
+    put_places(out, scene);
+    out.end();
+    out.end();
+}
+
+/// Adds the row of a player.
+fn put_player(out: &mut Writer, scene: &Scene, seat: Seat)
+    requires { seat.0 < 6 }
+{
+    let view = scene.history.now();
+    let purse = purse_of(scene.history, seat);
+    let mark = if view.priority() == seat { " &#9654;" } else { "" };
+    begin_row(out, "");
+    put_row_head(out, &[Name(scene.name(seat)), Words(mark)]);
+    for figure in [purse.cash, purse.free, Money::from(purse.certificates), purse.worth] {
+        put_number(out, figure);
+    }
+    for company in Company::ALL {
+        let shares = scene.history.shares(company, Shareholder::Seat(seat));
+        if view.president(company) == Some(seat) {
+            out.begin_as(Tag::Cell, "num");
+            out.element(Tag::Bold, &[Number(shares), Words(" P")]);
+            out.end();
+        } else {
+            put_number(out, shares);
+        }
+    }
+    put_privates(out, scene, Holder::Seat(seat));
+    let owes = if scene.owes(seat) { "owed" } else { NOTHING };
+    out.element(Tag::Cell, &[Words(owes)]);
+    out.end();
+}
+
+/// Adds a cell with the privates that a player or a company owns.
+pub(crate) fn put_privates(out: &mut Writer, scene: &Scene, holder: Holder) {
+    out.begin(Tag::Cell);
+    out.within();
+    let mut before = "";
+    for private in Private::ALL {
+        if scene.history.owner(private) == Some(holder) {
+            out.put(&[Words(before), Words(private.code())]);
+            before = " ";
+        }
+    }
+    if before.is_empty() {
+        out.put(&[Words(NOTHING)]);
+    }
+    out.end();
+}
+
+/// A row of the table below the players.
+#[derive(Clone, Copy)]
+enum Figure {
+    Offering,
+    Pool,
+    Par,
+    Price,
+}
+
+/// Adds the shares that nobody has, the par values and the prices.
+fn put_places(out: &mut Writer, scene: &Scene) {
+    let rows = [
+        ("Initial offering", Figure::Offering),
+        ("Pool", Figure::Pool),
+        ("Par", Figure::Par),
+        ("Price", Figure::Price),
+    ];
+    for (words, figure) in rows {
+        begin_row(out, "sum");
+        put_row_head(out, &[Words(words)]);
+        for _ in 0..4 {
+            out.element(Tag::Cell, &[]);
+        }
+        for company in Company::ALL {
+            put_some(out, figure_of(scene, company, figure));
+        }
+        out.element(Tag::Cell, &[]);
+        out.element(Tag::Cell, &[]);
+        out.end();
+    }
+}
+
+/// Returns a figure of a company; `None` where it has none.
+fn figure_of(scene: &Scene, company: Company, figure: Figure) -> Option<Money> {
+    match figure {
+        Figure::Offering => Some(scene.history.shares(company, Shareholder::InitialOffering)),
+        Figure::Pool => Some(scene.history.shares(company, Shareholder::BankPool)),
+        Figure::Par => scene.history.par(company),
+        Figure::Price => match scene.history.square(company) {
+            Some(square) => Some(Money::from(price(square))),
+            None => None,
+        },
+    }
+}

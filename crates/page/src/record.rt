@@ -1,0 +1,114 @@
+//! What each player was worth and what each share cost behind each round, noted as the game is played.
+ghost use Rattle.std.specs.Prelude.{IfErr};
+ghost use Rattle.desk.specs.Refusal.{IsOfGame};
+
+use best_run::Search;
+use desk::DeskFault;
+use history::History;
+use report::player_worth;
+use rounds::{Play, Step};
+use sheets::Sheets;
+use std::alloc::{AllocError, Global};
+use tables::{Amount, Company, Money, PLAYERS_MOST, Round, Seat, price};
+
+/// How a game stood behind a round.
+#[derive(Clone, Copy)]
+pub(crate) struct Entry {
+    pub(crate) round: Round,
+    /// What the players were worth, by their seats.
+    pub(crate) worths: [Money; PLAYERS_MOST],
+    /// The prices of the companies' shares, in the order of the roster; `None` before a company is started.
+    pub(crate) prices: [Option<Amount>; 8],
+}
+
+/// A game that is played up to a round, with how it stood behind each.
+#[derive(Drop)]
+pub(crate) struct Played<'a> {
+    pub(crate) play: Play<'a>,
+    pub(crate) entries: Vec<Entry>,
+}
+
+/// Plays the game of some sheets up to behind a round, or as far as they go where none is asked for. `Round` where the
+/// round is not played.
+pub(crate) fn play_to<'a>(
+    alloc: Global,
+    sheets: &'a Sheets<'a>,
+    asked: Option<Round>,
+) -> Result<Played<'a>, DeskFault>
+    ensures { IfErr result IsOfGame }
+{
+    let mut play = Play::start(alloc, sheets)?;
+    let mut search = Search::new(alloc);
+    let mut entries = Vec::new(alloc);
+    loop {
+        match play.step(&mut search) {
+            Ok(Step::Played(round)) => {
+                if let Some(history) = play.history() {
+                    note(&mut entries, entry_of(history, round))?;
+                }
+                if asked == Some(round) {
+                    return Ok(Played { play, entries });
+                }
+            }
+            Ok(Step::Ended(_)) => return ended(play, entries, asked),
+            Err(fault) => return Err(DeskFault::from(fault.want_of_memory())),
+        }
+    }
+}
+
+/// Adds an entry.
+fn note(entries: &mut Vec<Entry>, entry: Entry) -> Result<(), AllocError> {
+    entries.push(entry)?;
+    Ok(())
+}
+
+/// Returns a game that has ended, or is stopped for a sheet, unless a round was asked for that is not played.
+fn ended<'a>(
+    play: Play<'a>,
+    entries: Vec<Entry>,
+    asked: Option<Round>,
+) -> Result<Played<'a>, DeskFault>
+    ensures { IfErr result IsOfGame }
+{
+    match asked {
+        Some(_) => Err(DeskFault::Round),
+        None => Ok(Played { play, entries }),
+    }
+}
+
+/// Returns how a game stands behind a round.
+fn entry_of(history: &History, round: Round) -> Entry {
+    let view = history.now();
+    let mut worths = [0; PLAYERS_MOST];
+    for (number, worth) in worths.iter_mut().enumerate() {
+        if number < history.seats() && number < PLAYERS_MOST {
+            *worth = player_worth(&view, Seat::at(number));
+        }
+    }
+    let mut prices = [None; 8];
+    for company in Company::ALL {
+        if let Some(square) = view.square(company) {
+            prices[company.place()] = Some(price(square));
+        }
+    }
+    Entry {
+        round,
+        worths,
+        prices,
+    }
+}
+
+/// The most rounds of which the page tells.
+const ROUNDS_MOST: usize = 48;
+
+/// Returns the entries of which the page tells: all, or every second or third and so on, with the last.
+pub(crate) fn thinned(alloc: Global, entries: &[Entry]) -> Result<Vec<Entry>, AllocError> {
+    let step = entries.len() / ROUNDS_MOST + 1;
+    let mut kept = Vec::new(alloc);
+    for (number, entry) in entries.iter().enumerate() {
+        if (entries.len() - number) % step == 1 % step {
+            kept.push(*entry)?;
+        }
+    }
+    Ok(kept)
+}

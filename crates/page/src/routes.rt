@@ -1,0 +1,254 @@
+//! What the trains of each company ran in the last operating round that was played.
+
+use crate::scene::look_at;
+use board::Board;
+use desk::{best_at, board_at, view_behind};
+use desk_base::side_towards;
+use history::{Event, GameView, History, Ruling, Walk};
+use legal_runs::ClaimedRun;
+use map_tables::{Hex, Place, Run, Side};
+use order_grammar::Order;
+use picture::{Point, border_point};
+use reach::Network;
+use std::alloc::{AllocError, Global};
+use tables::{Amount, Company, Kind, Round};
+
+/// A place of a run.
+#[derive(Clone, Copy)]
+pub(crate) struct Visit {
+    pub(crate) place: Place,
+    /// What its stop is worth, in dollars; `None` for a hex that the run passes.
+    pub(crate) value: Option<Amount>,
+    /// The side by which the run leaves the hex; `None` at its end.
+    pub(crate) leaves: Option<Side>,
+}
+
+/// A run of a company's train.
+#[derive(Drop)]
+pub(crate) struct Route {
+    pub(crate) company: Company,
+    pub(crate) kind: Kind,
+    /// Whether a RUN BEST ordered it.
+    pub(crate) is_best: bool,
+    pub(crate) visits: Vec<Visit>,
+    /// What its stops are worth together, in dollars.
+    pub(crate) sum: Amount,
+    /// How far it is drawn beside the middle of the track, so that runs over one border are apart.
+    pub(crate) lane: usize,
+}
+
+/// The runs of the last operating round.
+#[derive(Drop)]
+pub(crate) struct Routes {
+    /// The round; `None` if none is played.
+    pub(crate) round: Option<Round>,
+    pub(crate) routes: Vec<Route>,
+}
+
+/// Returns the runs of the last operating round. Fails only if allocation fails.
+pub(crate) fn last_routes(alloc: Global, history: &History) -> Result<Routes, AllocError> {
+    let mut found = Routes {
+        round: last_operating(history.events()),
+        routes: Vec::new(alloc),
+    };
+    let mut walk = Walk::along(history.events());
+    let mut within = false;
+    let mut last = None;
+    for (passed, event) in history.events().iter().enumerate() {
+        match event {
+            Event::Round(round) => within = found.round == Some(*round),
+            Event::Ruled { ruling, .. } => last = Some(ruling),
+            Event::Runs { company, .. } => {
+                if let (true, Some(last)) = (within, last) {
+                    let view = view_behind(&mut walk, passed, history.seats());
+                    add_runs(alloc, &mut found.routes, &view, *company, &last.ruling())?;
+                }
+            }
+            _ => {}
+        }
+    }
+    Ok(found)
+}
+
+/// Returns the operating round that began last; `None` if none did.
+fn last_operating(events: &[Event]) -> Option<Round> {
+    let mut last = None;
+    for event in events {
+        if let Event::Round(Round::Operating { set, number }) = event {
+            last = Some(Round::Operating {
+                set: *set,
+                number: *number,
+            });
+        }
+    }
+    last
+}
+
+/// Adds the runs of a company by the order that a ruling obeys; none where it obeys none.
+fn add_runs(
+    alloc: Global,
+    routes: &mut Vec<Route>,
+    view: &GameView,
+    company: Company,
+    ruling: &Ruling,
+) -> Result<(), AllocError> {
+    match ruling {
+        Ruling::Obeyed {
+            order: Order::Run { kind, run },
+            ..
+        } => {
+            let board = board_at(alloc, view)?;
+            add_route(alloc, routes, &board, company, *kind, run, false)
+        }
+        Ruling::Obeyed {
+            order: Order::RunBest,
+            ..
+        } => {
+            let claim = best_at(alloc, view, company)?;
+            let board = board_at(alloc, view)?;
+            add_best(alloc, routes, &board, company, claim.runs.as_slice())
+        }
+        _ => Ok(()),
+    }
+}
+
+/// Adds the runs by which a company's trains earn the most.
+fn add_best(
+    alloc: Global,
+    routes: &mut Vec<Route>,
+    board: &Board,
+    company: Company,
+    runs: &[ClaimedRun],
+) -> Result<(), AllocError> {
+    for claimed in runs {
+        add_route(alloc, routes, board, company, claimed.kind, &claimed.run, true)?;
+    }
+    Ok(())
+}
+
+/// Adds a run.
+fn add_route(
+    alloc: Global,
+    routes: &mut Vec<Route>,
+    board: &Board,
+    company: Company,
+    kind: Kind,
+    run: &Run,
+    is_best: bool,
+) -> Result<(), AllocError> {
+    let visits = visits_of(alloc, board, run.as_slice())?;
+    let lane = free_lane(routes.as_slice(), visits.as_slice());
+    let sum = sum_of(visits.as_slice());
+    routes.push(
+        Route {
+            company,
+            kind,
+            is_best,
+            visits,
+            sum,
+            lane,
+        },
+    )?;
+    Ok(())
+}
+
+/// Returns the places of a run, each with what it is worth on a board and how the run leaves it.
+fn visits_of(alloc: Global, board: &Board, places: &[Place]) -> Result<Vec<Visit>, AllocError> {
+    let mut visits = Vec::new(alloc);
+    for (number, place) in places.iter().enumerate() {
+        let value = match place.stop() {
+            Some(stop) => Some(board.value(stop)),
+            None => None,
+        };
+        let leaves = match places.get(number + 1) {
+            Some(next) => side_towards(place.hex, next.hex),
+            None => None,
+        };
+        visits.push(
+            Visit {
+                place: *place,
+                value,
+                leaves,
+            },
+        )?;
+    }
+    Ok(visits)
+}
+
+/// Returns what the stops of a run are worth together.
+fn sum_of(visits: &[Visit]) -> Amount {
+    let mut sum: Amount = 0;
+    for visit in visits {
+        sum = sum.saturating_add(visit.value.unwrap_or(0));
+    }
+    sum
+}
+
+/// How many lanes there are.
+pub(crate) const LANES: usize = 7;
+
+/// Returns the least lane that no earlier run has with which a run shares a border; the first if there is none.
+fn free_lane(routes: &[Route], visits: &[Visit]) -> usize {
+    let mut is_taken = [false; LANES];
+    for route in routes {
+        if let (Some(taken), true) = (is_taken.get_mut(route.lane), share_border(route.visits.as_slice(), visits)) {
+            *taken = true;
+        }
+    }
+    for (lane, taken) in is_taken.iter().enumerate() {
+        if !*taken {
+            return lane;
+        }
+    }
+    0
+}
+
+/// Returns whether two runs cross one border.
+fn share_border(one: &[Visit], other: &[Visit]) -> bool {
+    for visit in one {
+        if let Some(point) = border_of(visit) {
+            if crosses(other, point) {
+                return true;
+            }
+        }
+    }
+    false
+}
+
+/// Returns whether a run crosses the border at a point of the map.
+fn crosses(visits: &[Visit], point: Point) -> bool {
+    for visit in visits {
+        if is_at(border_of(visit), point) {
+            return true;
+        }
+    }
+    false
+}
+
+/// Returns whether a point, if it is there, is another.
+pub(crate) fn is_at(point: Option<Point>, other: Point) -> bool {
+    match point {
+        Some(point) => point.x == other.x && point.y == other.y,
+        None => false,
+    }
+}
+
+/// Returns the point of the map at which a run leaves a hex; `None` at its end.
+pub(crate) fn border_of(visit: &Visit) -> Option<Point> {
+    let side = visit.leaves?;
+    Some(centre(visit.place.hex).plus(border_point(side)))
+}
+
+/// Returns the centre of a hex on the map.
+pub(crate) fn centre(hex: Hex) -> Point {
+    Point {
+        x: 52 * i32::from(hex.column()),
+        y: 90 * (i32::from(hex.row()) - 65) + 62,
+    }
+}
+
+/// Returns the place of a stop on the map.
+pub(crate) fn stop_point(history: &History, place: Place) -> Option<Point> {
+    let stop = place.stop?;
+    Some(centre(place.hex).plus(look_at(history, place.hex).place(stop)))
+}

@@ -1,0 +1,81 @@
+//! What a page shows: the game as it stands, and of its sheets the players' names and who owes one.
+ghost use Rattle.std.specs.Prelude.{◌≡◌, ◌≤◌};
+ghost use Rattle.map_tables.specs.OnMap.{links_on};
+ghost use Rattle.totals.specs.Operating.{lays_of};
+
+use desk::{Stood, owes, tile_on};
+use history::History;
+use map_tables::Hex;
+use picture::Look;
+use report::name;
+use rounds::End;
+use tables::{PLAYERS_MOST, Seat};
+
+/// What a page shows. Of the order file it has the names of the players alone.
+#[derive(Clone, Copy)]
+pub(crate) struct Scene<'a> {
+    /// The players' names, by their seats.
+    pub(crate) names: [&'a [u8]; PLAYERS_MOST],
+    /// Who owes a sheet for the next round, by their seats.
+    pub(crate) owe: [bool; PLAYERS_MOST],
+    /// How many players there are.
+    pub(crate) seats: usize,
+    /// What had happened.
+    pub(crate) history: &'a History,
+    /// The round that came next, or how the game ended.
+    pub(crate) end: End,
+    /// How many operating rounds the set has.
+    pub(crate) in_set: u8,
+    ghost few: { seats ≤ 6 },
+}
+
+impl<'a> Scene<'a> {
+    /// Returns what a page shows of a game as it stood.
+    pub(crate) fn of(stood: &Stood<'a>) -> Scene<'a> {
+        let mut names: [&'a [u8]; PLAYERS_MOST] = [&[], &[], &[], &[], &[], &[]];
+        let mut owe = [false; PLAYERS_MOST];
+        let seats = stood.sheets.seats();
+        for number in 0..seats {
+            let seat = Seat::at(number);
+            names[number] = name(stood.sheets, seat);
+            if let End::Awaiting(round) = stood.end {
+                owe[number] = owes(stood.sheets, seat, &round);
+            }
+        }
+        Scene {
+            names,
+            owe,
+            seats,
+            history: stood.history,
+            end: stood.end,
+            in_set: stood.in_set,
+        }
+    }
+
+    /// Returns the name of the player of a seat; no letters for a seat that nobody has.
+    pub(crate) fn name(&self, seat: Seat) -> &'a [u8] {
+        let names = self.names;
+        match names.get(seat.number()) {
+            Some(name) => name,
+            None => &[],
+        }
+    }
+
+    /// Returns whether the player of a seat owes a sheet for the next round.
+    pub(crate) fn owes(&self, seat: Seat) -> bool {
+        match self.owe.get(seat.number()) {
+            Some(owes) => *owes,
+            None => false,
+        }
+    }
+}
+
+/// Returns what shows in a hex as a game stands: the tile that lies there, or the print.
+pub(crate) fn look_at(history: &History, hex: Hex) -> Look
+    ensures { result.links.items ≡ links_on (lays_of history.now.events) hex }
+{
+    match tile_on(history.lays(), hex) {
+        Some(lay) => Look::laid(lay),
+        None => Look::printed(hex),
+    }
+}

@@ -1,0 +1,133 @@
+//! The head of a page: whose game it is, what comes next, and how it stands in short.
+
+use crate::scene::Scene;
+use history::Party;
+use picture::Piece::{Name, Number, Round, Words};
+use picture::{Attr, Piece, Tag, Writer};
+use rounds::End;
+use tables::{Kind, Money, Seat, certificate_limit, limit};
+
+/// Adds the title of the page, in the head and above its body: the round that was played last.
+pub(crate) fn put_title(out: &mut Writer, scene: &Scene, tag: Tag) {
+    match scene.history.now().round() {
+        Some(round) => out.element(tag, &[Words("1830: after "), Round(round)]),
+        None => out.element(tag, &[Words("1830: before PR1")]),
+    }
+}
+
+/// Adds the players' names.
+pub(crate) fn put_players(out: &mut Writer, scene: &Scene) {
+    out.begin_as(Tag::Paragraph, "who");
+    out.within();
+    let mut before = "";
+    for number in 0..scene.seats {
+        out.put(&[Words(before), Name(scene.name(Seat::at(number)))]);
+        before = ", ";
+    }
+    out.end();
+}
+
+/// The sections that the head links to.
+const LINKS: [(&str, &str); 7] = [
+    ("#map", "Map"),
+    ("#chart", "Chart"),
+    ("#history", "History"),
+    ("#players", "Players"),
+    ("#companies", "Companies"),
+    ("#tiles", "Tiles"),
+    ("#laid", "Laid"),
+];
+
+/// Adds the links to the sections.
+pub(crate) fn put_links(out: &mut Writer) {
+    out.begin(Tag::Nav);
+    for (section, words) in LINKS {
+        out.begin(Tag::Anchor);
+        out.value(Attr::Href, &[Words(section)]);
+        out.within();
+        out.put(&[Words(words)]);
+        out.end();
+        out.put(&[Words(" ")]);
+    }
+    out.end();
+}
+
+/// Adds how the game stands in short.
+pub(crate) fn put_status(out: &mut Writer, scene: &Scene) {
+    let history = scene.history;
+    let phase = history.phase();
+    out.begin_as(Tag::Listing, "status");
+    put_next(out, scene);
+    match history.now().round() {
+        Some(round) => put_item(out, "Last round", &[Round(round)]),
+        None => put_item(out, "Last round", &[Words("none")]),
+    }
+    put_item(out, "Phase", &[Words(phase.code())]);
+    put_item(out, "Tiles", &[Words(colours_of(phase))]);
+    let most = Number(limit(phase) as Money);
+    put_item(out, "Trains of a company", &[most, Words(" at most")]);
+    let rounds = Number(Money::from(scene.in_set));
+    let words = if scene.in_set == 1 { " operating round" } else { " operating rounds" };
+    put_item(out, "Set", &[rounds, Words(words)]);
+    put_item(out, "Priority", &[Name(scene.name(history.now().priority()))]);
+    put_item(out, "Bank", &[Number(history.cash(Party::Bank))]);
+    let most = Number(certificate_limit(history.seats()) as Money);
+    put_item(out, "Certificates", &[most, Words(" at most")]);
+    out.end();
+}
+
+/// Returns the colours of the tiles that may be laid in a phase.
+fn colours_of(phase: Kind) -> &'static str {
+    match phase {
+        Kind::Two => "yellow",
+        Kind::Three | Kind::Four => "yellow, green",
+        Kind::Five | Kind::Six | Kind::Diesel => "yellow, green, brown",
+    }
+}
+
+/// Adds an item of the list.
+fn put_item(out: &mut Writer, words: &'static str, pieces: &[Piece]) {
+    out.begin(Tag::Item);
+    out.element(Tag::Small, &[Words(words)]);
+    out.put(&[Words(" ")]);
+    out.element(Tag::Bold, pieces);
+    out.end();
+}
+
+/// Adds the round that comes next and who owes a sheet for it, or how the game ended.
+fn put_next(out: &mut Writer, scene: &Scene) {
+    out.begin_as(Tag::Item, "next");
+    let (words, round) = match scene.end {
+        End::Awaiting(round) => ("Next round", Some(round)),
+        End::Bank => ("The game has ended", None),
+        End::Bankrupt => ("The game has ended", None),
+    };
+    out.element(Tag::Small, &[Words(words)]);
+    out.put(&[Words(" ")]);
+    match (round, scene.end) {
+        (Some(round), _) => out.element(Tag::Bold, &[Round(round)]),
+        (None, End::Bankrupt) => out.element(Tag::Bold, &[Words("by a bankruptcy")]),
+        (None, _) => out.element(Tag::Bold, &[Words("by the broken bank")]),
+    }
+    out.end();
+    if round.is_some() {
+        put_owing(out, scene);
+    }
+}
+
+/// Adds who owes a sheet.
+fn put_owing(out: &mut Writer, scene: &Scene) {
+    out.begin_as(Tag::Item, "next");
+    out.element(Tag::Small, &[Words("Sheets owed by")]);
+    let mut end = " nobody";
+    for number in 0..scene.seats {
+        let seat = Seat::at(number);
+        if scene.owes(seat) {
+            out.put(&[Words(" ")]);
+            out.element(Tag::Bold, &[Name(scene.name(seat))]);
+            end = "";
+        }
+    }
+    out.put(&[Words(end)]);
+    out.end();
+}

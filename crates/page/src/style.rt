@@ -1,0 +1,93 @@
+//! The style of a page, for the screen, for a dark one, and for paper.
+
+/// The style of a page. No rule for what a `use` shows needs an ancestor, since none is there for it.
+pub(crate) const STYLE: &str = "\n\
+    :root{--P:#1f7a3d;--N:#3a3a3c;--C:#c8102e;--B:#0a57a4;--O:#5fb4dc;--E:#e6c700;\
+    --H:#f0913a;--M:#7a3b8f;\n\
+    --ink:#111;--paper:#fff;--rule:#bbb;--soft:#555;--band:#f1f1ee;color-scheme:light dark}\n\
+    @media screen and (prefers-color-scheme:dark){:root{--ink:#eee;--paper:#1b1c1e;\
+    --rule:#555;--soft:#aaa;--band:#2a2b2e}}\n\
+    body{margin:0 auto;max-width:1340px;padding:12px 16px;color:var(--ink);\
+    background:var(--paper);font:15px/1.35 Arial,Helvetica,'Liberation Sans',sans-serif}\n\
+    header{display:flex;flex-wrap:wrap;gap:4px 20px;align-items:baseline;\
+    border-bottom:3px solid var(--ink)}\n\
+    h1{font-size:25px;margin:0}h2{font-size:19px;margin:18px 0 6px}\
+    h2 small,caption small{font-weight:normal;font-size:13px;color:var(--soft)}\n\
+    .who{margin:0;font-weight:bold}nav{margin-left:auto}nav a{color:inherit;margin-left:10px}\n\
+    .status{display:flex;flex-wrap:wrap;gap:6px 22px;margin:8px 0;padding:0;list-style:none}\
+    .status small{display:block;font-size:12px;color:var(--soft)}\n\
+    .status .next{border:2px solid var(--ink);padding:0 8px}\n\
+    svg.map,svg.chart{display:block;width:100%;height:auto;background:#fff;\
+    border:1px solid var(--rule)}\n\
+    table{border-collapse:collapse;margin:12px 0 18px}.wide{width:100%}\
+    caption{text-align:left;font-weight:bold;font-size:17px;padding:2px 0}\n\
+    th,td{border-bottom:1px solid var(--rule);padding:3px 8px;text-align:left;\
+    vertical-align:middle}\
+    thead th{border-bottom:2px solid var(--ink);font-size:13px;vertical-align:bottom}\n\
+    th[scope=row],.num{white-space:nowrap}\
+    .num{text-align:right;font-variant-numeric:tabular-nums}.sum{background:var(--band)}\
+    .via{color:var(--soft)}\n\
+    .pair{display:flex;flex-wrap:wrap;gap:0 48px}\n\
+    .tok{width:22px;height:22px;vertical-align:-6px;margin-right:5px}\
+    .line{width:90px;height:14px;vertical-align:middle}\n\
+    .tiles,.laid{list-style:none;margin:0;padding:0;display:flex;flex-wrap:wrap;gap:8px}\
+    .tiles li{width:98px;text-align:center}.gone svg>*{opacity:.35}\n\
+    .tile{display:block;width:98px;height:101px;background:#fff}.laid{gap:2px 16px}\
+    .laid li{min-width:84px}\n\
+    text{font:12px Arial,Helvetica,'Liberation Sans',sans-serif;text-anchor:middle;fill:#000}\n\
+    .st{text-anchor:start;font-size:14px}\n\
+    .w{fill:#fff}.y{fill:#ffe45c}.g{fill:#97d784}.b{fill:#c5854d}.e{fill:#c6cace}\
+    .r{fill:#f0a094}\n\
+    svg use.w,svg use.y,svg use.g,svg use.b,svg use.e,svg use.r{stroke:#555;stroke-width:1}\n\
+    .top{pointer-events:none}\n\
+    .u,.t{fill:none}.u{stroke:#fff;stroke-width:11}.t{stroke:#000;stroke-width:7}\n\
+    .k,.l{fill:none;stroke-linecap:round}.k{stroke:#000;stroke-width:33}\
+    .l{stroke:#fff;stroke-width:30}\n\
+    #s{fill:#fff;stroke:#000;stroke-width:1.5}#v{fill:#000;stroke:#fff;stroke-width:2}\
+    #q{fill:#000;stroke:#fff;stroke-width:1.5}#d{fill:#fff;stroke:#000;stroke-width:1}\n\
+    .zw{fill:#fff}.zm{font-size:11px;font-weight:bold}.z{font-weight:bold;font-size:17px}\
+    .zr{font-size:14px;font-weight:bold}\n\
+    .n{fill:#fff;font-size:11px;font-weight:bold}\n\
+    .p{font-size:13px;font-weight:bold}.pw{font-size:14px;font-weight:bold;fill:#fff}\
+    .f{font-size:14px}\n\
+    .m{font-size:15px;font-weight:bold}.a{font-size:11px}.c{font-size:12px}.i{font-size:11px}\
+    .j{font-size:13px;font-weight:bold}\n\
+    .o{fill:#fff;stroke:#000}.x{fill:#000}\n\
+    #fg,#fb,#fe,#fr,.fg,.fb,.fe,.fr{fill:none;stroke-width:2}\n\
+    #fg,.fg{stroke:#14510c;stroke-dasharray:2 5}#fb,.fb{stroke:#4a2506}\
+    #fe,.fe{stroke:#444;stroke-dasharray:9 6}#fr,.fr{stroke:#8c1010;stroke-width:5}\n\
+    #h120{fill:#6b4a1f}#h80{fill:none;stroke:#1668b8;stroke-width:2}\n\
+    .wa,.wb{fill:none;stroke:#000;stroke-width:11}\
+    .wb{stroke:#fff;stroke-width:6;stroke-dasharray:5 5}\n\
+    .leg{fill:#fff;stroke:#000;stroke-width:2}.tick{stroke:#000;stroke-width:9}\
+    .big{font-size:22px;font-weight:bold}\n\
+    .ra,.rb,.rc{fill:none;stroke-linejoin:round}.ra{stroke:#000;stroke-width:10}\
+    .rb{stroke:#fff;stroke-width:8}.rc{stroke-width:8}\n\
+    #sq{stroke:#777}.cw{fill:#fff}.chart .cy{fill:#fff1a8}.chart .co{fill:#f7b267}\
+    .chart .cb{fill:#c08457}\n\
+    .lg{font-size:16px}.tag{fill:#fff;stroke:#000}\
+    .tt{text-anchor:start;font-size:12px;font-weight:bold}\n\
+    #par{fill:none;stroke:#000;stroke-width:2}.pr{text-anchor:start;font-size:15px}\
+    .zl{font-size:11px;font-weight:bold}.b0{font-size:13px;font-weight:bold}\n\
+    .plot{display:block;width:100%;max-width:1000px;height:auto;background:#fff;\
+    border:1px solid var(--rule)}\n\
+    .grid{fill:none;stroke:#ccc}.axis{text-anchor:end;font-size:13px}.when{font-size:12px}\
+    .ser{fill:none;stroke-width:3;stroke-linejoin:round}\
+    .lead{fill:none;stroke:#777;stroke-width:1}\
+    .name{text-anchor:start;font-size:14px;font-weight:bold}\n\
+    #figures td{text-align:right;font-variant-numeric:tabular-nums}.sheet td{padding:2px}\n\
+    @media screen{section{overflow-x:auto}svg.map,svg.chart{min-width:900px}\
+    .plot{min-width:560px}}\n\
+    @page{size:A4 landscape;margin:8mm}\n\
+    @media print{body{max-width:none;padding:0;font-size:11px;\
+    -webkit-print-color-adjust:exact;print-color-adjust:exact}nav{display:none}\n\
+    h1{font-size:18px}h2{font-size:15px;margin:4px 0}caption{font-size:14px}\
+    #map h2{display:none}\n\
+    header,.status{float:left;clear:left;width:33mm;border:0;display:block}\
+    .status{margin:8px 0}.status li{margin:0 0 7px}\n\
+    #routes,#history,#tables,#tiles{break-before:page}.plot{height:78mm;width:auto}\
+    tr,li,svg{break-inside:avoid}th,td{padding:1px 6px}table{margin:4px 0 8px}\n\
+    svg.map{width:auto;height:191mm;margin-left:36mm;border:0}\
+    #map table,#map p,#chart{clear:both}svg.chart{width:auto;height:128mm}\n\
+    .tiles{gap:4px}.tiles li,.tile{width:78px}.tile{height:80px}.laid{gap:0 10px}\
+    .laid li{min-width:66px}}\n";

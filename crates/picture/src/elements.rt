@@ -1,0 +1,93 @@
+//! Elements that pages are made of, each as a call.
+
+use crate::piece::Piece;
+use crate::piece::Piece::{At, Words};
+use crate::point::Point;
+use crate::tag::{Attr, Tag};
+use crate::writer::Writer;
+use tables::Company;
+
+/// The letters of the companies' tokens, in the order of the roster.
+const LETTERS: [&str; 8] = ["P", "N", "C", "B", "O", "E", "H", "M"];
+
+/// Returns the letter of a company's token.
+pub fn letter(company: Company) -> &'static str {
+    LETTERS[company.place()]
+}
+
+impl Writer {
+    /// Adds a value to the start tag of the element that was begun last.
+    pub fn value(&mut self, attr: Attr, pieces: &[Piece]) {
+        self.attr(attr);
+        self.put(pieces);
+    }
+
+    /// Begins an element of a class.
+    pub fn begin_as(&mut self, tag: Tag, class: &'static str) {
+        self.begin(tag);
+        self.value(Attr::Class, &[Words(class)]);
+    }
+
+    /// Adds an element with a text.
+    pub fn element(&mut self, tag: Tag, pieces: &[Piece]) {
+        self.begin(tag);
+        self.within();
+        self.put(pieces);
+        self.end();
+    }
+
+    /// Adds an element of a class with a text.
+    pub fn element_as(&mut self, tag: Tag, class: &'static str, pieces: &[Piece]) {
+        self.begin_as(tag, class);
+        self.within();
+        self.put(pieces);
+        self.end();
+    }
+
+    /// Adds where an element is.
+    pub fn place_at(&mut self, place: Point) {
+        self.value(Attr::X, &[At(place.x)]);
+        self.value(Attr::Y, &[At(place.y)]);
+    }
+
+    /// Adds a text of a class at a point.
+    pub fn label(&mut self, class: &'static str, place: Point, pieces: &[Piece]) {
+        self.begin_as(Tag::Text, class);
+        self.place_at(place);
+        self.within();
+        self.put(pieces);
+        self.end();
+    }
+
+    /// Adds a sign at a point, by its reference.
+    pub fn sign(&mut self, sign: &'static str, place: Point) {
+        self.begin(Tag::Use);
+        self.value(Attr::Href, &[Words(sign)]);
+        self.place_at(place);
+        self.end();
+    }
+
+    /// Adds a token of a company at a point, by what its reference begins with: `#t`, `#m` or `#r`.
+    pub fn token(&mut self, sign: &'static str, company: Company, place: Point) {
+        self.begin(Tag::Use);
+        self.value(Attr::Href, &[Words(sign), Words(letter(company))]);
+        self.place_at(place);
+        self.end();
+    }
+
+    /// Adds a path of a class by its data.
+    pub fn path(&mut self, class: &'static str, data: &[Piece]) {
+        self.begin_as(Tag::Path, class);
+        self.value(Attr::D, data);
+        self.end();
+    }
+
+    /// Begins a group that is moved to a point.
+    pub fn begin_at(&mut self, place: Point) {
+        self.begin(Tag::Group);
+        self.value(
+            Attr::Transform,
+            &[Words("translate("), At(place.x), Words(" "), At(place.y), Words(")")],
+        );
+    }
+}
