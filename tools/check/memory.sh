@@ -32,7 +32,7 @@ check_memory() {
   with_little_memory "$program" verify "$scratch/certified" "$best.report"
   "$program" migrate < "$best.orders" > "$scratch/migrated"
   with_little_memory "$program" migrate "$best.orders" "$scratch/migrated"
-  for word in round runs state bulletin; do
+  for word in round runs state bulletin page; do
     "$desk" "$word" < "$best.orders" > "$scratch/owed"
     with_little_memory "$desk" "$word" "$best.orders" "$scratch/owed"
   done

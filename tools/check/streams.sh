@@ -24,7 +24,7 @@ check_streams() {
   for word in report certs verify migrate; do
     try_stream "$word" "$program" "$word" "$game.orders" "$scratch/too-long"
   done
-  for word in round runs state bulletin; do
+  for word in round runs state bulletin page; do
     try_stream "desk $word" "$desk" "$word" games/best-run-of-two-trains.orders "$scratch/too-long" some "${said[@]}"
   done
   # (`check` says in words of its own why a file is refused)

@@ -257,6 +257,12 @@ fn argument_of<'a>(alloc: Global, operand: Operand) -> Arg<'a> {
         }
         Operand::Why => flag(alloc, "why").help("Put under each refused line what rule it broke"),
         Operand::Before => flag(alloc, "before").help("As it stood before that round"),
+<<<<<<< HEAD
+=======
+        Operand::Tiles => flag(alloc, "tiles").help(
+            "All tiles in their six rotations, without a game",
+        ),
+>>>>>>> 1b6fc637 (picture: names and track by contract; page: tags where there is room)
         Operand::All => flag(alloc, "all").help("Tell all that there is"),
         Operand::From => Arg::new(alloc, "from").long("from").value_name("LINE").help(
             "Tell only what begins on this line of the file or below it",

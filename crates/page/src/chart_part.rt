@@ -27,8 +27,15 @@ const LEGEND: [(i32, &str); 6] = [
     (0, "pays: right, at the end of its row up"),
     (20, "withholds: left, at the end of its row down"),
     (40, "sold: down, a square for each share; sold out: up"),
-    (68, "p a par value; y yellow: its shares do not count against the limit of certificates"),
-    (88, "o orange: nor against the limit of six shares; b brown: and a player may buy several in one turn"),
+    (
+        68,
+        "p a par value; y yellow: its shares do not count against the limit of certificates",
+    ),
+    (
+        88,
+        "o orange: nor against the limit of six shares; b brown: and a player may buy several \
+            in one turn",
+    ),
     (116, "On a square the earliest token comes first."),
 ];
 
@@ -40,12 +47,10 @@ pub(crate) fn put_chart(out: &mut Writer, view: &GameView) {
     out.element(Tag::Title, &[Words("Stock chart")]);
     out.element(
         Tag::Desc,
-        &[
-            Words(
-                "Prices from row A down to K, columns 1 to 19, with the tokens of the companies in their \
+        &[Words(
+            "Prices from row A down to K, columns 1 to 19, with the tokens of the companies in their \
                 order. The table of companies names the squares.",
-            ),
-        ],
+        )],
     );
     for column in 1..COLUMNS_END {
         let x = WIDTH * i32::from(column) - 30;

@@ -19,8 +19,18 @@ pub(crate) fn put_companies(out: &mut Writer, scene: &Scene, order: &[Company]) 
     put_head(
         out,
         &[
-            "Company", "Name", "President", "#Price", "Square", "#Cash", "#Last run", "Round", "Trains",
-            "Tokens", "#Left", "Privates",
+            "Company",
+            "Name",
+            "President",
+            "#Price",
+            "Square",
+            "#Cash",
+            "#Last run",
+            "Round",
+            "Trains",
+            "Tokens",
+            "#Left",
+            "Privates",
         ],
     );
     out.begin(Tag::TableBody);
@@ -59,7 +69,11 @@ fn put_row(out: &mut Writer, scene: &Scene, company: Company) {
     if operates(&view, company) {
         put_treasury(out, scene, company);
     } else {
-        let words = if view.is_started(company) { "not floated" } else { "not started" };
+        let words = if view.is_started(company) {
+            "not floated"
+        } else {
+            "not started"
+        };
         out.element(Tag::Cell, &[]);
         out.element(Tag::Cell, &[]);
         out.element(Tag::Cell, &[]);
@@ -93,7 +107,11 @@ fn put_square(out: &mut Writer, view: &GameView, company: Company) {
 
 /// Adds a company's cash, its last revenue with the round, and its trains.
 fn put_treasury(out: &mut Writer, scene: &Scene, company: Company) {
-    out.element_as(Tag::Cell, "num", &[Number(scene.history.cash(Party::of_company(company)))]);
+    out.element_as(
+        Tag::Cell,
+        "num",
+        &[Number(scene.history.cash(Party::of_company(company)))],
+    );
     let earnings = earnings_of(scene.history.events(), company);
     match earnings.round {
         Some(round) => {
@@ -141,7 +159,12 @@ fn put_places(out: &mut Writer, scene: &Scene, company: Company) {
 pub(crate) fn put_owners(out: &mut Writer, scene: &Scene) {
     begin_table(out, "privates", "");
     put_caption(out, "Privates", "");
-    put_head(out, &["Private", "#Face", "#Price", "#Revenue", "Hexes", "Owner", "Bids"]);
+    put_head(
+        out,
+        &[
+            "Private", "#Face", "#Price", "#Revenue", "Hexes", "Owner", "Bids",
+        ],
+    );
     out.begin(Tag::TableBody);
     for private in Private::ALL {
         put_private(out, scene, private);
@@ -193,7 +216,12 @@ fn put_bids(out: &mut Writer, scene: &Scene, private: Private) {
     for number in 0..scene.seats {
         let seat = Seat::at(number);
         if let Some(bid) = scene.history.bid(private, seat) {
-            out.put(&[Words(before), Name(scene.name(seat)), Words(" "), Number(bid)]);
+            out.put(&[
+                Words(before),
+                Name(scene.name(seat)),
+                Words(" "),
+                Number(bid),
+            ]);
             before = ", ";
         }
     }
@@ -207,7 +235,10 @@ fn put_bids(out: &mut Writer, scene: &Scene, private: Private) {
 pub(crate) fn put_trains(out: &mut Writer, scene: &Scene) {
     begin_table(out, "trains", "");
     put_caption(out, "Trains", "");
-    put_head(out, &["Train", "#Bank", "#Pool", "#Price", "Stops", "Rusts"]);
+    put_head(
+        out,
+        &["Train", "#Bank", "#Pool", "#Price", "Stops", "Rusts"],
+    );
     out.begin(Tag::TableBody);
     for kind in Kind::ALL {
         begin_row(out, "");

@@ -5,7 +5,8 @@ use crate::tokens::{is_kept, private_in};
 use desk::has_token;
 use history::Holder;
 use map_tables::{
-    End, Hex, HexKind, Link, Stop, StopNumber, TileKind, hex_kind, printed_value, terrain_cost, tile,
+    End, Hex, HexKind, Link, Stop, StopNumber, TileKind, hex_kind, printed_value, terrain_cost,
+    tile,
 };
 use picture::Piece::{Hex as Named, Number, Place, Words};
 use picture::{Look, Shade, Stops, Tag, Writer};
@@ -32,17 +33,15 @@ pub(crate) fn put_title(out: &mut Writer, scene: &Scene, look: &Look) {
 /// Adds a red area: what it is worth, and its sides.
 fn put_area(out: &mut Writer, look: &Look) {
     let value = printed_value(look.hex);
-    out.put(
-        &[
-            Words("red area "),
-            Words(area_name(look.hex)),
-            Words(", worth "),
-            Number(Money::from(value.before_phase_five)),
-            Words(", from phase 5 on "),
-            Number(Money::from(value.from_phase_five)),
-            Words(";"),
-        ],
-    );
+    out.put(&[
+        Words("red area "),
+        Words(area_name(look.hex)),
+        Words(", worth "),
+        Number(Money::from(value.before_phase_five)),
+        Words(", from phase 5 on "),
+        Number(Money::from(value.from_phase_five)),
+        Words(";"),
+    ]);
     put_sides(out, look, StopNumber::First);
 }
 
@@ -60,15 +59,13 @@ fn put_ground(out: &mut Writer, look: &Look) {
     out.put(&[Words(shade_word(look.shade))]);
     match look.lay {
         None => out.put(&[Words(", printed")]),
-        Some(lay) => out.put(
-            &[
-                Words(", tile "),
-                Number(Money::from(lay.tile.number())),
-                Words(", rotation "),
-                Number(lay.rot.turns() as Money),
-                Words(if lay.swap { ", swapped" } else { "" }),
-            ],
-        ),
+        Some(lay) => out.put(&[
+            Words(", tile "),
+            Number(Money::from(lay.tile.number())),
+            Words(", rotation "),
+            Number(lay.rot.turns() as Money),
+            Words(if lay.swap { ", swapped" } else { "" }),
+        ]),
     }
 }
 
@@ -200,17 +197,19 @@ fn put_terrain(out: &mut Writer, scene: &Scene, look: &Look) {
 fn put_private(out: &mut Writer, scene: &Scene, private: Private) {
     let view = scene.history.now();
     match view.owner(private) {
-        Some(Holder::Seat(seat)) => out.put(
-            &[
-                Words("; barred by "),
-                Words(private.code()),
-                Words(" of "),
-                picture::Piece::Name(scene.name(seat)),
-            ],
-        ),
+        Some(Holder::Seat(seat)) => out.put(&[
+            Words("; barred by "),
+            Words(private.code()),
+            Words(" of "),
+            picture::Piece::Name(scene.name(seat)),
+        ]),
         Some(Holder::Company(_)) => {}
         None if !view.is_sold(private) => {
-            out.put(&[Words("; private "), Words(private.code()), Words(" not sold yet")])
+            out.put(&[
+                Words("; private "),
+                Words(private.code()),
+                Words(" not sold yet"),
+            ])
         }
         None => {}
     }

@@ -1,4 +1,5 @@
-//! What each player was worth and what each share cost, round by round: two charts of lines, and a table.
+//! What each player was worth and what each share cost, round by round: two charts of lines, and a
+//! table.
 ghost use Rattle.std.specs.Prelude.{IfSome, ◌≤◌, ◌<◌};
 
 use crate::record::Entry;
@@ -24,29 +25,44 @@ enum Series {
 
 /// The lines of the players, by their seats.
 const WORTHS: [Series; 6] = [
-    Series::Worth(0), Series::Worth(1), Series::Worth(2), Series::Worth(3), Series::Worth(4),
+    Series::Worth(0),
+    Series::Worth(1),
+    Series::Worth(2),
+    Series::Worth(3),
+    Series::Worth(4),
     Series::Worth(5),
 ];
 
 /// The lines of the companies, in the order of the roster.
 const PRICES: [Series; 8] = [
-    Series::Price(Company::Pennsylvania), Series::Price(Company::NewYorkCentral),
-    Series::Price(Company::CanadianPacific), Series::Price(Company::BaltimoreOhio),
-    Series::Price(Company::ChesapeakeOhio), Series::Price(Company::Erie),
-    Series::Price(Company::NewHaven), Series::Price(Company::BostonMaine),
+    Series::Price(Company::Pennsylvania),
+    Series::Price(Company::NewYorkCentral),
+    Series::Price(Company::CanadianPacific),
+    Series::Price(Company::BaltimoreOhio),
+    Series::Price(Company::ChesapeakeOhio),
+    Series::Price(Company::Erie),
+    Series::Price(Company::NewHaven),
+    Series::Price(Company::BostonMaine),
 ];
 
 /// The colours of the players' lines, by their seats.
-const INKS: [&str; 6] = ["#1f4e9c", "#b3261e", "#1f7a3d", "#7a3b8f", "#9a5b00", "#333"];
+const INKS: [&str; 6] = [
+    "#1f4e9c", "#b3261e", "#1f7a3d", "#7a3b8f", "#9a5b00", "#333",
+];
 
 /// The left end of the lines, how wide they are, where 0 is, and how high the greatest value.
 const LEFT: usize = 60;
+
 const WIDTH: usize = 780;
+
 const BOTTOM: usize = 320;
+
 const HEIGHT: usize = 300;
 
-/// The least distance of the names at the ends of the lines.
+/// The least distance of the names at the ends of the lines, and the lowest place of one.
 const APART: usize = 17;
+
+const LOWEST: usize = 345;
 
 /// The greatest value that a chart shows, in dollars.
 const VALUE_MOST: usize = 1_000_000;
@@ -63,8 +79,20 @@ pub(crate) fn put_history(out: &mut Writer, scene: &Scene, entries: &[Entry]) {
     if entries.is_empty() {
         out.element(Tag::Paragraph, &[Words("No round has been played.")]);
     } else {
-        put_plot(out, scene, entries, "Worth of the players", &WORTHS[..scene.seats]);
-        put_plot(out, scene, entries, "Prices of the companies' shares", &PRICES);
+        put_plot(
+            out,
+            scene,
+            entries,
+            "Worth of the players",
+            &WORTHS[..scene.seats],
+        );
+        put_plot(
+            out,
+            scene,
+            entries,
+            "Prices of the companies' shares",
+            &PRICES,
+        );
         put_figures(out, scene, entries);
     }
     out.end();
@@ -84,7 +112,10 @@ fn put_plot(
     out.value(Attr::ViewBox, &[Words("0 0 1000 360")]);
     out.value(Attr::Role, &[Words("img")]);
     out.element(Tag::Title, &[Words(words)]);
-    out.element(Tag::Desc, &[Words("A line each, round by round. The table below has the figures.")]);
+    out.element(
+        Tag::Desc,
+        &[Words("A line each, round by round. The table below has the figures.")],
+    );
     put_grid(out, most);
     put_rounds(out, entries);
     for (number, line) in series.iter().enumerate() {
@@ -94,7 +125,8 @@ fn put_plot(
     out.end();
 }
 
-/// Returns the value of a line behind a round, in dollars, from 0 up to `VALUE_MOST`; `None` before it begins.
+/// Returns the value of a line behind a round, in dollars, from 0 up to `VALUE_MOST`; `None` before
+/// it begins.
 fn value_of(entry: &Entry, series: Series) -> Option<usize>
     ensures { IfSome result (λ value. value ≤ 1000000) }
 {
@@ -138,7 +170,8 @@ fn rounded(least: usize) -> usize
     ensures most { result ≤ 1000000 }
 {
     for step in [
-        10, 20, 25, 50, 100, 200, 250, 500, 1_000, 2_000, 2_500, 5_000, 10_000, 20_000, 50_000, 100_000,
+        10, 20, 25, 50, 100, 200, 250, 500, 1_000, 2_000, 2_500, 5_000, 10_000, 20_000, 50_000,
+        100_000,
     ] {
         if least <= step {
             return step;
@@ -212,8 +245,9 @@ fn put_line(out: &mut Writer, entries: &[Entry], line: Series, number: usize, mo
     out.end();
 }
 
-/// Adds the names at the ends of the lines, apart from one another: from the greatest value down, each at the end of its
-/// line or below the name before.
+/// Adds the names at the ends of the lines, apart from one another: from the greatest value down,
+/// each at the end of its line or below the name before, and so high that there is room for those
+/// that follow.
 fn put_names(out: &mut Writer, scene: &Scene, entries: &[Entry], series: &[Series], most: usize)
     requires { 0 < most }
 {
@@ -222,13 +256,14 @@ fn put_names(out: &mut Writer, scene: &Scene, entries: &[Entry], series: &[Serie
     };
     let mut least = 0;
     let mut is_named = [false; 8];
-    for _ in series {
+    for (place, _) in series.iter().enumerate() {
+        let below = APART.saturating_mul(series.len() - 1 - place);
         if let Some(number) = next_name(last, series, &is_named) {
             if let (Some(named), Some(line)) = (is_named.get_mut(number), series.get(number)) {
                 *named = true;
                 if let Some(value) = value_of(last, *line) {
                     let end = height_of(value, most);
-                    let y = end.max(least).min(1_000);
+                    let y = end.min(LOWEST.saturating_sub(below)).max(least).min(LOWEST);
                     put_name(out, scene, *line, end, y);
                     least = y + APART;
                 }
@@ -276,7 +311,11 @@ fn put_name(out: &mut Writer, scene: &Scene, line: Series, end: usize, y: usize)
 /// Adds the table of the figures.
 fn put_figures(out: &mut Writer, scene: &Scene, entries: &[Entry]) {
     begin_table(out, "figures", "wide");
-    put_caption(out, "Worth of the players and prices of shares", "(after each round)");
+    put_caption(
+        out,
+        "Worth of the players and prices of shares",
+        "(after each round)",
+    );
     begin_head(out);
     put_heading(out, "", &[Words("Round")]);
     for number in 0..scene.seats {

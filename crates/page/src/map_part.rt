@@ -46,7 +46,7 @@ pub(crate) fn put_map(
     for hex in Hex::ALL {
         put_labels(out, scene, &look_at(scene.history, hex));
     }
-    put_tags(alloc, out, routes.routes.as_slice())?;
+    put_tags(alloc, out, scene.history, routes.routes.as_slice())?;
     put_legend(out);
     out.end();
     out.end();
@@ -134,15 +134,28 @@ fn put_labels(out: &mut Writer, scene: &Scene, look: &Look) {
     out.end();
 }
 
-/// Adds the two values of a red area, of which the one that counts now is white on black, and its name.
+/// Adds the two values of a red area, of which the one that counts now is white on black, and its
+/// name.
 fn put_area(out: &mut Writer, scene: &Scene, hex: Hex) {
     let is_late = matches!(scene.history.phase(), Kind::Five | Kind::Six | Kind::Diesel);
-    let (left, right) = if is_late { (("o", "f"), ("x", "pw")) } else { (("x", "pw"), ("o", "f")) };
+    let (left, right) = if is_late {
+        (("o", "f"), ("x", "pw"))
+    } else {
+        (("x", "pw"), ("o", "f"))
+    };
     let value = printed_value(hex);
     out.path(left.0, &[Words("M-34-11H0V11H-34z")]);
     out.path(right.0, &[Words("M0-11H34V11H0z")]);
-    out.label(left.1, Point { x: -17, y: 5 }, &[Number(Money::from(value.before_phase_five))]);
-    out.label(right.1, Point { x: 17, y: 5 }, &[Number(Money::from(value.from_phase_five))]);
+    out.label(
+        left.1,
+        Point { x: -17, y: 5 },
+        &[Number(Money::from(value.before_phase_five))],
+    );
+    out.label(
+        right.1,
+        Point { x: 17, y: 5 },
+        &[Number(Money::from(value.from_phase_five))],
+    );
     let y = if let Hex::I1 | Hex::J2 = hex { 28 } else { -20 };
     out.label("a", Point { x: 0, y }, &[Words(area_name(hex))]);
 }
@@ -198,7 +211,10 @@ fn put_private(
         _ => (12, "h24v16h-24z"),
     };
     let corner = place.minus(Point { x: half, y: 8 });
-    out.path(around, &[Words("M"), picture::Piece::Point(corner), Words(rest)]);
+    out.path(
+        around,
+        &[Words("M"), picture::Piece::Point(corner), Words(rest)],
+    );
     out.label(within, place.down(4), &[Words(private.code())]);
 }
 

@@ -48,10 +48,19 @@ fn put_player(out: &mut Writer, scene: &Scene, seat: Seat)
 {
     let view = scene.history.now();
     let purse = purse_of(scene.history, seat);
-    let mark = if view.priority() == seat { " &#9654;" } else { "" };
+    let mark = if view.priority() == seat {
+        " &#9654;"
+    } else {
+        ""
+    };
     begin_row(out, "");
     put_row_head(out, &[Name(scene.name(seat)), Words(mark)]);
-    for figure in [purse.cash, purse.free, Money::from(purse.certificates), purse.worth] {
+    for figure in [
+        purse.cash,
+        purse.free,
+        Money::from(purse.certificates),
+        purse.worth,
+    ] {
         put_number(out, figure);
     }
     for company in Company::ALL {

@@ -1,4 +1,5 @@
-//! What each player was worth and what each share cost behind each round, noted as the game is played.
+//! What each player was worth and what each share cost behind each round, noted as the game is
+//! played.
 ghost use Rattle.std.specs.Prelude.{IfErr};
 ghost use Rattle.desk.specs.Refusal.{IsOfGame};
 
@@ -17,7 +18,8 @@ pub(crate) struct Entry {
     pub(crate) round: Round,
     /// What the players were worth, by their seats.
     pub(crate) worths: [Money; PLAYERS_MOST],
-    /// The prices of the companies' shares, in the order of the roster; `None` before a company is started.
+    /// The prices of the companies' shares, in the order of the roster; `None` before a company is
+    /// started.
     pub(crate) prices: [Option<Amount>; 8],
 }
 
@@ -28,8 +30,8 @@ pub(crate) struct Played<'a> {
     pub(crate) entries: Vec<Entry>,
 }
 
-/// Plays the game of some sheets up to behind a round, or as far as they go where none is asked for. `Round` where the
-/// round is not played.
+/// Plays the game of some sheets up to behind a round, or as far as they go where none is asked
+/// for. `Round` where the round is not played.
 pub(crate) fn play_to<'a>(
     alloc: Global,
     sheets: &'a Sheets<'a>,
@@ -62,7 +64,8 @@ fn note(entries: &mut Vec<Entry>, entry: Entry) -> Result<(), AllocError> {
     Ok(())
 }
 
-/// Returns a game that has ended, or is stopped for a sheet, unless a round was asked for that is not played.
+/// Returns a game that has ended, or is stopped for a sheet, unless a round was asked for that is
+/// not played.
 fn ended<'a>(
     play: Play<'a>,
     entries: Vec<Entry>,
@@ -101,7 +104,8 @@ fn entry_of(history: &History, round: Round) -> Entry {
 /// The most rounds of which the page tells.
 const ROUNDS_MOST: usize = 48;
 
-/// Returns the entries of which the page tells: all, or every second or third and so on, with the last.
+/// Returns the entries of which the page tells: all, or every second or third and so on, with the
+/// last.
 pub(crate) fn thinned(alloc: Global, entries: &[Entry]) -> Result<Vec<Entry>, AllocError> {
     let step = entries.len() / ROUNDS_MOST + 1;
     let mut kept = Vec::new(alloc);

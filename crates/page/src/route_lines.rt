@@ -1,11 +1,12 @@
 //! The routes on the map, and their table.
+ghost use Rattle.std.specs.Prelude.{pos, negsuc, ◌≤ℤ◌};
 
 use crate::routes::{LANES, Route, Routes, Visit, border_of, centre, is_at, stop_point};
 use crate::scene::{Scene, look_at};
 use crate::signs::put_line_colour;
 use crate::table_forms::{begin_table, put_company, put_head};
 use history::History;
-use map_tables::Side;
+use map_tables::{Hex, Side, neighbour};
 use picture::Piece::{At, Number, Place, Point as To, Round, Words};
 use picture::{Attr, Point, Tag, Way, Writer, put_way, towards, way_across};
 use std::alloc::{AllocError, Global};
@@ -13,7 +14,14 @@ use tables::{Amount, Money};
 
 /// The dashes of the lines, run after run, and from the first again; none for a whole line.
 pub(crate) const DASHES: [&str; 8] = [
-    "", "18 6", "7 5", "18 5 5 5", "3 5", "28 6", "12 4 3 4 3 4", "9 9",
+    "",
+    "18 6",
+    "7 5",
+    "18 5 5 5",
+    "3 5",
+    "28 6",
+    "12 4 3 4 3 4",
+    "9 9",
 ];
 
 /// How far down each lane is.
@@ -71,7 +79,8 @@ fn put_title(out: &mut Writer, route: &Route) {
     out.end();
 }
 
-/// Adds the data of a route's line: from its first stop over each border, and by each stop, to its last.
+/// Adds the data of a route's line: from its first stop over each border, and by each stop, to its
+/// last.
 fn put_data(out: &mut Writer, history: &History, route: &Route) {
     out.attr(Attr::D);
     let mut came = None;
@@ -138,20 +147,37 @@ impl Tagged {
     }
 }
 
-/// Adds the tags of the routes: at a border of each its sum and its company, and the company again at its last.
-/// Fails only if allocation fails.
+/// Where there is room for the sum of a route beside the border at which its tag stands.
+#[derive(Clone, Copy)]
+enum Room {
+    /// At neither side: the sum would hide a label or a slot.
+    Nowhere,
+    Left,
+    Right,
+}
+
+/// Where the tag of a route stands.
+#[derive(Clone, Copy)]
+struct Spot {
+    border: Point,
+    room: Room,
+}
+
+/// Adds the tags of the routes: at a border of each its company, with its sum where there is room
+/// for it, and the company again at its last border. Fails only if allocation fails.
 pub(crate) fn put_tags(
     alloc: Global,
     out: &mut Writer,
+    history: &History,
     routes: &[Route],
 ) -> Result<(), AllocError> {
     let mut tagged = Tagged {
         points: Vec::new(alloc),
     };
     for route in routes {
-        if let Some(place) = free_border(&tagged, route) {
-            put_tag(out, route, place.down(lane_of(route)));
-            tagged.points.push(place)?;
+        if let Some(spot) = spot_for(&tagged, history, route) {
+            put_tag(out, route, spot);
+            tagged.points.push(spot.border)?;
         }
         if let Some(place) = last_border(route) {
             if !tagged.has(place) {
@@ -163,20 +189,50 @@ pub(crate) fn put_tags(
     Ok(())
 }
 
-/// Returns the first border of a route that has no tag, or else its first.
-fn free_border(tagged: &Tagged, route: &Route) -> Option<Point> {
-    let mut first = None;
+/// Returns where the tag of a route stands: the first border without a tag that has room for the
+/// sum, or else the first without a tag, or the first.
+fn spot_for(tagged: &Tagged, history: &History, route: &Route) -> Option<Spot> {
+    let mut found: Option<Spot> = None;
     for visit in &route.visits {
-        if let Some(place) = border_of(visit) {
-            if !tagged.has(place) {
-                return Some(place);
+        if let Some(border) = border_of(visit) {
+            let room = room_at(history, visit);
+            let is_free = !tagged.has(border);
+            if let (Room::Left | Room::Right, true) = (room, is_free) {
+                return Some(Spot { border, room });
             }
-            if first.is_none() {
-                first = Some(place);
+            if found.is_none() || is_free {
+                found = Some(Spot {
+                    border,
+                    room: Room::Nowhere,
+                });
             }
         }
     }
-    first
+    found
+}
+
+/// Returns where there is room for a sum beside the border by which a run leaves a hex.
+fn room_at(history: &History, visit: &Visit) -> Room {
+    let here = has_room(history, Some(visit.place.hex));
+    match visit.leaves {
+        Some(Side::East) if has_room(history, neighbour(visit.place.hex, Side::East)) =>
+            Room::Right,
+        Some(Side::East) if here => Room::Left,
+        Some(Side::West) if here => Room::Right,
+        Some(Side::West) if has_room(history, neighbour(visit.place.hex, Side::West)) => Room::Left,
+        _ => Room::Nowhere,
+    }
+}
+
+/// Returns whether a hex has room for a sum between its middle and its eastern or western side.
+fn has_room(history: &History, hex: Option<Hex>) -> bool {
+    match hex {
+        Some(hex) => {
+            let look = look_at(history, hex);
+            look.count < 2 && look.slots < 2
+        }
+        None => false,
+    }
 }
 
 /// Returns the last border of a route.
@@ -190,9 +246,24 @@ fn last_border(route: &Route) -> Option<Point> {
     last
 }
 
-/// Adds the sum and the company of a route at a point.
-fn put_tag(out: &mut Writer, route: &Route, place: Point) {
+/// Adds the company of a route at a border, with the sum where there is room.
+fn put_tag(out: &mut Writer, route: &Route, spot: Spot) {
+    let place = spot.border.down(lane_of(route));
     let width = 12 + 8 * digits_of(route.sum);
+    match spot.room {
+        Room::Nowhere => {}
+        Room::Right => put_sum(out, route, place, Point { x: 11, y: 4 }, width),
+        Room::Left => put_sum(out, route, place, Point { x: 3 - width, y: 4 }, -width),
+    }
+    out.token("#m", route.company, place);
+}
+
+/// Adds the sum of a route in a box of a width that begins at a point; a width under 0 is to the
+/// left.
+fn put_sum(out: &mut Writer, route: &Route, place: Point, beside: Point, width: i32)
+    requires least { negsuc 999 ≤ℤ width }
+    requires most { width ≤ℤ pos 1000 }
+{
     out.path(
         "tag",
         &[
@@ -205,13 +276,14 @@ fn put_tag(out: &mut Writer, route: &Route, place: Point) {
             Words("z"),
         ],
     );
-    let beside = place.plus(Point { x: 11, y: 4 });
-    out.label("tt", beside, &[Number(Money::from(route.sum))]);
-    out.token("#m", route.company, place);
+    out.label("tt", place.plus(beside), &[Number(Money::from(route.sum))]);
 }
 
 /// Returns how many digits a sum has, up to 4.
-fn digits_of(sum: Amount) -> i32 {
+fn digits_of(sum: Amount) -> i32
+    ensures least { pos 1 ≤ℤ result }
+    ensures most { result ≤ℤ pos 4 }
+{
     if sum < 10 {
         1
     } else if sum < 100 {
@@ -226,18 +298,27 @@ fn digits_of(sum: Amount) -> i32 {
 /// Adds the table of the routes, or why there is none.
 pub(crate) fn put_table(out: &mut Writer, routes: &Routes) {
     let Some(round) = routes.round else {
-        out.element(Tag::Paragraph, &[Words("No operating round has been played.")]);
+        out.element(
+            Tag::Paragraph,
+            &[Words("No operating round has been played.")],
+        );
         return;
     };
     if routes.routes.is_empty() {
-        out.element(Tag::Paragraph, &[Words("No train ran in "), Round(round), Words(".")]);
+        out.element(
+            Tag::Paragraph,
+            &[Words("No train ran in "), Round(round), Words(".")],
+        );
         return;
     }
     begin_table(out, "routes", "wide");
     out.begin(Tag::Caption);
     out.within();
     out.put(&[Words("Routes of "), Round(round), Words(" ")]);
-    out.element(Tag::Small, &[Words("(a stop with its value; a hex without a stop is passed)")]);
+    out.element(
+        Tag::Small,
+        &[Words("(a stop with its value; a hex without a stop is passed)")],
+    );
     out.end();
     put_head(out, &["Company", "Line", "Train", "Route", "#Sum", "Order"]);
     out.begin(Tag::TableBody);
@@ -275,7 +356,10 @@ fn put_row(out: &mut Writer, route: &Route, number: usize) {
     out.begin_as(Tag::Cell, "num");
     out.element(Tag::Bold, &[Number(Money::from(route.sum))]);
     out.end();
-    out.element(Tag::Cell, &[Words(if route.is_best { "best" } else { "written" })]);
+    out.element(
+        Tag::Cell,
+        &[Words(if route.is_best { "best" } else { "written" })],
+    );
     out.end();
 }
 

@@ -121,7 +121,15 @@ fn add_best(
     runs: &[ClaimedRun],
 ) -> Result<(), AllocError> {
     for claimed in runs {
-        add_route(alloc, routes, board, company, claimed.kind, &claimed.run, true)?;
+        add_route(
+            alloc,
+            routes,
+            board,
+            company,
+            claimed.kind,
+            &claimed.run,
+            true,
+        )?;
     }
     Ok(())
 }
@@ -139,16 +147,14 @@ fn add_route(
     let visits = visits_of(alloc, board, run.as_slice())?;
     let lane = free_lane(routes.as_slice(), visits.as_slice());
     let sum = sum_of(visits.as_slice());
-    routes.push(
-        Route {
-            company,
-            kind,
-            is_best,
-            visits,
-            sum,
-            lane,
-        },
-    )?;
+    routes.push(Route {
+        company,
+        kind,
+        is_best,
+        visits,
+        sum,
+        lane,
+    })?;
     Ok(())
 }
 
@@ -164,13 +170,11 @@ fn visits_of(alloc: Global, board: &Board, places: &[Place]) -> Result<Vec<Visit
             Some(next) => side_towards(place.hex, next.hex),
             None => None,
         };
-        visits.push(
-            Visit {
-                place: *place,
-                value,
-                leaves,
-            },
-        )?;
+        visits.push(Visit {
+            place: *place,
+            value,
+            leaves,
+        })?;
     }
     Ok(visits)
 }
@@ -187,11 +191,15 @@ fn sum_of(visits: &[Visit]) -> Amount {
 /// How many lanes there are.
 pub(crate) const LANES: usize = 7;
 
-/// Returns the least lane that no earlier run has with which a run shares a border; the first if there is none.
+/// Returns the least lane that no earlier run has with which a run shares a border; the first if
+/// there is none.
 fn free_lane(routes: &[Route], visits: &[Visit]) -> usize {
     let mut is_taken = [false; LANES];
     for route in routes {
-        if let (Some(taken), true) = (is_taken.get_mut(route.lane), share_border(route.visits.as_slice(), visits)) {
+        if let (Some(taken), true) = (
+            is_taken.get_mut(route.lane),
+            share_border(route.visits.as_slice(), visits),
+        ) {
             *taken = true;
         }
     }

@@ -13,24 +13,51 @@ struct Livery {
 
 /// What the tokens look like, in the order of the roster.
 const LIVERIES: [Livery; 8] = [
-    Livery { fill: "#1f7a3d", is_dark: true },
-    Livery { fill: "#3a3a3c", is_dark: true },
-    Livery { fill: "#c8102e", is_dark: true },
-    Livery { fill: "#0a57a4", is_dark: true },
-    Livery { fill: "#9fd3ec", is_dark: false },
-    Livery { fill: "#ffe600", is_dark: false },
-    Livery { fill: "#f0913a", is_dark: false },
-    Livery { fill: "#7a3b8f", is_dark: true },
+    Livery {
+        fill: "#1f7a3d",
+        is_dark: true,
+    },
+    Livery {
+        fill: "#3a3a3c",
+        is_dark: true,
+    },
+    Livery {
+        fill: "#c8102e",
+        is_dark: true,
+    },
+    Livery {
+        fill: "#0a57a4",
+        is_dark: true,
+    },
+    Livery {
+        fill: "#9fd3ec",
+        is_dark: false,
+    },
+    Livery {
+        fill: "#ffe600",
+        is_dark: false,
+    },
+    Livery {
+        fill: "#f0913a",
+        is_dark: false,
+    },
+    Livery {
+        fill: "#7a3b8f",
+        is_dark: true,
+    },
 ];
 
-/// Signs that are one path: their names and their data. Those whose names begin with `f` are the frames that tell the
-/// grounds of hexes apart without their colours.
+/// The rim of a hex, open where its name and its tile stand.
+const RIM: &str = "M17-45L48-27V27L17 45M-17-45L-48-27V27L-17 45";
+
+/// Signs that are one path: their names and their data. Those whose names begin with `f` are the
+/// rims that tell the grounds of hexes apart without their colours.
 const PATHS: [(&str, &str); 9] = [
     ("h", "M0-60L52-30V30L0 60-52 30V-30z"),
-    ("fg", "M0-55L48-27V27L0 55-48 27V-27z"),
-    ("fb", "M0-55L48-27V27L0 55-48 27V-27z"),
-    ("fe", "M0-55L48-27V27L0 55-48 27V-27z"),
-    ("fr", "M0-55L48-27V27L0 55-48 27V-27z"),
+    ("fg", RIM),
+    ("fb", RIM),
+    ("fe", RIM),
+    ("fr", RIM),
     ("sq", "M0 0H60V56H0z"),
     ("par", "M3 3H57V53H3z"),
     ("h120", "M-11 3L-4-9-1-4 2-9 10 3z"),
@@ -111,7 +138,10 @@ fn put_letter(out: &mut Writer, class: &'static str, y: i32, company: Company) {
 
 /// Adds the colour of a company's lines to a start tag.
 pub(crate) fn put_line_colour(out: &mut Writer, company: Company) {
-    out.value(Attr::Stroke, &[Words("var(--"), Words(letter(company)), Words(")")]);
+    out.value(
+        Attr::Stroke,
+        &[Words("var(--"), Words(letter(company)), Words(")")],
+    );
 }
 
 /// The numbers of the sides in the legend: a tick and where the number stands.
@@ -182,14 +212,32 @@ const ROWS: [(Sample, &str); 13] = [
     (Sample::Sign("#v", 0), "town"),
     (Sample::Sign("#s", 0), "city, a free slot"),
     (Sample::Kept, "slot kept for the home of PRR"),
-    (Sample::Marked("#d", "p", 5, "20"), "value of each stop of the hex"),
-    (Sample::Marked("#q", "n", 4, "1"), "the stop of this number: H18.1"),
+    (
+        Sample::Marked("#d", "p", 5, "20"),
+        "value of each stop of the hex",
+    ),
+    (
+        Sample::Marked("#q", "n", 4, "1"),
+        "the stop of this number: H18.1",
+    ),
     (Sample::Area, "red: before, from phase 5"),
     (Sample::Text("i", "57/1"), "tile 57, rotation 1; s swapped"),
-    (Sample::Marked("#h80", "a", 13, "80"), "river: what the first tile costs"),
-    (Sample::Marked("#h120", "a", 13, "120"), "mountains: the same"),
-    (Sample::Boxed("x", "M-13-8h26v16h-26z", "n", "SV"), "barred by a private of a player"),
-    (Sample::Boxed("o", "M-13-8h26v16h-26z", "a", "SV"), "private not sold yet"),
+    (
+        Sample::Marked("#h80", "a", 13, "80"),
+        "river: what the first tile costs",
+    ),
+    (
+        Sample::Marked("#h120", "a", 13, "120"),
+        "mountains: the same",
+    ),
+    (
+        Sample::Boxed("x", "M-13-8h26v16h-26z", "n", "SV"),
+        "barred by a private of a player",
+    ),
+    (
+        Sample::Boxed("o", "M-13-8h26v16h-26z", "a", "SV"),
+        "private not sold yet",
+    ),
     (Sample::Border, "closed border"),
     (Sample::Grounds, "rims: green, brown, grey, red"),
 ];

@@ -67,9 +67,17 @@ pub(crate) fn put_status(out: &mut Writer, scene: &Scene) {
     let most = Number(limit(phase) as Money);
     put_item(out, "Trains of a company", &[most, Words(" at most")]);
     let rounds = Number(Money::from(scene.in_set));
-    let words = if scene.in_set == 1 { " operating round" } else { " operating rounds" };
+    let words = if scene.in_set == 1 {
+        " operating round"
+    } else {
+        " operating rounds"
+    };
     put_item(out, "Set", &[rounds, Words(words)]);
-    put_item(out, "Priority", &[Name(scene.name(history.now().priority()))]);
+    put_item(
+        out,
+        "Priority",
+        &[Name(scene.name(history.now().priority()))],
+    );
     put_item(out, "Bank", &[Number(history.cash(Party::Bank))]);
     let most = Number(certificate_limit(history.seats()) as Money);
     put_item(out, "Certificates", &[most, Words(" at most")]);

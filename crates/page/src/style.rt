@@ -1,6 +1,7 @@
 //! The style of a page, for the screen, for a dark one, and for paper.
 
-/// The style of a page. No rule for what a `use` shows needs an ancestor, since none is there for it.
+/// The style of a page. No rule for what a `use` shows needs an ancestor, since none is there for
+/// it.
 pub(crate) const STYLE: &str = "\n\
     :root{--P:#1f7a3d;--N:#3a3a3c;--C:#c8102e;--B:#0a57a4;--O:#5fb4dc;--E:#e6c700;\
     --H:#f0913a;--M:#7a3b8f;\n\
@@ -85,7 +86,7 @@ pub(crate) const STYLE: &str = "\n\
     #map h2{display:none}\n\
     header,.status{float:left;clear:left;width:33mm;border:0;display:block}\
     .status{margin:8px 0}.status li{margin:0 0 7px}\n\
-    #routes,#history,#tables,#tiles{break-before:page}.plot{height:78mm;width:auto}\
+    #routes,#history,#tables,#tiles,#figures{break-before:page}.plot{height:74mm;width:auto}\
     tr,li,svg{break-inside:avoid}th,td{padding:1px 6px}table{margin:4px 0 8px}\n\
     svg.map{width:auto;height:191mm;margin-left:36mm;border:0}\
     #map table,#map p,#chart{clear:both}svg.chart{width:auto;height:128mm}\n\

@@ -26,7 +26,8 @@ pub(crate) fn put_caption(out: &mut Writer, words: &'static str, remark: &'stati
     out.end();
 }
 
-/// Adds the head of a table; a word that begins with `#` heads a column of numbers, without that sign.
+/// Adds the head of a table; a word that begins with `#` heads a column of numbers, without that
+/// sign.
 pub(crate) fn put_head(out: &mut Writer, words: &[&'static str]) {
     begin_head(out);
     for word in words {

@@ -5,14 +5,12 @@ ghost use Rattle.picture.specs.Reading.{IsWellFormed};
 use crate::map_part::{put_rim, put_shade, put_value};
 use crate::signs::put_signs;
 use crate::style::STYLE;
-use crate::table_forms::{begin_table, begin_row, put_caption, put_head, put_row_head};
+use crate::table_forms::{begin_row, begin_table, put_caption, put_head, put_row_head};
 use desk::{tile_on, tiles_left};
 use history::History;
 use map_tables::{Colour, End, Hex, Lay, Rotation, Side, TileNo, tile};
 use picture::Piece::{Hex as Named, Number, Words};
-use picture::{
-    Attr, Look, Marker, Point, Ring, Tag, Writer, draw_stops, draw_track, on_ring,
-};
+use picture::{Attr, Look, Marker, Point, Ring, Tag, Writer, draw_stops, draw_track, on_ring};
 use std::alloc::{AllocError, Global};
 use tables::Money;
 
@@ -28,14 +26,12 @@ const ANY: Hex = Hex::I13;
 
 /// Adds a picture of a tile in a rotation, with the numbers of its sides.
 fn put_tile(out: &mut Writer, number: TileNo, rotation: Rotation) {
-    let look = Look::laid(
-        Lay {
-            hex: ANY,
-            tile: number,
-            rot: rotation,
-            swap: false,
-        },
-    );
+    let look = Look::laid(Lay {
+        hex: ANY,
+        tile: number,
+        rot: rotation,
+        swap: false,
+    });
     out.begin_as(Tag::Svg, "tile");
     out.value(Attr::ViewBox, &[Words("-66 -68 132 136")]);
     out.value(Attr::Role, &[Words("img")]);
@@ -85,7 +81,12 @@ fn is_side(end: End, side: Side) -> bool {
 
 /// Adds how many tiles of each number are left, with their pictures.
 pub(crate) fn put_tiles_left(out: &mut Writer, history: &History) {
-    begin_section(out, "tiles", "Tiles left ", "(rotation 0 with the numbers of the sides; a rotation r adds r)");
+    begin_section(
+        out,
+        "tiles",
+        "Tiles left ",
+        "(rotation 0 with the numbers of the sides; a rotation r adds r)",
+    );
     out.begin_as(Tag::Listing, "tiles");
     for (colour, _) in COLOURS {
         for number in TileNo::ALL {
@@ -133,7 +134,12 @@ fn put_left(out: &mut Writer, history: &History, number: TileNo) {
 
 /// Adds the tiles on the map, hex by hex.
 pub(crate) fn put_laid(out: &mut Writer, history: &History) {
-    begin_section(out, "laid", "Tiles on the map ", "(hex, tile / rotation; s swapped)");
+    begin_section(
+        out,
+        "laid",
+        "Tiles on the map ",
+        "(hex, tile / rotation; s swapped)",
+    );
     if history.lays().is_empty() {
         out.element(Tag::Paragraph, &[Words("No tile has been laid.")]);
     } else {
@@ -149,23 +155,21 @@ fn put_laid_list(out: &mut Writer, history: &History) {
         if let Some(lay) = tile_on(history.lays(), hex) {
             out.begin(Tag::Item);
             out.element(Tag::Bold, &[Named(hex)]);
-            out.put(
-                &[
-                    Words("&nbsp;"),
-                    Number(Money::from(lay.tile.number())),
-                    Words("/"),
-                    Number(lay.rot.turns() as Money),
-                    Words(if lay.swap { "s" } else { "" }),
-                ],
-            );
+            out.put(&[
+                Words("&nbsp;"),
+                Number(Money::from(lay.tile.number())),
+                Words("/"),
+                Number(lay.rot.turns() as Money),
+                Words(if lay.swap { "s" } else { "" }),
+            ]);
             out.end();
         }
     }
     out.end();
 }
 
-/// Returns a page with all tiles in their six rotations, with the numbers of their sides. Fails only if
-/// allocation fails.
+/// Returns a page with all tiles in their six rotations, with the numbers of their sides. Fails
+/// only if allocation fails.
 pub fn tile_sheet(alloc: Global) -> Result<Vec<u8>, AllocError>
     ensures { IfOk result (λ page. IsWellFormed page.items) }
 {
@@ -202,7 +206,14 @@ fn put_colour(out: &mut Writer, colour: Colour, words: &'static str) {
         if entry.colour as u8 == colour as u8 {
             begin_row(out, "");
             let count = Number(Money::from(entry.count));
-            put_row_head(out, &[Number(Money::from(number.number())), Words(" &#215;"), count]);
+            put_row_head(
+                out,
+                &[
+                    Number(Money::from(number.number())),
+                    Words(" &#215;"),
+                    count,
+                ],
+            );
             for rotation in Rotation::ALL {
                 out.begin(Tag::Cell);
                 put_tile(out, number, rotation);

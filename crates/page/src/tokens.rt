@@ -7,17 +7,32 @@ use map_tables::{Hex, Stop, StopNumber, home, private_hexes};
 use picture::Marker;
 use tables::{Company, Private};
 
-/// Returns whether a slot of a stop is kept for the home token of a company, which it has not placed.
+/// Returns whether a slot of a stop is kept for the home token of a company, which it has not
+/// placed.
 pub(crate) fn is_kept(history: &History, stop: Stop, company: Company) -> bool {
     history.now().tokens_placed(company) == 0 && same_stop(home(company), stop)
 }
 
-/// Returns what lies in the slots of the stops of a hex, each of which has this many: the tokens of the
-/// board first, in the order of the roster, and last the slots that are kept.
+/// Returns what lies in the slots of the stops of a hex, each of which has this many: the tokens of
+/// the board first, in the order of the roster, and last the slots that are kept.
 pub(crate) fn markers_in(history: &History, hex: Hex, slots: u8) -> [[Marker; 2]; 2] {
     [
-        markers_at(history, Stop { hex, number: StopNumber::First }, slots),
-        markers_at(history, Stop { hex, number: StopNumber::Second }, slots),
+        markers_at(
+            history,
+            Stop {
+                hex,
+                number: StopNumber::First,
+            },
+            slots,
+        ),
+        markers_at(
+            history,
+            Stop {
+                hex,
+                number: StopNumber::Second,
+            },
+            slots,
+        ),
     ]
 }
 

@@ -23,9 +23,9 @@ use sheets::{Sheets, collect};
 use std::alloc::{AllocError, Global};
 use tables::{Company, Round};
 
-/// Returns the page of the game of an order file, behind a round or, where none is asked for, behind the last that was
-/// played: map, routes, stock chart, history, tables and tiles, as one file of HTML. `Round` where the round is not
-/// played.
+/// Returns the page of the game of an order file, behind a round or, where none is asked for,
+/// behind the last that was played: map, routes, stock chart, history, tables and tiles, as one
+/// file of HTML. `Round` where the round is not played.
 pub fn page(alloc: Global, file: &[u8], asked: Option<Round>) -> Result<Vec<u8>, DeskFault>
     ensures accepted { OnOk result (IsAccepted file.now) }
     ensures well_formed { IfOk result (λ page. IsWellFormed page.items) }

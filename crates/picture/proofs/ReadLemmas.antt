@@ -16,7 +16,7 @@ on_from text more found h = fold-append step (read_at [] between) text more ∙ 
 
 -- the name of an element behind a `<`
 named_by : (tag : Tag) (names : List (List ℕ)) →
-  fold step (read_at names (naming [])) (name_of_tag tag) ≡ read_at names (naming (name_of_tag tag))
+    fold step (read_at names (naming [])) (name_of_tag tag) ≡ read_at names (naming (name_of_tag tag))
 named_by Html names = refl
 named_by Head names = refl
 named_by Title names = refl
@@ -57,14 +57,14 @@ named_by Span names = refl
 
 -- behind the name in a start tag
 pub begun : (text : List ℕ) (names : List (List ℕ)) (tag : Tag) → reading text ≡ read_at names between →
-  reading ((text ++ codes "<") ++ name_of_tag tag) ≡ read_at names (naming (name_of_tag tag))
+    reading ((text ++ codes "<") ++ name_of_tag tag) ≡ read_at names (naming (name_of_tag tag))
 begun text names tag h =
-  on_from (text ++ codes "<") (name_of_tag tag) (read_at names (naming [])) (on_from text (codes "<") (read_at names between) h)
+    on_from (text ++ codes "<") (name_of_tag tag) (read_at names (naming [])) (on_from text (codes "<") (read_at names between) h)
     ∙ named_by tag names
 
 -- an end tag of the innermost element
 closing_by : (tag : Tag) (names : List (List ℕ)) →
-  fold step (fold step (fold step (read_at (name_of_tag tag ∷ names) between) (codes "</")) (name_of_tag tag)) (codes ">")
+    fold step (fold step (fold step (read_at (name_of_tag tag ∷ names) between) (codes "</")) (name_of_tag tag)) (codes ">")
     ≡ read_at names between
 closing_by Html names = refl
 closing_by Head names = refl
@@ -106,13 +106,13 @@ closing_by Span names = refl
 
 -- behind an end tag
 pub closed_text : (text : List ℕ) (names : List (List ℕ)) (tag : Tag) → reading text ≡ read_at (name_of_tag tag ∷ names) between →
-  reading (((text ++ codes "</") ++ name_of_tag tag) ++ codes ">") ≡ read_at names between
+    reading (((text ++ codes "</") ++ name_of_tag tag) ++ codes ">") ≡ read_at names between
 closed_text text names tag h =
-  let start : Read = read_at (name_of_tag tag ∷ names) between in
-  let slash : Read = fold step start (codes "</") in
-  let name : Read = fold step slash (name_of_tag tag) in
-  on_from ((text ++ codes "</") ++ name_of_tag tag) (codes ">") name
-      (on_from (text ++ codes "</") (name_of_tag tag) slash (on_from text (codes "</") start h))
+    let start : Read = read_at (name_of_tag tag ∷ names) between in
+    let slash : Read = fold step start (codes "</") in
+    let name : Read = fold step slash (name_of_tag tag) in
+    on_from ((text ++ codes "</") ++ name_of_tag tag) (codes ">") name
+    (on_from (text ++ codes "</") (name_of_tag tag) slash (on_from text (codes "</") start h))
     ∙ closing_by tag names
 
 -- the names of open elements, with one more
@@ -121,10 +121,10 @@ one_more tags tag = fold_push (λ names tag. name_of_tag tag ∷ names) [] tags 
 
 -- behind the end tag of the element that was opened last
 pub closed_by : (text : List ℕ) (tags all : List Tag) (tag : Tag) → all ≡ tags ++ tag ∷ [] →
-  reading text ≡ read_at (open_names all) between →
-  reading (((text ++ codes "</") ++ name_of_tag tag) ++ codes ">") ≡ read_at (open_names tags) between
+    reading text ≡ read_at (open_names all) between →
+    reading (((text ++ codes "</") ++ name_of_tag tag) ++ codes ">") ≡ read_at (open_names tags) between
 closed_by text tags all tag e h =
-  closed_text text (open_names tags) tag
+    closed_text text (open_names tags) tag
     (h ∙ ap (λ names. read_at names between) (ap open_names e ∙ one_more tags tag))
 
 -- the second of two choices
@@ -142,16 +142,16 @@ no_mark a b h = grind arith
 
 -- a byte that has no meaning in tags leaves the reader where it is
 stays : (names : List (List ℕ)) (spot : Spot) (byte : ℕ) → is_apart spot ≡ true → is_plain byte ≡ true →
-  step (read_by names spot) byte ≡ read_by names spot
+    step (read_by names spot) byte ≡ read_by names spot
 stays names Between byte apart plain = second (byte == 60) (no_tag (byte == 60) (byte == 34) plain) (read_at names (naming [])) (read_at names between)
 stays names (Naming tag) byte apart plain = grind arith
 stays names (Valued tag) byte apart plain =
-  second (byte == 34) (no_mark (byte == 60) (byte == 34) plain) (read_at names (inside (name_of_tag tag)))
-      (if byte == 60 then read_at names lost else read_at names (valued (name_of_tag tag)))
+    second (byte == 34) (no_mark (byte == 60) (byte == 34) plain) (read_at names (inside (name_of_tag tag)))
+    (if byte == 60 then read_at names lost else read_at names (valued (name_of_tag tag)))
     ∙ second (byte == 60) (no_tag (byte == 60) (byte == 34) plain) (read_at names lost) (read_at names (valued (name_of_tag tag)))
 
 -- behind such a byte
 pub plain_kept : (text : List ℕ) (names : List (List ℕ)) (spot : Spot) (byte : ℕ) → is_apart spot ≡ true → is_plain byte ≡ true →
-  reading text ≡ read_by names spot → reading (text ++ byte ∷ []) ≡ read_by names spot
+    reading text ≡ read_by names spot → reading (text ++ byte ∷ []) ≡ read_by names spot
 plain_kept text names spot byte apart plain h =
-  on_from text (byte ∷ []) (read_by names spot) h ∙ stays names spot byte apart plain
+    on_from text (byte ∷ []) (read_by names spot) h ∙ stays names spot byte apart plain

@@ -2,6 +2,8 @@
 use Rattle.map_tables.specs.declared.track.End.{End}
 use Rattle.map_tables.specs.declared.track.End.TheVariants.{Side, Stop}
 use Rattle.map_tables.specs.declared.place.StopNumber.TheVariants.{First, Second}
+use Rattle.map_tables.specs.declared.track.Link.{Link}
+use Rattle.picture.specs.declared.curve.Curve.{Curve}
 use Rattle.picture.specs.declared.point.Point.{Point}
 use Rattle.picture.specs.Points.{border_point}
 
@@ -10,3 +12,11 @@ abbrev pub end_point : Point × Point → End → Point
 end_point places (Side side) = border_point side
 end_point places (Stop First) = places.0
 end_point places (Stop Second) = places.1
+
+-- the ends of a link, as points
+abbrev pub ends_of_link : Point × Point → Link → Point × Point
+ends_of_link places link = (end_point places link.a, end_point places link.b)
+
+-- the ends of a curve
+abbrev pub ends_of_curve : Curve → Point × Point
+ends_of_curve curve = (curve.from, curve.to)

@@ -1,4 +1,5 @@
--- The points of a hex to which its track leads. The centre is 0,0, a side is 60 long, and y grows downwards.
+-- The points of a hex to which its track leads. The centre is 0,0, a side is 60 long, and y grows
+-- downwards.
 use Rattle.std.specs.Prelude.{ℤ, pos, negsuc}
 use Rattle.map_tables.specs.declared.side.Side.{Side}
 use Rattle.map_tables.specs.declared.side.Side.TheVariants.{SouthWest, West, NorthWest, NorthEast, East, SouthEast}

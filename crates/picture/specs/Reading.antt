@@ -1,6 +1,7 @@
--- A reader of elements, which knows nothing of what wrote them. It goes over the bytes of a text and keeps the names of
--- the elements that are open, the innermost first. A text is well-formed if none is open at its end, and nothing was out
--- of its place: each end tag names the element that is open innermost, and no value of a start tag holds a `<`.
+-- A reader of elements, which knows nothing of what wrote them. It goes over the bytes of a text
+-- and keeps the names of the elements that are open, the innermost first. A text is well-formed if
+-- none is open at its end, and nothing was out of its place: each end tag names the element that is
+-- open innermost, and no value of a start tag holds a `<`.
 use Rattle.std.specs.Prelude.{◌≡◌, ℕ, List, [], ◌∷◌, ◌++◌, Bool, ◌==◌, if◌then◌else◌, bytes_eq, fold, length, ◌||◌, not, ◌&&◌}
 use Rattle.picture.specs.Tags.{is_void}
 
@@ -38,28 +39,29 @@ abbrev pub closed : List (List ℕ) → List ℕ → Read
 closed [] name = read_at [] lost
 closed (top ∷ names) name = if bytes_eq top name then read_at names between else read_at (top ∷ names) lost
 
--- behind a byte of a tag that begins, with this much of the name before it: `>` is 62, a space 32, `/` 47
+-- behind a byte of a tag that begins, with this much of the name before it: `>` is 62, a space 32,
+-- `/` 47
 abbrev pub named : List (List ℕ) → List ℕ → ℕ → Read
 named names name byte =
-  if byte == 62 then opened names name
-  else if byte == 32 then read_at names (inside name)
-  else if byte == 47 then (if bytes_eq name [] then read_at names (closing []) else read_at names ending)
-  else read_at names (naming (name ++ byte ∷ []))
+    if byte == 62 then opened names name
+    else if byte == 32 then read_at names (inside name)
+    else if byte == 47 then (if bytes_eq name [] then read_at names (closing []) else read_at names ending)
+    else read_at names (naming (name ++ byte ∷ []))
 
 -- behind a byte of a start tag: a quotation mark is 34
 abbrev pub inside_then : List (List ℕ) → List ℕ → ℕ → Read
 inside_then names name byte =
-  if byte == 62 then opened names name
-  else if byte == 34 then read_at names (valued name)
-  else if byte == 47 then read_at names ending
-  else read_at names (inside name)
+    if byte == 62 then opened names name
+    else if byte == 34 then read_at names (valued name)
+    else if byte == 47 then read_at names ending
+    else read_at names (inside name)
 
 -- behind a byte of a value: `<` is 60
 abbrev pub valued_then : List (List ℕ) → List ℕ → ℕ → Read
 valued_then names name byte =
-  if byte == 34 then read_at names (inside name)
-  else if byte == 60 then read_at names lost
-  else read_at names (valued name)
+    if byte == 34 then read_at names (inside name)
+    else if byte == 60 then read_at names lost
+    else read_at names (valued name)
 
 -- the next step of the reader, by a byte
 abbrev pub step_at : List (List ℕ) → Spot → ℕ → Read

@@ -1,5 +1,6 @@
--- What a writer of elements keeps: the reader finds open what the writer holds open, and is where the writer is.
-use Rattle.std.specs.Prelude.{◌≡◌, ℕ, List, [], ◌∷◌, Option, None, fold, Bool, true, false, not, ◌&&◌, ◌==◌}
+-- What a writer of elements keeps: the reader finds open what the writer holds open, and is where
+-- the writer is.
+use Rattle.std.specs.Prelude.{◌≡◌, ℕ, List, [], ◌∷◌, Option, None, fold, Bool, true, false, not, ◌&&◌, ◌==◌, if◌then◌else◌}
 use Rattle.std.specs.declared.alloc.AllocError.{AllocError}
 use Rattle.picture.specs.Reading.{Read, read_at, reading, between, naming, valued}
 use Rattle.picture.specs.Tags.{name_of_tag}
@@ -24,6 +25,10 @@ IsRead text tags spot fault = fault ≡ None → reading text ≡ read_by (open_
 -- whether a byte has no meaning in tags: it is no `<`, 60, and no quotation mark, 34
 abbrev pub is_plain : ℕ → Bool
 is_plain byte = not (byte == 60) && not (byte == 34)
+
+-- what is written of a byte: nothing, if it has a meaning in tags
+abbrev pub plain_of : ℕ → List ℕ
+plain_of byte = if is_plain byte then byte ∷ [] else []
 
 -- whether the writer is between tags or in a value
 abbrev pub is_apart : Spot → Bool

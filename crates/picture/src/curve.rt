@@ -1,33 +1,35 @@
 //! A link as a curve.
-ghost use Rattle.std.specs.Prelude.{◌≡◌};
-ghost use Rattle.picture.specs.Curves.{end_point};
+ghost use Rattle.std.specs.Prelude.{◌≡◌, ◌≤◌, length, map};
+ghost use Rattle.picture.specs.Curves.{end_point, ends_of_curve, ends_of_link};
 
 use crate::bend::{Bend, bend_between, is_clockwise};
 use crate::look::Look;
 use crate::point::{Point, Ring, border_point, on_ring};
-use map_tables::{End, Side, StopNumber};
+use arrayvec::ArrayVec;
+use map_tables::{End, LINKS_MOST, Link, Side, StopNumber};
 
 /// How a curve goes from its first point to its last.
-#[derive(Clone, Copy)]
+#[derive(Clone, Copy, Default)]
 pub enum Way {
     /// Straight.
+    #[default]
     Line,
     /// Along a circle of this radius; `clockwise` tells which of two.
-    Arc {
-        radius: i32,
-        clockwise: bool,
-    },
+    Arc { radius: i32, clockwise: bool },
     /// Towards this point first, and from there to the end.
     Towards(Point),
 }
 
 /// A link as a curve.
-#[derive(Clone, Copy)]
+#[derive(Clone, Copy, Default)]
 pub struct Curve {
     pub from: Point,
     pub way: Way,
     pub to: Point,
 }
+
+/// The track of a hex, link by link.
+pub type Curves = ArrayVec<Curve, LINKS_MOST>;
 
 /// The radius of the arc round a corner.
 const SHARP: i32 = 30;
@@ -57,7 +59,7 @@ pub fn towards(look: &Look, side: Side, stop: StopNumber) -> Point {
 }
 
 /// Returns a link between two ends as a curve, where the stops have these places.
-pub fn curve_of(look: &Look, places: (Point, Point), a: End, b: End) -> Curve
+fn curve_of(look: &Look, places: (Point, Point), a: End, b: End) -> Curve
     ensures from { result.from ≡ end_point places a }
     ensures to { result.to ≡ end_point places b }
 {
@@ -73,6 +75,26 @@ pub fn curve_of(look: &Look, places: (Point, Point), a: End, b: End) -> Curve
         way,
         to: end_point(places, b),
     }
+}
+
+/// Returns the track of a hex: of each of its links, in order, a curve from the middle of its side to
+/// the middle of another or to the place of its stop, where the stops have these places.
+pub fn track_of(look: &Look, places: (Point, Point)) -> Curves
+    ensures { map ends_of_curve result.items ≡ map (ends_of_link places) look.now.links.items }
+{
+    curves_of(look, places, look.links.as_slice())
+}
+
+/// Returns some links of a hex as curves.
+fn curves_of(look: &Look, places: (Point, Point), links: &[Link]) -> Curves
+    requires { length links.now ≤ 6 }
+    ensures { map ends_of_curve result.items ≡ map (ends_of_link places) links.now }
+{
+    let mut track = ArrayVec::new();
+    for link in links {
+        track.push(curve_of(look, places, link.a, link.b));
+    }
+    track
 }
 
 /// Returns the point of an end of a link: the middle of its side, or the place of its stop.

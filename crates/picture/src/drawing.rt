@@ -1,13 +1,13 @@
 //! The track and the stops of a hex, drawn round its centre.
 
-use crate::curve::{Way, curve_of};
+use crate::curve::{Curve, Way, track_of};
 use crate::look::{Look, Stops};
 use crate::piece::Piece::{At, Number, Point as To, Words};
 use crate::point::Point;
 use crate::strands::{ENDS, end_number, strands};
 use crate::tag::{Attr, Tag};
 use crate::writer::Writer;
-use map_tables::StopNumber;
+use map_tables::{Link, StopNumber};
 use tables::{Company, Money};
 
 /// What lies in a slot of a city.
@@ -23,18 +23,33 @@ pub enum Marker {
 
 /// Draws the track of a hex, a strand above the other, each black on white.
 pub fn draw_track(out: &mut Writer, look: &Look) {
+    let track = track_of(look, look.places());
     let strands = strands(look.links.as_slice());
     for strand in 0..ENDS {
-        if has_strand(look, &strands, strand) {
-            draw_strand(out, look, &strands, strand, "u");
-            draw_strand(out, look, &strands, strand, "t");
+        if has_strand(look.links.as_slice(), &strands, strand) {
+            draw_strand(
+                out,
+                look.links.as_slice(),
+                track.as_slice(),
+                &strands,
+                strand,
+                "u",
+            );
+            draw_strand(
+                out,
+                look.links.as_slice(),
+                track.as_slice(),
+                &strands,
+                strand,
+                "t",
+            );
         }
     }
 }
 
-/// Returns whether a link of a hex is in a strand.
-fn has_strand(look: &Look, strands: &[usize; ENDS], strand: usize) -> bool {
-    for link in look.links.as_slice() {
+/// Returns whether some link is in a strand.
+fn has_strand(links: &[Link], strands: &[usize; ENDS], strand: usize) -> bool {
+    for link in links {
         if strands[end_number(link.a)] == strand {
             return true;
         }
@@ -42,20 +57,19 @@ fn has_strand(look: &Look, strands: &[usize; ENDS], strand: usize) -> bool {
     false
 }
 
-/// Draws the links of a strand as one path of a class.
+/// Draws the links of a strand as one path of a class, by the curves of all links.
 fn draw_strand(
     out: &mut Writer,
-    look: &Look,
+    links: &[Link],
+    track: &[Curve],
     strands: &[usize; ENDS],
     strand: usize,
     class: &'static str,
 ) {
-    let places = look.places();
     out.begin_as(Tag::Path, class);
     out.attr(Attr::D);
-    for link in look.links.as_slice() {
+    for (link, curve) in links.iter().zip(track) {
         if strands[end_number(link.a)] == strand {
-            let curve = curve_of(look, places, link.a, link.b);
             out.put(&[Words("M"), To(curve.from)]);
             put_way(out, curve.way, curve.to);
         }
@@ -68,17 +82,15 @@ pub fn put_way(out: &mut Writer, way: Way, to: Point) {
     match way {
         Way::Line => out.put(&[Words("L"), To(to)]),
         Way::Towards(by) => out.put(&[Words("Q"), To(by), Words(gap(to)), To(to)]),
-        Way::Arc { radius, clockwise } => out.put(
-            &[
-                Words("A"),
-                At(radius),
-                Words(" "),
-                At(radius),
-                Words(if clockwise { " 0 0 1" } else { " 0 0 0" }),
-                Words(gap(to)),
-                To(to),
-            ],
-        ),
+        Way::Arc { radius, clockwise } => out.put(&[
+            Words("A"),
+            At(radius),
+            Words(" "),
+            At(radius),
+            Words(if clockwise { " 0 0 1" } else { " 0 0 0" }),
+            Words(gap(to)),
+            To(to),
+        ]),
     }
 }
 

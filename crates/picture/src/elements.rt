@@ -87,7 +87,13 @@ impl Writer {
         self.begin(Tag::Group);
         self.value(
             Attr::Transform,
-            &[Words("translate("), At(place.x), Words(" "), At(place.y), Words(")")],
+            &[
+                Words("translate("),
+                At(place.x),
+                Words(" "),
+                At(place.y),
+                Words(")"),
+            ],
         );
     }
 }

@@ -1,19 +1,20 @@
 //! Pictures of hexes and tiles, and a writer of elements that leaves no element open.
 //!
 //! All geometry is in whole numbers, as tables and a few total functions: `Look` is what shows in a
-//! hex, with the place of each stop; `curve_of` is a link of it as a curve, and `strands` says which
-//! links hang together. `Writer` writes elements: `begin` and `end` keep a list of those that are
-//! open, and `finish` ends what is left. In a contract a reader that knows nothing of the writer
-//! goes over the bytes: what it finds open is what the writer holds open, so that no page is
+//! hex, with the place of each stop; `track_of` is its links as curves, and `strands` says
+//! which links hang together. `Writer` writes elements: `begin` and `end` keep a list of those that
+//! are open, and `finish` ends what is left. In a contract a reader that knows nothing of the
+//! writer goes over the bytes: what it finds open is what the writer holds open, so that no page is
 //! ill-formed. Beside constant words only numbers, rounds, places and names get in, and of a name
 //! only letters and digits.
 //!
 //! The definitions, in `specs/`: `Points` (the points of a hex), `Curves` (the ends of a link, and
-//! how it bends), `Tags` (the names of elements), `Reading` (the reader), `Written` (what a
-//! writer keeps).
+//! how it bends), `Tags` (the names of elements), `Reading` (the reader), `Written` (what a writer
+//! keeps).
 //!
 //! Reading order: `point`, `bend`, `look` (what shows in a hex, and where), `curve`, `strands`,
-//! `labels` (where there is room for a label), `tag`, `writer`, `piece`, `elements`, `drawing` (a hex's track and stops).
+//! `labels` (where there is room for a label), `tag`, `writer`, `piece`, `elements`, `drawing` (a
+//! hex's track and stops).
 #![tactic(auto)]
 
 mod bend;
@@ -29,7 +30,7 @@ mod tag;
 mod writer;
 
 pub use bend::{Bend, bend_between};
-pub use curve::{Curve, Way, curve_of, towards, way_across};
+pub use curve::{Curve, Curves, Way, towards, track_of, way_across};
 pub use drawing::{Marker, draw_stops, draw_track, put_way};
 pub use elements::letter;
 pub use labels::{cost_point, kind_point, private_point, value_point};

@@ -110,7 +110,8 @@ impl Look {
         sides
     }
 
-    /// Returns how the way through a stop bends, if it has two sides and may lie off the centre; `None` otherwise.
+    /// Returns how the way through a stop bends, if it has two sides and may lie off the centre;
+    /// `None` otherwise.
     pub(crate) fn bend_at(&self, stop: StopNumber) -> Option<Bend> {
         if self.is_on_its_own() {
             return None;
@@ -121,7 +122,8 @@ impl Look {
         }
     }
 
-    /// Returns whether its stop lies where the hex has room, whatever its sides: an area or a city alone.
+    /// Returns whether its stop lies where the hex has room, whatever its sides: an area or a city
+    /// alone.
     fn is_on_its_own(&self) -> bool {
         match self.stops {
             Stops::Area => true,
@@ -132,7 +134,10 @@ impl Look {
 
     /// Returns the places of stop 0 and stop 1.
     pub fn places(&self) -> (Point, Point) {
-        (self.place(StopNumber::First), self.place(StopNumber::Second))
+        (
+            self.place(StopNumber::First),
+            self.place(StopNumber::Second),
+        )
     }
 
     /// Returns the place of a stop.
@@ -141,7 +146,11 @@ impl Look {
             return self.place_on(bend, self.leaning(stop));
         }
         if self.count < 2 {
-            return if let Hex::H12 = self.hex { PAST } else { Point::CENTRE };
+            return if let Hex::H12 = self.hex {
+                PAST
+            } else {
+                Point::CENTRE
+            };
         }
         match (self.sides(stop).0, stop) {
             (Some(side), _) => on_ring(Ring::HalfWay, side),
@@ -150,7 +159,8 @@ impl Look {
         }
     }
 
-    /// Returns the place of a stop on the way from a side to another, which may lean to one of them.
+    /// Returns the place of a stop on the way from a side to another, which may lean to one of
+    /// them.
     fn place_on(&self, bend: Bend, leaning: Option<Side>) -> Point {
         match (bend, leaning) {
             (Bend::Sharp(corner), _) => match self.stops {
@@ -181,7 +191,8 @@ impl Look {
         Some(side.turned(lay.rot))
     }
 
-    /// Returns the places of a city's two slots; where it has one, that is at the place of the city.
+    /// Returns the places of a city's two slots; where it has one, that is at the place of the
+    /// city.
     pub fn slot_places(&self, stop: StopNumber) -> (Point, Point) {
         let place = self.place(stop);
         let offset = match self.bend_at(stop) {

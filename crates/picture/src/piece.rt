@@ -1,4 +1,7 @@
 //! What a writer puts into a page beside tags.
+ghost use Rattle.std.specs.Prelude.{◌≡◌, ◌++◌, filter, true};
+ghost use Rattle.std.specs.Char.{is_ascii_alphanumeric};
+ghost use Rattle.picture.specs.Written.{is_apart};
 
 use crate::point::Point;
 use crate::writer::Writer;
@@ -18,8 +21,8 @@ pub enum Piece<'a> {
     Number(Money),
     /// A small number in digits, as a coordinate.
     At(i32),
-    /// A point as it stands in the data of a path: its coordinates, parted by a space or by the minus
-    /// of the second.
+    /// A point as it stands in the data of a path: its coordinates, parted by a space or by the
+    /// minus of the second.
     Point(Point),
     /// A round: `OR2.1`.
     Round(Round),
@@ -31,6 +34,7 @@ pub enum Piece<'a> {
 
 /// Adds a piece where a writer is.
 pub(crate) fn put_piece(out: &mut Writer, piece: Piece) {
+    out.settle();
     match piece {
         Piece::Words(words) => put_bytes(out, words.as_bytes()),
         Piece::Name(name) => put_name(out, name),
@@ -51,8 +55,12 @@ fn put_bytes(out: &mut Writer, bytes: &[u8]) {
     }
 }
 
-/// Adds the letters and digits of a name.
-fn put_name(out: &mut Writer, name: &[u8]) {
+/// Adds the letters and digits of a name, and nothing else.
+fn put_name(out: &mut Writer, name: &[u8])
+    requires { is_apart out.old.spot ≡ true }
+    ensures { out.new.fault ≡ None →
+        out.new.text.items ≡ out.old.text.items ++ filter is_ascii_alphanumeric name.now }
+{
     for byte in name {
         if byte.is_ascii_alphanumeric() {
             out.put_byte(*byte);

@@ -5,7 +5,7 @@ ghost use Rattle.picture.specs.Points.{border_point};
 use map_tables::Side;
 
 /// A point of a picture. A side of a hex is 60 long; `x` grows to the right and `y` downwards.
-#[derive(Clone, Copy)]
+#[derive(Clone, Copy, Default)]
 pub struct Point {
     pub x: i32,
     pub y: i32,
@@ -51,7 +51,8 @@ const FAR: [Point; 6] = round!(-17 30, -35 0, -17 -30, 17 -30, 35 0, 17 30);
 /// The middle of the gentle curve past each side, between the two sides next to it.
 const GENTLE: [Point; 6] = round!(-7 12, -14 0, -7 -12, 7 -12, 14 0, 7 12);
 
-/// How far a stop that leans to an end of such a curve is moved towards the side past which it goes.
+/// How far a stop that leans to an end of such a curve is moved towards the side past which it
+/// goes.
 const LEANING: [Point; 6] = round!(-2 3, -4 0, -2 -3, 2 -3, 4 0, 2 3);
 
 /// The middle of the sharp curve round the corner behind each side.

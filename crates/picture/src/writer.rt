@@ -1,7 +1,7 @@
 //! A writer of elements.
 ghost use Rattle.std.specs.Prelude.{◌≡◌, ◌++◌, ◌-◌, [], ◌∷◌, IfOk, length, true};
 ghost use Rattle.picture.specs.Reading.{IsWellFormed};
-ghost use Rattle.picture.specs.Written.{IsRead, is_apart, is_plain};
+ghost use Rattle.picture.specs.Written.{IsRead, is_apart, is_plain, plain_of};
 ghost use Rattle.picture.specs.declared.writer.Spot.TheVariants.{Between};
 
 use crate::piece::{Piece, put_piece};
@@ -61,8 +61,8 @@ impl Writer {
         self.spot = Spot::Naming(tag);
     }
 
-    /// Begins a value in the start tag of the element that was begun last. It does nothing where that
-    /// tag has ended.
+    /// Begins a value in the start tag of the element that was begun last. It does nothing where
+    /// that tag has ended.
     pub fn attr(&mut self, attr: Attr) {
         match self.spot {
             Spot::Between => {}
@@ -79,7 +79,8 @@ impl Writer {
 
     /// Ends the start tag in which the writer is, if it is in one: what follows is a child.
     pub fn within(&mut self)
-        ensures { self.new.spot ≡ Between }
+        ensures spot { self.new.spot ≡ Between }
+        ensures before { self.new.fault ≡ None → self.old.fault ≡ None }
     {
         match self.spot {
             Spot::Between => {}
@@ -95,8 +96,8 @@ impl Writer {
         self.spot = Spot::Between;
     }
 
-    /// Adds pieces to the value in which the writer is, or else to the children of the innermost open
-    /// element.
+    /// Adds pieces to the value in which the writer is, or else to the children of the innermost
+    /// open element.
     pub fn put(&mut self, pieces: &[Piece]) {
         for piece in pieces {
             put_piece(self, *piece);
@@ -104,7 +105,12 @@ impl Writer {
     }
 
     /// Adds a byte where the writer is, unless it is one that has a meaning in tags.
-    pub(crate) fn put_byte(&mut self, byte: u8) {
+    pub(crate) fn put_byte(&mut self, byte: u8)
+        ensures spot { is_apart self.new.spot ≡ true }
+        ensures before { self.new.fault ≡ None → self.old.fault ≡ None }
+        ensures added { is_apart self.old.spot ≡ true → self.new.fault ≡ None →
+            self.new.text.items ≡ self.old.text.items ++ plain_of byte }
+    {
         self.settle();
         if is_plain(byte) && self.fault.is_none() {
             self.push_plain(byte);
@@ -112,8 +118,10 @@ impl Writer {
     }
 
     /// Ends a start tag that has no values so far, if the writer is in one.
-    fn settle(&mut self)
-        ensures { is_apart self.new.spot ≡ true }
+    pub(crate) fn settle(&mut self)
+        ensures spot { is_apart self.new.spot ≡ true }
+        ensures same { is_apart self.old.spot ≡ true → self.new.text.items ≡ self.old.text.items }
+        ensures before { self.new.fault ≡ None → self.old.fault ≡ None }
     {
         if let Spot::Naming(_) = self.spot {
             self.within();
@@ -125,6 +133,10 @@ impl Writer {
     fn push_plain(&mut self, byte: u8)
         requires apart { is_apart self.old.spot ≡ true }
         requires plain { is_plain byte ≡ true }
+        ensures spot { self.new.spot ≡ self.old.spot }
+        ensures before { self.new.fault ≡ None → self.old.fault ≡ None }
+        ensures added { self.new.fault ≡ None →
+            self.new.text.items ≡ self.old.text.items ++ byte ∷ [] }
     {
         if let Err(error) = self.text.push(byte) {
             self.fault = Some(AllocError::from(error));

@@ -1,0 +1,95 @@
+# The part `page`: the page of a game, byte for byte and read back as a picture.
+
+# The games whose pages are read: the first round, a long one of each kind, six players, and the ends.
+read_games=(first-round three-companies-build presidents-run-their-best to-the-first-diesel to-the-first-diesel-of-four
+  ninety-five-tiles conditions three-presidents-deal stock-round-of-six broken-bank-by-a-dividend)
+
+# play_page FILE: the page is what `desk page` writes. NAME.words has the game and the round, where the name is not the game.
+play_page() {
+  local name=${1%.html} orders words=
+  orders=games/${name##*/}.orders
+  [ ! -f "$name.words" ] || { read -r orders words < "$name.words" && orders=games/$orders.orders; }
+  # shellcheck disable=SC2086
+  "$desk" page $words < "$orders" > "$scratch/out" 2> "$scratch/err"
+  judge "$name" $? 0 "$1" none
+}
+
+# told_of GAME FOLDER: what the desk tells of a game: its page, its state, and the runs of its last operating round.
+told_of() {
+  local orders=games/$1.orders round
+  round=$(awk '/^ROUND OR/ { round = $2 } END { print round }' "games/$1.report")
+  mkdir -p "$2"
+  "$desk" page < "$orders" > "$2/page" 2> "$scratch/err" || return
+  "$desk" state < "$orders" > "$2/state" 2> "$scratch/err" || return
+  : > "$2/runs"
+  [ -z "$round" ] || "$desk" runs "$round" < "$orders" > "$2/runs" 2> "$scratch/err"
+}
+
+# read_page NAME FOLDER: a page shows the state and the runs beside it.
+read_page() {
+  local why=
+  tools/page-reader "$2/page" "$2/state" "$2/runs" > "$2/wrong" 2>&1 || why="it is not what the desk tells: $(head -n 3 "$2/wrong")"
+  count "the page of $1" "$why"
+}
+
+# read_game GAME: the same of a game, as the desk tells of it.
+read_game() {
+  told_of "$1" "$scratch/page.$1" || { count "the page of $1" 'the desk does not tell of it' && return; }
+  read_page "$1" "$scratch/page.$1"
+  rm -rf "$scratch/page.$1"
+}
+
+# read_tiles: the sheet of all tiles shows those of the map's table.
+read_tiles() {
+  local why=
+  "$desk" page --tiles < /dev/null > "$scratch/tiles" 2> "$scratch/err" || why='it is not written;'
+  tools/page-reader --tiles "$scratch/tiles" > "$scratch/wrong" 2>&1 || why+=" $(head -n 3 "$scratch/wrong")"
+  count 'the sheet of all tiles' "$why"
+}
+
+# compare_picture FILE: the picture of the documents is the map of a page.
+compare_picture() {
+  "$desk" page < games/presidents-run-their-best.orders 2> "$scratch/err" | tools/map-picture > "$scratch/picture" 2>> "$scratch/err"
+  count "$1" "$(cmp -s "$1" "$scratch/picture" || echo 'it is not the map of the page: tools/map-picture takes it out')"
+}
+
+# check_page: with the word quick it reads fewer games.
+check_page() {
+  local games=("${read_games[@]}")
+  [ "${1:-}" != quick ] || games=("${read_games[@]:0:3}")
+  side_by_side play_page games/page/*.html
+  side_by_side read_game "${games[@]}"
+  read_tiles
+  compare_picture docs/page-map.svg
+}
+
+# turned_page SCRIPT: a page that a script of sed has turned, beside the state and the runs of its game.
+turned_page() {
+  mkdir -p "$scratch/turned"
+  cp "$scratch/right/state" "$scratch/right/runs" "$scratch/turned"
+  sed -e "$1" "$scratch/right/page" > "$scratch/turned/page"
+  cmp -s "$scratch/right/page" "$scratch/turned/page" && : > "$scratch/turned/page"
+  read_page 'what is turned' "$scratch/turned"
+}
+
+page_must_fail() {
+  local program desk
+  program=$(stub 'echo') desk=$program
+  sees 'a desk that writes another page' all side_by_side play_page games/page/*.html
+  sees 'a sheet without tiles' 1 read_tiles
+  sees 'another picture' 1 compare_picture docs/page-map.svg
+  program=$1 desk=$2
+  told_of presidents-run-their-best "$scratch/right" || return
+  sees 'a right page' 0 read_page 'what is right' "$scratch/right"
+  sees 'an element that is not ended' 1 turned_page 's,</section>,,'
+  sees 'an id that is there twice' 1 turned_page 's/id="q"/id="d"/'
+  sees 'a reference that leads nowhere' 1 turned_page '0,/href="#h80"/s//href="#h81"/'
+  sees 'a page that needs another' 1 turned_page 's,<main>,<main><a href="https://example.org">x</a>,'
+  sees 'a byte that is not ASCII' 1 turned_page '0,/BOB/s//B\xd6B/'
+  sees 'a hex that is not there' 1 turned_page 's/class="r" x="468" y="62"/class="r" x="469" y="62"/'
+  sees 'a track that is turned' 1 turned_page 's/M-52 0A30 30 0 0 0 -26-45/M-52 0A30 30 0 0 0 26-45/g'
+  sees 'a token of another company' 1 turned_page 's/href="#tM" x="0" y="0"/href="#tP" x="0" y="0"/'
+  sees 'a label of another tile' 1 turned_page '0,/>57\/5</s//>57\/4</'
+  sees 'a route that goes another way' 1 turned_page 's/class="rc" d="M728 332/class="rc" d="M728 333/'
+  rm -rf "$scratch/right" "$scratch/turned"
+}
