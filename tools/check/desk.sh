@@ -92,25 +92,16 @@ what_came() {
 # have, and with text on standard error if it has no result, and only then.
 try_every_word() {
   local words status why=
-<<<<<<< HEAD
-  for words in round 'round --why' 'round OR1.1' runs 'runs SR1' state 'state SR1' 'state --before' bulletin check \
-    'check --all' 'check --from 9' 'lays PRR' 'may ANN' 'best NYC 2' trial 'hex H10'; do
-=======
   for words in round 'round --why' 'round OR1.1' runs 'runs SR1' state 'state SR1' 'state --before' bulletin page 'page SR1' check \
-    'check --all' 'check --from 9'; do
->>>>>>> 1b6fc637 (picture: names and track by contract; page: tags where there is room)
+    'check --all' 'check --from 9' 'lays PRR' 'may ANN' 'best NYC 2' trial 'hex H10'; do
     # shellcheck disable=SC2086
     "$desk" $words < "$1" > "$scratch/out" 2> "$scratch/err"
     status=$?
     case $words,$status in
       check*,2 | *,0 | check*,3) [ ! -s "$scratch/err" ] || why+=" $words says something;" ;;
-<<<<<<< HEAD
-      *,2 | round*,1 | runs*,1 | state*,1 | bulletin*,1 | lays*,1 | may*,1 | best*,1 | trial*,1 | hex*,1)
+      *,2 | round*,1 | runs*,1 | state*,1 | bulletin*,1 | page*,1 | lays*,1 | may*,1 | best*,1 | trial*,1 | hex*,1)
         [ -s "$scratch/err" ] || why+=" $words says nothing;"
         ;;
-=======
-      *,2 | round*,1 | runs*,1 | state*,1 | bulletin*,1 | page*,1) [ -s "$scratch/err" ] || why+=" $words says nothing;" ;;
->>>>>>> 1b6fc637 (picture: names and track by contract; page: tags where there is room)
       *) why+=" $words ends with status $status;" ;;
     esac
   done

@@ -7,7 +7,7 @@ use tables::{Amount, Company, Round};
 
 /// What a company earned, in the last of the rounds so far in which it operated.
 #[derive(Clone, Copy)]
-pub(crate) struct Earnings {
+pub struct Earnings {
     /// That round; `None` if it has operated in none.
     pub round: Option<Round>,
     /// What its runs earned in it, in dollars.
@@ -55,7 +55,7 @@ impl Earnings {
 }
 
 /// Returns what a company earned in the last round in which it operated.
-pub(crate) fn earnings_of(events: &[Event], company: Company) -> Earnings
+pub fn earnings_of(events: &[Event], company: Company) -> Earnings
     ensures earnings { result ≡ earnings_of company events.now }
     ensures small { result.dollars < 2 ^ 127 }
 {

@@ -27,6 +27,9 @@ mod whole_state;
 
 pub use asked::read_round;
 pub use desk_base::{DeskFault, best_at};
-pub use stock_left::tiles_left;
+pub use earnings::{Earnings, earnings_of};
+pub use purse::{Purse, purse_of};
+pub use stack::{all_in_order, before_in_stack, company_at, operates};
+pub use stock_left::{has_token, tile_on, tiles_left, tokens_left, trains_left};
 pub use stood::{Moment, Stood, play_before, play_behind, stood_at_last, stood_now};
 pub use whole_state::{state, state_text};

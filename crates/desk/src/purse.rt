@@ -13,7 +13,7 @@ use tables::{Money, Seat};
 
 /// What a player has.
 #[derive(Clone, Copy)]
-pub(crate) struct Purse {
+pub struct Purse {
     /// In dollars.
     pub cash: Money,
     /// The cash that no standing bid ties, in dollars.
@@ -25,7 +25,7 @@ pub(crate) struct Purse {
 }
 
 /// Returns what the player of a seat has. The seat is one of six.
-pub(crate) fn purse_of(history: &History, seat: Seat) -> Purse
+pub fn purse_of(history: &History, seat: Seat) -> Purse
     requires { seat.0 < 6 }
     ensures cash { result.cash ≡ cash_of history.now.seats history.now.events (party_at seat) }
     ensures free { result.free ≡ free_cash_of history.now.seats history.now.events seat }

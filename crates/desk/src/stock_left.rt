@@ -12,14 +12,14 @@ use map_tables::{Hex, Lay, Place, Stop, TileNo, joined_stop, tile};
 use tables::{Company, Kind, tokens, train};
 
 /// Returns how many tokens a company has not placed.
-pub(crate) fn tokens_left(view: &GameView, company: Company) -> usize
+pub fn tokens_left(view: &GameView, company: Company) -> usize
     ensures { result ≡ tokens_left view.now.events.now company }
 {
     tokens(company).saturating_sub(view.tokens_placed(company))
 }
 
 /// Returns how many trains of a kind the bank has not sold; `None` if their number has no limit.
-pub(crate) fn trains_left(view: &GameView, kind: Kind) -> Option<usize>
+pub fn trains_left(view: &GameView, kind: Kind) -> Option<usize>
     ensures { result ≡ trains_left view.now.events.now kind }
 {
     let number = train(kind).number?;
@@ -61,7 +61,7 @@ fn has_tile(lays: &[Lay], hex: Hex, number: TileNo) -> bool
 
 /// Returns the tile that lies on a hex: the last that was laid there.
 #[tactic(auto, unfolding(map_tables::specs::OnMap::tile_on))]
-pub(crate) fn tile_on(lays: &[Lay], hex: Hex) -> Option<Lay>
+pub fn tile_on(lays: &[Lay], hex: Hex) -> Option<Lay>
     ensures { result ≡ tile_on lays.now hex }
 {
     for lay in lays.iter().rev() {
@@ -73,7 +73,7 @@ pub(crate) fn tile_on(lays: &[Lay], hex: Hex) -> Option<Lay>
 }
 
 /// Returns whether a company has a token at a stop, among those that were placed.
-pub(crate) fn has_token(history: &History, stop: Stop, company: Company) -> bool
+pub fn has_token(history: &History, stop: Stop, company: Company) -> bool
     ensures { result ≡ has_token (tokens_of history.now.events) stop company }
 {
     for token in history.tokens() {

@@ -7,6 +7,7 @@ use desk_base::{DeskFault, Reason, all_reasons_text, explain, list_text, reason_
 use desk_check::{Extent, check};
 use desk_moves::{LayForm, MovesFault, Progress, Question, TrialForm, answer, trial};
 use desk_round::{bulletin, round, round_with_rules, runs};
+use page::{page, tile_sheet};
 use report::refusal_text;
 use std::alloc::{AllocError, Global};
 use tables::Round;
@@ -69,6 +70,9 @@ pub(crate) fn answer_to<'a, P: Progress>(
             moves_told_of(alloc, file, task, progress),
         );
     }
+    if task.tiles {
+        return Ok(answered(tile_sheet(alloc)?, "", WRITTEN));
+    }
     let asked = Asking {
         job: task.job,
         round: task.round,
@@ -93,6 +97,7 @@ fn told_of(alloc: Global, file: &[u8], asked: Asking) -> Result<Vec<u8>, DeskFau
         Job::State => state(alloc, file, moment_of(asked)),
         Job::Runs => runs(alloc, file, asked.round),
         Job::Bulletin => bulletin(alloc, file, asked.round),
+        Job::Page => page(alloc, file, asked.round),
         _ => told_of_round(alloc, file, asked),
     }
 }

@@ -34,6 +34,8 @@ pub(crate) enum Job {
     Trial,
     /// A hex as it is.
     Hex,
+    /// The game as a page, or the page of all tiles.
+    Page,
 }
 
 /// What the program is asked for.
@@ -55,6 +57,8 @@ pub(crate) struct Task<'a> {
     pub(crate) lines: bool,
     /// Whether to tell what the best runs would earn.
     pub(crate) best: bool,
+    /// Whether to write the page of all tiles.
+    pub(crate) tiles: bool,
     /// The company that is named, if one is.
     pub(crate) company: Option<Company>,
     /// The hex that is named, if one is.
@@ -77,7 +81,7 @@ pub(crate) enum Asked<'a> {
 impl Task<'_> {
     /// Returns whether an order file is to be read for it.
     pub(crate) fn needs_file(&self) -> bool {
-        !matches!(self.job, Job::Explain)
+        !matches!(self.job, Job::Explain) && !self.tiles
     }
 }
 
@@ -110,6 +114,8 @@ enum Operand {
     Lines,
     /// `--best`.
     Best,
+    /// `--tiles`.
+    Tiles,
     /// `--after ROUND`.
     After,
     /// A company.
@@ -125,7 +131,7 @@ enum Operand {
 }
 
 /// The words, as the help lists them.
-static WORDS: [Word; 11] = [
+static WORDS: [Word; 12] = [
     Word {
         name: "round",
         about: "Writes a round's part of the report",
@@ -208,6 +214,13 @@ static WORDS: [Word; 11] = [
         job: Job::Hex,
         operands: &[Operand::Hex, Operand::After],
     },
+    Word {
+        name: "page",
+        about: "Writes the game as one page of HTML: map, routes, chart, history, tables, tiles",
+        example: "Example: desk page < our-game.orders > our-game.html",
+        job: Job::Page,
+        operands: &[Operand::Round, Operand::Tiles],
+    },
 ];
 
 /// Returns what the command line asks for. An error has the text to print: what is wrong, the help
@@ -257,12 +270,6 @@ fn argument_of<'a>(alloc: Global, operand: Operand) -> Arg<'a> {
         }
         Operand::Why => flag(alloc, "why").help("Put under each refused line what rule it broke"),
         Operand::Before => flag(alloc, "before").help("As it stood before that round"),
-<<<<<<< HEAD
-=======
-        Operand::Tiles => flag(alloc, "tiles").help(
-            "All tiles in their six rotations, without a game",
-        ),
->>>>>>> 1b6fc637 (picture: names and track by contract; page: tags where there is room)
         Operand::All => flag(alloc, "all").help("Tell all that there is"),
         Operand::From => Arg::new(alloc, "from").long("from").value_name("LINE").help(
             "Tell only what begins on this line of the file or below it",
@@ -275,6 +282,9 @@ fn argument_of<'a>(alloc: Global, operand: Operand) -> Arg<'a> {
         }
         Operand::Best => {
             flag(alloc, "best").help("Tell what the company's best runs would earn after each")
+        }
+        Operand::Tiles => {
+            flag(alloc, "tiles").help("Write all tiles in their six rotations, without a game")
         }
         Operand::After => Arg::new(alloc, "after")
             .long("after")
@@ -332,6 +342,7 @@ fn task_of<'a>(
         from: 1,
         lines: false,
         best: false,
+        tiles: false,
         company: None,
         hex: None,
         trains: Vec::new(alloc),
@@ -401,6 +412,7 @@ fn take_operand(task: &mut Task, given: &ArgMatches, operand: Operand) -> Option
                 Err(_) => return Some("behind --from the number of a line of the file is to stand"),
             }
         }
+        Operand::Tiles => task.tiles = given.get_flag("tiles"),
         Operand::Lines => task.lines = given.get_flag("lines"),
         Operand::Best => task.best = given.get_flag("best"),
         Operand::After => {

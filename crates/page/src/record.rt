@@ -1,10 +1,10 @@
 //! What each player was worth and what each share cost behind each round, noted as the game is
 //! played.
 ghost use Rattle.std.specs.Prelude.{IfErr};
-ghost use Rattle.desk.specs.Refusal.{IsOfGame};
+ghost use Rattle.desk_base.specs.Refusal.{IsOfGame};
 
 use best_run::Search;
-use desk::DeskFault;
+use desk_base::DeskFault;
 use history::History;
 use report::player_worth;
 use rounds::{Play, Step};

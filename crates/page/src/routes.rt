@@ -2,8 +2,7 @@
 
 use crate::scene::look_at;
 use board::Board;
-use desk::{best_at, board_at, view_behind};
-use desk_base::side_towards;
+use desk_base::{best_at, board_at, side_towards, view_behind};
 use history::{Event, GameView, History, Ruling, Walk};
 use legal_runs::ClaimedRun;
 use map_tables::{Hex, Place, Run, Side};

@@ -3,7 +3,8 @@ ghost use Rattle.std.specs.Prelude.{◌≡◌, ◌≤◌};
 ghost use Rattle.map_tables.specs.OnMap.{links_on};
 ghost use Rattle.totals.specs.Operating.{lays_of};
 
-use desk::{Stood, owes, tile_on};
+use desk::{Stood, tile_on};
+use desk_base::owes;
 use history::History;
 use map_tables::Hex;
 use picture::Look;

@@ -1,6 +1,6 @@
 //! The page of a game.
 ghost use Rattle.std.specs.Prelude.{IfErr, IfOk, OnOk};
-ghost use Rattle.desk.specs.Refusal.{HasNoState, IsOfGame};
+ghost use Rattle.desk_base.specs.Refusal.{HasNoState, IsOfGame};
 ghost use Rattle.picture.specs.Reading.{IsWellFormed};
 ghost use Rattle.sheets.specs.File.{IsAccepted};
 
@@ -16,7 +16,8 @@ use crate::scene::Scene;
 use crate::status_part;
 use crate::style::STYLE;
 use crate::tiles_part::{begin_section, put_laid, put_tiles_left};
-use desk::{DeskFault, all_in_order, stood_now};
+use desk::{all_in_order, stood_now};
+use desk_base::DeskFault;
 use picture::Piece::{Round as Named, Words};
 use picture::{Attr, Tag, Writer};
 use sheets::{Sheets, collect};
