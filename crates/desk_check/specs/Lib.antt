@@ -6,4 +6,5 @@ pub mod Looked
 pub mod Replaced
 pub mod RoundsPlayed
 pub mod SheetLines
+pub mod Slip
 pub mod Unplayed

@@ -1,2 +1,3 @@
 -- What the desk tells of a round.
+pub mod Figures
 pub mod RoundPart

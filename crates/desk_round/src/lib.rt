@@ -3,12 +3,13 @@
 //! an order file, and returns text. No call reads or writes a stream.
 //!
 //! Reading order: `round_part` (`round`), `told` (the game of a file), `sheet_line` (the lines of
-//! the sheets), `why` (the rule that a line broke), `sought` (the figures behind it), `track` and
-//! `ways` (where track breaks or leads), `ran` (`runs`), `groups` (whose turn an event belongs to),
-//! `wrapped`, `bulletin_text` (`bulletin`).
+//! the sheets), `why` (the rule that a line broke), `figures` (the figures that it compared),
+//! `sought` (the cause), `track` and `ways` (where track breaks or leads), `ran` (`runs`), `groups`
+//! (whose turn an event belongs to), `wrapped`, `bulletin_text` (`bulletin`).
 #![tactic(auto)]
 
 mod bulletin_text;
+mod figures;
 mod groups;
 mod ran;
 mod round_part;

@@ -1,10 +1,10 @@
-//! The figures that a rule compared when it refused an order: the cash, the price, the limit. Each
-//! is added after the rule, in brackets.
+//! What is added after the rule that refused an order: the figures that it compared, and the cause
+//! if there are several.
 
+use crate::figures::{figures_of, push_figures};
 use crate::sheet_line::SheetLine;
 use crate::track::break_of;
 use crate::ways::{push_ways_to_stop, push_ways_to_tile};
-use certs::{Holdings, market_price, share_price};
 use desk_base::Piece::{Bytes, Number, Words};
 use desk_base::{
     Objection, bad_side, board_at, fill, objection_by_view, objection_to, push, push_objection,
@@ -14,14 +14,11 @@ use history::{
     Shareholder, StockRule, TokenRule, TrainRule,
 };
 use map_tables::{Colour, Hex, Lay, neighbour, printed_colour, tile};
-use order_grammar::{Condition, Order, TrainSource};
+use order_grammar::{Order, TrainSource};
 use report::name;
 use sheets::Sheets;
 use std::alloc::{AllocError, Global};
-use tables::{
-    Amount, Company, Kind, Money, PLAYERS_MOST, Private, Round, Seat, certificate_limit, face,
-    limit, train,
-};
+use tables::{Company, Money, Private, Round, Seat};
 
 /// Where a line was ruled.
 #[derive(Clone, Copy)]
@@ -40,29 +37,14 @@ pub(crate) struct Ruled<'a> {
     pub(crate) company: Option<Company>,
 }
 
-/// An order of a seat that was refused, and the game before it.
-#[derive(Drop)]
-struct Refused<'a> {
-    ruled: Ruled<'a>,
-    sheets: &'a Sheets<'a>,
-    view: &'a GameView<'a>,
-    seat: Seat,
-    order: &'a Order,
-}
-
-/// Adds what was looked for, where an order was refused.
+/// Adds the figures that a rule compared when it refused an order, and the cause if there are
+/// several.
 pub(crate) fn push_sought<'a>(
     alloc: Global,
     out: &mut Vec<u8>,
     ruled: Ruled<'a>,
     ruling: &'a Ruling,
 ) -> Result<(), AllocError> {
-    let Ruled {
-        sheets,
-        view,
-        seat,
-        ..
-    } = ruled;
     let Ruling::Refused {
         rule,
         condition,
@@ -71,176 +53,26 @@ pub(crate) fn push_sought<'a>(
     else {
         return Ok(());
     };
-    let refused = Refused {
-        ruled,
-        sheets,
-        view,
-        seat,
-        order,
-    };
-    match rule {
-        Refusal::Opening(OpeningRule::NotOfOpening) => push_of_par(out, ruled, *rule, order),
-        Refusal::Opening(rule) => refused.push_of_opening(out, *rule),
-        Refusal::Stock(StockRule::NoExchange) => refused.push_of_exchange(out),
-        Refusal::Stock(rule) => refused.push_of_stock(out, *rule),
-        Refusal::Condition => push_of_condition(out, view, *condition),
-        _ => {
-            refused.push_of_operating(out, *rule)?;
-            refused.push_cause(alloc, out, *rule)
-        }
+    if let Some(figures) = figures_of(ruled.view, ruled.seat, *condition, order, *rule) {
+        push_figures(out, ruled.sheets, ruled.seat, figures)?;
     }
-}
-
-impl<'a> Refused<'a> {
-    /// Adds what was looked for by a rule of an opening, where the order names a private.
-    fn push_of_opening(&self, out: &mut Vec<u8>, rule: OpeningRule) -> Result<(), AllocError> {
-        let (Order::BuyPrivate(private)
-        | Order::Bid { private, .. }
-        | Order::Limit { private, .. }) = self.order
-        else {
-            return Ok(());
-        };
-        match rule {
-            OpeningRule::Sold => {
-                let owner = match self.view.owner(*private) {
-                    Some(Holder::Seat(seat)) => Bytes(name(self.sheets, seat)),
-                    Some(Holder::Company(company)) => Words(company.code()),
-                    None => return Ok(()),
-                };
-                fill(out, " (% owns it)", &[owner])
-            }
-            OpeningRule::NotCheapest | OpeningRule::BidForCheapest => {
-                match self.view.cheapest_unsold() {
-                    Some(cheapest) => fill(out, " (that is %)", &[Words(cheapest.code())]),
-                    None => Ok(()),
-                }
-            }
-            OpeningRule::BidTooLow => {
-                let face = Number(Money::from(face(*private)));
-                let bid = Number(Money::from(highest_bid(self.view, *private)));
-                let words = " (the face value is %, the highest bid %)";
-                fill(out, words, &[face, bid])
-            }
-            OpeningRule::CashTooSmall => {
-                let name = Bytes(name(self.sheets, self.seat));
-                let cash = Number(self.view.cash(Party::of_seat(self.seat)));
-                let bids = Number(self.view.bids_elsewhere(self.seat, *private));
-                fill(out, " (% has %, less % bid elsewhere)", &[name, cash, bids])
-            }
-            OpeningRule::NotOfOpening | OpeningRule::TurnUsed => Ok(()),
+    match (rule, order) {
+        (Refusal::Opening(OpeningRule::NotOfOpening), _) => push_of_par(out, ruled, *rule, order),
+        (Refusal::Stock(StockRule::NoExchange), _) => push_of_exchange(out, ruled),
+        (Refusal::Opening(_) | Refusal::Stock(_) | Refusal::Condition, _) => Ok(()),
+        (Refusal::Lay(LayRule::BadSide), Order::Lay(lay)) => push_bad_side(out, *lay),
+        (Refusal::Lay(LayRule::NotReached), Order::Lay(lay)) => push_ways_to_tile(out, *lay),
+        (Refusal::Token(TokenRule::NotReached), Order::Token(place)) => {
+            push_ways_to_stop(out, &board_at(alloc, ruled.view)?, *place)
         }
-    }
-
-    /// Adds what was looked for by a rule of a stock round, where the order names a company.
-    fn push_of_stock(&self, out: &mut Vec<u8>, rule: StockRule) -> Result<(), AllocError> {
-        let (Order::Par { company, .. }
-        | Order::BuyShare { company, .. }
-        | Order::Sell { company, .. }
-        | Order::Raise { company, .. }) = self.order
-        else {
-            return Ok(());
-        };
-        let name = Bytes(name(self.sheets, self.seat));
-        match rule {
-            StockRule::NotHeld | StockRule::OverSixShares => {
-                let shares = Number(self.view.shares(*company, Shareholder::Seat(self.seat)));
-                fill(out, " (% has %)", &[name, shares])
-            }
-            StockRule::PoolFull | StockRule::NoneThere => {
-                let ipo = Number(self.view.shares(*company, Shareholder::InitialOffering));
-                let pool = Number(self.view.shares(*company, Shareholder::BankPool));
-                fill(out, " (% are in IPO, % in POOL)", &[ipo, pool])
-            }
-            StockRule::WrongStart => {
-                let words = if self.view.is_started(*company) {
-                    " (% is started)"
-                } else {
-                    " (% is not started)"
-                };
-                fill(out, words, &[Words(company.code())])
-            }
-            StockRule::CashTooSmall => {
-                let cost = Number(cost_of(self.view, self.order));
-                let cash = Number(self.view.free_cash(self.seat));
-                fill(out, " (it costs %, % has %)", &[cost, name, cash])
-            }
-            StockRule::CertificateLimit => {
-                let counted = Number(Holdings::at(self.view).counted(self.seat));
-                let most = Number(certificate_limit(self.view.seats) as Money);
-                fill(out, " (% has % of %)", &[name, counted, most])
-            }
-            _ => Ok(()),
-        }
-    }
-
-    /// Adds why MH cannot be exchanged: who owns it, or what the seat and the bank have of NYC.
-    fn push_of_exchange(&self, out: &mut Vec<u8>) -> Result<(), AllocError> {
-        let owner = self.view.owner(Private::MohawkHudson);
-        if owner != Some(Holder::Seat(self.seat)) {
-            let reason = Objection::Owner(Private::MohawkHudson, owner);
-            return push_objection(out, self.sheets, reason);
-        }
-        let company = Company::NewYorkCentral;
-        let pieces = [
-            Bytes(name(self.sheets, self.seat)),
-            Number(self.view.shares(company, Shareholder::Seat(self.seat))),
-            Number(self.view.shares(company, Shareholder::InitialOffering)),
-            Number(self.view.shares(company, Shareholder::BankPool)),
-        ];
-        fill(out, " (% has % of NYC, % are in IPO, % in POOL)", &pieces)
-    }
-
-    /// Adds the one cause among those of a rule of an operating round, where it is at hand.
-    fn push_cause(
-        &self,
-        alloc: Global,
-        out: &mut Vec<u8>,
-        rule: Refusal,
-    ) -> Result<(), AllocError> {
-        match (rule, self.order) {
-            (Refusal::Lay(LayRule::BadSide), _) => Ok(()),
-            (Refusal::Lay(LayRule::NotReached), Order::Lay(lay)) => push_ways_to_tile(out, *lay),
-            (Refusal::Token(TokenRule::NotReached), Order::Token(place)) => {
-                push_ways_to_stop(out, &board_at(alloc, self.view)?, *place)
-            }
-            _ => push_by_tables(alloc, out, self.ruled, rule, self.order),
-        }
-    }
-
-    /// Adds what was looked for by a rule of an operating round.
-    fn push_of_operating(&self, out: &mut Vec<u8>, rule: Refusal) -> Result<(), AllocError> {
-        let (words, found) = match (rule, self.order) {
-            (Refusal::Lay(LayRule::ColourClosed) | Refusal::Private(PrivateRule::TooEarly), _) => {
-                (" (the phase is %)", Words(self.view.phase().code()))
-            }
-            (Refusal::Lay(LayRule::BadSide), Order::Lay(lay)) => return push_bad_side(out, *lay),
-            (Refusal::Run(RunRule::WrongNumber), Order::Run { kind, .. }) => match kind.stops() {
-                Some(most) => (" (which is %)", Number(most as Money)),
-                None => return Ok(()),
-            },
-            (Refusal::Train(TrainRule::NotOnSale), _) => match on_sale(self.view) {
-                Some(kind) => (" (the bank sells a %)", Words(kind.code())),
-                None => return Ok(()),
-            },
-            (Refusal::Train(TrainRule::TrainLimit), _) => {
-                (" (which is %)", Number(limit(self.view.phase()) as Money))
-            }
-            (Refusal::Private(PrivateRule::WrongPrice), Order::BuyOwnedPrivate { private, .. }) => {
-                (
-                    " (the face value is %)",
-                    Number(Money::from(face(*private))),
-                )
-            }
-            (
-                Refusal::Lay(LayRule::CashTooSmall)
-                | Refusal::Token(TokenRule::CashTooSmall)
-                | Refusal::Train(TrainRule::CashTooSmall)
-                | Refusal::Private(PrivateRule::CashTooSmall),
-                _,
-            ) => return push_cash(out, self.ruled),
-            _ => return Ok(()),
-        };
-        fill(out, words, &[found])
+        (
+            Refusal::Lay(LayRule::CashTooSmall)
+            | Refusal::Token(TokenRule::CashTooSmall)
+            | Refusal::Train(TrainRule::CashTooSmall)
+            | Refusal::Private(PrivateRule::CashTooSmall),
+            _,
+        ) => push_cash(out, ruled),
+        _ => push_by_tables(alloc, out, ruled, *rule, order),
     }
 }
 
@@ -267,6 +99,23 @@ fn push_of_par(
         Some((code, reason)) if code == rule.code() => push_objection(out, ruled.sheets, reason),
         _ => Ok(()),
     }
+}
+
+/// Adds why MH cannot be exchanged: who owns it, or what the seat and the bank have of NYC.
+fn push_of_exchange(out: &mut Vec<u8>, ruled: Ruled) -> Result<(), AllocError> {
+    let owner = ruled.view.owner(Private::MohawkHudson);
+    if owner != Some(Holder::Seat(ruled.seat)) {
+        let reason = Objection::Owner(Private::MohawkHudson, owner);
+        return push_objection(out, ruled.sheets, reason);
+    }
+    let company = Company::NewYorkCentral;
+    let pieces = [
+        Bytes(name(ruled.sheets, ruled.seat)),
+        Number(ruled.view.shares(company, Shareholder::Seat(ruled.seat))),
+        Number(ruled.view.shares(company, Shareholder::InitialOffering)),
+        Number(ruled.view.shares(company, Shareholder::BankPool)),
+    ];
+    fill(out, " (% has % of NYC, % are in IPO, % in POOL)", &pieces)
 }
 
 /// Adds why an order breaks a rule, where the map and the tables alone show it.
@@ -381,62 +230,8 @@ fn colour_of(view: &GameView, hex: Hex) -> &'static str {
     }
 }
 
-/// Returns the highest bid on a private, in dollars; 0 where there is none.
-fn highest_bid(view: &GameView, private: Private) -> Amount {
-    let mut highest = 0;
-    for seat in 0..PLAYERS_MOST {
-        if let Some(bid) = view.standing_bid(private, Seat::at(seat)) {
-            highest = bid.max(highest);
-        }
-    }
-    highest
-}
-
-/// Returns what an order to start a company, or to buy of one, costs, in dollars; nothing for other
-/// orders.
-fn cost_of(view: &GameView, order: &Order) -> Money {
-    match order {
-        Order::Par { price, .. } => 2 * Money::from(*price),
-        Order::BuyShare { company, from } => share_price(view, *company, *from),
-        _ => 0,
-    }
-}
-
-/// Returns which train the bank sells: the first kind of which it has not sold all.
-fn on_sale(view: &GameView) -> Option<Kind> {
-    for kind in &Kind::ALL {
-        match train(*kind).number {
-            Some(number) if view.trains_sold(*kind) >= usize::from(number) => {}
-            _ => return Some(*kind),
-        }
-    }
-    None
-}
-
-/// Adds what was looked for by a condition.
-fn push_of_condition(
-    out: &mut Vec<u8>,
-    view: &GameView,
-    condition: Option<Condition>,
-) -> Result<(), AllocError> {
-    match condition {
-        Some(Condition::Price(company, _)) => {
-            let (code, price) = (Words(company.code()), market_price(view, company));
-            if price == 0 {
-                return fill(out, " (% has no price)", &[code]);
-            }
-            let price = Number(Money::from(price));
-            fill(out, " (the price of % is %)", &[code, price])
-        }
-        Some(Condition::Phase(_)) => {
-            fill(out, " (the phase is %)", &[Words(view.phase().code())])
-        }
-        _ => Ok(()),
-    }
-}
-
-/// Adds what the company in hand has; of each that the player presides over, where it is not known
-/// which.
+/// Adds the cash of the company among whose orders the line is; of each company that the player
+/// presides over, if that is not known.
 fn push_cash(out: &mut Vec<u8>, ruled: Ruled) -> Result<(), AllocError> {
     let (mut words, mut end) = (" (% has %", "");
     for company in &Company::ALL {
