@@ -5,7 +5,7 @@
 //! `stock_left`, whose contracts define it. The games of `games/desk/` test the layout.
 //!
 //! Reading order: `asked` (the round that is asked for), `stood` (the game at a moment). Then the
-//! figures that the readers of a game do not have (`purse`, `earnings`, `stack`, `stock_left`), and
+//! figures that the readers of a game do not have (`purse`, `earnings`, `stack`, `stock_left`, `rows`), and
 //! their layout: `lines`, `state_round`, `state_players`, `state_companies`, `state_stock`,
 //! `state_chart`, `state_map`, `whole_state` (`state`).
 #![tactic(auto)]
@@ -14,6 +14,7 @@ mod asked;
 mod earnings;
 mod lines;
 mod purse;
+mod rows;
 mod stack;
 mod state_chart;
 mod state_companies;

@@ -1,13 +1,14 @@
 //! What each company has: its place on the stock market, its figures, its shares and its tokens.
 
 use crate::earnings::earnings_of;
-use crate::stack::{before_in_stack, operates};
+use crate::rows::{company_row, share_row};
+use crate::stack::before_in_stack;
 use crate::state_players::push_privates;
 use crate::stock_left::tokens_left;
 use crate::stood::Stood;
 use desk_base::Piece::{Bytes, Column, Number, Right, Words};
 use desk_base::{Piece, fill, push};
-use history::{History, Holder, Party, Shareholder, at_least_zero};
+use history::{History, Holder, Shareholder};
 use report::name;
 use sheets::Sheets;
 use std::alloc::AllocError;
@@ -85,8 +86,9 @@ pub(crate) fn push_companies(
 /// started none.
 fn push_figures(out: &mut Vec<u8>, stood: &Stood, company: Company) -> Result<(), AllocError> {
     let view = stood.history.now();
+    let row = company_row(&view, company);
     push(out, &[Words(company.code())])?;
-    if let Some(square) = view.square(company) {
+    if let Some(square) = row.square {
         let above = before_in_stack(&view, square, company);
         push(
             out,
@@ -101,14 +103,14 @@ fn push_figures(out: &mut Vec<u8>, stood: &Stood, company: Company) -> Result<()
             ],
         )?;
     }
-    let president = match view.president(company) {
+    let president = match row.president {
         Some(president) => Bytes(name(stood.sheets, president)),
         None => Words(""),
     };
     push(out, &[Column(PRESIDENT), president])?;
-    if operates(&view, company) {
-        push_treasury(out, stood.history, company)?;
-    } else if view.is_started(company) {
+    if row.operates {
+        push_treasury(out, stood.history, row.cash, company)?;
+    } else if row.is_started {
         fill(out, "% not floated", &[Column(TRAINS)])?;
     } else {
         fill(out, "% not started", &[Column(TRAINS)])?;
@@ -117,8 +119,12 @@ fn push_figures(out: &mut Vec<u8>, stood: &Stood, company: Company) -> Result<()
 }
 
 /// Adds a company's cash, its last revenue with the round that it is of, and its trains.
-fn push_treasury(out: &mut Vec<u8>, history: &History, company: Company) -> Result<(), AllocError> {
-    let cash = history.cash(Party::of_company(company));
+fn push_treasury(
+    out: &mut Vec<u8>,
+    history: &History,
+    cash: Money,
+    company: Company,
+) -> Result<(), AllocError> {
     push(out, &[Column(CASH), Right(8, cash)])?;
     let earnings = earnings_of(history.events(), company);
     if let Some(round) = earnings.round {
@@ -150,7 +156,8 @@ fn push_share_heading(out: &mut Vec<u8>, sheets: &Sheets) -> Result<(), AllocErr
 /// Adds a company's par and its shares by their holders; those of its president are marked.
 fn push_shares(out: &mut Vec<u8>, stood: &Stood, company: Company) -> Result<(), AllocError> {
     let history = stood.history;
-    let par = match history.par(company) {
+    let row = share_row(&history.now(), company);
+    let par = match row.par {
         Some(par) => Right(SHARES, par),
         None => Words("    -"),
     };
@@ -160,11 +167,8 @@ fn push_shares(out: &mut Vec<u8>, stood: &Stood, company: Company) -> Result<(),
             Words(company.code()),
             Column(8),
             par,
-            Right(
-                SHARES,
-                history.shares(company, Shareholder::InitialOffering),
-            ),
-            Right(SHARES, history.shares(company, Shareholder::BankPool)),
+            Right(SHARES, row.offering),
+            Right(SHARES, row.pool),
         ],
     )?;
     let president = history.now().president(company);

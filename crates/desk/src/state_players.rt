@@ -1,15 +1,14 @@
 //! What each player has, and who owns each private.
-ghost use Rattle.std.specs.Prelude.{◌≡◌};
-ghost use Rattle.privates.specs.Judgement.{price_of};
 
 use crate::purse::purse_of;
+use crate::rows::private_row;
 use crate::stood::Stood;
 use desk_base::Piece::{Bytes, Column, Number, Right, Words};
 use desk_base::{fill, push};
-use history::{GameView, History, Holder};
+use history::{History, Holder};
 use report::name;
 use std::alloc::AllocError;
-use tables::{Amount, Money, Private, Seat, face};
+use tables::{Money, Private, Seat};
 
 /// The width of a column of figures.
 const FIGURES: usize = 8;
@@ -84,13 +83,13 @@ pub(crate) fn push_owners(out: &mut Vec<u8>, stood: &Stood) -> Result<(), AllocE
 
 /// Adds a private with its face and its owner; with its price, where it is unsold.
 fn push_owner(out: &mut Vec<u8>, stood: &Stood, private: Private) -> Result<(), AllocError> {
-    let view = stood.history.now();
-    let (price, unowned) = if view.is_sold(private) {
+    let row = private_row(&stood.history.now(), private);
+    let (price, unowned) = if row.is_sold {
         (Words(""), "closed")
     } else {
-        (Right(7, Money::from(price_of(&view, private))), "unsold")
+        (Right(7, Money::from(row.price)), "unsold")
     };
-    let owner = match view.owner(private) {
+    let owner = match row.owner {
         Some(Holder::Seat(seat)) => Bytes(name(stood.sheets, seat)),
         Some(Holder::Company(company)) => Words(company.code()),
         None => Words(unowned),
@@ -100,20 +99,10 @@ fn push_owner(out: &mut Vec<u8>, stood: &Stood, private: Private) -> Result<(), 
         &[
             Words(private.code()),
             Column(8),
-            Right(4, Money::from(face(private))),
+            Right(4, Money::from(row.face)),
             price,
             Column(OWNER),
             owner,
         ],
     )
-}
-
-/// Returns the price of an unsold private: its face, but for SV, whose price falls.
-fn price_of(view: &GameView, private: Private) -> Amount
-    ensures { result ≡ price_of view.now.events.now private }
-{
-    match private {
-        Private::SchuylkillValley => view.sv_price(),
-        _ => face(private),
-    }
 }

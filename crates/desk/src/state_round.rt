@@ -1,12 +1,13 @@
 //! What is awaited and who owes it, or how the game ended; and what the phase and the set bring.
 
+use crate::rows::game_row;
 use crate::stood::Stood;
 use desk_base::Piece::{Bytes, Number, Words};
 use desk_base::{Piece, fill, owes, push};
 use report::name;
 use rounds::End;
 use std::alloc::AllocError;
-use tables::{Money, Seat, certificate_limit};
+use tables::{Money, Seat};
 
 /// Adds the round that was played last, and the round that is awaited with those who owe a sheet
 /// for it, or how the game ended.
@@ -40,15 +41,15 @@ pub(crate) fn push_awaited(out: &mut Vec<u8>, stood: &Stood) -> Result<(), Alloc
 /// Adds the phase, the holder of priority, how many operating rounds the set has, and the limit of
 /// certificates.
 pub(crate) fn push_matters(out: &mut Vec<u8>, stood: &Stood) -> Result<(), AllocError> {
-    let history = stood.history;
+    let row = game_row(&stood.history.now());
     fill(
         out,
         "PHASE             %\nPRIORITY          %\nROUNDS IN SET     %\nCERTIFICATES      % at most\n",
         &[
-            Words(history.phase().code()),
-            Bytes(name(stood.sheets, history.now().priority())),
+            Words(row.phase.code()),
+            Bytes(name(stood.sheets, row.priority)),
             Number(Money::from(stood.in_set)),
-            Number(certificate_limit(history.seats()) as Money),
+            Number(row.certificates as Money),
         ],
     )
 }

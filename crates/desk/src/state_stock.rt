@@ -1,13 +1,14 @@
 //! The trains that are left, the tiles that lie on the map, and the tiles that are left.
 
 use crate::lines::{end_open_line, next_place};
-use crate::stock_left::{tile_on, tiles_left, trains_left};
+use crate::rows::train_row;
+use crate::stock_left::{tile_on, tiles_left};
 use desk_base::Piece::{Bytes, Column, Number, Right, Words};
 use desk_base::{fill, push};
 use history::History;
 use map_tables::{Colour, Hex, TileNo, tile};
 use std::alloc::AllocError;
-use tables::{Kind, Money, train};
+use tables::{Kind, Money};
 
 /// The width of a tile that lies on a hex: `59 E11 2 SWAP`.
 const LAID: usize = 16;
@@ -29,7 +30,8 @@ const COLOUR: usize = 8;
 pub(crate) fn push_trains(out: &mut Vec<u8>, history: &History) -> Result<(), AllocError> {
     fill(out, "\nTRAINS  BANK  POOL  PRICE\n", &[])?;
     for kind in &Kind::ALL {
-        let left = match trains_left(&history.now(), *kind) {
+        let row = train_row(&history.now(), *kind);
+        let left = match row.left {
             Some(left) => Right(4, left as Money),
             None => Words(" any"),
         };
@@ -40,8 +42,8 @@ pub(crate) fn push_trains(out: &mut Vec<u8>, history: &History) -> Result<(), Al
                 Words(kind.code()),
                 Column(8),
                 left,
-                Right(6, Money::from(history.trains(None, *kind))),
-                Right(7, Money::from(train(*kind).price)),
+                Right(6, Money::from(row.pool)),
+                Right(7, Money::from(row.price)),
             ],
         )?;
     }

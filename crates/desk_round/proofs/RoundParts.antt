@@ -1,26 +1,20 @@
 -- A round's part of the report of a file.
-use Rattle.std.proofs.Common.{◌≡◌, ◌<◌, ℕ, List, [], length, Option, Some, sym, ◌∙◌}
+use Rattle.std.proofs.Common.{◌≡◌, ℕ, true, List, Option}
 use Rattle.desk_base.specs.Refusal.{HasNone}
-use Rattle.desk_round.specs.RoundPart.{HasNoText, IsGameOf, IsNotPlayed, IsNotPlayedIn, IsRoundFault, IsRoundPart}
-use Rattle.desk_round.specs.RoundPart.{round_asked, text_of_round}
+use Rattle.desk_round.specs.RoundPart.{HasNoText, IsGameOf, IsNotPlayedIn, IsRoundFault, IsRoundPart}
+use Rattle.desk_round.specs.RoundPart.{is_played, round_asked, text_of_round}
 use Rattle.desk_base.specs.declared.fault.DeskFault.{DeskFault}
 use Rattle.desk_base.specs.declared.fault.DeskFault.TheVariants.{File, Round, Memory}
-use Rattle.report.specs.Report.{round_text_of}
 use Rattle.rounds.specs.Play.{IsTheGame, Played}
 use Rattle.tables.specs.declared.round.Round as the_round
-
--- a round without a text was not played
-pub without_text :
-    (played : Played) (round : the_round.Round) (text : List ℕ) → text ≡ round_text_of played round → text ≡ []
-    → IsNotPlayed played (Some round)
-without_text played round text is none = sym is ∙ none
 
 -- the text of the round that is asked for in the game of a file
 pub part_of_file :
     (played : Played) (asked : Option the_round.Round) (file text : List ℕ) → played.file ≡ file → IsTheGame played →
-    text ≡ text_of_round played (round_asked played asked) → 0 < length text → IsRoundPart file asked text
-part_of_file played asked file text of_file game is some =
-    record { played = played; of_file = record { of_file = of_file; game = game }; is = is; some = some }
+    text ≡ text_of_round played (round_asked played asked)
+    → is_played played.game.events (round_asked played asked) ≡ true → IsRoundPart file asked text
+part_of_file played asked file text of_file game is was_played =
+    record { played = played; of_file = record { of_file = of_file; game = game }; is = is; was_played = was_played }
 
 -- why there is none
 pub no_part_of_file :

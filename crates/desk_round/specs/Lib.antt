@@ -1,3 +1,4 @@
 -- What the desk tells of a round.
 pub mod Figures
+pub mod Played
 pub mod RoundPart

@@ -1,9 +1,11 @@
 -- A round's part of the report of a file: of the round that is asked for, or of the last that was
 -- played.
-use Rattle.std.specs.Prelude.{◌≡◌, ◌<◌, ℕ, List, [], length, Option, Some, None, ⊤}
+use Rattle.std.specs.Prelude.{◌≡◌, ℕ, Bool, true, false, List, [], Option, Some, None, ⊤}
 use Rattle.desk_base.specs.Refusal.{HasNone}
 use Rattle.desk_base.specs.declared.fault.DeskFault.{DeskFault}
 use Rattle.desk_base.specs.declared.fault.DeskFault.TheVariants as desk
+use Rattle.desk_round.specs.Played.{was_played}
+use Rattle.events.specs.declared.event.Event.{Event}
 use Rattle.totals.specs.LookBack.{round_of}
 use Rattle.report.specs.Report.{round_text_of}
 use Rattle.rounds.specs.Play.{IsTheGame, Played}
@@ -24,16 +26,21 @@ abbrev pub text_of_round : Played → Option Round → List ℕ
 text_of_round played None = []
 text_of_round played (Some round) = round_text_of played round
 
+-- the round that is asked for was played, if there is one to be asked for
+abbrev pub is_played : List Event → Option Round → Bool
+is_played events None = false
+is_played events (Some round) = was_played events round
+
 -- the text is that of the round that is asked for, in the game of the file, which played it
 pub record IsRoundPart (file : List ℕ) (asked : Option Round) (text : List ℕ) : Type 0 where
   pub played : Played
   pub of_file : IsGameOf file played
   pub is : text ≡ text_of_round played (round_asked played asked)
-  pub some : 0 < length text
+  pub was_played : is_played played.game.events (round_asked played asked) ≡ true
 
--- the round that is asked for has no text, or no round is there to be asked for
+-- the round that is asked for was not played, or no round is there to be asked for
 abbrev pub IsNotPlayed : Played → Option Round → Type 0
-IsNotPlayed played asked = text_of_round played asked ≡ []
+IsNotPlayed played asked = is_played played.game.events asked ≡ false
 
 -- there is no text of the round that is asked for of a game, for this fault: it was not played, or
 -- allocation failed

@@ -2,7 +2,7 @@
 //! ran, and the round as its players read it. Each public call takes the allocator and the bytes of
 //! an order file, and returns text. No call reads or writes a stream.
 //!
-//! Reading order: `round_part` (`round`), `told` (the game of a file), `sheet_line` (the lines of
+//! Reading order: `played`, `round_part` (`round`), `told` (the game of a file), `sheet_line` (the lines of
 //! the sheets), `why` (the rule that a line broke), `figures` (the figures that it compared),
 //! `sought` (the cause), `track` and `ways` (where track breaks or leads), `ran` (`runs`), `groups`
 //! (whose turn an event belongs to), `wrapped`, `bulletin_text` (`bulletin`).
@@ -11,6 +11,7 @@
 mod bulletin_text;
 mod figures;
 mod groups;
+mod played;
 mod ran;
 mod round_part;
 mod sheet_line;

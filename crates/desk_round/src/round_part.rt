@@ -1,7 +1,9 @@
 //! A round's part of the report, and the same with the rules that refused lines broke.
-ghost use Rattle.std.specs.Prelude.{◌≡◌, ◌<◌, IfErr, IfOk, length};
-ghost use Rattle.desk_round.specs.RoundPart.{HasNoText, IsRoundFault, IsRoundPart, round_asked, text_of_round};
+ghost use Rattle.std.specs.Prelude.{◌≡◌, IfErr, IfOk, OnOk, true};
+ghost use Rattle.desk_round.specs.RoundPart.{HasNoText, IsRoundFault, IsRoundPart, is_played};
+ghost use Rattle.desk_round.specs.RoundPart.{round_asked, text_of_round};
 
+use crate::played::was_played;
 use crate::sheet_line::lines_of;
 use crate::sought::Ruled;
 use crate::told::{Told, tell};
@@ -63,24 +65,22 @@ pub(crate) fn rules_of(
 }
 
 /// Returns the text of a round of a game. Fails with `Round` if it was not played.
-#[tactic(auto, using(crate::proofs::RoundParts::without_text))]
 pub(crate) fn text_of(
     alloc: Global,
     game: &Game,
     asked: Option<Round>,
 ) -> Result<Vec<u8>, DeskFault>
     ensures text { IfOk result (λ text. text.items ≡ text_of_round game.now asked) }
-    ensures some { IfOk result (λ text. 0 < length text.items) }
+    ensures played { OnOk result (is_played game.now.game.events asked ≡ true) }
     ensures fault { IfErr result (HasNoText game.now asked) }
 {
     let Some(round) = asked else {
         return Err(DeskFault::Round);
     };
-    let text = round_text(alloc, game, round)?;
-    if text.is_empty() {
+    if !was_played(game.history().events(), round) {
         return Err(DeskFault::Round);
     }
-    Ok(text)
+    Ok(round_text(alloc, game, round)?)
 }
 
 /// Returns the named round; the last that was played if none is named; `None` before the first.

@@ -1,0 +1,8 @@
+use Rattle.std.proofs.Common.{◌≡◌, false, take}
+use Rattle.std.specs.List.{list_any}
+use Rattle.desk_round.specs.Played.{begins}
+use Rattle.desk_round.proofs.played.was_played.Given as goal
+
+-- none of the events so far begins the round
+abbrev pub invariant-loop-event : goal.invariant-loop-event
+invariant-loop-event l = list_any (begins l.round) (take l.event-index l.events) ≡ false
