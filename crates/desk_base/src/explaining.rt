@@ -1,10 +1,10 @@
 //! What a code means: its rule in words, what to do about it, and the small game that shows it.
-ghost use Rattle.std.specs.Prelude.{All, IfSome, MatchOption};
+ghost use Rattle.std.specs.Prelude.{All, MatchOption};
 ghost use Rattle.std.specs.Str.{trim};
-ghost use Rattle.desk_base.specs.Reason.{IsItsCode, IsNotItsCode};
+ghost use Rattle.desk_base.specs.Reason.{IsItsCode, IsNotItsCode, reasons};
 
 use crate::advice::advice_on;
-use crate::reason::{LETTERS, Reason, reasons_of};
+use crate::reason::{REASONS, Reason};
 use crate::text::Piece::{Column, Words};
 use crate::text::fill;
 use std::alloc::{AllocError, Global};
@@ -12,15 +12,15 @@ use std::alloc::{AllocError, Global};
 /// Returns the reason with a code, in letters of either case and between spaces; `None` if no
 /// reason has that code.
 pub fn explain(word: &str) -> Option<Reason>
-    ensures { IfSome result (IsItsCode (trim word.now)) }
+    ensures { MatchOption result
+        (All (λ reason. IsNotItsCode (trim word.now) reason) reasons)
+        (IsItsCode (trim word.now)) }
 {
-    let code = word.trim();
-    let letter = code.as_bytes().first()?;
-    reason_among(reasons_of(letter.to_ascii_uppercase()), code)
+    reason_among(&REASONS, word.trim())
 }
 
 /// Returns the first of some reasons with this code, in either case.
-fn reason_among(reasons: &'static [Reason], code: &str) -> Option<Reason>
+fn reason_among(reasons: &[Reason], code: &str) -> Option<Reason>
     ensures { MatchOption result
         (All (λ reason. IsNotItsCode code.now reason) reasons.now)
         (IsItsCode code.now) }
@@ -54,13 +54,11 @@ pub fn reason_text(alloc: Global, reason: Reason) -> Result<Vec<u8>, AllocError>
 /// Returns the entries of all reasons, with an empty line between two.
 pub fn all_reasons_text(alloc: Global) -> Result<Vec<u8>, AllocError> {
     let mut text = Vec::new(alloc);
-    for letter in &LETTERS {
-        for reason in reasons_of(*letter) {
-            if !text.is_empty() {
-                fill(&mut text, "\n", &[])?;
-            }
-            text.extend_from_slice(reason_text(alloc, *reason)?.as_slice())?;
+    for reason in &REASONS {
+        if !text.is_empty() {
+            fill(&mut text, "\n", &[])?;
         }
+        text.extend_from_slice(reason_text(alloc, *reason)?.as_slice())?;
     }
     Ok(text)
 }
@@ -68,11 +66,9 @@ pub fn all_reasons_text(alloc: Global) -> Result<Vec<u8>, AllocError> {
 /// Returns all codes with their rules, a line each.
 pub fn list_text(alloc: Global) -> Result<Vec<u8>, AllocError> {
     let mut text = Vec::new(alloc);
-    for letter in &LETTERS {
-        for reason in reasons_of(*letter) {
-            let (code, rule) = (Words(reason.code()), Words(reason.sentence()));
-            fill(&mut text, "%%%\n", &[code, Column(5), rule])?;
-        }
+    for reason in &REASONS {
+        let (code, rule) = (Words(reason.code()), Words(reason.sentence()));
+        fill(&mut text, "%%%\n", &[code, Column(5), rule])?;
     }
     Ok(text)
 }

@@ -41,14 +41,12 @@ impl Reason {
     }
 }
 
-static FILES: [Reason; 4] = [
+/// All reasons that a report names, in the order of the table of codes.
+pub(crate) static REASONS: [Reason; 72] = [
     Reason::File(FileFault::Header),
     Reason::File(FileFault::Players),
     Reason::File(FileFault::TooLong),
     Reason::File(FileFault::TooManySheets),
-];
-
-static LINES: [Reason; 8] = [
     Reason::Line(Fault::TooLong),
     Reason::Line(Fault::StrayByte),
     Reason::Line(Fault::UnknownWord),
@@ -57,9 +55,7 @@ static LINES: [Reason; 8] = [
     Reason::Line(Fault::OutOfPlace),
     Reason::Line(Fault::UnknownPlayer),
     Reason::Line(Fault::PastLastLine),
-];
-
-static OPENINGS: [Reason; 7] = [
+    Reason::Order(Refusal::Condition),
     Reason::Order(Refusal::Opening(OpeningRule::NotOfOpening)),
     Reason::Order(Refusal::Opening(OpeningRule::Sold)),
     Reason::Order(Refusal::Opening(OpeningRule::NotCheapest)),
@@ -67,9 +63,6 @@ static OPENINGS: [Reason; 7] = [
     Reason::Order(Refusal::Opening(OpeningRule::CashTooSmall)),
     Reason::Order(Refusal::Opening(OpeningRule::TurnUsed)),
     Reason::Order(Refusal::Opening(OpeningRule::BidForCheapest)),
-];
-
-static STOCK_ROUNDS: [Reason; 14] = [
     Reason::Order(Refusal::Stock(StockRule::NotOfStock)),
     Reason::Order(Refusal::Stock(StockRule::SaleInFirstRound)),
     Reason::Order(Refusal::Stock(StockRule::NotHeld)),
@@ -84,9 +77,6 @@ static STOCK_ROUNDS: [Reason; 14] = [
     Reason::Order(Refusal::Stock(StockRule::OverSixShares)),
     Reason::Order(Refusal::Stock(StockRule::BoughtBefore)),
     Reason::Order(Refusal::Stock(StockRule::NoExchange)),
-];
-
-static LAYS: [Reason; 10] = [
     Reason::Order(Refusal::Lay(LayRule::StepUsed)),
     Reason::Order(Refusal::Lay(LayRule::GreyOrRed)),
     Reason::Order(Refusal::Lay(LayRule::NoneLeft)),
@@ -97,18 +87,12 @@ static LAYS: [Reason; 10] = [
     Reason::Order(Refusal::Lay(LayRule::Blocked)),
     Reason::Order(Refusal::Lay(LayRule::NotReached)),
     Reason::Order(Refusal::Lay(LayRule::CashTooSmall)),
-];
-
-static TOKENS: [Reason; 6] = [
     Reason::Order(Refusal::Token(TokenRule::StepUsed)),
     Reason::Order(Refusal::Token(TokenRule::NoTokenLeft)),
     Reason::Order(Refusal::Token(TokenRule::NoFreeSlot)),
     Reason::Order(Refusal::Token(TokenRule::InHexAlready)),
     Reason::Order(Refusal::Token(TokenRule::NotReached)),
     Reason::Order(Refusal::Token(TokenRule::CashTooSmall)),
-];
-
-static RUNS: [Reason; 9] = [
     Reason::Order(Refusal::Run(RunRule::StepUsed)),
     Reason::Order(Refusal::Run(RunRule::NoTrain)),
     Reason::Order(Refusal::Run(RunRule::NoTrack)),
@@ -118,9 +102,7 @@ static RUNS: [Reason; 9] = [
     Reason::Order(Refusal::Run(RunRule::PassesFull)),
     Reason::Order(Refusal::Run(RunRule::NoToken)),
     Reason::Order(Refusal::Run(RunRule::RedInside)),
-];
-
-static TRAINS: [Reason; 7] = [
+    Reason::Order(Refusal::Pay(PayRule::NothingToPay)),
     Reason::Order(Refusal::Train(TrainRule::NotOnSale)),
     Reason::Order(Refusal::Train(TrainRule::TrainLimit)),
     Reason::Order(Refusal::Train(TrainRule::CashTooSmall)),
@@ -128,37 +110,9 @@ static TRAINS: [Reason; 7] = [
     Reason::Order(Refusal::Train(TrainRule::NotSellers)),
     Reason::Order(Refusal::Train(TrainRule::NoTradeIn)),
     Reason::Order(Refusal::Train(TrainRule::NoDiscard)),
-];
-
-static PRIVATES: [Reason; 5] = [
     Reason::Order(Refusal::Private(PrivateRule::TooEarly)),
     Reason::Order(Refusal::Private(PrivateRule::WrongPrice)),
     Reason::Order(Refusal::Private(PrivateRule::NoConsent)),
     Reason::Order(Refusal::Private(PrivateRule::NeverSold)),
     Reason::Order(Refusal::Private(PrivateRule::CashTooSmall)),
 ];
-
-static DIVIDENDS: [Reason; 1] = [Reason::Order(Refusal::Pay(PayRule::NothingToPay))];
-
-static CONDITIONS: [Reason; 1] = [Reason::Order(Refusal::Condition)];
-
-/// The letters with which codes begin, in the order of their table.
-pub(crate) const LETTERS: [u8; 11] = *b"FGIASLKRDTP";
-
-/// Returns the reasons whose codes begin with this letter, in upper case; none for other letters.
-pub(crate) fn reasons_of(letter: u8) -> &'static [Reason] {
-    match letter {
-        b'F' => &FILES,
-        b'G' => &LINES,
-        b'I' => &CONDITIONS,
-        b'A' => &OPENINGS,
-        b'S' => &STOCK_ROUNDS,
-        b'L' => &LAYS,
-        b'K' => &TOKENS,
-        b'R' => &RUNS,
-        b'D' => &DIVIDENDS,
-        b'T' => &TRAINS,
-        b'P' => &PRIVATES,
-        _ => &[],
-    }
-}
