@@ -1,7 +1,7 @@
 //! A sheet line by line: faults, orders without a place, and what can be seen to be wrong before
 //! its round is played.
-ghost use Rattle.std.specs.Prelude.{◌≡◌, Ok};
-ghost use Rattle.desk_check.specs.Unplayed.{has_place, look_of};
+ghost use Rattle.std.specs.Prelude.{◌≡◌, IfSome, Ok};
+ghost use Rattle.desk_check.specs.Unplayed.{IsNoFault, IsOwnFault, has_place, look_of};
 ghost use Rattle.sheets.specs.Part.{line_read, opens_part};
 
 use crate::check_found::{Found, Matter, Said};
@@ -75,8 +75,12 @@ pub(crate) fn look_at_sheet<'a>(
 }
 
 impl Reader<'_, '_> {
-    /// Takes the next line; what there is to say of it. Of mail there is nothing here.
-    fn take(&mut self, head: &Head, line: &FileLine) -> Option<Said> {
+    /// Takes the next line. Returns what there is to say of it; `None` for mail.
+    #[tactic(auto, using(crate::proofs::FaultLemmas::no_fault_is_own))]
+    fn take(&mut self, head: &Head, line: &FileLine) -> Option<Said>
+        ensures { IfSome result (IsOwnFault self.new.version self.new.number line.text.now
+            head.sent.round self.old.is_open) }
+    {
         if is_blank(line.text) {
             return None;
         }
@@ -103,7 +107,11 @@ impl Reader<'_, '_> {
     }
 
     /// Takes the head of a turn, or of a company's orders; what there is to say of it.
-    fn begin(&mut self, head: &Head, line: &FileLine, read: &NumberedLine) -> Option<Said> {
+    fn begin(&mut self, head: &Head, line: &FileLine, read: &NumberedLine) -> Option<Said>
+        ensures version { self.new.version ≡ self.old.version }
+        ensures number { self.new.number ≡ self.old.number }
+        ensures no_fault { IfSome result IsNoFault }
+    {
         self.block = Block::none();
         let Ok(Order::Company(company)) = read.order() else {
             return None;
@@ -117,7 +125,10 @@ impl Reader<'_, '_> {
     }
 
     /// Takes an order that has a place; why it is wrong, with the code of the rule that it breaks.
-    fn object(&mut self, head: &Head, read: &NumberedLine) -> Option<(&'static str, Objection)> {
+    fn object(&mut self, head: &Head, read: &NumberedLine) -> Option<(&'static str, Objection)>
+        ensures version { self.new.version ≡ self.old.version }
+        ensures number { self.new.number ≡ self.old.number }
+    {
         let Ok(order) = read.order() else {
             return None;
         };

@@ -2,3 +2,4 @@
 pub mod Figures
 pub mod Played
 pub mod RoundPart
+pub mod Why

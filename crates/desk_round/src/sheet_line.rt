@@ -1,5 +1,7 @@
 //! The lines of the sheets for a round, by their numbers: their text, and the company to whose
 //! orders each belongs.
+ghost use Rattle.std.specs.Prelude.{IfSome};
+ghost use Rattle.desk_round.specs.Why.{IsLineOf};
 
 use order_grammar::Order;
 use sheets::{Sheets, UnreadLine};
@@ -81,7 +83,9 @@ pub(crate) fn sheet_line<'a>(
     lines: &[SheetLine<'a>],
     seat: Seat,
     number: u32,
-) -> Option<SheetLine<'a>> {
+) -> Option<SheetLine<'a>>
+    ensures { IfSome result (IsLineOf seat number) }
+{
     if number > LINES_KEPT {
         return None;
     }

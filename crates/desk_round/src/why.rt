@@ -1,4 +1,6 @@
 //! Why a line was refused: the rule that it broke, and the figures that the rule compared.
+ghost use Rattle.std.specs.Prelude.{◌≡◌};
+ghost use Rattle.desk_round.specs.Why.{reason_of};
 
 use crate::sheet_line::sheet_line;
 use crate::sought::{Ruled, push_sought};
@@ -18,7 +20,7 @@ pub(crate) fn push_why<'a>(
     number: u32,
     ruling: &PackedRuling,
 ) -> Result<(), AllocError> {
-    if let Verdict::Obeyed = ruling.verdict() {
+    if reason_of(ruling.verdict()).is_none() {
         return Ok(());
     }
     fill(out, "  ", &[])?;
@@ -35,10 +37,8 @@ pub(crate) fn push_rule<'a>(
     number: u32,
     ruling: &PackedRuling,
 ) -> Result<(), AllocError> {
-    let reason = match ruling.verdict() {
-        Verdict::Obeyed => return Ok(()),
-        Verdict::Faulty(fault) => Reason::Line(fault),
-        Verdict::Refused(rule) => Reason::Order(rule),
+    let Some(reason) = reason_of(ruling.verdict()) else {
+        return Ok(());
     };
     let (code, rule) = (Words(reason.code()), Words(reason.sentence()));
     fill(out, "%: %", &[code, rule])?;
@@ -51,4 +51,15 @@ pub(crate) fn push_rule<'a>(
         fill(out, ": %", &[Cut(line.text, FAULTY_COLUMNS)])?;
     }
     push_sought(alloc, out, Ruled { company, ..ruled }, &ruling.ruling())
+}
+
+/// Returns the reason why a line was refused, which has its code; `None` if it was obeyed.
+fn reason_of(verdict: Verdict) -> Option<Reason>
+    ensures { result ≡ reason_of verdict }
+{
+    match verdict {
+        Verdict::Obeyed => None,
+        Verdict::Faulty(fault) => Some(Reason::Line(fault)),
+        Verdict::Refused(rule) => Some(Reason::Order(rule)),
+    }
 }
