@@ -1,6 +1,6 @@
 -- The number of operating rounds that the list of events gives the set is that by which the game is
 -- played.
-use Rattle.std.proofs.Common.{◌≡◌, ℕ, zero, suc, Bool, true, false, ◌||◌, if◌then◌else◌, List, [], ◌∷◌, ◌++◌, Option}
+use Rattle.std.proofs.Common.{◌≡◌, ℕ, zero, suc, Bool, true, false, ◌||◌, if◌then◌else◌, List, [], ◌∷◌, Option}
 use Rattle.std.proofs.Common.{Some, None, is_some, refl, sym, ap, subst, ◌∙◌}
 use Rattle.std.proofs.lemmas.List.Sums.{fold-append}
 use Rattle.std.specs.List.{fold, list_any}
@@ -13,7 +13,6 @@ use Rattle.events.specs.Event.{phase_set, round_begun_by}
 use Rattle.events.specs.declared.event.Event.{Event}
 use Rattle.events.specs.declared.event.Event.TheVariants as event
 use Rattle.totals.specs.LookBack.{Game, bankrupt_in, last_said}
-use Rattle.totals.specs.Trains.{phase_of}
 use Rattle.operating.specs.Laws.{BeginsNoRound}
 use Rattle.rounds.specs.Begun.{AddsRound, RoundsOnlyAdd}
 use Rattle.rounds.specs.Play.{AreRounds, Between, IsRound, IsTheGame, Played, before_play, end_of, in_set_before}
