@@ -7,8 +7,7 @@ ghost use Rattle.events.specs.declared.event.Shareholder.TheVariants.{BankPool, 
 ghost use Rattle.market.specs.OperatingOrder.{operates};
 ghost use Rattle.privates.specs.Judgement.{price_of};
 ghost use Rattle.std.specs.Prelude.{None};
-ghost use Rattle.tables.specs.Roster.{face_of};
-ghost use Rattle.tables.specs.Seat.{certificate_limit_of};
+ghost use Rattle.tables.specs.Roster.{certificate_limit_of, face_of};
 ghost use Rattle.tables.specs.Train.{trains_of};
 ghost use Rattle.totals.specs.LookBack.{cash_of, is_sold, owner_of, priority_of};
 ghost use Rattle.totals.specs.Shares.{is_started, par_of, president_of, shares_of, square_of};

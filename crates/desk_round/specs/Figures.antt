@@ -23,8 +23,7 @@ use Rattle.order_grammar.specs.declared.condition.Condition.TheVariants as condi
 use Rattle.order_grammar.specs.declared.order.Order.{Order}
 use Rattle.order_grammar.specs.declared.order.Order.TheVariants as order
 use Rattle.purchases.specs.Trains.{sells}
-use Rattle.tables.specs.Roster.{face_of}
-use Rattle.tables.specs.Seat.{certificate_limit_of}
+use Rattle.tables.specs.Roster.{certificate_limit_of, face_of}
 use Rattle.tables.specs.Train.{kinds, limit_of, stops_of}
 use Rattle.tables.specs.declared.rolling_stock.Kind.{Kind}
 use Rattle.tables.specs.declared.roster.Company.{Company}
