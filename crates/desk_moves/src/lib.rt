@@ -10,8 +10,8 @@
 //! hexes and trains on a command line), `told` (`answer`: the game that is asked), `turn_start` (a
 //! company as its turn begins), `line_text` (its lays and tokens as order lines), `lay_text` (the
 //! same for a reader), `best_after` and `lay_best` (with revenues), `turn_order` (who operates
-//! before it), `best_text` (its best runs), `may_text` (what a player may do) with `may_opening`,
-//! `may_stock`, `may_operating` and `may_line`, `hex_text` with `hex_sides`, `tried` (`trial`).
+//! before it), `best_text` (its best runs), `may_text` (what a player may do, by `desk_may`),
+//! `hex_text` with `hex_sides`, `tried` (`trial`).
 #![tactic(auto)]
 
 mod best_after;
@@ -22,10 +22,6 @@ mod hex_text;
 mod lay_best;
 mod lay_text;
 mod line_text;
-mod may_line;
-mod may_opening;
-mod may_operating;
-mod may_stock;
 mod may_text;
 mod progress;
 mod told;

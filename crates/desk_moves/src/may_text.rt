@@ -1,13 +1,11 @@
 //! What a player may do in the round that comes next.
 
 use crate::fault::{MovesFault, NoAnswer};
-use crate::may_opening::push_of_opening;
-use crate::may_operating::push_of_operating;
-use crate::may_stock::push_of_stock;
 use certs::Holdings;
 use desk::Stood;
 use desk_base::Piece::{Bytes, Number};
 use desk_base::{Piece, fill};
+use desk_may::{push_of_opening, push_of_operating, push_of_stock};
 use history::Party;
 use report::name;
 use rounds::End;

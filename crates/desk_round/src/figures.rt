@@ -51,7 +51,7 @@ pub(crate) enum Figures {
     Trains(usize),
     /// The face value of the private, in dollars.
     Face(Amount),
-    /// The price of the company's square, in dollars.
+    /// The price of the company's square, in dollars; 0 if it has none.
     Price(Company, Amount),
 }
 
@@ -295,6 +295,7 @@ pub(crate) fn push_figures(
             let pieces = [player, Number(counted), Number(most as Money)];
             fill(out, " (% has % of %)", &pieces)
         }
+        Figures::Price(company, 0) => { fill(out, " (% has no price)", &[Words(company.code())]) }
         Figures::Price(company, price) => {
             let pieces = [Words(company.code()), Number(Money::from(price))];
             fill(out, " (the price of % is %)", &pieces)

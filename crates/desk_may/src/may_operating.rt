@@ -27,7 +27,7 @@ struct Buyer<'a> {
 /// Adds what each company of a player's may buy with the cash of now, and what it might be expected
 /// to buy and may not: companies that operate first, in their order, and then those that are not
 /// floated.
-pub(crate) fn push_of_operating(
+pub fn push_of_operating(
     alloc: Global,
     out: &mut Vec<u8>,
     stood: &Stood,

@@ -14,7 +14,7 @@ use tables::{Amount, Private, Seat, face};
 
 /// Adds the privates that a player may buy, and the least bid on each on which they may bid; and of
 /// the other unsold ones why they may not.
-pub(crate) fn push_of_opening(
+pub fn push_of_opening(
     alloc: Global,
     out: &mut Vec<u8>,
     stood: &Stood,

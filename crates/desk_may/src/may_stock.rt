@@ -20,7 +20,7 @@ const SOURCES: [ShareSource; 2] = [ShareSource::InitialOffering, ShareSource::Ba
 
 /// Adds what a player may buy, sell and exchange as their turn begins, and what they might expect
 /// and may not.
-pub(crate) fn push_of_stock(
+pub fn push_of_stock(
     alloc: Global,
     out: &mut Vec<u8>,
     stood: &Stood,
