@@ -277,7 +277,7 @@ fn mark_token<N: Network>(network: &N, company: Company, stop: Stop, marks: &mut
     ensures { IsTokenMarked (N.position network.now) company stop
         marks.old.marks marks.old.waiting.items marks.new.marks marks.new.waiting.items }
 {
-    if network.token(joined_stop(stop), company) {
+    if network.token(stop, company) {
         let end = End::Stop(stop.number);
         marks.mark(Spot { hex: stop.hex, end });
     }
