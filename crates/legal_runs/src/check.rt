@@ -64,8 +64,9 @@ fn tally_of<N: Network>(network: &N, company: Company, run: &Run, used: &Used) -
         end: End::Stop(start.stop?),
     };
     let mut tally = Tally::none(used);
+    let mut links = network.links(start.hex);
     for place in &places[1..] {
-        let leg = leg_to(network, at, *place)?;
+        let leg = leg_to(network, at, *place, &mut links)?;
         tally.count_leg(network, company, leg);
         at = leg.at;
     }

@@ -1,10 +1,11 @@
 ghost use Rattle.std.specs.List.{list_any};
-ghost use Rattle.std.specs.Prelude.{◌≡◌, ◌<◌, find};
+ghost use Rattle.std.specs.Prelude.{◌≡◌, ◌<◌, IfSome, find};
 ghost use Rattle.map_tables.specs.Border.{neighbour_of};
 ghost use Rattle.map_tables.specs.Track.{end_order};
+ghost use Rattle.reach.specs.Position.{links_of};
 ghost use Rattle.legal_runs.specs.Named.{is_hex, leg_to, same_link, side_towards, step_between, step_over};
 
-use map_tables::{End, Hex, Link, Place, Side, neighbour};
+use map_tables::{End, Hex, Link, Links, Place, Side, neighbour};
 use reach::{Network, Spot, Step};
 
 /// What leads a train from where it is to its next place. It is a step to the border between their
@@ -17,14 +18,25 @@ pub(crate) struct Leg {
     pub(crate) at: Spot,
 }
 
-/// Returns the leg that leads a train to a place, if there is such track.
+/// Returns the leg that leads a train to a place, if there is such track. `links` has the links of
+/// the hex where the train is, and then those of the place's hex, so that the network is asked for
+/// the links of a hex once.
 #[tactic(auto, unfolding(crate::specs::Named::leg_to))]
-pub(crate) fn leg_to<N: Network>(network: &N, at: Spot, place: Place) -> Option<Leg>
-    ensures { result ≡ leg_to (N.position network.now) at place }
+pub(crate) fn leg_to<N: Network>(
+    network: &N,
+    at: Spot,
+    place: Place,
+    links: &mut Links,
+) -> Option<Leg>
+    requires { links.old.items ≡ links_of (N.position network.now) at.hex }
+    ensures leg { result ≡ leg_to (N.position network.now) at place }
+    ensures links { IfSome result (λ leg.
+        links.new.items ≡ links_of (N.position network.now) leg.at.hex) }
 {
     let side = side_towards(at.hex, place.hex)?;
-    let first = step_between(network, at.hex, at.end, End::Side(side))?;
+    let first = step_between(network, links, at.hex, at.end, End::Side(side))?;
     let border = End::Side(side.facing());
+    *links = network.links(place.hex);
     match place.stop {
         None => Some(Leg {
             first,
@@ -36,7 +48,7 @@ pub(crate) fn leg_to<N: Network>(network: &N, at: Spot, place: Place) -> Option<
         }),
         Some(number) => {
             let stop = End::Stop(number);
-            let second = step_between(network, place.hex, border, stop)?;
+            let second = step_between(network, links, place.hex, border, stop)?;
             Some(Leg {
                 first,
                 second: Some(second),
@@ -77,13 +89,20 @@ fn is_hex(hex: Hex, found: Option<Hex>) -> bool
     }
 }
 
-/// Returns the step from one end of a hex to another, if they are joined.
+/// Returns the step from one end of a hex to another, if they are joined by one of these links,
+/// which are those of the hex.
 #[tactic(auto, unfolding(crate::specs::Named::step_between))]
-fn step_between<N: Network>(network: &N, hex: Hex, from: End, to: End) -> Option<Step>
-    ensures { result ≡ step_between (N.position network.now) hex from to }
+fn step_between<N: Network>(
+    _network: &N,
+    links: &Links,
+    hex: Hex,
+    from: End,
+    to: End,
+) -> Option<Step>
+    requires { links.now.items ≡ links_of (N.position _network.now) hex }
+    ensures { result ≡ step_between (N.position _network.now) hex from to }
 {
     let step = step_over(hex, from, to);
-    let links = network.links(hex);
     if has_link(links.as_slice(), step.link) {
         Some(step)
     } else {

@@ -22,6 +22,7 @@ loop-place-init g c =
           c.as_slice-places.ensures.least) (c.in_ok-start.was)
           ∙ ap (λ tally. made_along count position tally c.as_slice-places.result.now) none
           ∙ ap (made_along count position (no_steps c.args.used.now)) c.as_slice-places.ensures.places;
+      here = c.links-links.ensures;
       short = rest_short c.as_slice-places.result.now
           (subst (λ (places : List Place). length places ≤ 280) (sym c.as_slice-places.ensures.places)
           c.as_slice-places.ensures.most);
@@ -34,7 +35,7 @@ returns-in_err-leg g c =
     let position = g.N.Network.position c.args.network.now in
     c.from_residual-in_err-leg.ensures
     ∙ sym (no_leg (counted position c.args.company) position c.loop-place.at c.loop-place.tally _
-    c.loop-place.place-index _ c.loop-place-test.true (sym c.leg_to.ensures ∙ c.in_err-leg.was))
+    c.loop-place.place-index _ c.loop-place-test.true (sym c.leg_to.ensures.leg ∙ c.in_err-leg.was))
     ∙ c.loop-place.invariant.left
 
 pub loop-place-preserved : goal.loop-place-preserved
@@ -45,8 +46,9 @@ loop-place-preserved g c =
       left =
           leg_further count position c.loop-place.at c.loop-place.tally c.count_leg.new.self _
           c.loop-place.place-index _ c.in_ok-leg.leg c.loop-place-test.true
-          (sym c.leg_to.ensures ∙ c.in_ok-leg.was) c.count_leg.ensures.tally
+          (sym c.leg_to.ensures.leg ∙ c.in_ok-leg.was) c.count_leg.ensures.tally
           ∙ c.loop-place.invariant.left;
+      here = c.in_ok-leg.ensures.links;
       short = c.loop-place.invariant.short;
       few = omega arith;
       low = c.count_leg.ensures.low;
