@@ -3,7 +3,7 @@ ghost use Rattle.reach.specs.Position.{IsAmong};
 ghost use Rattle.reach.specs.Reached.{IsReach};
 
 use crate::network::Network;
-use crate::search::search;
+use crate::search::{Marks, search};
 use crate::stops::marked_stops;
 use map_tables::{Link, Stop};
 use std::alloc::{AllocError, Global};
@@ -58,7 +58,8 @@ pub fn reached<N: Network>(
 {
     network.keeps_laws();
     let mut links = Vec::with_capacity(alloc, LINKS_ROOM)?;
-    let marks = search(network, company, &mut links)?;
+    let mut marks = Marks::none();
+    search(network, company, &mut marks, &mut links)?;
     let stops = marked_stops(&marks).stops().to_vec(alloc)?;
     Ok(Reach { stops, links })
 }

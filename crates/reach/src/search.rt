@@ -1,4 +1,4 @@
-ghost use Rattle.std.specs.Prelude.{◌≡◌, ◌<◌, ◌≤◌, ◌↔◌, IsTrue, IfOk, OnOk, [], false, true, length, slice_index_or};
+ghost use Rattle.std.specs.Prelude.{◌≡◌, ◌<◌, ◌≤◌, ◌↔◌, IsTrue, OnOk, [], false, true, length, slice_index_or};
 ghost use Rattle.std.specs.Prelude.{replicate};
 ghost use Rattle.map_tables.specs.Hex.{index_of};
 ghost use Rattle.reach.specs.Lawful.{IsLawful};
@@ -28,7 +28,7 @@ pub(crate) struct Marks {
 
 impl Marks {
     /// Returns marks by which no walk has arrived anywhere yet.
-    fn none() -> Marks
+    pub(crate) fn none() -> Marks
         ensures marks { result.marks ≡ replicate 744 false }
         ensures waiting { result.waiting.items ≡ [] }
     {
@@ -246,19 +246,20 @@ fn look<N: Network, K: Keeper>(
     Ok(())
 }
 
-/// Returns the marks of the stops with a token of the company, where its walks begin. All of them
-/// are still to be looked at.
-fn mark_tokens<N: Network>(network: &N, company: Company) -> Marks
-    ensures arrive { AllArrive (N.position network.now) company result.marks }
-    ensures tokens { HasAllTokens (N.position network.now) company result.marks }
-    ensures wait { AllWait result.marks result.waiting.items }
+/// Marks the stops with a token of the company, where its walks begin, where nothing is marked. All
+/// of them are still to be looked at.
+fn mark_tokens<N: Network>(network: &N, company: Company, marks: &mut Marks)
+    requires marks { marks.old.marks ≡ replicate 744 false }
+    requires waiting { marks.old.waiting.items ≡ [] }
+    ensures arrive { AllArrive (N.position network.now) company marks.new.marks }
+    ensures tokens { HasAllTokens (N.position network.now) company marks.new.marks }
+    ensures wait { AllWait marks.new.marks marks.new.waiting.items }
 {
-    let mut marks = Marks::none();
     for index in 0..HEXES {
         let hex = Hex::at_index(index);
         let first = StopNumber::First;
         let second = StopNumber::Second;
-        mark_token(network, company, Stop { hex, number: first }, &mut marks);
+        mark_token(network, company, Stop { hex, number: first }, marks);
         mark_token(
             network,
             company,
@@ -266,10 +267,9 @@ fn mark_tokens<N: Network>(network: &N, company: Company) -> Marks
                 hex,
                 number: second,
             },
-            &mut marks,
+            marks,
         );
     }
-    marks
 }
 
 /// Marks a stop if the company has a token there.
@@ -283,28 +283,30 @@ fn mark_token<N: Network>(network: &N, company: Company, stop: Stop, marks: &mut
     }
 }
 
-/// Finds all spots at which walks of the company arrive: its tokens, and from each spot that is
-/// found the ends of the links that go on from there. Each spot is looked at once, and the links
-/// that are followed are kept.
+/// Marks all spots at which walks of the company arrive, where nothing is marked: its tokens, and
+/// from each spot that is found the ends of the links that go on from there. Each spot is looked at
+/// once, and the links that are followed are kept. The marks are filled in place, since each call
+/// that had them among its locals would pay for their bytes.
 pub(crate) fn search<N: Network, K: Keeper>(
     network: &N,
     company: Company,
+    marks: &mut Marks,
     keeper: &mut K,
-) -> Result<Marks, K::Fault>
-    requires { IsLawful (N.position network.now) }
-    ensures arrive { IfOk result (λ marks.
-        AllArrive (N.position network.now) company marks.marks) }
-    ensures tokens { IfOk result (λ marks.
-        HasAllTokens (N.position network.now) company marks.marks) }
+) -> Result<(), K::Fault>
+    requires lawful { IsLawful (N.position network.now) }
+    requires marks { marks.old.marks ≡ replicate 744 false }
+    requires waiting { marks.old.waiting.items ≡ [] }
+    ensures arrive { OnOk result (AllArrive (N.position network.now) company marks.new.marks) }
+    ensures tokens { OnOk result (HasAllTokens (N.position network.now) company marks.new.marks) }
     ensures closed { let position = N.position network.now in
-        IfOk result (λ marks. IsClosed position company (IsTrack position) marks.marks) }
+        OnOk result (IsClosed position company (IsTrack position) marks.new.marks) }
     ensures taken { let position = N.position network.now in
-        IfOk result (λ marks. KeepsNone (K.keeps keeper.old)
-        → AreTaken position company marks.marks (K.keeps keeper.new)) }
+        OnOk result (KeepsNone (K.keeps keeper.old)
+        → AreTaken position company marks.new.marks (K.keeps keeper.new)) }
 {
-    let mut marks = mark_tokens(network, company);
+    mark_tokens(network, company, marks);
     while let Some(spot) = marks.waiting.pop() {
-        look(network, company, spot, &mut marks, keeper)?;
+        look(network, company, spot, marks, keeper)?;
     }
-    Ok(marks)
+    Ok(())
 }

@@ -84,8 +84,9 @@ pub fn reached_stops<N: Network>(network: &N, company: Company) -> ReachedStops
     ensures { AreReachedStops (N.position network.now) company result }
 {
     network.keeps_laws();
-    match search(network, company, &mut Forgetful) {
-        Ok(marks) => marked_stops(&marks),
+    let mut marks = Marks::none();
+    match search(network, company, &mut marks, &mut Forgetful) {
+        Ok(()) => marked_stops(&marks),
         Err(never) => match never {},
     }
 }

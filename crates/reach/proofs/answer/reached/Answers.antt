@@ -14,8 +14,8 @@ none_among links none link among = subst (λ ls. IsAmong link ls) none among
 pub returns : goal.returns
 returns g c =
     let position = g.N.Network.position c.args.network.now in
-    let marks = c.in_ok-marks.marks.marks in
-    let found = c.in_ok-marks.ensures in
+    let marks = c.search.new.marks.marks in
+    let found = c.in_ok-search.ensures in
     let copied : c.in_ok-stops.stops.items ≡ c.marked_stops.result =
     c.in_ok-stops.ensures.items_if_clones_equal (λ x y same. same) ∙ c.stops.ensures.value in
     marked_reach position c.args.company c.keeps_laws.ensures marks found.arrive found.tokens found.closed

@@ -11,13 +11,13 @@ unmarked marks is n found =
 
 pub loop-index-init : goal.loop-index-init
 loop-index-init g c =
-    let marks = c.none-marks.result.marks in
+    let marks = c.args.marks.now.marks in
     record {
-      arrive = λ spot is. absurd (unmarked marks c.none-marks.ensures.marks (spot_number spot) is);
+      arrive = λ spot is. absurd (unmarked marks c.requires.marks (spot_number spot) is);
       tokens = λ stop low token. absurd (omega arith);
       wait = record {
-        all = λ spot is. absurd (unmarked marks c.none-marks.ensures.marks (spot_number spot) is);
-        known = λ spot waits. absurd (subst (λ w. Waits w spot) c.none-marks.ensures.waiting waits);
+        all = λ spot is. absurd (unmarked marks c.requires.marks (spot_number spot) is);
+        known = λ spot waits. absurd (subst (λ w. Waits w spot) c.requires.waiting waits);
       };
     }
 

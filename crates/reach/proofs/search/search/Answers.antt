@@ -14,12 +14,12 @@ use Rattle.tables.specs.declared.roster.Company.{Company}
 pub loop-spot-init : goal.loop-spot-init
 loop-spot-init g c =
     record {
-      arrive = c.mark_tokens-marks.ensures.arrive;
-      tokens = c.mark_tokens-marks.ensures.tokens;
+      arrive = c.mark_tokens.ensures.arrive;
+      tokens = c.mark_tokens.ensures.tokens;
       looked = record {
-        known = c.mark_tokens-marks.ensures.wait.known;
+        known = c.mark_tokens.ensures.wait.known;
         looked =
-            λ spot is. inl (c.mark_tokens-marks.ensures.wait.all spot is);
+            λ spot is. inl (c.mark_tokens.ensures.wait.all spot is);
       };
       taken = λ none link is. absurd (none link is);
     }
@@ -73,13 +73,13 @@ pub returns-clause-closed : goal.returns-clause-closed
 returns-clause-closed g c =
     let position = g.N.Network.position c.args.network.now in
     let keeps = g.K.Keeper.keeps c.loop-spot.keeper in
-    all_looked_at position c.args.company c.requires c.loop-spot.marks.marks keeps
+    all_looked_at position c.args.company c.requires.lawful c.loop-spot.marks.marks keeps
     (none_waits position c.args.company _ keeps _ c.in_default.ensures.variant.1 c.loop-spot.invariant.looked)
 
 pub returns-clause-taken : goal.returns-clause-taken
 returns-clause-taken g c none =
     let position = g.N.Network.position c.args.network.now in
     let keeps = g.K.Keeper.keeps c.loop-spot.keeper in
-    all_taken position c.args.company c.requires c.loop-spot.marks.marks keeps
+    all_taken position c.args.company c.requires.lawful c.loop-spot.marks.marks keeps
     (none_waits position c.args.company _ keeps _ c.in_default.ensures.variant.1 c.loop-spot.invariant.looked)
     (c.loop-spot.invariant.taken none)

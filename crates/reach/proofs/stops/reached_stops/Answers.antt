@@ -9,7 +9,7 @@ returns g c =
     let position = g.N.Network.position c.args.network.now in
     let company = c.args.company in
     let lawful = c.keeps_laws.ensures in
-    let marks = c.in-Ok.marks.marks in
+    let marks = c.search.new.marks.marks in
     let taken = taken_links position company lawful marks in (
       record { stops = c.marked_stops.result; links = taken.0 },
       marked_reach position company lawful marks c.in-Ok.ensures.arrive c.in-Ok.ensures.tokens c.in-Ok.ensures.closed
