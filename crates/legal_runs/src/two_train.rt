@@ -1,6 +1,8 @@
 //! Whether a company can run a 2-train.
-ghost use Rattle.std.specs.Prelude.{◌≡◌, ◌<◌, ◌↔◌, IsTrue};
+ghost use Rattle.std.specs.Prelude.{◌≡◌, ◌<◌, ◌⊎◌, ◌↔◌, IsTrue};
 ghost use Rattle.map_tables.specs.Hex.{index_of};
+ghost use Rattle.map_tables.specs.Place.{stop_at};
+ghost use Rattle.map_tables.specs.declared.place.StopNumber.TheVariants.{First, Second};
 ghost use Rattle.reach.specs.Lawful.{IsLawful};
 ghost use Rattle.reach.specs.Position.{HasToken, IsAmong, links_of};
 ghost use Rattle.reach.specs.Walk.{entered_at};
@@ -9,7 +11,7 @@ ghost use Rattle.legal_runs.specs.TwoTrain.{CanRun, LeadsFrom, LeadsOn, LeavesTo
 
 use crate::leg::order;
 use crate::used::Used;
-use map_tables::{HEXES, Hex, Link, Stop};
+use map_tables::{HEXES, Hex, Link, Stop, StopNumber};
 use reach::{Network, Spot, Step, stop_order};
 use tables::Company;
 
@@ -20,11 +22,40 @@ pub fn can_run<N: Network>(network: &N, company: Company) -> bool
 {
     network.keeps_laws();
     for index in 0..HEXES {
-        if leaves_in(network, company, Hex::at_index(index)) {
+        if leaves_hex(network, company, Hex::at_index(index)) {
             return true;
         }
     }
     false
+}
+
+/// Returns whether such a run leaves its first stop by a link of a hex. A hex without a token of the
+/// company is not asked for its links.
+fn leaves_hex<N: Network>(network: &N, company: Company, hex: Hex) -> bool
+    requires { IsLawful (N.position network.now) }
+    ensures { let position = N.position network.now in
+        IsTrue result ↔ ((step : Step) × IsAmong step.link (links_of position hex)
+        × LeavesToken position company step) }
+{
+    has_token_in(network, company, hex) && leaves_in(network, company, hex)
+}
+
+/// Returns whether a company has a token at a stop of a hex.
+fn has_token_in<N: Network>(network: &N, company: Company, hex: Hex) -> bool
+    ensures { let position = N.position network.now in
+        IsTrue result ↔ (HasToken position (stop_at hex First) company
+        ⊎ HasToken position (stop_at hex Second) company) }
+{
+    let first = StopNumber::First;
+    let second = StopNumber::Second;
+    network.token(Stop { hex, number: first }, company)
+        || network.token(
+            Stop {
+                hex,
+                number: second,
+            },
+            company,
+        )
 }
 
 /// Returns whether such a run leaves its first stop by a link of a hex.

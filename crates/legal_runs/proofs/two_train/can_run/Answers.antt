@@ -6,10 +6,10 @@ use Rattle.reach.proofs.Hexes.{index_low}
 use Rattle.legal_runs.proofs.TwoTrain.{run_begins, run_found}
 use Rattle.legal_runs.proofs.two_train.can_run.Goals as goal
 
-pub returns-then-leaves_in : goal.returns-then-leaves_in
-returns-then-leaves_in g c =
+pub returns-then-leaves_hex : goal.returns-then-leaves_hex
+returns-then-leaves_hex g c =
     let position : Position = g.N.Network.position c.args.network.now in
-    let found = c.leaves_in.ensures.0 c.if-leaves_in.true in (
+    let found = c.leaves_hex.ensures.0 c.if-leaves_hex.true in (
       λ yes. run_found position c.args.company found.0
           (own_hex position c.keeps_laws.ensures c.at_index.result found.0.link found.1) found.2,
       λ can. refl,
@@ -21,8 +21,8 @@ loop-index-preserved g c =
     λ step low track leaves.
     elim (hexes_more position c.at_index.result c.loop-index.index c.at_index.ensures step.link low track) [
       | inl before ↦ c.loop-index.invariant step before track leaves
-      | inr here ↦ let wrong : true ≡ false = sym (c.leaves_in.ensures.1 (step, here, leaves))
-          ∙ c.if-leaves_in.false in cc
+      | inr here ↦ let wrong : true ≡ false = sym (c.leaves_hex.ensures.1 (step, here, leaves))
+          ∙ c.if-leaves_hex.false in cc
     ]
 
 pub returns : goal.returns
