@@ -16,6 +16,7 @@ pub mod WalkLemmas
 pub mod LineFaultLemmas
 pub mod VersionLemmas
 pub mod WordLemmas
+pub mod FirstLemmas
 pub mod PrefixLemmas
 pub mod LineLemmas
 pub mod HasWords

@@ -1,7 +1,7 @@
 -- The words of a line are the longest runs of bytes other than space before its first `#`, letters
 -- raised.
 use Rattle.std.specs.Prelude.{ℕ, ◌+◌, ◌==◌, Bool, true, false, ◌&&◌, nat_le, ◌<◌, ◌≤◌, ◌≡◌, length, slice_range}
-use Rattle.std.specs.Prelude.{if◌then◌else◌, List, [], ◌∷◌, ◌++◌, map}
+use Rattle.std.specs.Prelude.{if◌then◌else◌, List, [], ◌∷◌, ◌++◌, Option, find, map, not}
 use Rattle.std.specs.Char.{to_ascii_uppercase}
 
 -- the part of a text before the first byte that is this one; all of it if there is none
@@ -40,6 +40,10 @@ words_of line = map raised (written_words line)
 abbrev pub first_of_words : List (List ℕ) → List ℕ
 first_of_words [] = []
 first_of_words (word ∷ words) = word
+
+-- the first byte of a text that is no space
+abbrev pub first_byte : List ℕ → Option ℕ
+first_byte text = find (λ byte. not (byte == 32)) text
 
 -- printable ASCII, a space included
 abbrev pub is_printable : ℕ → Bool

@@ -1,8 +1,10 @@
-ghost use Rattle.std.specs.Prelude.{◌≡◌, ◌≤◌, [], IfSome, length, take};
+ghost use Rattle.std.specs.Bool.{OnTrue};
+ghost use Rattle.std.specs.Prelude.{◌≡◌, ◌≤◌, [], IfSome, false, length, take};
 ghost use Rattle.order_grammar.specs.Token.{GivesWord};
 ghost use Rattle.order_grammar.specs.Words.{
   before,
   before_comment,
+  first_byte,
   first_of_words,
   has_words,
   placed_from,
@@ -122,20 +124,44 @@ pub(crate) fn before_comment(line: &[u8]) -> &[u8]
     &line[..length_before(line, b'#')]
 }
 
+/// Returns the first byte of a text that is no space; `None` if there is none.
+fn first_byte(text: &[u8]) -> Option<u8>
+    ensures { result ≡ first_byte text.now }
+{
+    text.iter().find(|byte| **byte != b' ').copied()
+}
+
 /// Returns whether a line has a word before its comment.
 pub fn has_word(line: &[u8]) -> bool
     ensures { result ≡ has_words (words_of line.now) }
 {
-    Words::of(line).next().is_some()
+    match first_byte(line) {
+        Some(byte) => byte != b'#',
+        None => false,
+    }
 }
 
 /// Returns whether the first word of a line, in either case, is this one, given in upper case.
 pub fn begins_with_word(line: &[u8], word: &[u8]) -> bool
     ensures { result ≡ same_word (first_of_words (words_of line.now)) word.now }
 {
+    if begins_otherwise(line, word) {
+        return false;
+    }
     match Words::of(line).next() {
         Some(first) => is_word(first.text, word),
         None => word.is_empty(),
+    }
+}
+
+/// Returns whether the first word of a line begins with another byte than this word, given in upper
+/// case. Most lines are told apart by that alone.
+fn begins_otherwise(line: &[u8], word: &[u8]) -> bool
+    ensures { OnTrue result (same_word (first_of_words (words_of line.now)) word.now ≡ false) }
+{
+    match (first_byte(line), word) {
+        (Some(byte), [letter, ..]) => byte.to_ascii_uppercase() != *letter,
+        _ => false,
     }
 }
 

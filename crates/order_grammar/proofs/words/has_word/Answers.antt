@@ -1,9 +1,11 @@
-use Rattle.std.proofs.Common.{ap, ◌∙◌}
-use Rattle.order_grammar.specs.Words.{has_words}
-use Rattle.order_grammar.proofs.WordLemmas.{gives_some, texts_of-line}
+use Rattle.std.proofs.Common.{sym, ap, ◌∙◌}
+use Rattle.order_grammar.proofs.FirstLemmas.{begins_word, has_words-first}
 use Rattle.order_grammar.proofs.words.has_word.Goals as goal
 
-pub returns : goal.returns
-returns c =
-    c.is_some.ensures ∙ gives_some c.of.result c.next.new.self c.next.result c.next.ensures.steps
-    ∙ ap has_words (texts_of-line c.args.line.now c.of.result c.of.ensures)
+pub returns-in-Some : goal.returns-in-Some
+returns-in-Some c =
+    sym (ap begins_word c.in-Some.is) ∙ ap begins_word c.first_byte.ensures ∙ sym (has_words-first c.args.line.now)
+
+pub returns-in-None : goal.returns-in-None
+returns-in-None c =
+    sym (ap begins_word c.in-None.is) ∙ ap begins_word c.first_byte.ensures ∙ sym (has_words-first c.args.line.now)
