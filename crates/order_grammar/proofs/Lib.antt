@@ -17,6 +17,7 @@ pub mod LineFaultLemmas
 pub mod VersionLemmas
 pub mod WordLemmas
 pub mod FirstLemmas
+pub mod ReadableLemmas
 pub mod PrefixLemmas
 pub mod LineLemmas
 pub mod HasWords

@@ -12,6 +12,7 @@ pub mod Line
 pub mod Condition
 pub mod Version
 pub mod Token
+pub mod Readable
 pub mod Row
 pub mod Print
 pub mod Fault

@@ -1,16 +1,17 @@
-ghost use Rattle.std.specs.Prelude.{◌≡◌, IfOk, IsTrue, None, map};
-ghost use Rattle.std.specs.List.{list_all};
+ghost use Rattle.std.specs.Prelude.{◌≡◌, ◌≤◌, IfOk, IfSome, IsTrue, None, is_some, length, map};
+ghost use Rattle.std.specs.List.{list_all, position_or_len};
 ghost use Rattle.order_grammar.specs.Condition.{put_ordered};
 ghost use Rattle.order_grammar.specs.Line.{cert_reading_of, order_of, reading_by, reading_of, words_within};
 ghost use Rattle.order_grammar.specs.Row.{is_short_row, row_of};
 ghost use Rattle.order_grammar.specs.Version.{ordered_of, reading_in, words_reading_in};
-ghost use Rattle.order_grammar.specs.Words.{AreWordsOf, is_printable, texts_of};
+ghost use Rattle.order_grammar.specs.Readable.{is_end};
+ghost use Rattle.order_grammar.specs.Words.{AreWordsOf, before_comment, is_printable, texts_of};
 
 use crate::condition::{Condition, Version, read_ordered};
 use crate::fault::Fault;
 use crate::form::{Form, certificate_forms, order_forms, read_order};
 use crate::order::Order;
-use crate::words::{Words, before_comment};
+use crate::words::Words;
 
 /// The most bytes of a line, without its LF and a CR before that.
 pub const LINE_MOST: usize = 1024;
@@ -132,10 +133,37 @@ fn words_within(most: usize, line: &[u8]) -> Result<Words<'_>, Fault>
     if line.len() > most {
         return Err(Fault::TooLong);
     }
-    if !before_comment(line).iter().all(|byte| is_printable(*byte)) {
-        return Err(Fault::StrayByte);
+    match printable_part(line) {
+        Some(text) => Ok(Words::within(text)),
+        None => Err(Fault::StrayByte),
     }
-    Ok(Words::of(line))
+}
+
+/// Returns the part of a line before its comment; `None` if a byte of it is not printable.
+fn printable_part(line: &[u8]) -> Option<&[u8]>
+    ensures printable { is_some result ≡ list_all is_printable (before_comment line.now) }
+    ensures part { IfSome result (λ text. text.now ≡ before_comment line.now) }
+{
+    let end = printable_length(line);
+    if end == line.len() {
+        return Some(line);
+    }
+    if line[end] == b'#' {
+        Some(&line[..end])
+    } else {
+        None
+    }
+}
+
+/// Returns how many bytes of a line come before the first that is not printable or begins its
+/// comment.
+fn printable_length(line: &[u8]) -> usize
+    ensures value { result ≡ position_or_len is_end line.now }
+    ensures within { result ≤ length line.now }
+{
+    line.iter()
+        .position(|byte| *byte == b'#' || !is_printable(*byte))
+        .unwrap_or(line.len())
 }
 
 /// Returns whether a byte may stand before a comment.

@@ -55,10 +55,14 @@ impl<'a> Words<'a> {
     pub(crate) fn of(line: &'a [u8]) -> Words<'a>
         ensures { result ≡ placed_from 0 [] (before_comment line.now) }
     {
-        Words {
-            text: before_comment(line),
-            at: 0,
-        }
+        Words::within(before_comment(line))
+    }
+
+    /// Returns the words of a text without a comment.
+    pub(crate) fn within(text: &'a [u8]) -> Words<'a>
+        ensures { result ≡ placed_from 0 [] text.now }
+    {
+        Words { text, at: 0 }
     }
 
     /// Returns the same words.
@@ -118,7 +122,7 @@ fn length_before(text: &[u8], stop: u8) -> usize
 }
 
 /// Returns the part of a line before its first `#`.
-pub(crate) fn before_comment(line: &[u8]) -> &[u8]
+fn before_comment(line: &[u8]) -> &[u8]
     ensures { result.now ≡ before_comment line.now }
 {
     &line[..length_before(line, b'#')]
