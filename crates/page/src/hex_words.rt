@@ -1,8 +1,7 @@
 //! A hex in words.
 
 use crate::scene::Scene;
-use crate::tokens::{is_kept, private_in};
-use desk::has_token;
+use crate::tokens::{is_kept, private_in, tokens_at};
 use history::Holder;
 use map_tables::{
     End, Hex, HexKind, Link, Stop, StopNumber, TileKind, hex_kind, printed_value, terrain_cost,
@@ -167,11 +166,9 @@ fn put_sides(out: &mut Writer, look: &Look, stop: StopNumber) {
 /// Adds the tokens of a city, and the companies for which a slot is kept.
 fn put_tokens(out: &mut Writer, scene: &Scene, stop: Stop) {
     let mut before = ": ";
-    for company in Company::ALL {
-        if has_token(scene.history, stop, company) {
-            out.put(&[Words(before), Words(company.code())]);
-            before = " ";
-        }
+    for company in tokens_at(scene.history, stop).as_slice() {
+        out.put(&[Words(before), Words(company.code())]);
+        before = " ";
     }
     for company in Company::ALL {
         if is_kept(scene.history, stop, company) {

@@ -1,4 +1,6 @@
 //! What the trains of each company ran in the last operating round that was played.
+ghost use Rattle.std.specs.Prelude.{◌≡◌, ◌++◌, [], ◌∷◌, IfOk, OnOk, map};
+ghost use Rattle.page.specs.Shown.{AddsBest, all_shown, claimed_by, place_of};
 
 use crate::scene::look_at;
 use board::Board;
@@ -103,22 +105,38 @@ fn add_runs(
             order: Order::RunBest,
             ..
         } => {
-            let claim = best_at(alloc, view, company)?;
-            let board = board_at(alloc, view)?;
-            add_best(alloc, routes, &board, company, claim.runs.as_slice())
+            add_best(alloc, routes, view, company)
         }
         _ => Ok(()),
     }
 }
 
-/// Adds the runs by which a company's trains earn the most.
+/// Adds runs by which a company's trains earn the most.
 fn add_best(
+    alloc: Global,
+    routes: &mut Vec<Route>,
+    view: &GameView,
+    company: Company,
+) -> Result<(), AllocError>
+    ensures { OnOk result
+        (AddsBest view.now.events.now company routes.old.items routes.new.items) }
+{
+    let claim = best_at(alloc, view, company)?;
+    let board = board_at(alloc, view)?;
+    add_claimed(alloc, routes, &board, company, claim.runs.as_slice())
+}
+
+/// Adds the runs of a claim of a company.
+fn add_claimed(
     alloc: Global,
     routes: &mut Vec<Route>,
     board: &Board,
     company: Company,
     runs: &[ClaimedRun],
-) -> Result<(), AllocError> {
+) -> Result<(), AllocError>
+    ensures { OnOk result (all_shown routes.new.items
+        ≡ all_shown routes.old.items ++ map (claimed_by company) runs.now) }
+{
     for claimed in runs {
         add_route(
             alloc,
@@ -142,7 +160,10 @@ fn add_route(
     kind: Kind,
     run: &Run,
     is_best: bool,
-) -> Result<(), AllocError> {
+) -> Result<(), AllocError>
+    ensures { OnOk result (all_shown routes.new.items
+        ≡ all_shown routes.old.items ++ (company, kind, run.now) ∷ []) }
+{
     let visits = visits_of(alloc, board, run.as_slice())?;
     let lane = free_lane(routes.as_slice(), visits.as_slice());
     let sum = sum_of(visits.as_slice());
@@ -158,7 +179,9 @@ fn add_route(
 }
 
 /// Returns the places of a run, each with what it is worth on a board and how the run leaves it.
-fn visits_of(alloc: Global, board: &Board, places: &[Place]) -> Result<Vec<Visit>, AllocError> {
+fn visits_of(alloc: Global, board: &Board, places: &[Place]) -> Result<Vec<Visit>, AllocError>
+    ensures { IfOk result (λ visits. map place_of visits.items ≡ places.now) }
+{
     let mut visits = Vec::new(alloc);
     for (number, place) in places.iter().enumerate() {
         let value = match place.stop() {

@@ -1,11 +1,19 @@
 //! What lies in the slots of cities, and the privates of hexes.
+ghost use Rattle.std.specs.Prelude.{◌≡◌, filter};
+ghost use Rattle.map_tables.specs.OnMap.{has_token};
+ghost use Rattle.tables.specs.Roster.{companies};
+ghost use Rattle.totals.specs.Operating.{tokens_of};
 
+use arrayvec::ArrayVec;
 use board_state::{same_hex, same_stop};
 use desk::has_token;
 use history::History;
 use map_tables::{Hex, Stop, StopNumber, home, private_hexes};
 use picture::Marker;
 use tables::{Company, Private};
+
+/// How many companies there are.
+const COMPANIES: usize = 8;
 
 /// Returns whether a slot of a stop is kept for the home token of a company, which it has not
 /// placed.
@@ -39,22 +47,30 @@ pub(crate) fn markers_in(history: &History, hex: Hex, slots: u8) -> [[Marker; 2]
 /// Returns what lies in the slots of a stop.
 fn markers_at(history: &History, stop: Stop, slots: u8) -> [Marker; 2] {
     let mut markers = [Marker::Free, Marker::Free];
-    let mut next = 0;
-    for company in Company::ALL {
-        if next < 2 && has_token(history, stop, company) {
-            markers[next] = Marker::Token(company);
-            next += 1;
-        }
+    let tokens = tokens_at(history, stop);
+    for (marker, company) in markers.iter_mut().zip(tokens.as_slice()) {
+        *marker = Marker::Token(*company);
     }
+    let last = if slots > 1 { 1 } else { 0 };
     for company in Company::ALL {
-        if is_kept(history, stop, company) {
-            let last = if slots > 1 { 1 } else { 0 };
-            if next <= last {
-                markers[last] = Marker::Kept(company);
-            }
+        if tokens.len() <= last && is_kept(history, stop, company) {
+            markers[last] = Marker::Kept(company);
         }
     }
     markers
+}
+
+/// Returns the companies that have a token at a stop, in the order of the roster.
+pub(crate) fn tokens_at(history: &History, stop: Stop) -> ArrayVec<Company, COMPANIES>
+    ensures { result.items ≡ filter (has_token (tokens_of history.now.events) stop) companies }
+{
+    let mut tokens = ArrayVec::new();
+    for company in Company::ALL {
+        if has_token(history, stop, company) {
+            tokens.push(company);
+        }
+    }
+    tokens
 }
 
 /// Returns whether a private has a hex.
