@@ -78,8 +78,8 @@ impl Reader<'_, '_> {
     /// Takes the next line. Returns what there is to say of it; `None` for mail.
     #[tactic(auto, using(crate::proofs::FaultLemmas::no_fault_is_own))]
     fn take(&mut self, head: &Head, line: &FileLine) -> Option<Said>
-        ensures { IfSome result (IsOwnFault self.new.version self.new.number line.text.now
-            head.sent.round self.old.is_open) }
+        ensures { IfSome result (IsOwnFault self.new.version self.new.number
+            line.now.text.now head.now.sent.round self.old.is_open) }
     {
         if is_blank(line.text) {
             return None;
