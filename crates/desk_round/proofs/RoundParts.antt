@@ -1,7 +1,7 @@
 -- A round's part of the report of a file.
 use Rattle.std.proofs.Common.{◌≡◌, ℕ, true, List, Option}
 use Rattle.desk_base.specs.Refusal.{HasNone}
-use Rattle.desk_round.specs.RoundPart.{HasNoText, IsGameOf, IsNotPlayedIn, IsRoundFault, IsRoundPart}
+use Rattle.desk_round.specs.RoundPart.{HasNoText, IsRoundFault, IsRoundPart}
 use Rattle.desk_round.specs.RoundPart.{is_played, round_asked, text_of_round}
 use Rattle.desk_base.specs.declared.fault.DeskFault.{DeskFault}
 use Rattle.desk_base.specs.declared.fault.DeskFault.TheVariants.{File, Round, Memory}
