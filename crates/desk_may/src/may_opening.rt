@@ -10,7 +10,7 @@ use moves::{OpeningMoves, Priced, bids};
 use order_grammar::Order;
 use privates::judge;
 use std::alloc::{AllocError, Global};
-use tables::{Amount, Private, Seat, face};
+use tables::{Amount, PLAYERS_MOST, Private, Seat, face};
 
 /// Adds the privates that a player may buy, and the least bid on each on which they may bid; and of
 /// the other unsold ones why they may not.
@@ -20,6 +20,9 @@ pub fn push_of_opening(
     stood: &Stood,
     seat: Seat,
 ) -> Result<(), AllocError> {
+    if stood.history.seats() > PLAYERS_MOST {
+        return Ok(());
+    }
     let moves = bids(alloc, stood.history, seat)?;
     fill(out, "\n", &[])?;
     push_bids(out, &moves)?;
@@ -35,7 +38,7 @@ fn push_bids(out: &mut Vec<u8>, moves: &OpeningMoves) -> Result<(), AllocError> 
     for bid in &moves.bids {
         let order = Order::Bid {
             private: bid.what,
-            amount: bid.price as Amount,
+            amount: Amount::try_from(bid.price).unwrap_or(Amount::MAX),
         };
         push_may(out, &order, bid.price)?;
         fill(out, "  or more\n", &[])?;

@@ -126,13 +126,8 @@ fn is_par_square(square: Square) -> bool {
 
 /// Adds the tokens of a square: the earlier lies above, so that it is drawn later.
 fn put_stack(out: &mut Writer, view: &GameView, corner: Point, square: Square) {
-    let mut count = 0;
-    for above in 0..Company::ALL.len() {
-        if company_at(view, square, above).is_some() {
-            count += 1;
-        }
-    }
-    let step = if count <= 3 { 19 } else { 13 };
+    let is_crowded = company_at(view, square, 3).is_some();
+    let step = if is_crowded { 13 } else { 19 };
     for place in 0..Company::ALL.len() {
         let above = Company::ALL.len() - 1 - place;
         if let Some(company) = company_at(view, square, above) {

@@ -1,5 +1,7 @@
 //! The table of players and shares.
 
+ghost use Rattle.std.specs.Prelude.{◌<◌};
+
 use crate::scene::Scene;
 use crate::table_forms::{
     NOTHING, begin_head, begin_heading, begin_row, begin_table, end_head, put_caption, put_heading,
@@ -54,7 +56,8 @@ fn put_player(out: &mut Writer, scene: &Scene, seat: Seat)
         ""
     };
     begin_row(out, "");
-    put_row_head(out, &[Name(scene.name(seat)), Words(mark)]);
+    let name = scene.name(seat);
+    put_row_head(out, &[Name(name), Words(mark)]);
     for figure in [
         purse.cash,
         purse.free,
@@ -74,8 +77,11 @@ fn put_player(out: &mut Writer, scene: &Scene, seat: Seat)
         }
     }
     put_privates(out, scene, Holder::Seat(seat));
-    let owes = if scene.owes(seat) { "owed" } else { NOTHING };
-    out.element(Tag::Cell, &[Words(owes)]);
+    if scene.owes(seat) {
+        out.element(Tag::Cell, &[Words("owed")]);
+    } else {
+        out.element(Tag::Cell, &[Words(NOTHING)]);
+    }
     out.end();
 }
 

@@ -104,9 +104,7 @@ fn add_runs(
         Ruling::Obeyed {
             order: Order::RunBest,
             ..
-        } => {
-            add_best(alloc, routes, view, company)
-        }
+        } => { add_best(alloc, routes, view, company) }
         _ => Ok(()),
     }
 }
@@ -183,15 +181,17 @@ fn visits_of(alloc: Global, board: &Board, places: &[Place]) -> Result<Vec<Visit
     ensures { IfOk result (λ visits. map place_of visits.items ≡ places.now) }
 {
     let mut visits = Vec::new(alloc);
-    for (number, place) in places.iter().enumerate() {
+    let mut following: usize = 1;
+    for place in places {
         let value = match place.stop() {
             Some(stop) => Some(board.value(stop)),
             None => None,
         };
-        let leaves = match places.get(number + 1) {
+        let leaves = match places.get(following) {
             Some(next) => side_towards(place.hex, next.hex),
             None => None,
         };
+        following = following.saturating_add(1);
         visits.push(Visit {
             place: *place,
             value,

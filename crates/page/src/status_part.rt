@@ -62,8 +62,8 @@ pub(crate) fn put_status(out: &mut Writer, scene: &Scene) {
         Some(round) => put_item(out, "Last round", &[Round(round)]),
         None => put_item(out, "Last round", &[Words("none")]),
     }
-    put_item(out, "Phase", &[Words(phase.code())]);
-    put_item(out, "Tiles", &[Words(colours_of(phase))]);
+    put_words(out, "Phase", phase.code());
+    put_words(out, "Tiles", colours_of(phase));
     let most = Number(limit(phase) as Money);
     put_item(out, "Trains of a company", &[most, Words(" at most")]);
     let rounds = Number(Money::from(scene.in_set));
@@ -102,6 +102,11 @@ fn put_item(out: &mut Writer, words: &'static str, pieces: &[Piece]) {
     out.end();
 }
 
+/// Adds an item of the status, with words.
+fn put_words(out: &mut Writer, label: &'static str, words: &'static str) {
+    put_item(out, label, &[Words(words)]);
+}
+
 /// Adds the round that comes next and who owes a sheet for it, or how the game ended.
 fn put_next(out: &mut Writer, scene: &Scene) {
     out.begin_as(Tag::Item, "next");
@@ -127,15 +132,19 @@ fn put_next(out: &mut Writer, scene: &Scene) {
 fn put_owing(out: &mut Writer, scene: &Scene) {
     out.begin_as(Tag::Item, "next");
     out.element(Tag::Small, &[Words("Sheets owed by")]);
-    let mut end = " nobody";
     for number in 0..scene.seats {
-        let seat = Seat::at(number);
-        if scene.owes(seat) {
-            out.put(&[Words(" ")]);
-            out.element(Tag::Bold, &[Name(scene.name(seat))]);
-            end = "";
-        }
+        put_debtor(out, scene, Seat::at(number));
     }
-    out.put(&[Words(end)]);
+    if !scene.owe.contains(&true) {
+        out.put(&[Words(" nobody")]);
+    }
     out.end();
+}
+
+/// Adds the name of the player of a seat, if they owe a sheet.
+fn put_debtor(out: &mut Writer, scene: &Scene, seat: Seat) {
+    if scene.owes(seat) {
+        out.put(&[Words(" ")]);
+        out.element(Tag::Bold, &[Name(scene.name(seat))]);
+    }
 }

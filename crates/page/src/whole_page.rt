@@ -37,7 +37,11 @@ pub fn page(alloc: Global, file: &[u8], asked: Option<Round>) -> Result<Vec<u8>,
 }
 
 /// Returns the page of the game of some sheets.
-fn page_of(alloc: Global, sheets: &Sheets, asked: Option<Round>) -> Result<Vec<u8>, DeskFault>
+fn page_of<'a>(
+    alloc: Global,
+    sheets: &'a Sheets<'a>,
+    asked: Option<Round>,
+) -> Result<Vec<u8>, DeskFault>
     ensures well_formed { IfOk result (λ page. IsWellFormed page.items) }
     ensures fault { IfErr result IsOfGame }
 {
