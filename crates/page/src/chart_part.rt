@@ -10,7 +10,7 @@ use tables::{Company, Money, Square, Zone, par_square, price, square, zone};
 /// How many rows the chart has.
 const ROWS: u8 = 11;
 
-/// The column behind the last of the longest row; the first is 1.
+/// The column after the last of the longest row; the first is 1.
 const COLUMNS_END: u8 = 20;
 
 /// The width of a square.
@@ -100,7 +100,7 @@ fn put_square(out: &mut Writer, view: &GameView, square: Square) {
     put_stack(out, view, corner, square);
 }
 
-/// Adds the price of a square, with the mark behind it.
+/// Adds the price of a square, with the mark after it.
 fn put_price(out: &mut Writer, corner: Point, square: Square, mark: &'static str) {
     out.begin_as(Tag::Text, "pr");
     out.place_at(corner.plus(Point { x: 8, y: 17 }));

@@ -125,7 +125,7 @@ fn put_plot(
     out.end();
 }
 
-/// Returns the value of a line behind a round, in dollars, from 0 up to `VALUE_MOST`; `None` before
+/// Returns the value of a line after a round, in dollars, from 0 up to `VALUE_MOST`; `None` before
 /// it begins.
 fn value_of(entry: &Entry, series: Series) -> Option<usize>
     ensures { IfSome result (λ value. value ≤ 1000000) }

@@ -1,4 +1,4 @@
-//! What each player was worth and what each share cost behind each round, noted as the game is
+//! What each player was worth and what each share cost after each round, noted as the game is
 //! played.
 ghost use Rattle.std.specs.Prelude.{IfErr};
 ghost use Rattle.desk_base.specs.Refusal.{IsOfGame};
@@ -12,7 +12,7 @@ use sheets::Sheets;
 use std::alloc::{AllocError, Global};
 use tables::{Amount, Company, Money, PLAYERS_MOST, Round, Seat, price};
 
-/// How a game stood behind a round.
+/// How a game stood after a round.
 #[derive(Clone, Copy)]
 pub(crate) struct Entry {
     pub(crate) round: Round,
@@ -23,15 +23,15 @@ pub(crate) struct Entry {
     pub(crate) prices: [Option<Amount>; 8],
 }
 
-/// A game that is played up to a round, with how it stood behind each.
+/// A game that is played up to a round, with how it stood after each.
 #[derive(Drop)]
 pub(crate) struct Played<'a> {
     pub(crate) play: Play<'a>,
     pub(crate) entries: Vec<Entry>,
 }
 
-/// Plays the game of some sheets up to behind a round, or as far as they go where none is asked
-/// for. `Round` where the round is not played.
+/// Plays the game of some sheets up to the end of a round, or as far as they go if none is named.
+/// Fails with `Round` if the round is not played, and with `Memory` if allocation fails.
 pub(crate) fn play_to<'a>(
     alloc: Global,
     sheets: &'a Sheets<'a>,
@@ -79,7 +79,7 @@ fn ended<'a>(
     }
 }
 
-/// Returns how a game stands behind a round.
+/// Returns how a game stands after a round.
 fn entry_of(history: &History, round: Round) -> Entry {
     let view = history.now();
     let mut worths = [0; PLAYERS_MOST];

@@ -24,9 +24,12 @@ use sheets::{Sheets, collect};
 use std::alloc::{AllocError, Global};
 use tables::{Company, Round};
 
-/// Returns the page of the game of an order file, behind a round or, where none is asked for,
-/// behind the last that was played: map, routes, stock chart, history, tables and tiles, as one
-/// file of HTML. `Round` where the round is not played.
+/// Returns the page of the game of an order file after a round, or after the last one if none is
+/// named: map, routes, stock chart, history, tables and tiles, as one file of HTML.
+///
+/// Fails with `File` if the file is refused, with `Round` if the round was not played, and with
+/// `Memory` if allocation fails.
+#[tactic(auto, using(desk_base::proofs::Refusals::no_state_where_it_fails, desk_base::proofs::Refusals::no_state_of_game))]
 pub fn page(alloc: Global, file: &[u8], asked: Option<Round>) -> Result<Vec<u8>, DeskFault>
     ensures accepted { OnOk result (IsAccepted file.now) }
     ensures well_formed { IfOk result (λ page. IsWellFormed page.items) }
@@ -55,7 +58,7 @@ fn page_of<'a>(
     }
 }
 
-/// Returns the page of what a scene shows, with how the game stood behind each round.
+/// Returns the page of what a scene shows, with how the game stood after each round.
 fn page_text(alloc: Global, scene: &Scene, entries: &[Entry]) -> Result<Vec<u8>, AllocError>
     ensures { IfOk result (λ page. IsWellFormed page.items) }
 {
