@@ -1,17 +1,30 @@
 -- What a page shows of runs: whose each is, the kind of its train, and its places.
-use Rattle.std.specs.Prelude.{◌≡◌, List, ◌++◌, map}
+use Rattle.std.specs.Prelude.{◌≡◌, if◌then◌else◌, List, [], ◌∷◌, ◌++◌, map}
+use Rattle.std.specs.List.{flat_map}
 use Rattle.events.specs.declared.event.Event.{Event}
 use Rattle.legal_runs.specs.Claim.{ClaimHolds}
 use Rattle.legal_runs.specs.Set.{IsGreatest}
 use Rattle.legal_runs.specs.declared.claim.Claim.{Claim}
 use Rattle.legal_runs.specs.declared.claim.ClaimedRun.{ClaimedRun}
+use Rattle.map_tables.specs.OnMap.{has_token}
 use Rattle.map_tables.specs.declared.place.Place.{Place}
+use Rattle.map_tables.specs.declared.place.Stop.{Stop}
 use Rattle.operating.specs.Best.{trains_now}
 use Rattle.operating.specs.Runs.{position_now}
 use Rattle.page.specs.declared.routes.Route.{Route}
 use Rattle.page.specs.declared.routes.Visit.{Visit}
+use Rattle.tables.specs.Roster.{companies}
 use Rattle.tables.specs.declared.rolling_stock.Kind.{Kind}
 use Rattle.tables.specs.declared.roster.Company.{Company}
+use Rattle.totals.specs.Operating.{tokens_of}
+
+-- a company, if it has a token at a stop
+abbrev pub token_there : List Event → Stop → Company → List Company
+token_there events stop company = if has_token (tokens_of events) stop company then company ∷ [] else []
+
+-- the companies that have a token at a stop, in the order of the roster
+abbrev pub tokens_there : List Event → Stop → List Company
+tokens_there events stop = flat_map (token_there events stop) companies
 
 -- the place of a visit
 abbrev pub place_of : Visit → Place

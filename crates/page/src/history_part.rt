@@ -233,16 +233,23 @@ fn put_line(out: &mut Writer, entries: &[Entry], line: Series, number: usize, mo
         out.value(Attr::Dash, &[Words(dash)]);
     }
     out.attr(Attr::Points);
-    let mut before = "";
+    let mut is_first = true;
     for (place, entry) in entries.iter().enumerate() {
         if let Some(value) = value_of(entry, line) {
-            let x = Number(across(place, entries.len()) as Money);
-            let y = Number(height_of(value, most) as Money);
-            out.put(&[Words(before), x, Words(","), y]);
-            before = " ";
+            let x = across(place, entries.len()) as Money;
+            put_point(out, is_first, x, height_of(value, most) as Money);
+            is_first = false;
         }
     }
     out.end();
+}
+
+/// Adds a point of a line, apart from the one before.
+fn put_point(out: &mut Writer, is_first: bool, x: Money, y: Money) {
+    if !is_first {
+        out.put(&[Words(" ")]);
+    }
+    out.put(&[Number(x), Words(","), Number(y)]);
 }
 
 /// Adds the names at the ends of the lines, apart from one another: from the greatest value down,

@@ -64,23 +64,18 @@ pub(crate) fn put_status(out: &mut Writer, scene: &Scene) {
     }
     put_words(out, "Phase", phase.code());
     put_words(out, "Tiles", colours_of(phase));
-    let most = Number(limit(phase) as Money);
-    put_item(out, "Trains of a company", &[most, Words(" at most")]);
-    let rounds = Number(Money::from(scene.in_set));
+    let trains = limit(phase) as Money;
+    put_count(out, "Trains of a company", trains, " at most");
     let words = if scene.in_set == 1 {
         " operating round"
     } else {
         " operating rounds"
     };
-    put_item(out, "Set", &[rounds, Words(words)]);
-    put_item(
-        out,
-        "Priority",
-        &[Name(scene.name(history.now().priority()))],
-    );
-    put_item(out, "Bank", &[Number(history.cash(Party::Bank))]);
-    let most = Number(certificate_limit(history.seats()) as Money);
-    put_item(out, "Certificates", &[most, Words(" at most")]);
+    put_count(out, "Set", Money::from(scene.in_set), words);
+    put_name(out, "Priority", scene.name(history.now().priority()));
+    put_count(out, "Bank", history.cash(Party::Bank), "");
+    let certificates = certificate_limit(history.seats()) as Money;
+    put_count(out, "Certificates", certificates, " at most");
     out.end();
 }
 
@@ -105,6 +100,16 @@ fn put_item(out: &mut Writer, words: &'static str, pieces: &[Piece]) {
 /// Adds an item of the status, with words.
 fn put_words(out: &mut Writer, label: &'static str, words: &'static str) {
     put_item(out, label, &[Words(words)]);
+}
+
+/// Adds an item of the status, with the name of a player.
+fn put_name(out: &mut Writer, label: &'static str, name: &[u8]) {
+    put_item(out, label, &[Name(name)]);
+}
+
+/// Adds an item of the status, with a number and words.
+fn put_count(out: &mut Writer, label: &'static str, number: Money, words: &'static str) {
+    put_item(out, label, &[Number(number), Words(words)]);
 }
 
 /// Adds the round that comes next and who owes a sheet for it, or how the game ended.

@@ -1,8 +1,6 @@
 //! What lies in the slots of cities, and the privates of hexes.
-ghost use Rattle.std.specs.Prelude.{◌≡◌, filter};
-ghost use Rattle.map_tables.specs.OnMap.{has_token};
-ghost use Rattle.tables.specs.Roster.{companies};
-ghost use Rattle.totals.specs.Operating.{tokens_of};
+ghost use Rattle.std.specs.Prelude.{◌≡◌, ◌<◌, ◌≤◌, ◌+◌, ◌++◌, length};
+ghost use Rattle.page.specs.Shown.{token_there, tokens_there};
 
 use arrayvec::ArrayVec;
 use board_state::{same_hex, same_stop};
@@ -62,15 +60,30 @@ fn markers_at(history: &History, stop: Stop, slots: u8) -> [Marker; 2] {
 
 /// Returns the companies that have a token at a stop, in the order of the roster.
 pub(crate) fn tokens_at(history: &History, stop: Stop) -> ArrayVec<Company, COMPANIES>
-    ensures { result.items ≡ filter (has_token (tokens_of history.now.events) stop) companies }
+    ensures { result.items ≡ tokens_there history.now.events stop }
 {
     let mut tokens = ArrayVec::new();
-    for company in Company::ALL {
-        if has_token(history, stop, company) {
-            tokens.push(company);
-        }
+    for company in &Company::ALL {
+        add_token(&mut tokens, history, stop, *company);
     }
     tokens
+}
+
+/// Adds a company, if it has a token at a stop.
+fn add_token(
+    tokens: &mut ArrayVec<Company, COMPANIES>,
+    history: &History,
+    stop: Stop,
+    company: Company,
+)
+    requires { length tokens.old.items < 8 }
+    ensures added { tokens.new.items
+        ≡ tokens.old.items ++ token_there history.now.events stop company }
+    ensures few { length tokens.new.items ≤ length tokens.old.items + 1 }
+{
+    if has_token(history, stop, company) {
+        tokens.push(company);
+    }
 }
 
 /// Returns whether a private has a hex.

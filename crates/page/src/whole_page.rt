@@ -20,6 +20,7 @@ use desk::{all_in_order, stood_now};
 use desk_base::DeskFault;
 use picture::Piece::{Round as Named, Words};
 use picture::{Attr, Tag, Writer};
+use rounds::Play;
 use sheets::{Sheets, collect};
 use std::alloc::{AllocError, Global};
 use tables::{Company, Round};
@@ -40,20 +41,21 @@ pub fn page(alloc: Global, file: &[u8], asked: Option<Round>) -> Result<Vec<u8>,
 }
 
 /// Returns the page of the game of some sheets.
-fn page_of<'a>(
-    alloc: Global,
-    sheets: &'a Sheets<'a>,
-    asked: Option<Round>,
-) -> Result<Vec<u8>, DeskFault>
+fn page_of(alloc: Global, sheets: &Sheets, asked: Option<Round>) -> Result<Vec<u8>, DeskFault>
     ensures well_formed { IfOk result (λ page. IsWellFormed page.items) }
     ensures fault { IfErr result IsOfGame }
 {
     let played = play_to(alloc, sheets, asked)?;
-    match stood_now(&played.play) {
-        Some(stood) => {
-            let scene = Scene::of(&stood);
-            Ok(page_text(alloc, &scene, played.entries.as_slice())?)
-        }
+    page_of_play(alloc, &played.play, played.entries.as_slice())
+}
+
+/// Returns the page of a game that was played up to here, with how it stood after each round.
+fn page_of_play(alloc: Global, play: &Play, entries: &[Entry]) -> Result<Vec<u8>, DeskFault>
+    ensures well_formed { IfOk result (λ page. IsWellFormed page.items) }
+    ensures fault { IfErr result IsOfGame }
+{
+    match stood_now(play) {
+        Some(stood) => Ok(page_text(alloc, &Scene::of(&stood), entries)?),
         None => Err(DeskFault::Round),
     }
 }

@@ -1,12 +1,12 @@
-use Rattle.std.proofs.Common.{◌≡◌, ◌≤◌, filter, length, take}
-use Rattle.map_tables.specs.OnMap.{has_token}
+use Rattle.std.proofs.Common.{◌≡◌, ◌≤◌, length, take}
+use Rattle.std.specs.List.{flat_map}
+use Rattle.page.specs.Shown.{token_there}
 use Rattle.tables.specs.Roster.{companies}
-use Rattle.totals.specs.Operating.{tokens_of}
 use Rattle.page.proofs.tokens.tokens_at.Given as goal
 
 -- the companies so far that have a token there
 abbrev pub invariant-loop-company : goal.invariant-loop-company
-invariant-loop-company l =
-    (l.company-items ≡ companies)
-    × (l.tokens.items ≡ filter (has_token (tokens_of l.history.events) l.stop) (take l.company-index l.company-items))
-    × (length l.tokens.items ≤ l.company-index)
+invariant-loop-company l = record {
+  tokens : l.tokens.items ≡ flat_map (token_there l.history.events l.stop) (take l.company-index companies);
+  few : length l.tokens.items ≤ l.company-index;
+}
