@@ -3,10 +3,12 @@ use Rattle.std.proofs.Common.{◌≡◌, ℕ, ◌+◌, ◌<◌, List, [], ◌∷
 use Rattle.std.proofs.lemmas.List.{append_assoc, map_more}
 
 -- what one more element gives is added to what the first n give
-pub shown_step : {X Y : Type 0} (f : X → Y) (xs : List X) (n : ℕ) (d : X) (old was now : List Y) → n < length xs
-    → was ≡ old ++ map f (take n xs) → now ≡ was ++ f (get_or xs n d) ∷ [] → now ≡ old ++ map f (take (n + 1) xs)
-shown_step f xs n d old was now below before after =
+pub shown_step : {X Y : Type 0} (f : X → Y) (xs : List X) (n : ℕ) (x : X) (old was now : List Y) → n < length xs
+    → x ≡ get_or xs n x → was ≡ old ++ map f (take n xs) → now ≡ was ++ f x ∷ []
+    → now ≡ old ++ map f (take (n + 1) xs)
+shown_step f xs n x old was now below is before after =
     after
-    ∙ ap (λ all. all ++ f (get_or xs n d) ∷ []) before
-    ∙ append_assoc old (map f (take n xs)) (f (get_or xs n d) ∷ [])
-    ∙ ap (λ more. old ++ more) (sym (map_more f xs n d below))
+    ∙ ap (λ one. was ++ f one ∷ []) is
+    ∙ ap (λ all. all ++ f (get_or xs n x) ∷ []) before
+    ∙ append_assoc old (map f (take n xs)) (f (get_or xs n x) ∷ [])
+    ∙ ap (λ more. old ++ more) (sym (map_more f xs n x below))

@@ -4,5 +4,5 @@ use Rattle.page.proofs.routes.add_claimed.Goals as goal
 
 pub loop-claimed-preserved : goal.loop-claimed-preserved
 loop-claimed-preserved c =
-    shown_step (claimed_by c.args.company) c.args.runs.now c.loop-claimed.claimed-index _ _ _ _
-    c.loop-claimed-test.true c.loop-claimed.invariant c.in_ok-add_route.ensures
+    shown_step (claimed_by c.args.company) c.args.runs.now c.loop-claimed.claimed-index c.claimed-item.result _ _ _
+    c.loop-claimed-test.true c.claimed-item.is c.loop-claimed.invariant c.in_ok-add_route.ensures
