@@ -50,6 +50,11 @@ round_part() {
 play_rounds() {
   local report=${1%.orders}.report round why=
   [ ! -f "${1%.orders}.status" ] || return 0
+  if ! grep -q '^ROUND ' "$report"; then
+    "$desk" round < "$1" > "$scratch/out" 2> "$scratch/err"
+    judge "the rounds of $1, of which it has none" $? 1 /dev/null some
+    return 0
+  fi
   for round in $(awk '$1 == "ROUND" { print $2 }' "$report") ''; do
     round_part "$report" "$round" > "$scratch/part"
     "$desk" round ${round:+"$round"} < "$1" 2> "$scratch/err" | cmp -s - "$scratch/part" || why+=" $round is another text;"

@@ -4,8 +4,10 @@
 # (in kilobytes), from too little to be started up to enough. Each run owes the whole text, or a
 # front of it and the word Memory. The limit is on all that the program maps, its stack too.
 with_little_memory() {
-  local name="${1##*/} $2" most status short=0 whole=0
-  for ((most = 1400; most <= 64000 && whole < 3; most += 20)); do
+  local name="${1##*/} $2" most status short=0 whole=0 least
+  # (with less than this beside its own bytes a program cannot be loaded at all)
+  least=$(($(stat -c %s "$1") / 1024 + 400))
+  for ((most = least > 1400 ? least : 1400; most <= 64000 && whole < 3; most += 20)); do
     (ulimit -v "$most" && exec "$1" "$2") < "$3" > "$scratch/out" 2> "$scratch/err"
     status=$?
     if ((status == 0)); then

@@ -139,6 +139,7 @@ impl Writer {
             self.new.text.items ≡ self.old.text.items ++ byte ∷ [] }
     {
         if let Err(error) = self.text.push(byte) {
+            // An allocation failed: passed on.
             self.fault = Some(AllocError::from(error));
         }
     }
@@ -187,7 +188,6 @@ impl Writer {
         let Writer { text, fault, .. } = writer;
         match fault {
             None => Ok(text),
-            // An allocation failed: passed on.
             Some(error) => Err(error),
         }
     }
@@ -212,6 +212,7 @@ fn keep(stack: &mut Vec<Tag>, fault: &mut Option<AllocError>, tag: Tag)
 {
     if fault.is_none() {
         if let Err(error) = stack.push(tag) {
+            // An allocation failed: passed on.
             *fault = Some(AllocError::from(error));
         }
     }
