@@ -19,11 +19,9 @@ use Rattle.order_grammar.specs.declared.fault.Fault.{Fault}
 use Rattle.order_grammar.specs.declared.fault.Fault.TheVariants.{PastLastLine}
 use Rattle.order_grammar.specs.declared.order.Order.{Order}
 use Rattle.order_grammar.specs.declared.order.Order.TheVariants as order
-use Rattle.sheets.specs.CompanyOrders.{opens_orders_of}
 use Rattle.sheets.specs.Limits.{lines_most}
 use Rattle.sheets.specs.Part.{head_word, is_company, is_turn, opens_part, reading_at}
 use Rattle.sheets.specs.Reading.{order_read}
-use Rattle.tables.specs.declared.roster.Company.{Company}
 use Rattle.tables.specs.declared.round.Round.{Round}
 use Rattle.tables.specs.declared.round.Round.TheVariants as round
 
@@ -142,17 +140,3 @@ no_head law round version number line differs =
       | inl past ↦ rw past (past_opens_none round)
       | inr here ↦ rw here (no_part law version line round differs)
     ]
-
--- what is read as no company's head opens no company's orders
-orders_of_none : (company : Company) (reading : Result Order Fault) → is_company reading ≡ false
-    → opens_orders_of company reading ≡ false
-orders_of_none company (Ok (order.Company named)) none = absurd cc
-orders_of_none company (Ok other) none = refl
-orders_of_none company (Err fault) none = refl
-
--- a line that does not begin with COMPANY opens no company's orders
-pub no_orders : ReadWhereSpelt → (company : Company) (version : Version) (number : ℕ) (line : List ℕ)
-    → same_word (first_of_words (words_of line)) (codes "COMPANY") ≡ false →
-    opens_orders_of company (reading_at number (order_read (reading_in version line))) ≡ false
-no_orders law company version number line differs =
-    orders_of_none company _ (no_head law (round.Operating 1 1) version number line differs)

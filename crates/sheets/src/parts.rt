@@ -75,7 +75,7 @@ impl<'a> PartsLeft<'a> {
         ensures { self.new.before ≡ company_orders_in company self.old.opened }
     {
         while let Some(line) = self.lines.take_unread() {
-            if begins_orders_of(company, line) && is_head(self.round, line) {
+            if is_head(self.round, line) && opens_orders_of(company, line) {
                 break;
             }
         }
@@ -147,17 +147,7 @@ fn is_head_of(round: Round, order: &Order) -> bool
     }
 }
 
-/// Returns whether a line reads as the head of a company's orders. It is read only if its first word
-/// is that of such heads.
-fn begins_orders_of(company: Company, line: UnreadLine) -> bool
-    ensures { result ≡ opens_orders_of company (line_unread line.entry).reading }
-{
-    order_grammar::laws::read_in_version_where_spelt();
-    begins_with_word(line.text, b"COMPANY") && opens_orders_of(company, line)
-}
-
-/// Returns whether a line, once it is read, is the head of a company's orders. (Kept apart from its
-/// caller, as `opens_part` is.)
+/// Returns whether a head opens a company's orders.
 #[inline(never)]
 fn opens_orders_of(company: Company, head: UnreadLine) -> bool
     ensures { result ≡ opens_orders_of company (line_unread head.entry).reading }
