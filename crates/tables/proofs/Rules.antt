@@ -1,5 +1,6 @@
 -- What the first broken rule of a table says of its rules.
-use Rattle.std.proofs.Common.{◌≡◌, Bool, true, false, if◌then◌else◌, Some, None, List, [], ◌∷◌, inl, inr, refl}
+use Rattle.std.proofs.Common.{◌≡◌, ℕ, ◌==◌, Bool, true, false, ◌&&◌, if◌then◌else◌, Some, None, List, [], ◌∷◌, inl, inr}
+use Rattle.std.proofs.Common.{refl}
 use Rattle.tables.specs.Rules.{Rule, first_broken, AreKept, BreaksFirst}
 
 -- where no rule is broken, each is kept
@@ -24,3 +25,31 @@ breaks_first code (rule ∷ rules) first =
       | false ↦ λ kept first. inr (kept, breaks_first code rules first)
     ]
     refl first
+
+-- two codes are printed alike
+abbrev are_alike : List ℕ → List ℕ → Bool
+are_alike [] [] = true
+are_alike (first ∷ rest) (other ∷ others) = first == other && are_alike rest others
+are_alike one another = false
+
+-- the rule with this code is broken; false if the table has no such row
+abbrev pub is_broken : {Code : Type 0} → (Code → List ℕ) → List (Rule Code) → Code → Bool
+is_broken printed [] code = false
+is_broken printed (rule ∷ rules) code =
+    if are_alike (printed rule.code) (printed code) then rule.broken else is_broken printed rules code
+
+-- the rule with a code is kept where each rule is: so a proof names the row that it uses
+pub row_kept : {Code : Type 0} (printed : Code → List ℕ) (rules : List (Rule Code)) → AreKept rules → (code : Code)
+    → is_broken printed rules code ≡ false
+row_kept printed [] kept code = refl
+row_kept printed (rule ∷ rules) kept code =
+    elim (are_alike (printed rule.code) (printed code)) as (λ (same : Bool).
+    (if same then rule.broken else is_broken printed rules code) ≡ false) [
+      | true ↦ kept.0
+      | false ↦ row_kept printed rules kept.1 code
+    ]
+
+-- where no rule of a table is broken, the rule with a code is kept
+pub not_broken : {Code : Type 0} (printed : Code → List ℕ) (rules : List (Rule Code)) → first_broken rules ≡ None
+    → (code : Code) → is_broken printed rules code ≡ false
+not_broken printed rules none = row_kept printed rules (none_broken rules none)

@@ -6,8 +6,8 @@
 //! left until all pass, and the first rule of a table that is broken.
 //!
 //! Reading order: `roster` (companies and privates), `seat` (players, their money and the limit of
-//! certificates), `round`, `rolling_stock`, `squares` and `chart` (the stock market), `laws` (what
-//! holds of rounds, of turns and of tables of rules).
+//! certificates), `round`, `rolling_stock`, `squares` and `chart` (the stock market), `rule_table`
+//! (the rules of an order as rows), `laws` (what holds of rounds, of turns and of tables of rules).
 #![tactic(auto)]
 
 mod chart;
@@ -15,6 +15,7 @@ pub mod laws;
 mod rolling_stock;
 mod roster;
 mod round;
+mod rule_table;
 mod seat;
 mod squares;
 
