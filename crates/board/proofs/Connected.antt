@@ -1,31 +1,56 @@
--- What connects a tile: a link of it or a stop of its hex among what is reached.
-use Rattle.std.proofs.Common.{◌⊎◌, inl, inr}
-use Rattle.board.specs.LayRules.{HaveStopIn, IsConnected, ShareLink}
+-- What connects a tile: a link or a stop of its hex that is reached once it lies.
+use Rattle.std.proofs.Common.{◌≡◌, ◌∙◌, ◌↔◌, ap, subst, sym, refl, true, false, cond, not, ◌++◌, ◌∷◌, []}
+use Rattle.std.proofs.Common.{Some, inl, inr}
+use Rattle.board.specs.LayRules.{IsConnected}
+use Rattle.board_state.proofs.Positions.{in_hex_is}
+use Rattle.board_state.proofs.Tiles.{last_lies}
+use Rattle.board_state.specs.MapState.{MapState, position_of, with_lay}
+use Rattle.map_tables.proofs.HexTables.{same_hex-same}
+use Rattle.map_tables.specs.Fit.{is_open}
 use Rattle.map_tables.specs.Lay.{laid_links_of}
-use Rattle.map_tables.specs.Place.{stop_at}
+use Rattle.map_tables.specs.OnMap.{by_tile, links_on, tile_on}
+use Rattle.map_tables.specs.Place.{joined_hex}
+use Rattle.map_tables.specs.Hex.{index_of}
+use Rattle.map_tables.specs.Print.{groups, plain_hexes, print_of, printed_links_of}
+use Rattle.map_tables.specs.declared.hex.Hex.{Hex}
+use Rattle.map_tables.specs.declared.hex.Hex.TheVariants.{A9, I1}
 use Rattle.map_tables.specs.declared.lay.Lay.{Lay}
-use Rattle.reach.specs.Position.{Position}
-use Rattle.reach.specs.Reached.{IsReach, Reaching}
+use Rattle.reach.specs.Pieces.{ReachesIn}
+use Rattle.reach.specs.Position.{InHex, IsAmong, links_of}
 use Rattle.tables.specs.declared.roster.Company.{Company}
 
--- a link does
-pub by_link : (position : Position) (company : Company) (lay : Lay) (reach : Reaching)
-    → IsReach position company reach → ShareLink (laid_links_of lay) reach.links → IsConnected position company lay
-by_link position company lay reach is (link, among, reached) =
-    record { piece = inl (link, among, (is.links link).0 reached) }
+-- a hex that takes tiles is no part of another's stop
+pub open_own : (hex : Hex) → not (is_open (print_of hex).kind) ≡ false → joined_hex hex ≡ hex
+unfolding index_of groups plain_hexes print_of
+open_own A9 takes = absurd (let wrong : true ≡ false = takes in let no : ⊥ = cc in no)
+open_own I1 takes = absurd (let wrong : true ≡ false = takes in let no : ⊥ = cc in no)
+open_own hex takes = refl
 
--- a stop does
-pub by_stop : (position : Position) (company : Company) (lay : Lay) (reach : Reaching)
-    → IsReach position company reach → HaveStopIn lay.hex reach.stops → IsConnected position company lay
-by_stop position company lay reach is (number, among) =
-    record { piece = inr (number, (is.stops (stop_at lay.hex number)).0 among) }
+module _ (laid : MapState) (company : Company) (lay : Lay) (own : joined_hex lay.hex ≡ lay.hex) where
+  -- the links of a tile are those of its hex once it lies
+  links_after : links_of (position_of (with_lay laid lay)) lay.hex ≡ laid_links_of lay
+  links_after =
+      let hex = lay.hex in
+      let lays = laid.lays ++ lay ∷ [] in
+      let printed = printed_links_of hex in
+      ap (λ (h : InHex). h.links) (in_hex_is (with_lay laid lay) hex)
+      ∙ ap (λ b. cond b (links_on lays hex) printed) (same_hex-same (joined_hex hex) hex own)
+      ∙ ap (by_tile printed laid_links_of) (last_lies laid.lays lay hex)
+      ∙ ap (λ b. by_tile printed laid_links_of (cond b (Some lay) (tile_on laid.lays hex)))
+      (same_hex-same hex hex refl)
 
--- and nothing else does
-pub piece_is : (position : Position) (company : Company) (lay : Lay) (reach : Reaching)
-    → IsReach position company reach → (connected : IsConnected position company lay)
-    → ShareLink (laid_links_of lay) reach.links ⊎ HaveStopIn lay.hex reach.stops
-piece_is position company lay reach is connected =
-    elim connected.piece [
-      | inl (link, among, reached) ↦ inl (link, among, (is.links link).1 reached)
-      | inr (number, reached) ↦ inr (number, (is.stops (stop_at lay.hex number)).1 reached)
-    ]
+  -- so a piece of the hex is one of the tile
+  pub connected_is : ReachesIn (position_of (with_lay laid lay)) company lay.hex
+      ↔ IsConnected (position_of (with_lay laid lay)) company lay
+  connected_is = (
+    λ piece. record {
+      piece = elim piece [
+        | inl (link, among, reached) ↦ inl (link, subst (IsAmong link) links_after among, reached)
+        | inr stop ↦ inr stop
+      ];
+    },
+    λ connected. elim connected.piece [
+      | inl (link, among, reached) ↦ inl (link, subst (IsAmong link) (sym links_after) among, reached)
+      | inr stop ↦ inr stop
+    ],
+  )

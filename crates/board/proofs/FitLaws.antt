@@ -16,10 +16,13 @@ use Rattle.map_tables.specs.Fit.{AreFit, has_bad_side, is_wrong_kind, home_token
 use Rattle.map_tables.specs.Home.{home_of}
 use Rattle.map_tables.specs.OnMap.{names, slots_at, taken_at}
 use Rattle.map_tables.specs.Place.{joined_stop_of, stop_of}
+use Rattle.map_tables.specs.RuleCodes.{code_of_lay_rule, code_of_token_rule}
 use Rattle.map_tables.specs.declared.lay.Lay.{Lay}
 use Rattle.map_tables.specs.declared.place.Place.{Place}
 use Rattle.map_tables.specs.declared.place.Stop.{Stop}
-use Rattle.tables.proofs.Rules.{none_broken}
+use Rattle.map_tables.specs.declared.rules.LayRule.TheVariants.{BadSide, WrongTile}
+use Rattle.map_tables.specs.declared.rules.TokenRule.TheVariants.{NoFreeSlot}
+use Rattle.tables.proofs.Rules.{not_broken}
 use Rattle.tables.specs.Rules.{first_broken}
 use Rattle.tables.specs.declared.roster.Company.{Company}
 
@@ -31,11 +34,11 @@ with_homes laid = record laid { tokens = laid.tokens ++ homes_to_come laid.token
 lay_keeps : (laid : MapState) (asker : Asker) (lay : Lay) → AreFit laid.lays laid.tokens
     → first_broken (map_rules laid asker lay) ≡ None → AreFit (laid.lays ++ lay ∷ []) laid.tokens
 lay_keeps laid asker lay fit none =
-    let kept = none_broken (map_rules laid asker lay) none in
-    let tile = or_parts (is_wrong_colour laid.lays lay) (is_wrong_kind lay) kept.1.1.1.1.0 in
+    let kept = not_broken code_of_lay_rule (map_rules laid asker lay) none in
+    let tile = or_parts (is_wrong_colour laid.lays lay) (is_wrong_kind lay) (kept WrongTile) in
     record {
       kinds = none_push is_wrong_kind laid.lays lay fit.kinds tile.1;
-      sides = none_push has_bad_side laid.lays lay fit.sides kept.1.1.1.1.1.1.0;
+      sides = none_push has_bad_side laid.lays lay fit.sides (kept BadSide);
       slots = slots_for_all (with_lay laid lay) (named laid fit) (λ stop.
           let before = room laid fit stop in
           let grown = stop_grows laid.lays lay stop fit.kinds tile.1 tile.0 in
@@ -97,8 +100,8 @@ taken_push tokens token stop =
 pub token_keeps_fit : TokenKeepsFit
 unfolding is_no_free_slot
 token_keeps_fit laid asker place fit none =
-    let kept = none_broken (slot_rules laid asker place) none in
-    let free : is_full_at laid (stop_of place) ≡ false = kept.1.1.0 in
+    let kept = not_broken code_of_token_rule (slot_rules laid asker place) none in
+    let free : is_full_at laid (stop_of place) ≡ false = kept NoFreeSlot in
     one_more laid (place, asker.company) fit (place_named laid place free) (λ stop.
     let pushed = taken_push laid.tokens (place, asker.company) stop in
     let before = room (with_homes laid) fit stop in

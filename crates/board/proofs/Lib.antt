@@ -1,5 +1,4 @@
 pub mod Indexed
-pub mod Searches
 pub mod Connected
 pub mod RuleTables
 pub mod LayAnswers

@@ -11,13 +11,15 @@ use Rattle.board.specs.Stock.{LayKeepsStock}
 use Rattle.board.proofs.KeptHomes.{count_le}
 use Rattle.board_state.proofs.Tiles.{last_lies}
 use Rattle.map_tables.specs.Hex.{hexes, index_of, same_hex}
+use Rattle.map_tables.specs.RuleCodes.{code_of_lay_rule}
 use Rattle.map_tables.specs.Tile.{entry_of, tile_index_of, tiles}
 use Rattle.map_tables.specs.declared.hex.Hex.{Hex}
 use Rattle.map_tables.specs.declared.hex.Hex.TheVariants.{A9}
 use Rattle.map_tables.specs.declared.lay.Lay.{Lay}
+use Rattle.map_tables.specs.declared.rules.LayRule.TheVariants.{NoneLeft}
 use Rattle.map_tables.specs.declared.tiles.TileNo.{TileNo}
 use Rattle.map_tables.specs.declared.tiles.TileNo.TheVariants.{T1}
-use Rattle.tables.proofs.Rules.{none_broken}
+use Rattle.tables.proofs.Rules.{not_broken}
 
 -- a tile is at its place
 at_place : (tile : TileNo) → get_or tiles (tile_index_of tile) T1 ≡ tile
@@ -105,8 +107,8 @@ left lays tile some =
 
 pub lay_keeps_stock : LayKeepsStock
 lay_keeps_stock laid asker lay stocked none tile =
-    let kept = none_broken (map_rules laid asker lay) none in
-    let has = left laid.lays lay.tile kept.1.1.0 in
+    let kept = not_broken code_of_lay_rule (map_rules laid asker lay) none in
+    let has = left laid.lays lay.tile (kept NoneLeft) in
     (elim (tile_index_of lay.tile == tile_index_of tile) as
     (λ b. (tile_index_of lay.tile == tile_index_of tile) ≡ b
     → on_map_of (laid.lays ++ lay ∷ []) tile ≤ (entry_of tile).count) [

@@ -33,7 +33,6 @@ use Rattle.map_tables.specs.Print.{print_of}
 use Rattle.map_tables.specs.Tile.{entry_of, tile_index_of}
 use Rattle.map_tables.specs.declared.hex.Hex.{Hex}
 use Rattle.map_tables.specs.declared.lay.Lay.{Lay}
-use Rattle.map_tables.specs.declared.place.Stop.{Stop}
 use Rattle.map_tables.specs.declared.place.StopNumber.{StopNumber}
 use Rattle.map_tables.specs.declared.rules.LayRule.{LayRule}
 use Rattle.map_tables.specs.declared.rules.LayRule.TheVariants as rule
@@ -112,14 +111,6 @@ lay_cost_of lays hex = by_tile (print_of hex).cost (λ lay. 0) (tile_on lays hex
 pub record IsConnected (position : Position) (company : Company) (lay : Lay) : Type 0 where
   pub piece : ((link : Link) × IsAmong link (laid_links_of lay) × ReachesLink position company link)
       ⊎ ((number : StopNumber) × ReachesStop position company (stop_at lay.hex number))
-
--- some of these links is one of those
-abbrev pub ShareLink : List Link → List Link → Type 0
-ShareLink links others = (link : Link) × IsAmong link links × IsAmong link others
-
--- some of these stops is one of a hex
-abbrev pub HaveStopIn : Hex → List Stop → Type 0
-HaveStopIn hex stops = (number : StopNumber) × IsAmong (stop_at hex number) stops
 
 -- the rules that do not depend on what is reached
 abbrev pub map_rules : MapState → Asker → Lay → List (Rule LayRule)

@@ -106,6 +106,13 @@ impl Board {
         self.tokens.len()
     }
 
+    /// Returns the tokens that lie, oldest first.
+    pub(crate) fn laid_tokens(&self) -> &[(Place, Company)]
+        ensures { result.now ≡ self.now.tokens }
+    {
+        self.tokens.as_slice()
+    }
+
     /// Begins a phase.
     pub fn put_phase(&mut self, phase: Kind)
         ensures { self.new ≡ map_state_of self.old.lays self.old.tokens phase }

@@ -12,7 +12,7 @@ pub enum LayFault {
     /// The first rule that the lay breaks.
     #[error(transparent)]
     Rule(LayRule),
-    /// An allocation failed, after L8 and before L9.
+    /// An allocation failed, after L8 and before L9. `Board::try_lay` makes none.
     #[error(transparent)]
     Memory(AllocError),
 }
@@ -24,7 +24,7 @@ pub enum TokenFault {
     /// The first rule that the token breaks.
     #[error(transparent)]
     Rule(TokenRule),
-    /// An allocation failed, after K4 and before K5.
+    /// An allocation failed, after K4 and before K5. `Board::try_token` makes none.
     #[error(transparent)]
     Memory(AllocError),
 }

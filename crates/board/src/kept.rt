@@ -1,5 +1,5 @@
 //! The links of a hex, kept as a value that is copied.
-ghost use Rattle.std.specs.Prelude.{◌≡◌, ◌+◌, ◌++◌, ◌∷◌, ◌<◌, ◌≤◌, [], length};
+ghost use Rattle.std.specs.Prelude.{◌≡◌, ◌+◌, ◌++◌, ◌∷◌, ◌<◌, []};
 ghost use Rattle.board.specs.Kept.{held};
 
 use map_tables::{LINKS_MOST, Link, Links};
@@ -49,24 +49,8 @@ impl KeptLinks {
     pub(crate) fn links(&self) -> Links
         ensures { result.items ≡ held self.now }
     {
-        let mut links = Links::new();
-        let kept = self.as_slice();
-        for link in kept {
-            links.push(*link);
-        }
+        let mut links = Links::from_array_in((), self.links);
+        links.truncate(self.count);
         links
-    }
-
-    /// Returns the links as a slice.
-    fn as_slice(&self) -> &[Link]
-        ensures links { result.now ≡ held self.now }
-        ensures few { length result.now ≤ 6 }
-    {
-        let links = &self.links;
-        if self.count < LINKS_MOST {
-            &links[..self.count]
-        } else {
-            &links[..]
-        }
     }
 }

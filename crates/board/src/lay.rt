@@ -1,16 +1,16 @@
-ghost use Rattle.std.specs.Prelude.{◌≡◌, ◌⊎◌, ◌↔◌, ◌≤◌, ◌<◌, Err, None, IfOk, IsTrue, count_by};
+ghost use Rattle.std.specs.Prelude.{◌≡◌, ◌⊎◌, ◌↔◌, ◌≤◌, ◌<◌, Err, None, IsTrue, count_by};
 ghost use Rattle.std.specs.List.{list_any};
 ghost use Rattle.board_state.specs.MapState.{position_of, with_lay};
 ghost use Rattle.map_tables.specs.OnMap.{colour_on, tile_on};
-ghost use Rattle.board.specs.LayRules.{HaveStopIn, IsConnected, IsLayOutcome, ShareLink, map_rules, is_blocked};
+ghost use Rattle.board.specs.LayRules.{IsConnected, IsLayOutcome, map_rules, is_blocked};
 ghost use Rattle.board.specs.LayRules.{is_colour_closed, is_kept, is_lay_used, is_none_left, is_tile, is_wrong_colour};
 ghost use Rattle.board.specs.LayRules.{lay_answer_of, lay_cost_of, loses_track, on_map_of, needs_no_track};
 ghost use Rattle.board.specs.LayRules.{place_of_colour};
 ghost use Rattle.map_tables.specs.Hex.{same_hex};
 ghost use Rattle.map_tables.specs.Laws.{link_order};
+ghost use Rattle.map_tables.specs.Place.{joined_hex};
 ghost use Rattle.map_tables.specs.Track.{end_order};
 ghost use Rattle.map_tables.specs.declared.hex.Hex.{Hex};
-ghost use Rattle.reach.specs.Reached.{IsReach};
 ghost use Rattle.tables.specs.Rules.{first_broken};
 
 use crate::after::After;
@@ -20,24 +20,23 @@ use crate::fault::LayFault;
 use crate::powers::is_dh_lay;
 use board_state::{OnMap, has_bad_side, is_open, is_wrong_kind, same_hex};
 use map_tables::{
-    Colour, End, Hex, Lay, LayRule, Link, Stop, TileNo, hex_kind, laid_links, printed_colour,
+    Colour, End, Hex, Lay, LayRule, Link, TileNo, hex_kind, laid_links, printed_colour,
     private_hexes, terrain_cost, tile,
 };
-use reach::{Reach, reached};
-use std::alloc::{AllocError, Global};
-use tables::{Amount, Company, Kind, Money, Private};
+use reach::reaches_hex;
+use tables::{Amount, Company, Kind, Money, Private, rules};
 
 impl Board {
     /// Returns what a lay costs, in dollars, or the first rule that it breaks. The company has to
-    /// reach some piece of the tile in the position after the lay. The board stays as it is.
-    /// `Memory` is the error only if L1 to L8 are kept and an allocation fails.
+    /// reach some piece of the tile in the position after the lay. The board stays as it is, and
+    /// nothing is allocated.
     pub fn try_lay(&self, asker: &Asker, lay: Lay) -> Result<Money, LayFault>
         ensures { IsLayOutcome self.now asker.now lay result }
     {
         if let Some(rule) = self.ground_rule(asker, lay) {
             return Err(LayFault::Rule(rule));
         }
-        let reached = self.would_reach(asker.company, lay)?;
+        let reached = self.would_reach(asker.company, lay);
         let cost = self.lay_answer(asker, lay, reached)?;
         Ok(cost)
     }
@@ -48,72 +47,43 @@ impl Board {
         requires { first_broken (map_rules self.now asker.now lay) ≡ None }
         ensures { result ≡ lay_answer_of self.now asker.now lay reached }
     {
-        if !(self.needs_no_track(asker, lay) || reached) {
-            return Err(LayRule::NotReached);
-        }
         let cost = Money::from(self.lay_cost(lay.hex));
-        if asker.cash < cost {
-            return Err(LayRule::CashTooSmall);
+        let broken = rules! { LayRule
+            NotReached: !(self.needs_no_track(asker, lay) || reached),
+            CashTooSmall: asker.cash < cost,
+        };
+        match broken {
+            Some(rule) => Err(rule),
+            None => Ok(cost),
         }
-        Ok(cost)
     }
 
     /// Returns the first rule that a lay breaks, of those that do not depend on what is reached.
     fn ground_rule(&self, asker: &Asker, lay: Lay) -> Option<LayRule>
         ensures { result ≡ first_broken (map_rules self.now asker.now lay) }
     {
-        let entry = tile(lay.tile);
-        if self.is_lay_used(asker, lay.hex) {
-            return Some(LayRule::StepUsed);
+        rules! { LayRule
+            StepUsed: self.is_lay_used(asker, lay.hex),
+            GreyOrRed: !is_open(hex_kind(lay.hex)),
+            NoneLeft: self.is_none_left(lay.tile),
+            ColourClosed: is_colour_closed(self.phase(), tile(lay.tile).colour),
+            WrongTile: self.is_wrong_colour(lay) || is_wrong_kind(lay),
+            TrackLost: self.loses_track(lay),
+            BadSide: has_bad_side(lay),
+            Blocked: is_blocked(asker, lay.hex),
         }
-        if !is_open(hex_kind(lay.hex)) {
-            return Some(LayRule::GreyOrRed);
-        }
-        if self.is_none_left(lay.tile) {
-            return Some(LayRule::NoneLeft);
-        }
-        if is_colour_closed(self.phase(), entry.colour) {
-            return Some(LayRule::ColourClosed);
-        }
-        if self.is_wrong_colour(lay) || is_wrong_kind(lay) {
-            return Some(LayRule::WrongTile);
-        }
-        if self.loses_track(lay) {
-            return Some(LayRule::TrackLost);
-        }
-        if has_bad_side(lay) {
-            return Some(LayRule::BadSide);
-        }
-        if is_blocked(asker, lay.hex) {
-            return Some(LayRule::Blocked);
-        }
-        None
     }
 
-    /// Returns whether a company would reach some piece of a tile once it lies.
-    fn would_reach(&self, company: Company, lay: Lay) -> Result<bool, AllocError>
+    /// Returns whether a company would reach some piece of a tile once it lies. Its hex is no part
+    /// of another's stop.
+    fn would_reach(&self, company: Company, lay: Lay) -> bool
+        requires { joined_hex lay.hex ≡ lay.hex }
         ensures { let after = position_of (with_lay self.now lay) in
-            IfOk result (λ reached. IsTrue reached ↔ IsConnected after company lay) }
+            IsTrue result ↔ IsConnected after company lay }
     {
         let after = After { board: self, lay };
-        let reach = reached(self.allocator(), &after, company)?;
-        let links = laid_links(lay);
-        if share_link(links.as_slice(), &reach) {
-            return Ok(true);
-        }
-        Ok(have_stop_in(reach.stops(), lay.hex))
-    }
-
-    /// Returns what a company reaches.
-    pub(crate) fn reach(&self, company: Company) -> Result<Reach, AllocError>
-        ensures { IfOk result (IsReach (position_of self.now) company) }
-    {
-        reached(self.allocator(), self, company)
-    }
-
-    /// Returns the allocator of the board.
-    fn allocator(&self) -> Global {
-        *self.lays.allocator()
+        let tokens = self.laid_tokens();
+        reaches_hex(&after, company, tokens, lay.hex)
     }
 
     /// Returns what a lay on a hex costs, in dollars: its terrain, with the first tile.
@@ -277,28 +247,4 @@ fn is_one_of(hex: Hex, hexes: &[Hex]) -> bool
     ensures { result ≡ list_any (λ one. same_hex one hex) hexes.now }
 {
     hexes.iter().any(|one| same_hex(*one, hex))
-}
-
-/// Returns whether one of these links is reached.
-fn share_link(links: &[Link], reach: &Reach) -> bool
-    ensures { IsTrue result ↔ ShareLink links.now reach.now.links }
-{
-    for link in links {
-        if reach.touches(link) {
-            return true;
-        }
-    }
-    false
-}
-
-/// Returns whether one of these stops is in a hex.
-fn have_stop_in(stops: &[Stop], hex: Hex) -> bool
-    ensures { IsTrue result ↔ HaveStopIn hex stops.now }
-{
-    for stop in stops {
-        if same_hex(stop.hex, hex) {
-            return true;
-        }
-    }
-    false
 }

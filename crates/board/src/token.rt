@@ -1,9 +1,8 @@
-ghost use Rattle.std.specs.Prelude.{◌≡◌, ◌⊎◌, ◌↔◌, Err, None, Some, IfOk, IsTrue};
+ghost use Rattle.std.specs.Prelude.{◌≡◌, ◌⊎◌, ◌↔◌, Err, None, Some, IsTrue};
 ghost use Rattle.board_state.specs.MapState.{position_of};
 ghost use Rattle.board.specs.TokenRules.{IsReachedPlace, IsTokenOutcome, has_none_left, has_token_in, is_full_at};
 ghost use Rattle.board.specs.TokenRules.{is_kept_for, is_no_free_slot, is_token_used, kept_at, laid_by, slot_rules};
 ghost use Rattle.board.specs.TokenRules.{token_answer_of, token_cost_of};
-ghost use Rattle.reach.specs.Position.{IsAmong};
 ghost use Rattle.tables.specs.Rules.{first_broken};
 
 use crate::asker::{Asker, TurnStep};
@@ -12,19 +11,19 @@ use crate::fault::TokenFault;
 use crate::powers::is_dh_token;
 use board_state::{OnMap, same_company, same_hex, same_stop, slots};
 use map_tables::{Hex, Place, Stop, TokenRule, home, joined_stop};
-use std::alloc::AllocError;
-use tables::{Amount, Company, Money, token_price, tokens};
+use reach::reaches_stop;
+use tables::{Amount, Company, Money, rules, token_price, tokens};
 
 impl Board {
     /// Returns what a token costs, in dollars, or the first rule that it breaks. The board stays as
-    /// it is. `Memory` is the error only if K1 to K4 are kept and an allocation fails.
+    /// it is, and nothing is allocated.
     pub fn try_token(&self, asker: &Asker, place: Place) -> Result<Money, TokenFault>
         ensures { IsTokenOutcome self.now asker.now place result }
     {
         if let Some(rule) = self.slot_rule(asker, place) {
             return Err(TokenFault::Rule(rule));
         }
-        let reached = self.reaches(asker.company, place)?;
+        let reached = self.reaches(asker.company, place);
         let cost = self.token_answer(asker, place, reached)?;
         Ok(cost)
     }
@@ -35,45 +34,39 @@ impl Board {
         requires { first_broken (slot_rules self.now asker.now place) ≡ None }
         ensures { result ≡ token_answer_of self.now asker.now place reached }
     {
-        if !(is_dh_token(asker, place.hex) || reached) {
-            return Err(TokenRule::NotReached);
-        }
         let cost = Money::from(self.token_cost(asker, place.hex));
-        if asker.cash < cost {
-            return Err(TokenRule::CashTooSmall);
+        let broken = rules! { TokenRule
+            NotReached: !(is_dh_token(asker, place.hex) || reached),
+            CashTooSmall: asker.cash < cost,
+        };
+        match broken {
+            Some(rule) => Err(rule),
+            None => Ok(cost),
         }
-        Ok(cost)
     }
 
     /// Returns the first rule that a token breaks, of those that do not depend on what is reached.
     fn slot_rule(&self, asker: &Asker, place: Place) -> Option<TokenRule>
         ensures { result ≡ first_broken (slot_rules self.now asker.now place) }
     {
-        if is_token_used(asker) {
-            return Some(TokenRule::StepUsed);
+        rules! { TokenRule
+            StepUsed: is_token_used(asker),
+            NoTokenLeft: self.has_none_left(asker.company),
+            NoFreeSlot: self.is_no_free_slot(place),
+            InHexAlready: self.has_token_in(place.hex, asker.company),
         }
-        if self.has_none_left(asker.company) {
-            return Some(TokenRule::NoTokenLeft);
-        }
-        if self.is_no_free_slot(place) {
-            return Some(TokenRule::NoFreeSlot);
-        }
-        if self.has_token_in(place.hex, asker.company) {
-            return Some(TokenRule::InHexAlready);
-        }
-        None
     }
 
     /// Returns whether a company reaches the stop that a place names.
-    fn reaches(&self, company: Company, place: Place) -> Result<bool, AllocError>
+    fn reaches(&self, company: Company, place: Place) -> bool
         ensures { let position = position_of self.now in
-            IfOk result (λ reached. IsTrue reached ↔ IsReachedPlace position company place) }
+            IsTrue result ↔ IsReachedPlace position company place }
     {
-        let Some(stop) = place.stop() else {
-            return Ok(false);
-        };
-        let reach = self.reach(company)?;
-        Ok(is_among(joined_stop(stop), reach.stops()))
+        let tokens = self.laid_tokens();
+        match place.stop() {
+            Some(stop) => reaches_stop(self, company, tokens, joined_stop(stop)),
+            None => false,
+        }
     }
 
     /// Returns how many tokens of a company lie.
@@ -162,16 +155,4 @@ fn is_token_used(asker: &Asker) -> bool
     ensures { result ≡ is_token_used asker.now }
 {
     TurnStep::Token.number() < asker.pointer.number()
-}
-
-/// Returns whether a stop is one of some.
-fn is_among(stop: Stop, stops: &[Stop]) -> bool
-    ensures { IsTrue result ↔ IsAmong stop stops.now }
-{
-    for one in stops {
-        if same_stop(*one, stop) {
-            return true;
-        }
-    }
-    false
 }

@@ -1,6 +1,6 @@
 -- What lies fits where each tile may lie and no stop has more tokens than slots.
-use Rattle.std.proofs.Common.{◌≡◌, ◌∙◌, ap, sym, subst, refl, ◌+◌, ◌≤◌, inl, inr, ◌||◌, Bool, true, false, cond, List}
-use Rattle.std.proofs.Common.{[], ◌∷◌, ◌++◌, Option, Some, None, arith}
+use Rattle.std.proofs.Common.{◌≡◌, ◌∙◌, ap, sym, subst, refl, ℕ, ◌+◌, ◌≤◌, inl, inr, ◌||◌, Bool, true, false, cond}
+use Rattle.std.proofs.Common.{List, [], ◌∷◌, ◌++◌, Option, Some, None, codes, arith}
 use Rattle.std.proofs.lemmas.Bool.{le-ltb, ltb-false, or_parts}
 use Rattle.std.proofs.lemmas.List.Sums.{sum_by-cons}
 use Rattle.std.specs.List.{count_by, list_any}
@@ -8,6 +8,7 @@ use Rattle.board_state.specs.Fit.{FaultlessAreFit, board_fault_of, board_rules}
 use Rattle.map_tables.specs.Fit.{AreFit, has_bad_side, has_no_slot, is_over_full}
 use Rattle.board_state.specs.MapState.{MapState}
 use Rattle.map_tables.specs.OnMap.{is_part_of, is_stop, names, slots_at, slots_on, taken_at}
+use Rattle.board_state.specs.declared.fault.BoardFault.{BoardFault}
 use Rattle.board_state.specs.declared.fault.BoardFault.TheVariants as fault
 use Rattle.board_state.proofs.Same.{stop_is}
 use Rattle.map_tables.specs.Place.{joined_stop_of, stop_of}
@@ -15,7 +16,7 @@ use Rattle.map_tables.specs.declared.lay.Lay.{Lay}
 use Rattle.map_tables.specs.declared.place.Place.{Place}
 use Rattle.map_tables.specs.declared.place.Stop.{Stop}
 use Rattle.reach.specs.Position.{IsAmong}
-use Rattle.tables.proofs.Rules.{none_broken}
+use Rattle.tables.proofs.Rules.{not_broken}
 use Rattle.tables.specs.declared.roster.Company.{Company}
 
 -- where no element passes a test, none does
@@ -54,13 +55,20 @@ count_none p (y ∷ ys) none =
     sum_by-cons (λ x. cond (p x) 1 0) y ys ∙ ap (λ n. n + count_by p ys) first
     ∙ ap (λ n. 0 + n) (count_none p ys parts.1)
 
+-- the code of a rule of boards
+abbrev code_of : BoardFault → List ℕ
+code_of fault.Kind = codes "B1"
+code_of fault.BadSide = codes "B2"
+code_of fault.NoSlot = codes "B3"
+code_of fault.Memory = []
+
 -- no rule of boards is broken exactly if the tiles and tokens are fit
 pub are_fit : (lays : List Lay) (tokens : List (Place × Company)) → board_fault_of lays tokens ≡ None
     → AreFit lays tokens
 unfolding board_fault_of
 are_fit lays tokens none =
-    let kept = none_broken (board_rules lays tokens) none in record
-    { kinds = kept.0; sides = kept.1.0; slots = kept.1.1.0 }
+    let kept = not_broken code_of (board_rules lays tokens) none in
+    record { kinds = kept fault.Kind; sides = kept fault.BadSide; slots = kept fault.NoSlot }
 
 pub no_fault : (lays : List Lay) (tokens : List (Place × Company)) → AreFit lays tokens
     → board_fault_of lays tokens ≡ None

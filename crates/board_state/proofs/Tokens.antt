@@ -1,14 +1,18 @@
 -- The tokens at a stop.
-use Rattle.std.proofs.Common.{◌≡◌, ◌∙◌, ap, refl, inl, inr, ◌⊎◌, true, false, ◌&&◌, ◌||◌, cond, List, [], ◌∷◌, length}
-use Rattle.std.proofs.Common.{map}
+use Rattle.std.proofs.Common.{◌≡◌, ◌∙◌, ap, refl, inl, inr, ◌⊎◌, Bool, true, false, ◌&&◌, ◌||◌, cond, List, [], ◌∷◌}
+use Rattle.std.proofs.Common.{length, map, subst}
 use Rattle.std.proofs.lemmas.List.{length-map}
 use Rattle.std.proofs.lemmas.List.Sums.{length-filter}
 use Rattle.std.specs.List.{count_by, filter}
-use Rattle.map_tables.specs.OnMap.{has_token, names, tokens_at}
+use Rattle.board_state.proofs.Positions.{not_on_map, shown}
 use Rattle.board_state.proofs.Same.{or_true}
+use Rattle.board_state.specs.MapState.{MapState, position_of}
+use Rattle.map_tables.specs.OnMap.{has_token, is_stop, names, tokens_at}
+use Rattle.map_tables.specs.Place.{joined_stop_of}
 use Rattle.map_tables.specs.declared.place.Place.{Place}
 use Rattle.map_tables.specs.declared.place.Stop.{Stop}
-use Rattle.reach.specs.Position.{IsAmong}
+use Rattle.reach.specs.Position.{AtStop, HasToken, IsAmong}
+use Rattle.reach.specs.Tokens.{AreNamed}
 use Rattle.tables.proofs.Companies.{company_is, company_is_same}
 use Rattle.tables.specs.Roster.{same_company}
 use Rattle.tables.specs.declared.roster.Company.{Company}
@@ -54,3 +58,26 @@ is_among (token ∷ later) stop company among =
       ]
       | false ↦ λ more. is_among later stop company more
     ]) among
+
+-- where a company has a token there is a stop
+pub stop_there : (map_state : MapState) (stop : Stop) (company : Company) → HasToken (position_of map_state) stop company
+    → is_stop (joined_stop_of stop) ≡ true
+stop_there map_state stop company has = by_test (is_stop (joined_stop_of stop)) refl
+  where
+    by_test : (is : Bool) → is_stop (joined_stop_of stop) ≡ is → is_stop (joined_stop_of stop) ≡ true
+    by_test true is = is
+    by_test false is =
+        absurd (let none : ⊥ = subst (IsAmong company) (ap (λ (s : AtStop). s.tokens) (not_on_map map_state stop is))
+        has in none)
+
+-- and one of the tokens that lie names it
+pub there_token : (map_state : MapState) (stop : Stop) (company : Company) → HasToken (position_of map_state) stop company
+    → has_token map_state.tokens (joined_stop_of stop) company ≡ true
+there_token map_state stop company has =
+    is_among map_state.tokens (joined_stop_of stop) company
+    (subst (IsAmong company) (ap (λ (s : AtStop). s.tokens)
+    (shown map_state stop (stop_there map_state stop company has))) has)
+
+-- so the tokens that lie name each stop with a token
+pub named_on_map : (laid : MapState) (company : Company) → AreNamed (position_of laid) company laid.tokens
+named_on_map laid company stop has = there_token laid stop company has

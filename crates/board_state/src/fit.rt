@@ -11,7 +11,7 @@ use map_tables::{
     End, Hex, HexKind, Lay, Place, Side, TileKind, hex_kind, laid_links, neighbour, printed_links,
     printed_stops, tile,
 };
-use tables::Company;
+use tables::{Company, rules};
 
 /// Returns the first rule on what may lie that these tiles and tokens break; `None` if they break
 /// none.
@@ -19,16 +19,11 @@ use tables::Company;
 pub fn fault_of(lays: &[Lay], tokens: &[(Place, Company)]) -> Option<BoardFault>
     ensures { result ≡ board_fault_of lays.now tokens.now }
 {
-    if has_wrong_kind(lays) {
-        return Some(BoardFault::Kind);
+    rules! { BoardFault
+        Kind: has_wrong_kind(lays),
+        BadSide: have_bad_side(lays),
+        NoSlot: lacks_slot(lays, tokens),
     }
-    if have_bad_side(lays) {
-        return Some(BoardFault::BadSide);
-    }
-    if lacks_slot(lays, tokens) {
-        return Some(BoardFault::NoSlot);
-    }
-    None
 }
 
 /// Returns whether one of these tokens has no slot.

@@ -1,19 +1,21 @@
 -- What places name is a legal run exactly if they break no rule.
-use Rattle.std.proofs.Common.{◌≡◌, ◌↔◌, ℕ, Bool, true, false, not, Option, Some, None, is_none, List, [], ◌∷◌, length}
-use Rattle.std.proofs.Common.{refl, ap, ◌∙◌}
+use Rattle.std.proofs.Common.{◌≡◌, ◌↔◌, ℕ, Bool, true, false, not, cond, Option, Some, None, is_none, List, [], ◌∷◌}
+use Rattle.std.proofs.Common.{length, refl, ap, ◌∙◌}
+use Rattle.std.proofs.lemmas.Bool.{not-false}
 use Rattle.std.specs.List.{list_any}
 use Rattle.map_tables.specs.declared.place.Place.{Place}
 use Rattle.map_tables.specs.declared.place.Stop.{Stop}
 use Rattle.reach.specs.Position.{Position, HasToken, IsFull, is_red}
 use Rattle.reach.specs.declared.walk.Step.{Step}
-use Rattle.tables.specs.Rules.{Rule, first_broken}
+use Rattle.tables.proofs.Rules.{not_broken}
+use Rattle.tables.specs.Rules.{AreKept, Rule, first_broken}
 use Rattle.tables.specs.declared.rolling_stock.Kind.{Kind}
 use Rattle.tables.specs.declared.roster.Company.{Company}
-use Rattle.legal_runs.specs.Fault.{has_border_twice, has_stop_twice, has_token, is_full, is_wrong_number, passes}
-use Rattle.legal_runs.specs.Fault.{rules_of_walk, run_fault, steps_of}
+use Rattle.legal_runs.specs.Fault.{has_token, is_full, rules_of_walk, run_fault, steps_of}
 use Rattle.legal_runs.specs.Law.{LegalWhereNoRuleIsBroken, NameLegalRun}
 use Rattle.legal_runs.specs.Legal.{IsLegalRun, crossed, visited}
 use Rattle.legal_runs.specs.Named.{walk_named}
+use Rattle.map_tables.specs.RuleCodes.{code_of_run_rule}
 use Rattle.map_tables.specs.declared.rules.RunRule.{RunRule}
 use Rattle.map_tables.specs.declared.rules.RunRule.TheVariants.{NoTrack, WrongNumber, StopTwice, BorderTwice}
 use Rattle.map_tables.specs.declared.rules.RunRule.TheVariants.{PassesFull, NoToken, RedInside}
@@ -25,39 +27,11 @@ use Rattle.legal_runs.proofs.Tests.{has_token_is, is_full_is}
 abbrev ruling : RunRule → Bool → Rule RunRule
 ruling code broken = record { code = code; broken = broken }
 
-abbrev table : Bool → Bool → Bool → Bool → Bool → Bool → Option RunRule
-table number twice border full own red =
-    first_broken (ruling WrongNumber number ∷ ruling StopTwice twice ∷ ruling BorderTwice border
-    ∷ ruling PassesFull full ∷ ruling NoToken (not own) ∷ ruling RedInside red ∷ [])
-
-record Kept (number twice border full own red : Bool) : Type 0 where
-  number_is : number ≡ false
-  twice_is : twice ≡ false
-  border_is : border ≡ false
-  full_is : full ≡ false
-  own_is : own ≡ true
-  red_is : red ≡ false
-
--- a table that finds no rule has all of them kept
-all_kept : (number twice border full own red : Bool) → table number twice border full own red ≡ None
-    → Kept number twice border full own red
-all_kept true twice border full own red h = cc
-all_kept false true border full own red h = cc
-all_kept false false true full own red h = cc
-all_kept false false false true own red h = cc
-all_kept false false false false false red h = cc
-all_kept false false false false true true h = cc
-all_kept false false false false true false h =
-    record { number_is = refl; twice_is = refl; border_is = refl; full_is = refl; own_is = refl; red_is = refl }
-
--- and a table of rules that are kept finds none
-none_found : (number twice border full own red : Bool) → number ≡ false → twice ≡ false → border ≡ false
-    → full ≡ false → own ≡ true → red ≡ false → table number twice border full own red ≡ None
-none_found number twice border full own red a b c d e f =
-    ap (λ k. table k twice border full own red) a ∙ ap (λ k. table false k border full own red) b
-    ∙ ap (λ k. table false false k full own red) c
-    ∙ ap (λ k. table false false false k own red) d ∙ ap (λ k. table false false false false k red) e
-    ∙ ap (λ k. table false false false false true k) f
+-- where each rule is kept, none is broken
+none_found : (rules : List (Rule RunRule)) → AreKept rules → first_broken rules ≡ None
+none_found [] kept = refl
+none_found (rule ∷ rules) kept =
+    ap (λ b. cond b (Some rule.code) (first_broken rules)) kept.0 ∙ none_found rules kept.1
 
 red_is_red : (position : Position) (stop : Stop) → (is_red position stop ≡ true) ↔ (is_red position stop ≡ true)
 red_is_red position stop = (λ h. h, λ h. h)
@@ -70,48 +44,53 @@ module _ (position : Position) (company : Company) (kind : Kind) (used : List �
   legal [] whole h = cc
   legal (step ∷ before) whole h =
       let steps : List Step = step ∷ before in
-      let kept : Kept (is_wrong_number kind (length (visited steps))) (has_stop_twice (visited steps))
-      (has_border_twice used (crossed steps)) (passes (is_full position company) steps)
-      (list_any (has_token position company) (visited steps)) (passes (is_red position) steps) =
-      all_kept (is_wrong_number kind (length (visited steps))) (has_stop_twice (visited steps))
-      (has_border_twice used (crossed steps)) (passes (is_full position company) steps)
-      (list_any (has_token position company) (visited steps)) (passes (is_red position) steps) h
-      in
-      let number = number_is kind (length (visited steps)) kept.number_is in
-      let borders = borders_distinct used (crossed steps) kept.border_is in
+      let kept = not_broken code_of_run_rule (rules_of_walk position company kind used steps) h in
+      let number = number_is kind (length (visited steps)) (kept WrongNumber) in
+      let borders = borders_distinct used (crossed steps) (kept BorderTwice) in
       record {
         walk = whole.walk;
         begins = whole.begins;
         ends = whole.ends;
         two = number.0;
         most = number.1;
-        no_stop_twice = stops_distinct (visited steps) kept.twice_is;
+        no_stop_twice = stops_distinct (visited steps) (kept StopTwice);
         own_token = has_such (λ stop. HasToken position stop company) (has_token position company)
-            (has_token_is position company) (visited steps) kept.own_is;
+            (has_token_is position company) (visited steps)
+            (not-false (list_any (has_token position company) (visited steps)) (kept NoToken));
         no_border_twice = borders.0;
         no_used_border = borders.1;
         no_red_inside = passes_none (λ stop. is_red position stop ≡ true) (is_red position) (red_is_red position)
-            steps kept.red_is;
+            steps (kept RedInside);
         no_full_inside = passes_none (λ stop. IsFull position stop company) (is_full position company)
-            (is_full_is position company) steps kept.full_is;
+            (is_full_is position company) steps (kept PassesFull);
       }
 
   -- a legal run breaks no rule
   unbroken : (steps : List Step) → IsLegalRun position company kind used steps
       → first_broken (rules_of_walk position company kind used steps) ≡ None
   unbroken steps run =
-      none_found (is_wrong_number kind (length (visited steps))) (has_stop_twice (visited steps))
-      (has_border_twice used (crossed steps)) (passes (is_full position company) steps)
-      (list_any (has_token position company) (visited steps)) (passes (is_red position) steps)
-      (is_number kind (length (visited steps)) run.two run.most)
-      (distinct_stops (visited steps) run.no_stop_twice)
-      (distinct_borders used (crossed steps) run.no_border_twice run.no_used_border)
-      (none_passes (λ stop. IsFull position stop company) (is_full position company) (is_full_is position company)
-      steps run.no_full_inside)
-      (such_has (λ stop. HasToken position stop company) (has_token position company) (has_token_is position company)
-      (visited steps) run.own_token)
-      (none_passes (λ stop. is_red position stop ≡ true) (is_red position) (red_is_red position) steps
-      run.no_red_inside)
+      none_found (rules_of_walk position company kind used steps) (
+        is_number kind (length (visited steps)) run.two run.most,
+        (
+          distinct_stops (visited steps) run.no_stop_twice,
+          (
+            distinct_borders used (crossed steps) run.no_border_twice run.no_used_border,
+            (
+              none_passes (λ stop. IsFull position stop company) (is_full position company) (is_full_is position company)
+                  steps run.no_full_inside,
+              (
+                ap not (such_has (λ stop. HasToken position stop company) (has_token position company)
+                    (has_token_is position company) (visited steps) run.own_token),
+                (
+                  none_passes (λ stop. is_red position stop ≡ true) (is_red position) (red_is_red position) steps
+                      run.no_red_inside,
+                  tt,
+                ),
+              ),
+            ),
+          ),
+        ),
+      )
 
   by_walk : (places : List Place) (walk : Option (List Step)) → walk_named position places ≡ walk
       → first_broken (ruling NoTrack (is_none walk) ∷ rules_of_walk position company kind used (steps_of walk)) ≡ None

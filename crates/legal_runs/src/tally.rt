@@ -10,7 +10,7 @@ use crate::leg::Leg;
 use crate::used::Used;
 use map_tables::{End, RunRule, Stop};
 use reach::{Network, STOPS, Spot, Step, stop_order};
-use tables::{Amount, Company, Kind};
+use tables::{Amount, Company, Kind, rules};
 
 /// What is kept of the steps that a train has followed.
 #[derive(Clone, Copy)]
@@ -65,7 +65,7 @@ impl Tally {
         self.value += worth(network, stop);
         self.stop_twice |= self.seen[number];
         self.seen[number] = true;
-        self.own_token |= has_token(network, company, stop);
+        self.own_token = self.own_token || has_token(network, company, stop);
     }
 
     /// Passes a stop.
@@ -157,20 +157,13 @@ impl Tally {
     pub(crate) fn fault(&self, kind: Kind) -> Option<RunRule>
         ensures { result ≡ tally_fault kind self.now }
     {
-        if is_wrong_number(kind, self.stops) {
-            Some(RunRule::WrongNumber)
-        } else if self.stop_twice {
-            Some(RunRule::StopTwice)
-        } else if self.border_twice {
-            Some(RunRule::BorderTwice)
-        } else if self.passes_full {
-            Some(RunRule::PassesFull)
-        } else if !self.own_token {
-            Some(RunRule::NoToken)
-        } else if self.red_inside {
-            Some(RunRule::RedInside)
-        } else {
-            None
+        rules! { RunRule
+            WrongNumber: is_wrong_number(kind, self.stops),
+            StopTwice: self.stop_twice,
+            BorderTwice: self.border_twice,
+            PassesFull: self.passes_full,
+            NoToken: !self.own_token,
+            RedInside: self.red_inside,
         }
     }
 }

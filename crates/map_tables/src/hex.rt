@@ -279,8 +279,9 @@ fn guess(row: u8, column: u8) -> Option<Hex>
     let first = first_of_row(row, column)?;
     let steps = column.saturating_sub(first.column()) / 2;
     let place = first.index() + usize::from(steps);
+    let all = &Hex::ALL;
     if place < HEXES {
-        Some(Hex::ALL[place])
+        Some(all[place])
     } else {
         None
     }

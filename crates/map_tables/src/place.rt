@@ -75,6 +75,7 @@ impl Place {
 /// Returns the stop that names a stop. The Gulf is one stop, named J2.0, and its part in I1 is that
 /// stop too; the Canadian West is A11.0, and its part in A9 is that stop too. Every other stop
 /// names itself.
+#[inline]
 pub fn joined_stop(stop: Stop) -> Stop
     ensures { result ≡ joined_stop_of stop }
 {

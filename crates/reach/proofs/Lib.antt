@@ -5,6 +5,8 @@ pub mod Following
 pub mod Marking
 pub mod Reaching
 pub mod Collected
+pub mod Listed
+pub mod Pieces
 pub mod Equal
 pub mod Looking
 pub mod Decided

@@ -19,7 +19,7 @@ use Rattle.reach.proofs.Hexes.{same_index, index_low, joined_twice, same_side, s
 use Rattle.reach.proofs.Hexes.{stop_index_low}
 
 -- eights and what is left of them
-eights : (i j m n : ℕ) → m < 8 → n < 8 → 8 * i + m ≡ 8 * j + n → (i ≡ j) × (m ≡ n)
+pub eights : (i j m n : ℕ) → m < 8 → n < 8 → 8 * i + m ≡ 8 * j + n → (i ≡ j) × (m ≡ n)
 eights i j m n m_low n_low same = (omega arith, omega arith)
 
 -- twos and what is left of them

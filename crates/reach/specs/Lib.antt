@@ -4,3 +4,5 @@ pub mod Walk
 pub mod Reached
 pub mod Search
 pub mod Stops
+pub mod Tokens
+pub mod Pieces

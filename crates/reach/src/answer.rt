@@ -3,7 +3,7 @@ ghost use Rattle.reach.specs.Position.{IsAmong};
 ghost use Rattle.reach.specs.Reached.{IsReach};
 
 use crate::network::Network;
-use crate::search::{Marks, search};
+use crate::search::{Marks, mark_tokens, search};
 use crate::stops::marked_stops;
 use map_tables::{Link, Stop};
 use std::alloc::{AllocError, Global};
@@ -59,6 +59,7 @@ pub fn reached<N: Network>(
     network.keeps_laws();
     let mut links = Vec::with_capacity(alloc, LINKS_ROOM)?;
     let mut marks = Marks::none();
+    mark_tokens(network, company, &mut marks);
     search(network, company, &mut marks, &mut links)?;
     let stops = marked_stops(&marks).stops().to_vec(alloc)?;
     Ok(Reach { stops, links })

@@ -4,20 +4,23 @@
 //! value, whether it is red, its slots and its tokens. `Network` is any value that keeps a
 //! position; in a contract it is that position and nothing else. `reached` returns exactly what the
 //! walks of a company touch: whatever a walk touches is in the result, and a walk touches whatever
-//! is in the result. `reached_stops` returns only the stops, and allocates nothing.
+//! is in the result. `reached_stops` returns only the stops, and allocates nothing. Nor do
+//! `reaches_stop` and `reaches_hex`, which look at one stop or hex, with a list of the tokens.
 //!
 //! The definitions, in `specs/`: `Position` and its laws, `Lawful`; `Walk`, which depends on no
 //! company and no search and is used for legal runs too; `Reached`. `Search` is what the search
-//! keeps; `Stops` has stops as marks.
+//! keeps; `Stops` has stops as marks, `Tokens` the list in which walks begin, and `Pieces` what is
+//! reached of one hex.
 //!
-//! Reading order: `network`, `walk`, `answer` and `stops` (the public calls), `search`, `keeper`
-//! (what it does with links), `numbers` (of stops and of spots), `stop_marks`.
+//! Reading order: `network`, `walk`, `answer`, `stops` and `reaches` (the public calls), `search`,
+//! `keeper` (what it does with links), `numbers` (of stops and of spots), `stop_marks`.
 #![tactic(auto)]
 
 mod answer;
 mod keeper;
 mod network;
 mod numbers;
+mod reaches;
 mod search;
 mod stop_marks;
 mod stops;
@@ -26,6 +29,7 @@ mod walk;
 pub use answer::{Reach, reached};
 pub use network::Network;
 pub use numbers::{SPOTS, STOPS, spot_number, stop_order};
+pub use reaches::{reaches_hex, reaches_stop};
 pub use search::twin;
 pub use stop_marks::StopMarks;
 pub use stops::{ReachedStops, reached_stops};

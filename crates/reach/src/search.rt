@@ -2,10 +2,12 @@ ghost use Rattle.std.specs.Prelude.{◌≡◌, ◌<◌, ◌≤◌, ◌↔◌, Is
 ghost use Rattle.std.specs.Prelude.{replicate};
 ghost use Rattle.map_tables.specs.Hex.{index_of};
 ghost use Rattle.reach.specs.Lawful.{IsLawful};
+ghost use Rattle.reach.specs.Pieces.{HasEnd};
 ghost use Rattle.reach.specs.Position.{IsAmong, links_of};
 ghost use Rattle.reach.specs.Search.{AllArrive, AllWait, AreTaken, CanEnter, GoesOnAt, HasAllTokens, IsClosed};
 ghost use Rattle.reach.specs.Search.{IsEnteredAt, IsFollowed, IsKept, IsMarked, IsMarkedStop, IsMarking, IsTokenMarked};
 ghost use Rattle.reach.specs.Search.{KeepsNone, LeadsTo, Spreads, marked, twin_of};
+ghost use Rattle.reach.specs.Tokens.{AreNamed, IsListed, stop_of_token};
 ghost use Rattle.reach.specs.Walk.{IsTrack, entered_at, left_at};
 ghost use Rattle.reach.specs.declared.walk.Step.{Step};
 
@@ -14,8 +16,11 @@ use crate::network::Network;
 use crate::numbers::{SPOTS, spot_number};
 use crate::walk::{Spot, Step};
 use arrayvec::ArrayVec;
-use map_tables::{End, HEXES, Hex, Link, Stop, StopNumber, joined_stop};
+use map_tables::{End, HEXES, Hex, Link, Place, Stop, StopNumber, joined_stop};
 use tables::Company;
+
+/// How many ends a hex has: six sides and two stops.
+const ENDS: usize = 8;
 
 /// The ends of the map's hexes at which some walk of the company has arrived, or may begin, and
 /// which of them are still to be looked at. No more wait than are marked, so the table has room.
@@ -52,6 +57,19 @@ impl Marks {
     {
         let number = 8 * stop.hex.index() + 6 + stop.number.index();
         self.is_marked(number) && joined_stop(stop) == stop
+    }
+
+    /// Returns whether a walk has arrived at an end of a hex that lies in no other hex's stop.
+    pub(crate) fn has_end(&self, hex: Hex) -> bool
+        ensures { IsTrue result ↔ HasEnd self.now.marks hex }
+    {
+        let first = ENDS * hex.index();
+        for number in 0..ENDS {
+            if self.is_marked(first + number) {
+                return true;
+            }
+        }
+        false
     }
 
     /// Marks a spot, which is to be looked at if it was not marked before.
@@ -248,7 +266,7 @@ fn look<N: Network, K: Keeper>(
 
 /// Marks the stops with a token of the company, where its walks begin, where nothing is marked. All
 /// of them are still to be looked at.
-fn mark_tokens<N: Network>(network: &N, company: Company, marks: &mut Marks)
+pub(crate) fn mark_tokens<N: Network>(network: &N, company: Company, marks: &mut Marks)
     requires marks { marks.old.marks ≡ replicate 744 false }
     requires waiting { marks.old.waiting.items ≡ [] }
     ensures arrive { AllArrive (N.position network.now) company marks.new.marks }
@@ -272,6 +290,52 @@ fn mark_tokens<N: Network>(network: &N, company: Company, marks: &mut Marks)
     }
 }
 
+/// Marks the stops with a token of the company, where its walks begin, where nothing is marked. Only
+/// the stops that these tokens name are asked for one.
+pub(crate) fn mark_named<N: Network>(
+    network: &N,
+    company: Company,
+    tokens: &[(Place, Company)],
+    marks: &mut Marks,
+)
+    requires named { AreNamed (N.position network.now) company tokens.now }
+    requires marks { marks.old.marks ≡ replicate 744 false }
+    requires waiting { marks.old.waiting.items ≡ [] }
+    ensures arrive { AllArrive (N.position network.now) company marks.new.marks }
+    ensures tokens { HasAllTokens (N.position network.now) company marks.new.marks }
+    ensures wait { AllWait marks.new.marks marks.new.waiting.items }
+{
+    for token in tokens {
+        mark_listed(network, company, *token, marks);
+    }
+}
+
+/// Marks the stop that a token names, if the company has a token there.
+fn mark_listed<N: Network>(
+    network: &N,
+    company: Company,
+    token: (Place, Company),
+    marks: &mut Marks,
+)
+    ensures { IsListed (N.position network.now) company (stop_of_token company token)
+        marks.old.marks marks.old.waiting.items marks.new.marks marks.new.waiting.items }
+{
+    if let Some(stop) = stop_of(token, company) {
+        mark_token(network, company, stop, marks);
+    }
+}
+
+/// Returns the stop that a token names, if it is one of the company.
+fn stop_of(token: (Place, Company), company: Company) -> Option<Stop>
+    ensures { result ≡ stop_of_token company token }
+{
+    if token.1.place() == company.place() {
+        token.0.stop()
+    } else {
+        None
+    }
+}
+
 /// Marks a stop if the company has a token there.
 fn mark_token<N: Network>(network: &N, company: Company, stop: Stop, marks: &mut Marks)
     ensures { IsTokenMarked (N.position network.now) company stop
@@ -283,10 +347,10 @@ fn mark_token<N: Network>(network: &N, company: Company, stop: Stop, marks: &mut
     }
 }
 
-/// Marks all spots at which walks of the company arrive, where nothing is marked: its tokens, and
-/// from each spot that is found the ends of the links that go on from there. Each spot is looked at
-/// once, and the links that are followed are kept. The marks are filled in place, since each call
-/// that had them among its locals would pay for their bytes.
+/// Marks all spots at which walks of the company arrive, where its tokens are marked: from each spot
+/// that is found the ends of the links that go on from there. Each spot is looked at once, and the
+/// links that are followed are kept. The marks are filled in place, since each call that had them
+/// among its locals would pay for their bytes.
 pub(crate) fn search<N: Network, K: Keeper>(
     network: &N,
     company: Company,
@@ -294,8 +358,9 @@ pub(crate) fn search<N: Network, K: Keeper>(
     keeper: &mut K,
 ) -> Result<(), K::Fault>
     requires lawful { IsLawful (N.position network.now) }
-    requires marks { marks.old.marks ≡ replicate 744 false }
-    requires waiting { marks.old.waiting.items ≡ [] }
+    requires arrive { AllArrive (N.position network.now) company marks.old.marks }
+    requires tokens { HasAllTokens (N.position network.now) company marks.old.marks }
+    requires wait { AllWait marks.old.marks marks.old.waiting.items }
     ensures arrive { OnOk result (AllArrive (N.position network.now) company marks.new.marks) }
     ensures tokens { OnOk result (HasAllTokens (N.position network.now) company marks.new.marks) }
     ensures closed { let position = N.position network.now in
@@ -304,7 +369,6 @@ pub(crate) fn search<N: Network, K: Keeper>(
         OnOk result (KeepsNone (K.keeps keeper.old)
         → AreTaken position company marks.new.marks (K.keeps keeper.new)) }
 {
-    mark_tokens(network, company, marks);
     while let Some(spot) = marks.waiting.pop() {
         look(network, company, spot, marks, keeper)?;
     }

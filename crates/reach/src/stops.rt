@@ -8,7 +8,7 @@ ghost use Rattle.reach.specs.Stops.{AreReachedStops};
 use crate::keeper::Forgetful;
 use crate::network::Network;
 use crate::numbers::STOPS;
-use crate::search::{Marks, search};
+use crate::search::{Marks, mark_tokens, search};
 use crate::stop_marks::StopMarks;
 use map_tables::{HEXES, Hex, Stop, StopNumber};
 use std::marker::Model;
@@ -85,6 +85,7 @@ pub fn reached_stops<N: Network>(network: &N, company: Company) -> ReachedStops
 {
     network.keeps_laws();
     let mut marks = Marks::none();
+    mark_tokens(network, company, &mut marks);
     match search(network, company, &mut marks, &mut Forgetful) {
         Ok(()) => marked_stops(&marks),
         Err(never) => match never {},

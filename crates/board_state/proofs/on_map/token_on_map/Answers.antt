@@ -1,25 +1,14 @@
 -- Whether a company has a token at a stop is what the position has there.
-use Rattle.std.proofs.Common.{◌≡◌, ◌∙◌, Bool, ap, refl, sym, subst, true, false}
+use Rattle.std.proofs.Common.{◌≡◌, ◌∙◌, ap, sym, subst, true, false}
 use Rattle.board_state.specs.MapState.{MapState, position_of}
 use Rattle.map_tables.specs.OnMap.{has_token, is_stop}
 use Rattle.map_tables.specs.Place.{joined_stop_of}
 use Rattle.map_tables.specs.declared.place.Stop.{Stop}
 use Rattle.reach.specs.Position.{AtStop, HasToken, IsAmong}
 use Rattle.tables.specs.declared.roster.Company.{Company}
-use Rattle.board_state.proofs.Positions.{shown, not_on_map}
-use Rattle.board_state.proofs.Tokens.{among_is, is_among}
+use Rattle.board_state.proofs.Positions.{shown}
+use Rattle.board_state.proofs.Tokens.{among_is, stop_there, there_token}
 use Rattle.board_state.proofs.on_map.token_on_map.Goals as goal
-
--- where a company has a token there is a stop
-stop_there : (map_state : MapState) (stop : Stop) (company : Company) → HasToken (position_of map_state) stop company
-    → is_stop (joined_stop_of stop) ≡ true
-stop_there map_state stop company has = by_test (is_stop (joined_stop_of stop)) refl
-  where
-    by_test : (is : Bool) → is_stop (joined_stop_of stop) ≡ is → is_stop (joined_stop_of stop) ≡ true
-    by_test true is = is
-    by_test false is =
-        absurd (let none : ⊥ = subst (IsAmong company) (ap (λ (s : AtStop). s.tokens) (not_on_map map_state stop is))
-        has in none)
 
 -- at a stop the tokens are those that name it
 token_there : (map_state : MapState) (stop : Stop) (company : Company) → is_stop (joined_stop_of stop) ≡ true
@@ -27,13 +16,6 @@ token_there : (map_state : MapState) (stop : Stop) (company : Company) → is_st
 token_there map_state stop company is has =
     subst (IsAmong company) (sym (ap (λ (s : AtStop). s.tokens) (shown map_state stop is)))
     (among_is map_state.tokens (joined_stop_of stop) company has)
-
-there_token : (map_state : MapState) (stop : Stop) (company : Company) → HasToken (position_of map_state) stop company
-    → has_token map_state.tokens (joined_stop_of stop) company ≡ true
-there_token map_state stop company has =
-    is_among map_state.tokens (joined_stop_of stop) company
-    (subst (IsAmong company) (ap (λ (s : AtStop). s.tokens)
-    (shown map_state stop (stop_there map_state stop company has))) has)
 
 pub returns-then-holds : goal.returns-then-holds
 returns-then-holds g c =

@@ -14,12 +14,11 @@ use Rattle.tables.specs.declared.roster.Company.{Company}
 pub loop-spot-init : goal.loop-spot-init
 loop-spot-init g c =
     record {
-      arrive = c.mark_tokens.ensures.arrive;
-      tokens = c.mark_tokens.ensures.tokens;
+      arrive = c.requires.arrive;
+      tokens = c.requires.tokens;
       looked = record {
-        known = c.mark_tokens.ensures.wait.known;
-        looked =
-            λ spot is. inl (c.mark_tokens.ensures.wait.all spot is);
+        known = c.requires.wait.known;
+        looked = λ spot is. inl (c.requires.wait.all spot is);
       };
       taken = λ none link is. absurd (none link is);
     }
