@@ -8,19 +8,23 @@ use Rattle.std.proofs.lemmas.List.{append-nil, at_drop_all, drop_more, length-ma
 use Rattle.order_grammar.specs.Form.{Row, forms, trailing_reading, values_reading, row_reading, rows_reading}
 use Rattle.order_grammar.specs.Form.{words_reading, nearness, nearer, order_of_values, values_by_row}
 use Rattle.order_grammar.specs.Keyword.{keyword_of, text_of_keyword}
-use Rattle.order_grammar.specs.Row.{row_of, is_short_row, joined_values}
+use Rattle.order_grammar.specs.Row.{has_forms, is_short_row, joined_values, row_of, rows_of, rows_with}
 use Rattle.order_grammar.specs.Token.{GivesFirst}
 use Rattle.order_grammar.specs.Words.{Placed, raised, same_word, texts_of}
 use Rattle.order_grammar.specs.declared.class.Class.{Class}
 use Rattle.order_grammar.specs.declared.fault.Fault.{Fault}
 use Rattle.order_grammar.specs.declared.fault.Fault.TheVariants.{UnknownWord, WrongWords, NumberTooLarge}
 use Rattle.order_grammar.specs.declared.form.Form.{Form}
+use Rattle.order_grammar.specs.declared.form.Grammar.{Grammar}
+use Rattle.order_grammar.specs.declared.form.Grammar.TheVariants as grammar
 use Rattle.order_grammar.specs.declared.form.TrailingClass.{TrailingClass}
+use Rattle.order_grammar.specs.declared.keyword.Keyword.{Keyword}
+use Rattle.order_grammar.specs.declared.keyword.Keyword.TheVariants as keyword
 use Rattle.order_grammar.specs.declared.order.Order.{Order}
 use Rattle.order_grammar.specs.declared.order.Trailing.{Trailing}
 use Rattle.order_grammar.specs.declared.order.Value.{Value}
 use Rattle.order_grammar.specs.declared.words.Token.{Token}
-use Rattle.order_grammar.proofs.KeywordLemmas.{keyword_of-same}
+use Rattle.order_grammar.proofs.KeywordLemmas.{keyword_of-same, same-keyword_of, same_keyword, same_word-self}
 use Rattle.order_grammar.proofs.WordLemmas.{next_words}
 
 -- what the words of a line are by all forms
@@ -87,6 +91,78 @@ unknown-rows (row ∷ rows) first rest none =
     (sym (unknown-row row first rest different))
     ∙ ap (λ (r : Result Order Fault). fold (with_row first rest) r rows) (nearer-unknown UnknownWord)
     ∙ unknown-rows rows first rest none
+
+-- nothing is no nearer
+nearer-nothing : (reading : Result Order Fault) → nearer reading (Err UnknownWord) ≡ reading
+nearer-nothing reading =
+    let test : ltb (nearness reading) 0 ≡ false = le-ltb _ _ (omega arith) in
+    rw test refl
+
+-- where the first word is that of one keyword, it is not that of another
+other_word : (k other : Keyword) (first : List ℕ) → keyword_of first ≡ Some k
+    → same_word (text_of_keyword other) (text_of_keyword k) ≡ false
+    → same_word first (text_of_keyword other) ≡ false
+other_word k other first is differ = false_from_ne_true _ (λ same.
+    let both : Some other ≡ Some k = sym (keyword_of-same first other same) ∙ is in
+    let one : other ≡ k = cc in
+    let wrong : true ≡ false =
+    sym (same_word-self (text_of_keyword k)) ∙ ap (λ o. same_word (text_of_keyword o) (text_of_keyword k)) (sym one)
+    ∙ differ in absurd cc)
+
+-- the rows with other first words may be left out
+pub rows_with-read : (k : Keyword) (first : List ℕ) (rest : List (List ℕ)) (start : Result Order Fault)
+    (rows : List Row) → keyword_of first ≡ Some k
+    → fold (with_row first rest) start (rows_with k rows) ≡ fold (with_row first rest) start rows
+rows_with-read k first rest start [] is = refl
+rows_with-read k first rest start (row ∷ rows) is =
+    (elim (same_word (text_of_keyword row.keyword) (text_of_keyword k)) as
+    (λ b. same_word (text_of_keyword row.keyword) (text_of_keyword k) ≡ b
+    → fold (with_row first rest) start (cond b (row ∷ rows_with k rows) (rows_with k rows))
+    ≡ fold (with_row first rest) (nearer start (row_reading row first rest)) rows) [
+      | true ↦ λ same. rows_with-read k first rest (nearer start (row_reading row first rest)) rows is
+      | false ↦ λ differ. rows_with-read k first rest start rows is
+          ∙ ap (λ (r : Result Order Fault). fold (with_row first rest) r rows)
+          (sym (nearer-nothing start)
+          ∙ ap (λ (r : Result Order Fault). nearer start r)
+          (unknown-row row first rest (other_word k row.keyword first is differ)))
+    ]) refl
+
+-- each of the rows with a first word has it
+with_first : (k : Keyword) (rows : List Row)
+    → list_all (λ row. same_word (text_of_keyword row.keyword) (text_of_keyword k)) (rows_with k rows) ≡ true
+with_first k [] = refl
+with_first k (row ∷ rows) =
+    (elim (same_word (text_of_keyword row.keyword) (text_of_keyword k)) as
+    (λ b. same_word (text_of_keyword row.keyword) (text_of_keyword k) ≡ b
+    → list_all (λ row. same_word (text_of_keyword row.keyword) (text_of_keyword k))
+    (cond b (row ∷ rows_with k rows) (rows_with k rows)) ≡ true) [
+      | true ↦ λ same. rw same (with_first k rows)
+      | false ↦ λ differ. with_first k rows
+    ]) refl
+
+-- so the first word of a line whose keyword that is is its
+pub first_of_row : (k : Keyword) (rows : List Row) (forms : List Form) (i : ℕ) (d : Form) (first : List ℕ)
+    → map row_of forms ≡ rows_with k rows → i < length forms → keyword_of first ≡ Some k
+    → same_word first (text_of_keyword (get_or forms i d).keyword) ≡ true
+first_of_row k rows forms i d first are lt is =
+    let test : Row → Bool = λ row. same_word (text_of_keyword row.keyword) (text_of_keyword k) in
+    let all : list_all test (map row_of forms) ≡ true = ap (list_all test) are ∙ with_first k rows in
+    let size : i < length (map row_of forms) = omega (arith, length-map forms row_of) in
+    let here : test (row_of (get_or forms i d)) ≡ true =
+    ap test (sym (get_or-map row_of forms i d (row_of d) lt))
+    ∙ and_at (list_all test) test refl (λ _ _. refl) (map row_of forms) i (row_of d) size all in
+    let one : (get_or forms i d).keyword ≡ k = same_keyword (get_or forms i d).keyword k here in
+    ap (λ o. same_word first (text_of_keyword o)) one ∙ same-keyword_of first k is
+
+-- a grammar has all rows whose first word is a keyword, or none of them
+pub rows_with-grammar : (g : Grammar) (k : Keyword) → cond (has_forms g k) (rows_with k forms) []
+    ≡ rows_with k (rows_of g)
+rows_with-grammar grammar.OrderFile keyword.Game = refl
+rows_with-grammar grammar.OrderFile other = refl
+rows_with-grammar grammar.Play keyword.Game = refl
+rows_with-grammar grammar.Play other = refl
+rows_with-grammar grammar.Certificate keyword.Game = refl
+rows_with-grammar grammar.Certificate other = refl
 
 -- one more row, and what the words are by it
 pub rows-next : (first : List ℕ) (rest : List (List ℕ)) (nearest : Result Order Fault) (forms : List Form) (i : ℕ)

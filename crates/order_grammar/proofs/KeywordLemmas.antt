@@ -1,15 +1,13 @@
 -- Words and keywords that are the same.
-use Rattle.std.proofs.Common.{◌≡◌, ℕ, ◌+◌, ◌<◌, ◌≤◌, ◌==◌, Bool, true, false, not, cond, List, [], ◌∷◌, Option, Some}
+use Rattle.std.proofs.Common.{◌≡◌, ℕ, ◌+◌, ◌<◌, ◌≤◌, ◌==◌, true, false, cond, List, [], ◌∷◌, Option, Some}
 use Rattle.std.proofs.Common.{drop, get_or, length, refl, sym, ap, ◌∙◌, arith}
-use denote.Enum.Bare.{sameb, same_true, true_same}
-use Rattle.std.proofs.lemmas.Bool.{and_parts, eqb-true, eq-eqb, false≢true, false_from_ne_true, not-false}
+use Rattle.std.proofs.lemmas.Bool.{and_parts, eqb-true, eq-eqb, false≢true, false_from_ne_true}
 use Rattle.std.proofs.lemmas.List.{drop_more}
 use Rattle.std.specs.Char.{to_ascii_uppercase}
 use Rattle.std.specs.List.{filter}
 use Rattle.order_grammar.specs.Keyword.{all_keywords, beginning_with, begins_with, keyword_of}
 use Rattle.order_grammar.specs.Keyword.{spelt_of, text_of_keyword}
 use Rattle.order_grammar.specs.Words.{raised, same_word}
-use Rattle.order_grammar.specs.contracts.keyword.Keyword.{the_type as keyword_type}
 use Rattle.order_grammar.specs.declared.keyword.Keyword.{Keyword}
 use Rattle.order_grammar.specs.declared.keyword.Keyword.TheVariants as keyword
 
@@ -175,18 +173,3 @@ pub spelt-here : (word : List ℕ) (ks : List Keyword) (i : ℕ) (d : Keyword) �
     → same_word word (text_of_keyword (get_or ks i d)) ≡ true
     → spelt_of word (drop i ks) ≡ Some (get_or ks i d)
 spelt-here word ks i d lt here = rw (drop_more ks i d lt, here) refl
-
--- a keyword that compares alike to the one that a word spells is its
-pub same_by : (a b : Keyword) (word : List ℕ) (differ : Bool) → differ ≡ not (sameb keyword_type a b)
-    → differ ≡ false → keyword_of word ≡ Some b → same_word word (text_of_keyword a) ≡ true
-same_by a b word differ is off spelt =
-    let one : a ≡ b = same_true keyword_type tt a b (not-false _ (sym is ∙ off)) in
-    rw one (same-keyword_of word b spelt)
-
--- and any other is not
-pub other_by : (a b : Keyword) (word : List ℕ) (differ : Bool) → differ ≡ not (sameb keyword_type a b)
-    → differ ≡ true → keyword_of word ≡ Some b → same_word word (text_of_keyword a) ≡ false
-other_by a b word differ is on spelt = false_from_ne_true _ (λ same.
-    let both : Some a ≡ Some b = sym (keyword_of-same word a same) ∙ spelt in
-    let one : a ≡ b = cc in
-    let wrong : true ≡ false = sym on ∙ (is ∙ ap not (true_same keyword_type a b one)) in absurd cc)

@@ -16,7 +16,7 @@ ghost use Rattle.order_grammar.specs.Words.{texts_of};
 
 use crate::class::{Class, Reading};
 use crate::fault::Fault;
-use crate::form::{order_forms, play_forms, read_nearest};
+use crate::form::{Grammar, read_nearest};
 use crate::keyword::Keyword;
 use crate::order::{Order, Value};
 use crate::words::{Words, is_word};
@@ -55,7 +55,7 @@ pub(crate) fn read_ordered(words: &Words, order: &mut Order) -> Result<Option<Co
     if is_word(first.text, Keyword::If.text()) {
         return read_conditional(&mut rest, order).map(Some);
     }
-    read_nearest(order_forms(), first.text, &rest, order)?;
+    read_nearest(Grammar::OrderFile, first.text, &rest, order)?;
     Ok(None)
 }
 
@@ -150,7 +150,7 @@ fn read_under(
     let Some(first) = rest.next() else {
         return Err(Fault::WrongWords);
     };
-    let read = read_nearest(play_forms(), first.text, &rest, order);
+    let read = read_nearest(Grammar::Play, first.text, &rest, order);
     condition_if_read(condition, read)
 }
 

@@ -1,11 +1,9 @@
 ghost use Rattle.std.specs.Prelude.{◌≡◌, ◌≤◌, IsTrue, map};
 ghost use Rattle.std.specs.List.{list_all};
 ghost use Rattle.order_grammar.specs.Form.{
-  cert_forms,
+  forms,
   nearer,
-  order_forms,
   order_of_values,
-  play_forms,
   put_reading,
   rows_reading,
   run_reading,
@@ -13,7 +11,8 @@ ghost use Rattle.order_grammar.specs.Form.{
   values_by_row,
   words_reading,
 };
-ghost use Rattle.order_grammar.specs.Row.{AreRead, has_room, is_short_row, names_reading, row_of};
+ghost use Rattle.order_grammar.specs.Row.{AreRead, has_forms, has_room, is_short_row};
+ghost use Rattle.order_grammar.specs.Row.{names_reading, row_of, rows_of, rows_with};
 ghost use Rattle.order_grammar.specs.Words.{raised, texts_of};
 ghost use Rattle.order_grammar.specs.declared.form.TrailingClass.TheVariants.{Nothing};
 
@@ -239,63 +238,126 @@ const FORMS: [Form; 33] = [
     },
 ];
 
-/// Returns the forms of an order file: all but CERTS and MARKS.
-pub(crate) fn order_forms() -> &'static [Form]
-    ensures { map row_of result.now ≡ order_forms }
-{
-    &FORMS[..31]
+/// Which forms a line may have.
+#[derive(Clone, Copy)]
+pub(crate) enum Grammar {
+    /// Those of an order file: all but CERTS and MARKS.
+    OrderFile,
+    /// Those of orders, which may be under a condition.
+    Play,
+    /// Those of the text of a certificate: CERT, CLAIM, CERTS and MARKS.
+    Certificate,
 }
 
-/// Returns the forms of orders, which may be under a condition.
-pub(crate) fn play_forms() -> &'static [Form]
-    ensures { map row_of result.now ≡ play_forms }
-{
-    &FORMS[5..29]
+impl Grammar {
+    /// Returns the forms whose first word is a keyword.
+    fn forms(self, keyword: Keyword) -> &'static [Form]
+        ensures rows { map row_of result.now ≡ rows_with keyword (rows_of self) }
+        ensures short { IsTrue (list_all is_short_row (map row_of result.now)) }
+    {
+        if self.has(keyword) {
+            forms_with(keyword)
+        } else {
+            &[]
+        }
+    }
+
+    /// Returns whether it has all forms whose first word is a keyword; otherwise it has none.
+    fn has(self, keyword: Keyword) -> bool
+        ensures { result ≡ has_forms self keyword }
+    {
+        match self {
+            Grammar::OrderFile => match keyword {
+                Keyword::Certs | Keyword::Marks => false,
+                _ => true,
+            },
+            Grammar::Play => match keyword {
+                Keyword::Game
+                | Keyword::Players
+                | Keyword::Sheet
+                | Keyword::Turn
+                | Keyword::Company
+                | Keyword::Cert
+                | Keyword::Claim
+                | Keyword::Certs
+                | Keyword::Marks => false,
+                _ => true,
+            },
+            Grammar::Certificate => match keyword {
+                Keyword::Cert | Keyword::Claim | Keyword::Certs | Keyword::Marks => true,
+                _ => false,
+            },
+        }
+    }
 }
 
-/// Returns the forms of the text of a certificate: CERT, CLAIM, CERTS and MARKS.
-pub(crate) fn certificate_forms() -> &'static [Form]
-    ensures { map row_of result.now ≡ cert_forms }
+/// Returns all forms whose first word is a keyword.
+fn forms_with(keyword: Keyword) -> &'static [Form]
+    ensures rows { map row_of result.now ≡ rows_with keyword forms }
+    ensures short { IsTrue (list_all is_short_row (map row_of result.now)) }
 {
-    &FORMS[29..]
+    match keyword {
+        Keyword::Game => &FORMS[..1],
+        Keyword::Players => &FORMS[1..2],
+        Keyword::Sheet => &FORMS[2..3],
+        Keyword::Turn => &FORMS[3..4],
+        Keyword::Company => &FORMS[4..5],
+        Keyword::Buy => &FORMS[5..8],
+        Keyword::Bid => &FORMS[8..9],
+        Keyword::Limit => &FORMS[9..10],
+        Keyword::Par => &FORMS[10..11],
+        Keyword::Sell => &FORMS[11..12],
+        Keyword::Exchange => &FORMS[12..13],
+        Keyword::Lay => &FORMS[13..15],
+        Keyword::Token => &FORMS[15..16],
+        Keyword::Run => &FORMS[16..18],
+        Keyword::Pay => &FORMS[18..19],
+        Keyword::Withhold => &FORMS[19..20],
+        Keyword::Train => &FORMS[20..24],
+        Keyword::Discard => &FORMS[24..25],
+        Keyword::Private => &FORMS[25..26],
+        Keyword::Raise => &FORMS[26..27],
+        Keyword::Offer => &FORMS[27..29],
+        Keyword::Cert => &FORMS[29..30],
+        Keyword::Claim => &FORMS[30..31],
+        Keyword::Certs => &FORMS[31..32],
+        Keyword::Marks => &FORMS[32..],
+        _ => &[],
+    }
 }
 
 /// Overwrites `order` with the order that the words of a line spell. The error says why they spell
-/// none: the one that is nearest to an order over some forms.
-pub(crate) fn read_order(forms: &[Form], words: &Words, order: &mut Order) -> Result<(), Fault>
-    requires { IsTrue (list_all is_short_row (map row_of forms.now)) }
+/// none: the one that is nearest to an order over the forms of a grammar.
+pub(crate) fn read_order(grammar: Grammar, words: &Words, order: &mut Order) -> Result<(), Fault>
     ensures { put_reading result order.new
-        ≡ words_reading (map row_of forms.now) (texts_of words.now) }
+        ≡ words_reading (rows_of grammar) (texts_of words.now) }
 {
     let mut rest = words.duplicate();
     let Some(first) = rest.next() else {
         *order = Order::Blank;
         return Ok(());
     };
-    read_nearest(forms, first.text, &rest, order)
+    read_nearest(grammar, first.text, &rest, order)
 }
 
 /// Overwrites `order` with the order that a first word and the words after it spell. The error says
 /// why they spell none.
 pub(crate) fn read_nearest(
-    forms: &[Form],
+    grammar: Grammar,
     first: &[u8],
     rest: &Words,
     order: &mut Order,
 ) -> Result<(), Fault>
-    requires { IsTrue (list_all is_short_row (map row_of forms.now)) }
     ensures { put_reading result order.new
-        ≡ rows_reading (map row_of forms.now) (raised first.now) (texts_of rest.now) }
+        ≡ rows_reading (rows_of grammar) (raised first.now) (texts_of rest.now) }
 {
     let Some(keyword) = Keyword::of_word(first) else {
         return Err(Fault::UnknownWord);
     };
+    // A form with another first word is no nearer.
+    let forms = grammar.forms(keyword);
     let mut nearest = Fault::UnknownWord;
     for form in forms {
-        // A form with another first word is no nearer.
-        if form.keyword != keyword {
-            continue;
-        }
         match form.read(rest, order) {
             Ok(()) => return Ok(()),
             Err(fault) => nearest = nearer(nearest, fault),

@@ -1,15 +1,15 @@
-ghost use Rattle.std.specs.Prelude.{◌≡◌, ◌≤◌, IfOk, IfSome, IsTrue, None, is_some, length, map};
+ghost use Rattle.std.specs.Prelude.{◌≡◌, ◌≤◌, IfOk, IfSome, None, is_some, length};
 ghost use Rattle.std.specs.List.{list_all, position_or_len};
 ghost use Rattle.order_grammar.specs.Condition.{put_ordered};
 ghost use Rattle.order_grammar.specs.Line.{cert_reading_of, order_of, reading_by, reading_of, words_within};
-ghost use Rattle.order_grammar.specs.Row.{is_short_row, row_of};
+ghost use Rattle.order_grammar.specs.Row.{rows_of};
 ghost use Rattle.order_grammar.specs.Version.{ordered_of, reading_in, words_reading_in};
 ghost use Rattle.order_grammar.specs.Readable.{is_end};
 ghost use Rattle.order_grammar.specs.Words.{AreWordsOf, before_comment, is_printable, texts_of};
 
 use crate::condition::{Condition, Version, read_ordered};
 use crate::fault::Fault;
-use crate::form::{Form, certificate_forms, order_forms, read_order};
+use crate::form::{Grammar, read_order};
 use crate::order::Order;
 use crate::words::Words;
 
@@ -41,7 +41,7 @@ pub fn read_line(line: &[u8]) -> Result<Line<'_>, Fault>
     // The words, at their places before the comment.
     ensures words { IfOk result (λ read. AreWordsOf line.now read.words) }
 {
-    read_by(LINE_MOST, order_forms(), line)
+    read_by(LINE_MOST, Grammar::OrderFile, line)
 }
 
 /// Reads a line of an order file of some version, without its LF and a CR before that. A line of
@@ -88,7 +88,7 @@ fn read_words(
 {
     match version {
         Version::One => {
-            read_order(order_forms(), words, order)?;
+            read_order(Grammar::OrderFile, words, order)?;
             Ok(None)
         }
         Version::Two => read_ordered(words, order),
@@ -105,19 +105,18 @@ pub fn read_cert_line(line: &[u8]) -> Result<Line<'_>, Fault>
     // The words, at their places before the comment.
     ensures words { IfOk result (λ read. AreWordsOf line.now read.words) }
 {
-    read_by(CERT_LINE_MOST, certificate_forms(), line)
+    read_by(CERT_LINE_MOST, Grammar::Certificate, line)
 }
 
-/// Reads a line of at most this many bytes by some forms.
-fn read_by<'a>(most: usize, forms: &[Form], line: &'a [u8]) -> Result<Line<'a>, Fault>
-    requires { IsTrue (list_all is_short_row (map row_of forms.now)) }
-    ensures order { order_of result ≡ reading_by most (map row_of forms.now) line.now }
+/// Reads a line of at most this many bytes by the forms of a grammar.
+fn read_by<'a>(most: usize, grammar: Grammar, line: &'a [u8]) -> Result<Line<'a>, Fault>
+    ensures order { order_of result ≡ reading_by most (rows_of grammar) line.now }
     ensures condition { IfOk result (λ read. read.condition ≡ None) }
     ensures words { IfOk result (λ read. AreWordsOf line.now read.words) }
 {
     let words = words_within(most, line)?;
     let mut order = Order::Blank;
-    read_order(forms, &words, &mut order)?;
+    read_order(grammar, &words, &mut order)?;
     Ok(Line {
         condition: None,
         order,

@@ -1,6 +1,6 @@
 -- What is kept and what is left are together what the whole body has, from line to line.
 use Rattle.std.proofs.Common.{◌≡◌, ℕ, ◌+◌, ◌<◌, ◌≤◌, List, [], ◌∷◌, ◌++◌, Bool, true, false, cond, Option, Some, None}
-use Rattle.std.proofs.Common.{take, suc, zero-add, refl, sym, ◌∙◌, ap, append_assoc, arith}
+use Rattle.std.proofs.Common.{take, suc, zero-add, refl, sym, ◌∙◌, ap, append_assoc, arith, subst}
 use Rattle.std.specs.Prelude.{not}
 use Rattle.std.specs.Option.{option_or}
 use Rattle.std.specs.List.{prefix_len}
@@ -9,7 +9,7 @@ use Rattle.order_grammar.specs.declared.condition.Version.{Version}
 use Rattle.order_grammar.specs.declared.fault.Fault.{Fault}
 use Rattle.sheets.specs.File.{is_sheet_line, begins, same_sheet_key, sheet_lines, sheet_in, good_lines, unread_fault}
 use Rattle.sheets.specs.File.{unread_in}
-use Rattle.sheets.specs.Collecting.{Open, open_with, CollectedSoFar}
+use Rattle.sheets.specs.Collecting.{Open, open_with, CollectedSoFar, HasNoSheetLine}
 use Rattle.sheets.specs.Limits.{sheets_most}
 use Rattle.sheets.specs.declared.sheet_key.SheetKey.{SheetKey}
 
@@ -148,6 +148,21 @@ module _ (version : Version) (players body : List (List ℕ)) (sheets : SheetKey
         good_are = ap (λ n. good + n) (sym (uncounted players lines line none)) ∙ s.good_are;
         few = s.few;
       }
+
+  -- lines inside a sheet, one after another
+  pub collected_skipped : (lines more : List (List ℕ)) (sheet_key : SheetKey) (had : List (List ℕ))
+      → HasNoSheetLine lines → CollectedSoFar version players body (lines ++ more)
+      (Some (record { sheet_key = sheet_key; lines = had })) sheets unread good
+      → CollectedSoFar version players body more (Some (record { sheet_key = sheet_key; lines = had ++ lines }))
+      sheets unread good
+  collected_skipped [] more sheet_key had none s =
+      subst (λ ls. CollectedSoFar version players body more (Some (record { sheet_key = sheet_key; lines = ls }))
+      sheets unread good) (sym (append-nil had)) s
+  collected_skipped (line ∷ lines) more sheet_key had none s =
+      subst (λ ls. CollectedSoFar version players body more (Some (record { sheet_key = sheet_key; lines = ls }))
+      sheets unread good) (append_assoc had (line ∷ []) lines)
+      (collected_skipped lines more sheet_key (had ++ line ∷ []) none.1
+      (collected_inside line (lines ++ more) sheet_key had none.0 s))
 
   -- a line outside
   pub collected_stray : (line : List ℕ) (lines : List (List ℕ)) → is_sheet_line line ≡ false

@@ -1,9 +1,9 @@
 -- A line that opens a part of a sheet begins with the word of heads.
-use Rattle.std.proofs.Common.{◌≡◌, ◌↔◌, ℕ, true, false, List, [], ◌∷◌, Option, Some, None, Result, Ok, Err, codes, ltb}
+use Rattle.std.proofs.Common.{◌≡◌, ◌↔◌, ℕ, true, false, List, [], ◌∷◌, Option, Some, None, Result, Ok, Err, codes, ltb, ◌≤◌, ◌++◌}
 use Rattle.std.proofs.Common.{inl, inr, refl, sym, ap, subst, ◌∙◌}
 use Rattle.std.specs.List.{list_all}
-use Rattle.std.specs.Prelude.{not}
-use Rattle.std.proofs.lemmas.Bool.{cases_Bool}
+use Rattle.std.specs.Prelude.{IfSome, is_some, not}
+use Rattle.std.proofs.lemmas.Bool.{cases_Bool, false≢true, le-ltb}
 use Rattle.order_grammar.proofs.PartLemmas.{passed}
 use Rattle.order_grammar.specs.Condition.{Ordered}
 use Rattle.order_grammar.specs.Spells.{AreWordsFor, IsWord, Then}
@@ -19,9 +19,13 @@ use Rattle.order_grammar.specs.declared.fault.Fault.{Fault}
 use Rattle.order_grammar.specs.declared.fault.Fault.TheVariants.{PastLastLine}
 use Rattle.order_grammar.specs.declared.order.Order.{Order}
 use Rattle.order_grammar.specs.declared.order.Order.TheVariants as order
+use Rattle.sheets.specs.CompanyOrders.{opens_orders_of}
 use Rattle.sheets.specs.Limits.{lines_most}
 use Rattle.sheets.specs.Part.{head_word, is_company, is_turn, opens_part, reading_at}
 use Rattle.sheets.specs.Reading.{order_read}
+use Rattle.tables.specs.Roster.{code_of_company}
+use Rattle.tables.specs.declared.roster.Company.{Company}
+use Rattle.tables.specs.declared.roster.Company.TheVariants as company
 use Rattle.tables.specs.declared.round.Round.{Round}
 use Rattle.tables.specs.declared.round.Round.TheVariants as round
 
@@ -140,3 +144,60 @@ no_head law round version number line differs =
       | inl past ↦ rw past (past_opens_none round)
       | inr here ↦ rw here (no_part law version line round differs)
     ]
+
+-- what a line is by itself, it is where it is, if it is not past the last
+pub read_here : (number : ℕ) (reading : Result Order Fault) → number ≤ lines_most → reading_at number reading ≡ reading
+read_here number reading here =
+    let test : ltb lines_most number ≡ false = le-ltb _ _ here in
+    rw test refl
+
+-- TURN is read as it is printed
+pub turn_read : (version : Version) → order_read (reading_in version (codes "TURN")) ≡ Ok order.Turn
+turn_read One = refl
+turn_read Two = refl
+
+-- and so is COMPANY with a code
+pub company_read : (version : Version) (company : Company)
+    → order_read (reading_in version (codes "COMPANY " ++ code_of_company company)) ≡ Ok (order.Company company)
+company_read One company.Pennsylvania = refl
+company_read One company.NewYorkCentral = refl
+company_read One company.CanadianPacific = refl
+company_read One company.BaltimoreOhio = refl
+company_read One company.ChesapeakeOhio = refl
+company_read One company.Erie = refl
+company_read One company.NewHaven = refl
+company_read One company.BostonMaine = refl
+company_read Two company.Pennsylvania = refl
+company_read Two company.NewYorkCentral = refl
+company_read Two company.CanadianPacific = refl
+company_read Two company.BaltimoreOhio = refl
+company_read Two company.ChesapeakeOhio = refl
+company_read Two company.Erie = refl
+company_read Two company.NewHaven = refl
+company_read Two company.BostonMaine = refl
+
+-- what is read as TURN opens a part of a sheet of turns
+pub turn_opens : (number : ℕ) (reading : Result Order Fault) → reading ≡ Ok order.Turn
+    → (opens_part (round.Opening number) reading ≡ true) × (opens_part (round.Stock number) reading ≡ true)
+turn_opens number reading is = rw is (refl, refl)
+
+-- what is read as COMPANY opens a part of a sheet of companies' orders
+pub company_opens : (set number : ℕ) (found : Option Company) (reading : Result Order Fault)
+    → IfSome found (λ company. reading ≡ Ok (order.Company company)) → is_some found ≡ true
+    → opens_part (round.Operating set number) reading ≡ true
+company_opens set number None reading said some = absurd (false≢true some)
+company_opens set number (Some company) reading said some = rw said refl
+
+-- what is read as no company's head opens no company's orders
+orders_of_none : (company : Company) (reading : Result Order Fault) → is_company reading ≡ false
+    → opens_orders_of company reading ≡ false
+orders_of_none company (Ok (order.Company named)) none = absurd cc
+orders_of_none company (Ok other) none = refl
+orders_of_none company (Err fault) none = refl
+
+-- a line that does not begin with COMPANY opens no company's orders
+pub no_orders : ReadWhereSpelt → (company : Company) (version : Version) (number : ℕ) (line : List ℕ)
+    → same_word (first_of_words (words_of line)) (codes "COMPANY") ≡ false →
+    opens_orders_of company (reading_at number (order_read (reading_in version line))) ≡ false
+no_orders law company version number line differs =
+    orders_of_none company _ (no_head law (round.Operating 1 1) version number line differs)

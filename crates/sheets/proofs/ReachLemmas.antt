@@ -2,20 +2,21 @@
 use Rattle.std.proofs.Common.{◌≡◌, ℕ, ◌-◌, List, [], ◌∷◌, ◌++◌, true, false, cond, Option, Some, None, length, take}
 use Rattle.std.proofs.Common.{refl, sym, ◌∙◌, ap, arith, subst}
 use Rattle.std.proofs.Math.Seq.{take-length}
-use Rattle.std.specs.Prelude.{is_some}
+use Rattle.std.specs.Prelude.{is_some, not}
 use Rattle.order_grammar.specs.Line.{reading_of}
 use Rattle.order_grammar.specs.declared.condition.Version.{Version}
 use Rattle.order_grammar.specs.declared.fault.Fault.{Fault}
-use Rattle.sheets.specs.Collecting.{HasBegun, Open, IsOpen, CollectedSoFar, Reaches, closed, StopsAt, StopsBy}
+use Rattle.sheets.specs.Collecting.{HasBegun, Open, IsOpen, CollectedSoFar, HasNoSheetLine, IsInSheet, Reaches, closed, StopsAt}
+use Rattle.sheets.specs.Collecting.{StopsBy}
 use Rattle.sheets.specs.File.{is_sheet_line, begins, sheet_key_begun, unread_fault, same_sheet_key, sheet_in}
 use Rattle.sheets.specs.File.{good_lines}
-use Rattle.sheets.specs.Text.{written_lines, BeginsWith}
+use Rattle.sheets.specs.Text.{BeginsWith, is_blank, written, written_lines}
 use Rattle.sheets.specs.declared.open_sheet.OpenSheet.{OpenSheet}
 use Rattle.sheets.specs.declared.fault.FileFault.{FileFault}
 use Rattle.sheets.specs.declared.sheet_key.SheetKey.{SheetKey}
 use Rattle.sheets.proofs.TextLemmas.{begins_with_nothing, one_after_another, prefix_by_rest, lines_of_both}
 use Rattle.sheets.proofs.BodyLemmas.{option_or-cond, collected_same, collected_inside, collected_stray}
-use Rattle.sheets.proofs.BodyLemmas.{collected_closed}
+use Rattle.sheets.proofs.BodyLemmas.{collected_closed, collected_skipped}
 use Rattle.sheets.proofs.BodyLemmas.{collected_begun, collected_bad, too_many}
 
 module _ (version : Version) (players body : List (List ℕ)) (sheets : SheetKey → Option (List (List ℕ)))
@@ -52,6 +53,36 @@ module _ (version : Version) (players body : List (List ℕ)) (sheets : SheetKey
     (h.0, (h.1.0 ++ prefix, one_after_another h.1.0 prefix had.lines (line ∷ []) text rest sheet.text.now h.1.1 first)),
     collected_inside version players body sheets unread good line (written_lines rest) had.sheet_key had.lines other s,
   )
+
+  -- lines inside a sheet, if they are what the rest of it begins with
+  reaches_through : (rest text : List ℕ) (sheet : Option OpenSheet) (current : Option Open) (skipped : IsInSheet rest text)
+      → is_some sheet ≡ true → IsOpen sheet current text
+      → CollectedSoFar version players body (skipped.1 ++ written_lines rest) current sheets unread good
+      → Reaches version players body rest sheet sheets unread good
+  reaches_through rest text None current skipped some h s = absurd (let wrong : false ≡ true = some in cc)
+  reaches_through rest text (Some sheet) None skipped some h s = absurd h
+  reaches_through rest text (Some sheet) (Some had) skipped some h s = (
+    Some (record { sheet_key = had.sheet_key; lines = had.lines ++ skipped.1 }),
+    (
+      h.0,
+      (
+        h.1.0 ++ skipped.0,
+        one_after_another h.1.0 skipped.0 had.lines skipped.1 text rest sheet.text.now h.1.1
+            skipped.2,
+      ),
+    ),
+    collected_skipped version players body sheets unread good skipped.1 (written_lines rest) had.sheet_key had.lines
+        skipped.3 s,
+  )
+
+  -- an open sheet goes on up to where a SHEET line may come
+  pub reaches_skipped : (rest text : List ℕ) (sheet : Option OpenSheet) → is_some sheet ≡ true → IsInSheet rest text
+      → Reaches version players body text sheet sheets unread good
+      → Reaches version players body rest sheet sheets unread good
+  reaches_skipped rest text sheet some skipped r =
+      reaches_through rest text sheet r.0 skipped some r.1
+      (subst (λ ls. CollectedSoFar version players body ls r.0 sheets unread good)
+      (lines_of_both skipped.0 skipped.1 rest text skipped.2) r.2)
 
   -- a line outside
   pub reaches_stray : (line rest text : List ℕ) (sheet : Option OpenSheet) (current : Option Open)
@@ -154,3 +185,30 @@ module _ (version : Version) (players body : List (List ℕ)) (sheets : SheetKey
       → closed sheet [] sheets sheet_key ≡ sheet_in players body sheet_key
   sheets_at_end text sheet none r = ended text sheet r.0 r.1 none
       (subst (λ ls. CollectedSoFar version players body ls r.0 sheets unread good) none r.2)
+
+-- lines that do not begin with SHEET, and then others
+none_in_both : (lines more : List (List ℕ)) → HasNoSheetLine lines → HasNoSheetLine more
+    → HasNoSheetLine (lines ++ more)
+none_in_both [] more a b = b
+none_in_both (line ∷ lines) more a b = (a.0, none_in_both lines more a.1 b)
+
+-- a line that does not begin with SHEET, be it blank or not
+none_in_written : (line : List ℕ) → is_sheet_line line ≡ false → HasNoSheetLine (written (line ∷ []))
+none_in_written line other = elim (is_blank line) as (λ b. HasNoSheetLine (cond (not b) (line ∷ []) [])) [
+  | true ↦ tt
+  | false ↦ (other, tt)
+]
+
+-- an open sheet has not gone on yet
+pub in_sheet_at_start : (text : List ℕ) → IsInSheet text text
+in_sheet_at_start text = ([], [], begins_with_nothing text, tt)
+
+-- an open sheet goes on with a line that does not begin with SHEET
+pub in_sheet_further : (line middle rest text : List ℕ) → is_sheet_line line ≡ false → IsInSheet middle text
+    → (prefix : List ℕ) × BeginsWith prefix (written (line ∷ [])) rest middle → IsInSheet rest text
+in_sheet_further line middle rest text other a b = (
+  a.0 ++ b.0,
+  a.1 ++ written (line ∷ []),
+  one_after_another a.0 b.0 a.1 (written (line ∷ [])) middle rest text a.2 b.1,
+  none_in_both a.1 (written (line ∷ [])) a.3 (none_in_written line other),
+)

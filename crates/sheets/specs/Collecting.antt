@@ -4,7 +4,7 @@ use Rattle.std.specs.Prelude.{Option, Some, None, is_some}
 use Rattle.std.specs.Option.{option_map, option_or}
 use Rattle.order_grammar.specs.declared.condition.Version.{Version}
 use Rattle.order_grammar.specs.declared.fault.Fault.{Fault}
-use Rattle.sheets.specs.File.{same_sheet_key, sheet_lines, sheet_in, good_lines, unread_in, players_of, unread_of}
+use Rattle.sheets.specs.File.{is_sheet_line, same_sheet_key, sheet_lines, sheet_in, good_lines, unread_in, players_of, unread_of}
 use Rattle.sheets.specs.File.{sheet_of}
 use Rattle.sheets.specs.File.{version_of, IsAccepted}
 use Rattle.sheets.specs.Limits.{sheets_most}
@@ -33,6 +33,17 @@ abbrev pub open_with : Option Open → List (List ℕ) → SheetKey → Option (
 open_with None more sheet_key = None
 open_with (Some current) more sheet_key = if same_sheet_key current.sheet_key sheet_key then Some
     (current.lines ++ sheet_lines more) else None
+
+-- none of these lines begins with SHEET
+abbrev pub HasNoSheetLine : List (List ℕ) → Type 0
+HasNoSheetLine [] = Unit {0}
+HasNoSheetLine (line ∷ lines) = (is_sheet_line line ≡ false) × HasNoSheetLine lines
+
+-- what is before this rest of a text has no line that begins with SHEET, so that an open sheet goes
+-- on in it
+abbrev pub IsInSheet : List ℕ → List ℕ → Type 0
+IsInSheet rest text =
+    (prefix : List ℕ) × (lines : List (List ℕ)) × BeginsWith prefix lines rest text × HasNoSheetLine lines
 
 -- the lines of the sheets that are kept
 abbrev pub lines_kept : (SheetKey → Option Unruled) → SheetKey → Option (List (List ℕ))

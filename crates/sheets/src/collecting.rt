@@ -2,7 +2,9 @@ ghost use Rattle.std.specs.Prelude.{is_some, ◌≡◌, false, ℕ, ◌+◌, ◌
 ghost use Rattle.std.specs.Prelude.{IfErr, MatchOption, MatchResult, option_map};
 ghost use Rattle.std.specs.HashMap.{get};
 ghost use Rattle.order_grammar.specs.Line.{reading_of};
-ghost use Rattle.sheets.specs.Collecting.{AreOfVersion, HasBegun, Reaches, StopsAt, StopsBy, closed, lines_kept};
+ghost use Rattle.order_grammar.specs.declared.condition.Version.{Version as TheVersion};
+ghost use Rattle.sheets.specs.Collecting.{AreOfVersion, HasBegun, IsInSheet, Reaches, StopsAt, StopsBy};
+ghost use Rattle.sheets.specs.Collecting.{closed, lines_kept};
 ghost use Rattle.sheets.specs.File.{begins, is_sheet_line, sheet_key_begun, fault_of_reading, same_sheet_key, sheet_in};
 ghost use Rattle.sheets.specs.File.{unread_fault, unread_in, good_lines};
 ghost use Rattle.sheets.specs.Limits.{file_most, sheets_most};
@@ -15,7 +17,7 @@ use crate::open_sheet::OpenSheet;
 use crate::players::Players;
 use crate::sheet::Sheet;
 use crate::sheet_key::SheetKey;
-use crate::text::{Piece, first_written};
+use crate::text::{Piece, first_line, first_written};
 use order_grammar::{Fault, Order, Version, begins_with_word, read_order_in};
 use std::alloc::{AllocError, Global};
 use std::collections::HashMap;
@@ -58,7 +60,7 @@ pub(crate) fn collect_body<'a>(
     let mut rest = body;
     while let Some(piece) = first_written(rest) {
         collection.take_line(version, players, rest, piece)?;
-        rest = piece.rest;
+        rest = collection.skip_open_sheet(piece.rest);
     }
     collection.close(version, &[])?;
     Ok(collection)
@@ -98,6 +100,23 @@ impl<'a> Collection<'a> {
         } else {
             self.unread.push(unread_fault(version, piece.line))?;
             Ok(())
+        }
+    }
+
+    /// Returns what is left of a text behind the lines of the sheet that is open, which goes on in
+    /// it; the whole text if no sheet is open.
+    fn skip_open_sheet<'b>(&self, text: &'b [u8]) -> &'b [u8]
+        ensures shorter { length result.now ≤ length text.now }
+        ensures reaches { (version : TheVersion) (players body : List (List ℕ)) →
+            Reaches version players body text.now self.now.current
+            (lines_kept (get same_sheet_key self.now.sheets)) self.now.unread.items self.now.good →
+            Reaches version players body result.now self.now.current
+            (lines_kept (get same_sheet_key self.now.sheets)) self.now.unread.items self.now.good }
+    {
+        if self.current.is_some() {
+            from_sheet_line(text)
+        } else {
+            text
         }
     }
 
@@ -185,6 +204,22 @@ fn begins_sheet(players: &Players, line: &[u8]) -> bool
     ensures { result ≡ is_some (begins players.now line.now) }
 {
     is_sheet_line(line) && sheet_key_begun(players, line).is_some()
+}
+
+/// Returns what is left of a text from its first line on whose first word is SHEET; nothing is left
+/// if there is no such line.
+fn from_sheet_line(text: &[u8]) -> &[u8]
+    ensures shorter { length result.now ≤ length text.now }
+    ensures skipped { IsInSheet result.now text.now }
+{
+    let mut rest = text;
+    while let Some(piece) = first_line(rest) {
+        if is_sheet_line(piece.line) {
+            break;
+        }
+        rest = piece.rest;
+    }
+    rest
 }
 
 /// Returns whether the first word of a line is SHEET.

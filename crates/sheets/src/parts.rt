@@ -1,9 +1,11 @@
-ghost use Rattle.std.specs.Prelude.{◌≡◌, [], Ok};
+ghost use Rattle.std.specs.Bool.{OnTrue};
+ghost use Rattle.std.specs.Prelude.{◌≡◌, [], IfSome, Ok, true};
+ghost use Rattle.order_grammar.specs.declared.order.Order.TheVariants.{Company as CompanyOrder, Turn as TurnOrder};
 ghost use Rattle.sheets.specs.CompanyOrders.{company_orders_in, opens_orders_of};
 ghost use Rattle.sheets.specs.Part.{IsAtHead, TakesHead, TakesOrdinary, head_word, line_unread, lines_in, opens_part};
 ghost use Rattle.sheets.specs.Part.{parts_left};
 
-use crate::sheet::{Lines, UnreadLine};
+use crate::sheet::{LINES_MOST, Lines, UnreadLine};
 use order_grammar::{Order, begins_with_word};
 use std::marker::Model;
 use tables::{Company, Round};
@@ -75,7 +77,7 @@ impl<'a> PartsLeft<'a> {
         ensures { self.new.before ≡ company_orders_in company self.old.opened }
     {
         while let Some(line) = self.lines.take_unread() {
-            if is_head(self.round, line) && opens_orders_of(company, line) {
+            if begins_orders_of(company, line) && is_head(self.round, line) {
                 break;
             }
         }
@@ -105,13 +107,58 @@ impl<'a> Default for PartsLeft<'a> {
     }
 }
 
-/// Returns whether a line opens a part of a sheet for a round. It is read only if its first word
-/// may open one.
+/// Returns whether a line opens a part of a sheet for a round. It is read only if it is in another
+/// spelling than most heads, and its first word may open one.
 fn is_head(round: Round, line: UnreadLine) -> bool
     ensures { result ≡ opens_part round (line_unread line.entry).reading }
 {
+    if is_plain_head(round, line) {
+        return true;
+    }
     order_grammar::laws::read_in_version_where_spelt();
     begins_with_word(line.text, head_word(round)) && opens_part(round, line)
+}
+
+/// Returns whether a line opens a part of a sheet for a round and is as it is printed, as most
+/// heads are. That is seen without reading it. `false` says nothing of the line.
+fn is_plain_head(round: Round, line: UnreadLine) -> bool
+    ensures { OnTrue result (opens_part round (line_unread line.entry).reading ≡ true) }
+{
+    match round {
+        Round::Opening(_) => is_plain_turn(line),
+        Round::Stock(_) => is_plain_turn(line),
+        Round::Operating { .. } => plain_company(line).is_some(),
+    }
+}
+
+/// Returns whether a line is a TURN line as it is printed. `false` says nothing of the line.
+fn is_plain_turn(line: UnreadLine) -> bool
+    ensures { OnTrue result ((line_unread line.entry).reading ≡ Ok TurnOrder) }
+{
+    if line.number > LINES_MOST {
+        return false;
+    }
+    line.text == b"TURN".as_slice()
+}
+
+/// Returns the company that a COMPANY line names, if that is as it is printed. `None` says nothing
+/// of the line.
+fn plain_company(line: UnreadLine) -> Option<Company>
+    ensures { IfSome result (λ company.
+        (line_unread line.entry).reading ≡ Ok (CompanyOrder company)) }
+{
+    if line.number > LINES_MOST {
+        return None;
+    }
+    let Some(code) = line.text.strip_prefix(b"COMPANY ") else {
+        return None;
+    };
+    for company in Company::ALL {
+        if code == company.code().as_bytes() {
+            return Some(company);
+        }
+    }
+    None
 }
 
 /// Returns the word that begins the lines that open a part of a sheet for a round.
@@ -147,7 +194,27 @@ fn is_head_of(round: Round, order: &Order) -> bool
     }
 }
 
-/// Returns whether a head opens a company's orders.
+/// Returns whether a line reads as the head of a company's orders. It is read only if it is in
+/// another spelling than most heads, and its first word is theirs.
+fn begins_orders_of(company: Company, line: UnreadLine) -> bool
+    ensures { result ≡ opens_orders_of company (line_unread line.entry).reading }
+{
+    if let Some(named) = plain_company(line) {
+        return is_head_of_named(named, company);
+    }
+    order_grammar::laws::read_in_version_where_spelt();
+    begins_with_word(line.text, b"COMPANY") && opens_orders_of(company, line)
+}
+
+/// Returns whether the COMPANY line of a named company opens a company's orders.
+fn is_head_of_named(named: Company, company: Company) -> bool
+    ensures { result ≡ opens_orders_of company (Ok (CompanyOrder named)) }
+{
+    named == company
+}
+
+/// Returns whether a line, once it is read, is the head of a company's orders. (Kept apart from its
+/// caller, as `opens_part` is.)
 #[inline(never)]
 fn opens_orders_of(company: Company, head: UnreadLine) -> bool
     ensures { result ≡ opens_orders_of company (line_unread head.entry).reading }

@@ -12,3 +12,4 @@ pub mod TrainCounts
 pub mod InOrder
 pub mod Silent
 pub mod Privates
+pub mod Little

@@ -1,11 +1,12 @@
 -- The totals of a list of events: what its readers return, kept while the events come. Tables are
 -- by the places of the privates and the companies in the roster, and by the numbers of the six
 -- seats that a table has.
-use Rattle.std.specs.Prelude.{◌≡◌, ℕ, ◌<◌, ◌≤◌, ◌+◌, ◌*◌, ◌^◌, ℤ, pos, neg_ℤ, ◌≤ℤ◌, [], List, length, Bool, false, ◌||◌}
-use Rattle.std.specs.Prelude.{Option, Some, None, is_some, if◌then◌else◌, slice_index_or}
+use Rattle.std.specs.Prelude.{◌≡◌, ℕ, ◌<◌, ◌≤◌, ◌+◌, ◌*◌, ◌^◌, ℤ, pos, neg_ℤ, ◌≤ℤ◌, [], List, length, Bool, true, false}
+use Rattle.std.specs.Prelude.{◌||◌, Option, Some, None, is_some, if◌then◌else◌, slice_index_or}
 use Rattle.events.specs.Event.{actor_of, floated_by, ownership_of, payment_of, phase_set, round_begun_by, square_set}
 use Rattle.events.specs.Event.{train_owner_place, sv_price_set, train_moved, transfer_of}
 use Rattle.events.specs.declared.event.Event.{Event}
+use Rattle.events.specs.declared.event.Event.TheVariants.{Left, Passes, Ruled}
 use Rattle.events.specs.declared.event.Holder.{Holder}
 use Rattle.events.specs.declared.event.Holder.TheVariants as holder
 use Rattle.events.specs.declared.event.Party.{Party}
@@ -110,6 +111,13 @@ flag_of flags company = slice_index_or flags (place_of_company company) false
 -- what a table has of a seat's sale of shares of a company
 abbrev pub sale_in : List (List Bool) → Company → Seat → Bool
 sale_in sales company seat = slice_index_or (slice_index_or sales (place_of_company company) []) seat.0 false
+
+-- the event says no more than what became of a line, that a seat passes, or how many lines are left
+abbrev pub says_little : Event → Bool
+says_little (Ruled seat line ruling) = true
+says_little (Passes seat) = true
+says_little (Left seat lines) = true
+says_little other = false
 
 -- a flag after an event: one that begins a round takes it down, and one that speaks puts it up
 abbrev pub flag_then : Event → Bool → Bool → Bool

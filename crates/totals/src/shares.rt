@@ -81,7 +81,10 @@ impl GameView<'_> {
     pub fn square(&self, company: Company) -> Option<Square>
         ensures { result ≡ square_of self.now.events.now company }
     {
-        self.squares()[company.place()]
+        match self.totals() {
+            Some(totals) => totals.squares[company.place()],
+            None => None,
+        }
     }
 
     /// Returns the square of each company's token, by the places of the companies.
@@ -110,7 +113,10 @@ impl GameView<'_> {
     pub fn president(&self, company: Company) -> Option<Seat>
         ensures { result ≡ president_of self.now.events.now company }
     {
-        self.presidents()[company.place()]
+        match self.totals() {
+            Some(totals) => totals.presidents[company.place()],
+            None => None,
+        }
     }
 
     /// Returns the president of each company, by the places of the companies.

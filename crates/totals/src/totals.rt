@@ -1,8 +1,8 @@
 //! The totals of a list of events: what its readers return, kept while the events come. So reading
 //! a long list costs no more than reading a short one.
-ghost use Rattle.std.specs.Prelude.{◌++◌, ◌∷◌, ◌<◌, ◌^◌, [], List, length};
+ghost use Rattle.std.specs.Prelude.{◌≡◌, ◌++◌, ◌∷◌, ◌<◌, ◌^◌, [], List, length, true};
 ghost use Rattle.events.specs.declared.event.Event.{Event as TheEvent};
-ghost use Rattle.totals.specs.Totals.{AreTotalsOf};
+ghost use Rattle.totals.specs.Totals.{AreTotalsOf, says_little};
 
 use crate::applying::{
     apply, apply_arrival, apply_bankrupt, apply_bids, apply_broken, apply_float,
@@ -93,6 +93,33 @@ impl Totals {
             length events < 2 ^ 63 → AreTotalsOf self.old events →
             AreTotalsOf self.new (events ++ event.now ∷ []) }
     {
+        if says_little(event) {
+            self.apply_to_rulings(event);
+        } else {
+            self.apply_to_all(event);
+        }
+    }
+
+    /// Applies one more event that says little. Most events do, so that they cost little.
+    fn apply_to_rulings(&mut self, event: &Event)
+        requires { says_little event.now ≡ true }
+        ensures { (events : List TheEvent) →
+            length events < 2 ^ 63 → AreTotalsOf self.old events →
+            AreTotalsOf self.new (events ++ event.now ∷ []) }
+    {
+        apply(&mut self.actor, event.actor());
+        apply_ruling(&mut self.rulings, event);
+        apply_limit(&mut self.limits, event);
+        apply_par_order(&mut self.par_orders, event);
+        self.event_count = self.event_count.saturating_add(1);
+    }
+
+    /// Applies one more event, whatever it says.
+    fn apply_to_all(&mut self, event: &Event)
+        ensures { (events : List TheEvent) →
+            length events < 2 ^ 63 → AreTotalsOf self.old events →
+            AreTotalsOf self.new (events ++ event.now ∷ []) }
+    {
         self.owners.apply(event);
         apply_bids(&mut self.bids, event.bidding());
         apply_greatest_bid(&mut self.greatest_bids, event.bidding());
@@ -119,4 +146,15 @@ impl Totals {
         apply_par_order(&mut self.par_orders, event);
         self.event_count = self.event_count.saturating_add(1);
     }
+}
+
+/// Returns whether an event says no more than what became of a line, that a seat passes, or how
+/// many lines are left.
+fn says_little(event: &Event) -> bool
+    ensures { result ≡ says_little event.now }
+{
+    matches!(
+        event,
+        Event::Ruled { .. } | Event::Passes(_) | Event::Left { .. }
+    )
 }

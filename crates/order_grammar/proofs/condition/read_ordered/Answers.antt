@@ -1,8 +1,7 @@
-use Rattle.std.proofs.Common.{Result, Err, map, sym, ap, ◌∙◌}
+use Rattle.std.proofs.Common.{Result, Err, refl, sym, ap, ◌∙◌}
 use Rattle.std.proofs.lemmas.Result.{err_from_is_err_and}
 use Rattle.order_grammar.specs.Condition.{put_ordered, unconditional}
-use Rattle.order_grammar.specs.Form.{put_reading}
-use Rattle.order_grammar.specs.Row.{row_of}
+use Rattle.order_grammar.specs.Form.{order_forms, put_reading}
 use Rattle.order_grammar.specs.Words.{raised, same_word}
 use Rattle.order_grammar.specs.declared.fault.Fault.{Fault}
 use Rattle.order_grammar.proofs.WalkLemmas.{plain_read}
@@ -17,8 +16,8 @@ returns-in_err-read_nearest c =
     ap (λ r. put_ordered r order) p.1 ∙ ap (λ (f : Fault). put_ordered (Err f) order) p.2
     ∙ sym (ap (λ (r : Result Unit Fault). unconditional (put_reading r order)) c.in_err-read_nearest.was)
     ∙ plain_read c.args.words.now c.duplicate-rest.result c.next.new.self c.next.result c.in-Some.first
-    (map row_of c.order_forms.result.now) (put_reading c.read_nearest.result order)
-    c.duplicate-rest.ensures c.next.ensures.steps c.in-Some.is other c.order_forms.ensures c.read_nearest.ensures
+    order_forms (put_reading c.read_nearest.result order)
+    c.duplicate-rest.ensures c.next.ensures.steps c.in-Some.is other refl c.read_nearest.ensures
 
 pub returns : goal.returns
 returns c =
@@ -27,5 +26,5 @@ returns c =
     let other = ap (same_word first) (sym c.text.ensures) ∙ (sym c.is_word.ensures ∙ c.if-is_word.false) in
     sym (ap (λ (r : Result Unit Fault). unconditional (put_reading r order)) c.in_ok-read_nearest.was)
     ∙ plain_read c.args.words.now c.duplicate-rest.result c.next.new.self c.next.result c.in-Some.first
-    (map row_of c.order_forms.result.now) (put_reading c.read_nearest.result order)
-    c.duplicate-rest.ensures c.next.ensures.steps c.in-Some.is other c.order_forms.ensures c.read_nearest.ensures
+    order_forms (put_reading c.read_nearest.result order)
+    c.duplicate-rest.ensures c.next.ensures.steps c.in-Some.is other refl c.read_nearest.ensures

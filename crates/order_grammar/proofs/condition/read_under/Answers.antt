@@ -1,6 +1,6 @@
-use Rattle.std.proofs.Common.{Result, map, ap, ◌∙◌}
+use Rattle.std.proofs.Common.{Result, refl, ap, ◌∙◌}
 use Rattle.order_grammar.specs.Condition.{put_conditional}
-use Rattle.order_grammar.specs.Row.{row_of}
+use Rattle.order_grammar.specs.Form.{play_forms}
 use Rattle.order_grammar.specs.declared.condition.Condition.{Condition}
 use Rattle.order_grammar.specs.declared.fault.Fault.{Fault}
 use Rattle.order_grammar.proofs.WalkLemmas.{under_read}
@@ -10,5 +10,5 @@ pub returns : goal.returns
 returns c =
     ap (λ (r : Result Condition Fault). put_conditional r c.read_nearest-read.new.order) c.condition_if_read.ensures
     ∙ under_read c.args.condition c.args.words.now c.duplicate-rest.result c.next.new.self c.next.result
-    c.in-Some.first (map row_of c.play_forms.result.now) c.read_nearest-read.result c.read_nearest-read.new.order
-    c.duplicate-rest.ensures c.next.ensures.steps c.in-Some.is c.play_forms.ensures c.read_nearest-read.ensures
+    c.in-Some.first play_forms c.read_nearest-read.result c.read_nearest-read.new.order
+    c.duplicate-rest.ensures c.next.ensures.steps c.in-Some.is refl c.read_nearest-read.ensures

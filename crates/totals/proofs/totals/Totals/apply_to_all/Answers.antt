@@ -11,7 +11,7 @@ use Rattle.totals.specs.Operating.{turn_said}
 use Rattle.totals.specs.Shares.{brought_to, float_said, par_said, president_said, sale_said, square_said, taken_from}
 use Rattle.totals.specs.Trains.{any_comes, any_goes, one_if, train_comes, train_goes}
 use Rattle.tables.specs.Seat.{seat_at}
-use Rattle.totals.proofs.totals.Totals.apply.Goals as goal
+use Rattle.totals.proofs.totals.Totals.apply_to_all.Goals as goal
 
 pub returns : goal.returns
 returns c = λ events short before.
