@@ -10,7 +10,7 @@ use Rattle.certs.specs.Sale.{is_first_stock, is_not_held, is_over_five, kept_aft
 use Rattle.certs.specs.Sale.{must_stay, one_has, sale_judgement, sale_rules}
 use Rattle.certs.specs.SaleAct.{MaySell}
 use Rattle.certs.specs.declared.deal.Sale.{Sale}
-use Rattle.events.specs.Event.{IsQuiet}
+use Rattle.events.specs.Event.{IsQuiet, code_of_stock_rule}
 use Rattle.events.specs.declared.event.Event.{Event}
 use Rattle.events.specs.declared.event.Shareholder.TheVariants.{BankPool, Seat as OfSeat}
 use Rattle.events.specs.declared.ruling.StockRule.{StockRule}
@@ -21,11 +21,10 @@ use Rattle.totals.specs.AtEnd.{SaysTheSame}
 use Rattle.totals.specs.LookBack.{Game, round_of, with_event}
 use Rattle.totals.specs.Shares.{is_started, president_of, shares_of}
 use Rattle.history.specs.Sound.{IsSound}
-use Rattle.tables.proofs.Rules.{none_broken}
+use Rattle.tables.proofs.Rules.{not_broken}
 use Rattle.tables.specs.Roster.{same_company}
-use Rattle.tables.specs.Rules.{first_broken}
+use Rattle.tables.specs.Rules.{Rule, first_broken}
 use Rattle.tables.specs.declared.roster.Company.{Company}
-use Rattle.tables.specs.declared.round.Round.{Round}
 use Rattle.tables.specs.declared.seat.Seat.{Seat}
 
 -- what is not so is false
@@ -45,15 +44,14 @@ pub sale_allowed : (seats : ℕ) (events : List Event) (seat : Seat) (sale : Sal
     → sale_judgement seats events seat sale operating ≡ None → MaySell seats events seat sale
 unfolding sale_judgement must_stay
 sale_allowed seats events seat sale operating none =
-    let kept = none_broken (sale_rules seats events seat sale operating) none in
+    let kept = not_broken code_of_stock_rule (sale_rules seats events seat sale operating) none in
     record {
-      held = kept.1.0;
-      pool = kept.1.1.0;
+      held = kept NotHeld;
+      pool = kept PoolFull;
       leaves =
           stays (presides seat (president_of events sale.company)) (none_is_left seats events seat sale)
-          (moves_operating seats events seat sale operating) kept.1.1.1.0;
-      started =
-          holds (is_started events sale.company) kept.1.1.1.1.0;
+          (moves_operating seats events seat sale operating) (kept PresidentMustStay);
+      started = holds (is_started events sale.company) (kept WrongStart);
     }
 
 -- a company that is started stays so
@@ -104,16 +102,12 @@ same_stay seats before after seat sale operating same =
     ∙ ap (λ (moves : Bool). presides seat (president_of before sale.company)
     && (none_is_left seats before seat sale || moves)) (same_moves seats before after seat sale operating same)
 
--- the first of the five rules of a sale that is broken
-abbrev judged : Bool → Bool → Bool → Bool → Bool → Option StockRule
-judged first unheld full stays unstarted =
-    first_broken
-    (record { code = SaleInFirstRound; broken = first }
-    ∷ record { code = NotHeld; broken = unheld }
-    ∷ record { code = PoolFull; broken = full }
-    ∷ record { code = PresidentMustStay; broken = stays }
-    ∷ record { code = WrongStart; broken = unstarted }
-    ∷ [])
+-- a row is as before if its test is, and so are the rows below it
+same_row : (code : StockRule) {is was : Bool} {later earlier : List (Rule StockRule)} → is ≡ was → later ≡ earlier
+    → (record { code = code; broken = is } ∷ later) ≡ (record { code = code; broken = was } ∷ earlier)
+same_row code {is = is} {was = was} {later = later} {earlier = earlier} test rows =
+    ap (λ (b : Bool). record { code = code; broken = b } ∷ later) test
+    ∙ ap (λ (others : List (Rule StockRule)). record { code = code; broken = was } ∷ others) rows
 
 -- in the same round a sale is judged as before
 pub same_judgement : (seats : ℕ) (before after : List Event) (seat : Seat) (sale : Sale) (operating : Option Company)
@@ -121,21 +115,13 @@ pub same_judgement : (seats : ℕ) (before after : List Event) (seat : Seat) (sa
     → sale_judgement seats after seat sale operating ≡ sale_judgement seats before seat sale operating
 unfolding sale_judgement is_not_held is_over_five
 same_judgement seats before after seat sale operating same round =
-    let first : Bool = is_first_stock (round_of before) in
-    let unheld : Bool = is_not_held before seat sale in
-    let full : Bool = is_over_five before sale in
-    let stays : Bool = must_stay seats before seat sale operating in
-    ap (λ (its : Option Round). judged (is_first_stock its) (is_not_held after seat sale) (is_over_five after sale)
-    (must_stay seats after seat sale operating) (not (is_started after sale.company))) round
-    ∙ ap (λ (held : ℤ). judged first (sale.shares == 0 || lt_z held (pos sale.shares)) (is_over_five after sale)
-    (must_stay seats after seat sale operating) (not (is_started after sale.company)))
-    (same.shares sale.company (OfSeat seat))
-    ∙ ap (λ (pooled : ℤ). judged first unheld (lt_z (pos 5) (pooled +ℤ pos sale.shares))
-    (must_stay seats after seat sale operating) (not (is_started after sale.company)))
-    (same.shares sale.company BankPool)
-    ∙ ap (λ (its : Bool). judged first unheld full its (not (is_started after sale.company)))
-    (same_stay seats before after seat sale operating same)
-    ∙ ap (λ (its : Bool). judged first unheld full stays (not its)) (same_start before after sale.company same)
+    ap first_broken
+    (same_row SaleInFirstRound (ap is_first_stock round)
+    (same_row NotHeld (ap (λ (held : ℤ). sale.shares == 0 || lt_z held (pos sale.shares))
+    (same.shares sale.company (OfSeat seat)))
+    (same_row PoolFull (ap (λ (pooled : ℤ). lt_z (pos 5) (pooled +ℤ pos sale.shares)) (same.shares sale.company BankPool))
+    (same_row PresidentMustStay (same_stay seats before after seat sale operating same)
+    (same_row WrongStart {later = []} {earlier = []} (ap not (same_start before after sale.company same)) refl)))))
 
 -- a sale can still be made where a list says the same
 pub still_may_sell : (seats : ℕ) (before after : List Event) (seat : Seat) (sale : Sale) → SaysTheSame before after

@@ -12,7 +12,9 @@ use crate::counted::{counted_now, counts_on};
 use crate::deal::Purchase;
 use history::{GameView, History, ShareCount, Shareholder, StockRule};
 use order_grammar::ShareSource;
-use tables::{Amount, Company, Money, Seat, Zone, certificate_limit, par_square, price, zone};
+use tables::{
+    Amount, Company, Money, Seat, Zone, certificate_limit, par_square, price, rules, zone,
+};
 
 /// The most shares of a company that a seat may hold if no zone lifts that.
 const SHARES_MOST: ShareCount = 6;
@@ -46,31 +48,16 @@ fn broken_by(
         ≡ purchase_judgement now.now.seats now.now.events.now seat purchase bought }
 {
     let company = purchase.company();
-    if now.has_sold_in_round(company, seat) {
-        return Some(StockRule::SoldInRound);
+    rules! { StockRule
+        SoldInRound: now.has_sold_in_round(company, seat),
+        NoneThere: is_sold_out_there(now, purchase),
+        NoParValue: is_no_par(purchase),
+        WrongStart: is_wrong_start(now, purchase),
+        CashTooSmall: is_short(now, seat, purchase),
+        CertificateLimit: is_at_limit(now, seat, company),
+        OverSixShares: is_over_six(now, seat, company, purchase.shares()),
+        BoughtBefore: is_second(now, company, bought),
     }
-    if is_sold_out_there(now, purchase) {
-        return Some(StockRule::NoneThere);
-    }
-    if is_no_par(purchase) {
-        return Some(StockRule::NoParValue);
-    }
-    if is_wrong_start(now, purchase) {
-        return Some(StockRule::WrongStart);
-    }
-    if is_short(now, seat, purchase) {
-        return Some(StockRule::CashTooSmall);
-    }
-    if is_at_limit(now, seat, company) {
-        return Some(StockRule::CertificateLimit);
-    }
-    if is_over_six(now, seat, company, purchase.shares()) {
-        return Some(StockRule::OverSixShares);
-    }
-    if is_second(now, company, bought) {
-        return Some(StockRule::BoughtBefore);
-    }
-    None
 }
 
 /// Returns whether no share is where one is to be bought.

@@ -1,5 +1,4 @@
 ghost use Rattle.std.specs.Prelude.{◌≡◌, ◌^◌, ◌≤ℤ◌, ◌+ℤ◌, pos};
-ghost use Rattle.certs.specs.Counted.{presides};
 ghost use Rattle.certs.specs.Purchase.{allowed};
 ghost use Rattle.certs.specs.Sale.{another_has, is_first_stock, is_not_held, is_over_five, kept_after, none_is_left};
 ghost use Rattle.certs.specs.Sale.{moves_operating, must_stay, sale_judgement};
@@ -9,7 +8,7 @@ ghost use Rattle.totals.specs.Shares.{shares_of};
 
 use crate::deal::Sale;
 use history::{GameView, History, ShareCount, Shareholder, StockRule};
-use tables::{Company, Round, Seat};
+use tables::{Company, Round, Seat, rules};
 
 /// The most shares of a company that the bank pool may hold.
 const POOL_MOST: ShareCount = 5;
@@ -44,22 +43,13 @@ fn broken_by(
 ) -> Option<StockRule>
     ensures { result ≡ sale_judgement now.now.seats now.now.events.now seat sale operating }
 {
-    if is_first_stock(now) {
-        return Some(StockRule::SaleInFirstRound);
+    rules! { StockRule
+        SaleInFirstRound: is_first_stock(now),
+        NotHeld: is_not_held(now, seat, sale),
+        PoolFull: is_over_five(now, sale),
+        PresidentMustStay: must_stay(now, seat, sale, operating),
+        WrongStart: !now.is_started(sale.company),
     }
-    if is_not_held(now, seat, sale) {
-        return Some(StockRule::NotHeld);
-    }
-    if is_over_five(now, sale) {
-        return Some(StockRule::PoolFull);
-    }
-    if must_stay(now, seat, sale, operating) {
-        return Some(StockRule::PresidentMustStay);
-    }
-    if !now.is_started(sale.company) {
-        return Some(StockRule::WrongStart);
-    }
-    None
 }
 
 /// Returns whether the round is the first stock round.

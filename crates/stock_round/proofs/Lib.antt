@@ -1,4 +1,9 @@
-pub mod Acted
-pub mod Acts
-pub mod Judged
-pub mod Rises
+mod PriceLemmas
+mod FloatLemmas
+mod ParLemmas
+mod BuyLemmas
+mod SellLemmas
+mod ExchangeLemmas
+mod OrderLemmas
+mod TurnLemmas
+mod ClosingLemmas

@@ -1,6 +1,10 @@
-pub mod Judgement
-pub mod Act
-pub mod Allowed
+pub mod Float
+pub mod Par
+pub mod Buy
+pub mod Sell
+pub mod Exchange
+pub mod Orders
+pub mod Deals
 pub mod Standing
 pub mod Closing
 pub mod Turn

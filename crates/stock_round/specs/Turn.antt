@@ -2,15 +2,14 @@
 -- before left. In a turn a seat buys once, but may buy several certificates of a company whose
 -- square is brown, and sells any number of times, before and after. A seat that neither bought nor
 -- sold passes, even if it gave up MH.
-use Rattle.std.specs.Prelude.{ℕ, Bool, true, false, ◌||◌, List, Some, None, is_some}
+use Rattle.std.specs.Prelude.{ℕ, false, List}
 use Rattle.events.specs.declared.event.Event.{Event}
 use Rattle.events.specs.declared.ruling.Ruling.{Ruling}
 use Rattle.order_grammar.specs.declared.order.Order.{Order}
-use Rattle.order_grammar.specs.declared.order.Order.TheVariants.{Par, BuyShare, Sell}
 use Rattle.sheets.specs.Part.{Numbered}
-use Rattle.stock_round.specs.Act.{after_act}
 use Rattle.stock_round.specs.Closing.{closed}
-use Rattle.stock_round.specs.Judgement.{refusal_of}
+use Rattle.stock_round.specs.Deals.{has_acted, no_deals, with_deal}
+use Rattle.stock_round.specs.Orders.{after_act, refusal_of}
 use Rattle.stock_round.specs.Standing.{after_standing_line}
 use Rattle.stock_round.specs.declared.deals.ShareDeals.{ShareDeals}
 use Rattle.tables.specs.Turns.{Play}
@@ -18,21 +17,6 @@ use Rattle.tables.specs.declared.seat.Seat.{Seat}
 use Rattle.turns.specs.RoundOfTurns.{RoundRules, in_turn, turns_of}
 use Rattle.turns.specs.RoundOfTurns as turns
 use Rattle.turns.specs.Ruling.{after_ruling as turn_ruled, has_place_in_turn, line_ruling}
-
--- a seat has done nothing yet
-abbrev pub no_deals : ShareDeals
-no_deals = record { bought = None; sold = false }
-
--- a seat has bought or sold
-abbrev pub has_acted : ShareDeals → Bool
-has_acted deals = is_some deals.bought || deals.sold
-
--- what a seat has done after an order that was obeyed; an exchange is neither a purchase nor a sale
-abbrev pub with_deal : ShareDeals → Order → ShareDeals
-with_deal deals (Par company price) = record { bought = Some company; sold = deals.sold }
-with_deal deals (BuyShare company from) = record { bought = Some company; sold = deals.sold }
-with_deal deals (Sell company shares) = record { bought = deals.bought; sold = true }
-with_deal deals other = deals
 
 -- in a turn: the list so far, and what the seat has done
 abbrev pub InTurn : Type 0

@@ -1,7 +1,6 @@
 ghost use Rattle.std.specs.Prelude.{◌≡◌};
-ghost use Rattle.stock_round.specs.Turn.{has_acted, with_deal};
+ghost use Rattle.stock_round.specs.Deals.{has_acted, with_purchase, with_sale};
 
-use order_grammar::Order;
 use tables::Company;
 
 /// What a seat has done in a turn: of which company it has bought, if of any, and whether it has
@@ -15,21 +14,23 @@ pub(crate) struct ShareDeals {
 }
 
 impl ShareDeals {
-    /// Returns what has been done once an order is obeyed too. An exchange is neither a purchase
-    /// nor a sale.
-    pub(crate) fn with(self, order: &Order) -> ShareDeals
-        ensures { result ≡ with_deal self order.now }
+    /// Returns what has been done once a certificate of a company is bought too.
+    pub(crate) fn with_purchase(self, company: Company) -> ShareDeals
+        ensures { result ≡ with_purchase self company }
     {
-        match order {
-            Order::Par { company, .. } | Order::BuyShare { company, .. } => ShareDeals {
-                bought: Some(*company),
-                sold: self.sold,
-            },
-            Order::Sell { .. } => ShareDeals {
-                bought: self.bought,
-                sold: true,
-            },
-            _ => self,
+        ShareDeals {
+            bought: Some(company),
+            sold: self.sold,
+        }
+    }
+
+    /// Returns what has been done once shares are sold too.
+    pub(crate) fn with_sale(self) -> ShareDeals
+        ensures { result ≡ with_sale self }
+    {
+        ShareDeals {
+            bought: self.bought,
+            sold: true,
         }
     }
 

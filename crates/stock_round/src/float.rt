@@ -1,7 +1,7 @@
 ghost use Rattle.std.specs.Prelude.{◌≡◌, OnOk, true, unwrap_or};
 ghost use Rattle.totals.specs.Shares.{par_of};
 ghost use Rattle.history.specs.Sound.{IsSound};
-ghost use Rattle.stock_round.specs.Act.{floated_at, is_to_float, with_float};
+ghost use Rattle.stock_round.specs.Float.{floated_at, is_to_float, with_float};
 
 use crate::prices::par_value;
 use history::{Event, History, ShareCount, Shareholder};

@@ -7,21 +7,24 @@
 //! few shares are left in its initial offering. The round is over when all seats have passed in
 //! succession; then the companies whose shares are all with players move up.
 //!
-//! Reading order: `judgement` (the rules that an order may break), `act` (what follows from an
-//! obeyed order) with `payments`, `prices` and `float`, `deals` (what a seat has done in a turn),
-//! `turn` (the lines of a turn), `standing` (the lines before the first written turn), `closing`,
-//! `playing` (what makes it a round of `turns`), `laws` (what holds of every stock round).
+//! Reading order: an order is a file, with its rules, its judgement and what it does: `par`, `buy`,
+//! `sell`, `exchange`. `prices` and `float` are what they share, and `orders` takes an order to its
+//! file. Then `deals` (what a seat has done in a turn), `turn` (the lines of a turn), `standing`
+//! (the lines before the first written turn), `closing`, `playing` (what makes it a round of
+//! `turns`), `laws` (what holds of every stock round).
 #![tactic(auto)]
 
-mod act;
+mod buy;
 mod closing;
 mod deals;
+mod exchange;
 mod float;
-mod judgement;
 pub mod laws;
-mod payments;
+mod orders;
+mod par;
 mod playing;
 mod prices;
+mod sell;
 mod standing;
 mod turn;
 

@@ -1,14 +1,13 @@
 ghost use Rattle.std.specs.Prelude.{◌≡◌, ◌≤◌, ◌<◌, OnOk, IfOk};
 ghost use Rattle.history.specs.Sound.{IsSound};
 ghost use Rattle.sheets.specs.Part.{line_unread};
-ghost use Rattle.stock_round.specs.Judgement.{refusal_of};
+ghost use Rattle.stock_round.specs.Orders.{refusal_of};
 ghost use Rattle.stock_round.specs.Turn.{after_stock_line};
 ghost use Rattle.turns.specs.RoundOfTurns.{in_turn};
 ghost use Rattle.turns.specs.Ruling.{has_place_in_turn};
 
-use crate::act::act;
 use crate::deals::ShareDeals;
-use crate::judgement::judge;
+use crate::orders;
 use history::{History, Refusal};
 use order_grammar::Order;
 use sheets::{UnreadLine, is_of_file};
@@ -34,7 +33,7 @@ impl Family for TurnLines {
     }
 
     fn judge(&self, history: &History, seat: Seat, order: &Order) -> Option<Refusal> {
-        judge(history, seat, order, self.bought).map(Refusal::Stock)
+        orders::judge(history, seat, order, self.bought).map(Refusal::Stock)
     }
 }
 
@@ -62,6 +61,5 @@ pub(crate) fn rule_line(
     if !turns::rule_line(&lines, history, seat, line, order)? {
         return Ok(deals);
     }
-    act(history, seat, order)?;
-    Ok(deals.with(order))
+    orders::act(history, seat, order, deals)
 }

@@ -1,4 +1,4 @@
-use Rattle.std.proofs.Common.{◌≡◌, ◌+ℤ◌, Option, pos, ap, ◌∙◌}
+use Rattle.std.proofs.Common.{◌+ℤ◌, Option, pos, ap, ◌∙◌}
 use std.Path.{fun_ext}
 use Rattle.certs.specs.Counted.{certificates_in, certificates_now, privates_owned}
 use Rattle.events.specs.declared.event.Holder.{Holder}

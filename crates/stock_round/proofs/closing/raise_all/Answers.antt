@@ -1,5 +1,5 @@
 use Rattle.std.proofs.Common.{◌∙◌}
-use Rattle.stock_round.proofs.Rises.{rises_go_on}
+use Rattle.stock_round.proofs.ClosingLemmas.{rises_go_on}
 use Rattle.stock_round.proofs.closing.raise_all.Goals as goal
 
 pub loop-company-preserved : goal.loop-company-preserved

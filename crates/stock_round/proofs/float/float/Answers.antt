@@ -1,4 +1,4 @@
-use Rattle.stock_round.proofs.Acts.{float_led, float_sound}
+use Rattle.stock_round.proofs.FloatLemmas.{float_led, float_sound}
 use Rattle.stock_round.proofs.float.float.Goals as goal
 
 pub par_value-amount-requires : goal.par_value-amount-requires

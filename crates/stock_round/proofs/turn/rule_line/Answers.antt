@@ -2,8 +2,8 @@ use Rattle.std.proofs.Common.{subst}
 use Rattle.events.specs.declared.ruling.Refusal.TheVariants.{Stock}
 use Rattle.history.proofs.NearlySound.{ruling_quiet}
 use Rattle.sheets.specs.Part.{line_unread}
-use Rattle.stock_round.proofs.Judged.{may_act_after}
-use Rattle.stock_round.specs.Judgement.{judgement_of, refusal_of}
+use Rattle.stock_round.proofs.OrderLemmas.{may_act_after}
+use Rattle.stock_round.specs.Orders.{judgement_of, refusal_of}
 use Rattle.turns.proofs.Ruled.{none_as_refusal}
 use Rattle.turns.specs.Ruling.{IsOrderToDo, IsToDo, has_place_in_turn}
 use Rattle.stock_round.proofs.turn.rule_line.Goals as goal

@@ -2,8 +2,8 @@ use Rattle.std.proofs.Common.{ℕ, ◌*◌, ap, ◌∙◌}
 use Rattle.events.specs.declared.event.Event.TheVariants as event
 use Rattle.totals.specs.LookBack.{Game, with_event}
 use Rattle.order_grammar.specs.declared.order.ShareSource.TheVariants.{InitialOffering}
-use Rattle.stock_round.proofs.Acts.{start_sound}
-use Rattle.stock_round.proofs.act.start.Goals as goal
+use Rattle.stock_round.proofs.ParLemmas.{start_sound}
+use Rattle.stock_round.proofs.par.act.Goals as goal
 
 pub returns-clause-sound : goal.returns-clause-sound
 returns-clause-sound c =

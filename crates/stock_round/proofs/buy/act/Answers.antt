@@ -1,5 +1,5 @@
 use Rattle.certs.proofs.Succession.{president_sound}
-use Rattle.stock_round.proofs.act.buy.Goals as goal
+use Rattle.stock_round.proofs.buy.act.Goals as goal
 
 pub record_float-requires : goal.record_float-requires
 record_float-requires c =

@@ -1,6 +1,6 @@
 use Rattle.certs.proofs.Succession.{president_sound}
 use Rattle.tables.specs.declared.roster.Company.TheVariants.{NewYorkCentral}
-use Rattle.stock_round.proofs.act.exchange.Goals as goal
+use Rattle.stock_round.proofs.exchange.act.Goals as goal
 
 pub record_float-requires : goal.record_float-requires
 record_float-requires c =

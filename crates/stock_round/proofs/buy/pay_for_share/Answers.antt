@@ -1,5 +1,5 @@
-use Rattle.stock_round.proofs.Acts.{purchase_sound}
-use Rattle.stock_round.proofs.payments.pay_for_share.Goals as goal
+use Rattle.stock_round.proofs.BuyLemmas.{purchase_sound}
+use Rattle.stock_round.proofs.buy.pay_for_share.Goals as goal
 
 pub returns-clause-sound : goal.returns-clause-sound
 returns-clause-sound c =

@@ -1,5 +1,5 @@
-use Rattle.stock_round.proofs.Acts.{exchange_sound}
-use Rattle.stock_round.proofs.payments.give_up_mohawk.Goals as goal
+use Rattle.stock_round.proofs.ExchangeLemmas.{exchange_sound}
+use Rattle.stock_round.proofs.exchange.give_up_mohawk.Goals as goal
 
 pub returns-clause-sound : goal.returns-clause-sound
 returns-clause-sound c =

@@ -1,0 +1,95 @@
+-- A company that floats. Nobody acts by a float, nor by what else follows from an order.
+use Rattle.std.proofs.Common.{◌≡◌, ℕ, ◌*◌, ◌≤◌, ◌==◌, Bool, true, false, not, ◌&&◌, if◌then◌else◌, List, [], ◌∷◌, ◌++◌}
+use Rattle.std.proofs.Common.{Option, Some, None, ℤ, pos, ◌≤ℤ◌, refl, sym, subst, arith}
+use Rattle.std.proofs.lemmas.Int.{ints}
+use Rattle.std.specs.Int.Signed.{lt_z}
+use Rattle.std.specs.Prelude.{unwrap_or}
+use Rattle.certs.specs.President.{successor_of}
+use Rattle.certs.specs.SaleAct.{with_president, with_successor}
+use Rattle.events.specs.declared.event.Event.{Event}
+use Rattle.events.specs.declared.event.Event.TheVariants as event
+use Rattle.events.specs.declared.event.Shareholder.TheVariants.{InitialOffering}
+use Rattle.history.proofs.Blocks.{float_sound as float_law}
+use Rattle.history.specs.Record.{breaks, with_broken}
+use Rattle.history.specs.Sound.{IsLed, IsSound, least_offered}
+use Rattle.totals.specs.LookBack.{Game, is_closed, is_sold, with_event}
+use Rattle.totals.specs.Shares.{is_floated, par_of, president_of, shares_of, square_of}
+use Rattle.stock_round.specs.Float.{float_most, floated_at, is_to_float, with_float}
+use Rattle.tables.specs.declared.roster.Company.{Company}
+use Rattle.tables.specs.declared.roster.Company.TheVariants as company
+use Rattle.tables.specs.declared.roster.Private.TheVariants.{MohawkHudson, CamdenAmboy}
+use Rattle.tables.specs.declared.seat.Seat.{Seat}
+use Rattle.tables.specs.declared.squares.Square.{Square}
+use Rattle.turns.proofs.Acted.{in_both, in_either, nobody, one_more}
+use Rattle.turns.specs.Acted.{SaysWhoActed}
+
+-- a company that is to float has few shares left
+few_left : (floated : Bool) (left : ℤ) → (not floated && not (lt_z (pos float_most) left)) ≡ true → left ≤ℤ pos 4
+few_left true left is = absurd (cc)
+few_left false left is = grind (arith, ints, is)
+
+-- at least eight shares are to stay
+eight_stay : (events : List Event) (its : Company) → 8 ≤ least_offered events its
+eight_stay events company.Pennsylvania = elim (is_sold events CamdenAmboy) as (λ (b : Bool). 8 ≤ (if b then 8 else 9))
+    [ true ↦ omega arith | false ↦ omega arith ]
+eight_stay events company.NewYorkCentral = elim (is_closed events MohawkHudson) as
+    (λ (b : Bool). 8 ≤ (if b then 8 else 9)) [ true ↦ omega arith | false ↦ omega arith ]
+eight_stay events other = omega arith
+
+-- a company that is to float is led
+pub float_led : (game : Game) (its : Company) → is_to_float game.events its ≡ true → IsSound game
+    → IsLed game.events its
+float_led game its ready sound =
+    elim (square_of game.events its) as (λ (found : Option Square). square_of game.events its ≡ found
+    → IsLed game.events its) [
+      | None ↦ λ is.
+          let stay = sound.offered its is in
+          let eight = eight_stay game.events its in
+          let few = few_left (is_floated game.events its) (shares_of game.events its InitialOffering) ready in
+          let no : 1 ≤ 0 = omega (arith, ints, stay, eight, few) in
+          absurd (omega (arith, no))
+      | Some square ↦ λ is. sound.led its square is
+    ]
+    refl
+
+-- a company that floats
+pub float_sound : (game new : Game) (its : Company) (amount : ℕ) → is_to_float game.events its ≡ true
+    → new ≡ with_event game (event.Floats its amount) → IsSound game → IsSound new
+float_sound game new its amount ready recorded sound =
+    subst IsSound (sym recorded) (float_law game its amount
+    (few_left (is_floated game.events its) (shares_of game.events its InitialOffering) ready) sound)
+
+-- nobody acts where the bank breaks
+pub in_break : (seats : ℕ) (seat : Seat) (events : List Event) → SaysWhoActed seat false events (with_broken seats events)
+in_break seats seat events =
+    in_either seat false events (events ++ event.Broken ∷ []) events (breaks seats events)
+    (one_more seat false events event.Broken refl) (nobody seat events)
+
+-- nor where a presidency moves from this seat, if any has it
+pub in_succession : (seats : ℕ) (seat : Seat) (events : List Event) (company : Company) (old : Option Seat)
+    → SaysWhoActed seat false events (with_successor seats events company old)
+in_succession seats seat events company None = nobody seat events
+in_succession seats seat events company (Some old) =
+    let new : Seat = successor_of seats events company old in
+    in_either seat false events events (events ++ event.President company new ∷ []) (new.0 == old.0)
+    (nobody seat events)
+    (one_more seat false events (event.President company new) refl)
+
+-- nor where a company floats
+in_float : (seats : ℕ) (seat : Seat) (events : List Event) (company : Company)
+    → SaysWhoActed seat false events (with_float seats events company)
+in_float seats seat events company =
+    let par : ℕ = unwrap_or (par_of events company) 0 in
+    let recorded : List Event = events ++ event.Floats company (10 * par) ∷ [] in
+    in_either seat false events (floated_at seats events company par) events (is_to_float events company)
+    (in_both seat false false events recorded (with_broken seats recorded)
+    (one_more seat false events (event.Floats company (10 * par)) refl) (in_break seats seat recorded))
+    (nobody seat events)
+
+-- nor by what follows from a share that a seat now has
+pub in_what_follows : (seats : ℕ) (seat : Seat) (events : List Event) (company : Company)
+    → SaysWhoActed seat false events (with_float seats (with_president seats events company) company)
+in_what_follows seats seat events company =
+    let presided : List Event = with_president seats events company in
+    in_both seat false false events presided (with_float seats presided company)
+    (in_succession seats seat events company (president_of events company)) (in_float seats seat presided company)

@@ -1,0 +1,87 @@
+-- The new events of a line of a stock turn say who acted in it.
+use Rattle.std.proofs.Common.{◌≡◌, ℕ, Bool, true, false, ◌||◌, List, [], ◌∷◌, ◌++◌, Option, None, refl}
+use Rattle.std.specs.Prelude.{is_some}
+use Rattle.events.specs.declared.event.Event.{Event}
+use Rattle.events.specs.declared.event.Event.TheVariants as event
+use Rattle.events.specs.declared.ruling.Ruling.TheVariants.{Obeyed}
+use Rattle.order_grammar.specs.declared.condition.Condition.{Condition}
+use Rattle.order_grammar.specs.declared.order.Order.{Order}
+use Rattle.order_grammar.specs.declared.order.Order.TheVariants as order
+use Rattle.sheets.specs.Part.{Numbered}
+use Rattle.stock_round.proofs.BuyLemmas.{in_purchase}
+use Rattle.stock_round.proofs.ExchangeLemmas.{in_exchange}
+use Rattle.stock_round.proofs.SellLemmas.{in_sale}
+use Rattle.stock_round.specs.Buy.{after_purchase}
+use Rattle.stock_round.specs.Exchange.{after_exchange}
+use Rattle.stock_round.specs.Orders.{refusal_of}
+use Rattle.stock_round.specs.Par.{after_start}
+use Rattle.stock_round.specs.Sell.{after_sale}
+use Rattle.stock_round.specs.Turn.{InTurn, acted, after_ruling, stock_rules}
+use Rattle.tables.specs.declared.seat.Seat.{Seat}
+use Rattle.turns.proofs.Acted.{LineSaysWhoActed, in_both, nobody_ruled, one_more, or_nothing, turns_say}
+use Rattle.turns.proofs.Ruled.{of_ruled}
+use Rattle.turns.specs.Acted.{TurnsSayWhoActed}
+use Rattle.turns.specs.Ruling.{has_place_in_turn}
+
+-- who has bought has acted
+has_bought : (before : Bool) → true ≡ (before || true)
+has_bought true = refl
+has_bought false = refl
+
+-- who has sold has acted
+has_sold : (before sold : Bool) → (before || true) ≡ ((before || sold) || true)
+has_sold true sold = refl
+has_sold false true = refl
+has_sold false false = refl
+
+-- by a line whose order is done
+order_says : (seats : ℕ) (seat : Seat) (turn : InTurn) (number : ℕ) (condition : Option Condition) (done : Order)
+    → refusal_of seats turn.events seat turn.actions.bought done ≡ None →
+    LineSaysWhoActed stock_rules seat turn (after_ruling seats seat turn number (Obeyed condition done))
+order_says seats seat turn number condition (order.Par company price) kept =
+    let line : Event = event.Ruled seat number (Obeyed condition (order.Par company price)) in
+    let ruled : List Event = turn.events ++ line ∷ [] in
+    record {
+      acts = true;
+      says_who = in_both seat false true turn.events ruled (after_start ruled seat company price)
+          (one_more seat false turn.events line refl) (record { more = _; longer = refl; last = refl });
+      acted = has_bought (is_some turn.actions.bought || turn.actions.sold);
+    }
+order_says seats seat turn number condition (order.BuyShare company from) kept =
+    let line : Event = event.Ruled seat number (Obeyed condition (order.BuyShare company from)) in
+    let ruled : List Event = turn.events ++ line ∷ [] in
+    record {
+      acts = true;
+      says_who = in_both seat false true turn.events ruled (after_purchase seats ruled seat company from)
+          (one_more seat false turn.events line refl) (in_purchase seats seat ruled company from);
+      acted = has_bought (is_some turn.actions.bought || turn.actions.sold);
+    }
+order_says seats seat turn number condition (order.Sell company shares) kept =
+    let line : Event = event.Ruled seat number (Obeyed condition (order.Sell company shares)) in
+    let ruled : List Event = turn.events ++ line ∷ [] in
+    record {
+      acts = true;
+      says_who = in_both seat true false turn.events ruled (after_sale seats ruled seat company shares)
+          (one_more seat true turn.events line refl) (in_sale seats seat ruled company shares);
+      acted = has_sold (is_some turn.actions.bought) turn.actions.sold;
+    }
+order_says seats seat turn number condition order.ExchangeMohawk kept =
+    let line : Event = event.Ruled seat number (Obeyed condition order.ExchangeMohawk) in
+    let ruled : List Event = turn.events ++ line ∷ [] in
+    record {
+      acts = false;
+      says_who = in_both seat false false turn.events ruled (after_exchange seats ruled seat)
+          (one_more seat false turn.events line refl) (in_exchange seats seat ruled);
+      acted = or_nothing (is_some turn.actions.bought || turn.actions.sold);
+    }
+order_says seats seat turn number condition other kept = absurd (cc)
+
+-- so each turn of a stock round says who acted in it
+pub stock_turns_say : TurnsSayWhoActed stock_rules
+stock_turns_say =
+    turns_say stock_rules refl
+    (λ (seats : ℕ) (seat : Seat) (turn : InTurn) (line : Numbered).
+    of_ruled (acted seats seat) (refusal_of seats turn.events seat turn.actions.bought) seat turn line.number
+    (LineSaysWhoActed stock_rules seat turn)
+    (nobody_ruled stock_rules seat turn line.number) (order_says seats seat turn line.number) has_place_in_turn
+    turn.events line)

@@ -1,0 +1,74 @@
+-- EXCHANGE: the owner of MH gives it up for a share of NYC, even before NYC is started. The share
+-- comes from the initial offering, or from the bank pool if the initial offering has none. The owner
+-- may not hold over six shares then, if the zone of NYC's square limits that. It costs nothing.
+use Rattle.std.specs.Prelude.{◌≡◌, ℕ, ◌==◌, Bool, false, not, ◌||◌, if◌then◌else◌, List, [], ◌∷◌, ◌++◌, Option, Some}
+use Rattle.std.specs.Prelude.{None, pos}
+use Rattle.std.specs.Int.Signed.{lt_z}
+use Rattle.certs.specs.Purchase.{is_over_six}
+use Rattle.certs.specs.SaleAct.{with_president}
+use Rattle.events.specs.declared.event.Event.{Event}
+use Rattle.events.specs.declared.event.Event.TheVariants as event
+use Rattle.events.specs.declared.event.Holder.{Holder}
+use Rattle.events.specs.declared.event.Holder.TheVariants as holder
+use Rattle.events.specs.declared.event.Shareholder.TheVariants.{InitialOffering, BankPool}
+use Rattle.events.specs.declared.ruling.StockRule.{StockRule}
+use Rattle.events.specs.declared.ruling.StockRule.TheVariants.{NoExchange}
+use Rattle.totals.specs.LookBack.{owner_of}
+use Rattle.totals.specs.Shares.{shares_of}
+use Rattle.order_grammar.specs.declared.order.ShareSource.{ShareSource}
+use Rattle.order_grammar.specs.declared.order.ShareSource.TheVariants as source
+use Rattle.stock_round.specs.Float.{with_float}
+use Rattle.tables.specs.Rules.{Rule, first_broken}
+use Rattle.tables.specs.declared.roster.Company.TheVariants.{NewYorkCentral}
+use Rattle.tables.specs.declared.roster.Private.TheVariants.{MohawkHudson}
+use Rattle.tables.specs.declared.seat.Seat.{Seat}
+
+-- the seat is this owner
+abbrev pub is_owner : Seat → Option Holder → Bool
+is_owner seat None = false
+is_owner seat (Some (holder.Seat owner)) = owner.0 == seat.0
+is_owner seat (Some (holder.Company company)) = false
+
+-- there is a share of NYC in the initial offering
+abbrev pub is_offered : List Event → Bool
+is_offered events = lt_z (pos 0) (shares_of events NewYorkCentral InitialOffering)
+
+-- there is one in the bank pool
+abbrev pub is_pooled : List Event → Bool
+is_pooled events = lt_z (pos 0) (shares_of events NewYorkCentral BankPool)
+
+-- how many shares are given for MH
+abbrev pub exchange_shares : ℕ
+exchange_shares = 1
+
+-- The seat may not give up MH for a share of NYC. It does not own MH, or neither the initial
+-- offering nor the pool has one, or the seat would hold over six shares.
+abbrev pub is_no_exchange : List Event → Seat → Bool
+is_no_exchange events seat =
+    not (is_owner seat (owner_of events MohawkHudson))
+    || (not (is_offered events || is_pooled events) || is_over_six events seat NewYorkCentral exchange_shares)
+
+-- the rule that an exchange may break
+abbrev pub exchange_rules : List Event → Seat → List (Rule StockRule)
+exchange_rules events seat = record { code = NoExchange; broken = is_no_exchange events seat } ∷ []
+
+-- the first rule that a seat breaks by an exchange
+abbrev pub exchange_judgement : List Event → Seat → Option StockRule
+exchange_judgement events seat = first_broken (exchange_rules events seat)
+
+-- the seat can give up MH for a share of NYC
+abbrev pub MayExchange : List Event → Seat → Type 0
+MayExchange events seat = is_no_exchange events seat ≡ false
+
+-- where the share of NYC for MH comes from: the initial offering first, otherwise the bank pool
+abbrev pub exchange_source : List Event → ShareSource
+exchange_source events = if is_offered events then source.InitialOffering else source.BankPool
+
+-- after a seat has given up MH for a share of NYC
+abbrev pub exchanged : List Event → Seat → List Event
+exchanged events seat = events ++ event.Exchanged seat (exchange_source events) ∷ []
+
+-- after a seat has done so, and what follows from it
+abbrev pub after_exchange : ℕ → List Event → Seat → List Event
+after_exchange seats events seat =
+    with_float seats (with_president seats (exchanged events seat) NewYorkCentral) NewYorkCentral

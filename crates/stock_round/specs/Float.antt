@@ -1,0 +1,28 @@
+-- The float: once at most four shares of a company are left in its initial offering, it has ten
+-- times its par value. A company floats once.
+use Rattle.std.specs.Prelude.{ℕ, ◌*◌, Bool, not, ◌&&◌, if◌then◌else◌, List, [], ◌∷◌, ◌++◌, unwrap_or, pos}
+use Rattle.std.specs.Int.Signed.{lt_z}
+use Rattle.events.specs.declared.event.Event.{Event}
+use Rattle.events.specs.declared.event.Event.TheVariants as event
+use Rattle.events.specs.declared.event.Shareholder.TheVariants.{InitialOffering}
+use Rattle.totals.specs.Shares.{is_floated, par_of, shares_of}
+use Rattle.history.specs.Record.{with_broken}
+use Rattle.tables.specs.declared.roster.Company.{Company}
+
+-- the most shares that are left in the initial offering of a company that floats
+abbrev pub float_most : ℕ
+float_most = 4
+
+-- few enough shares are left in the initial offering, and the company has not floated
+abbrev pub is_to_float : List Event → Company → Bool
+is_to_float events company = not (is_floated events company)
+    && not (lt_z (pos float_most) (shares_of events company InitialOffering))
+
+-- with FLOATS for a company with this par value, and BROKEN if that breaks the bank
+abbrev pub floated_at : ℕ → List Event → Company → ℕ → List Event
+floated_at seats events company par = with_broken seats (events ++ event.Floats company (10 * par) ∷ [])
+
+-- with FLOATS if a company floats
+abbrev pub with_float : ℕ → List Event → Company → List Event
+with_float seats events company =
+    if is_to_float events company then floated_at seats events company (unwrap_or (par_of events company) 0) else events

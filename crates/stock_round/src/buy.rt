@@ -1,0 +1,78 @@
+//! BUY: a seat buys a share of a company that is started: one of the initial offering at the par
+//! value, or one of the bank pool at the market price. The presidency passes if the seat then has
+//! more shares than the president, and the company floats once few of its shares are left.
+//!
+//! The rules are the rows of a purchase in `certs` (`share_purchase_rules`).
+ghost use Rattle.std.specs.Prelude.{◌≡◌, ◌≤◌, ◌<◌, OnOk};
+ghost use Rattle.history.specs.Sound.{IsSound};
+ghost use Rattle.stock_round.specs.Buy.{MayBuy, after_purchase, bought, buy_judgement};
+
+use crate::float::record_float;
+use crate::prices::share_cost;
+use certs::{Purchase, may_buy, record_president};
+use history::{Event, History, StockRule};
+use order_grammar::ShareSource;
+use std::alloc::AllocError;
+use tables::{Company, Seat};
+
+/// Returns the first rule that a seat breaks if it buys a share from there, in a turn in which it
+/// has bought of this company or of none; `None` if it breaks none.
+pub(crate) fn judge(
+    history: &History,
+    seat: Seat,
+    company: Company,
+    from: ShareSource,
+    bought: Option<Company>,
+) -> Option<StockRule>
+    ensures { result
+        ≡ buy_judgement history.now.seats history.now.events seat company from bought }
+{
+    may_buy(history, seat, Purchase::Share { company, from }, bought).err()
+}
+
+/// Buys a share of a company for a seat.
+pub(crate) fn act(
+    history: &mut History,
+    seat: Seat,
+    company: Company,
+    from: ShareSource,
+) -> Result<(), AllocError>
+    requires few { history.old.seats ≤ 6 }
+    requires at_table { seat.0 < history.old.seats }
+    requires may { MayBuy history.old.seats history.old.events seat company from }
+    requires sound { IsSound history.old }
+    ensures seats { OnOk result (history.new.seats ≡ history.old.seats) }
+    ensures events { OnOk result (history.new.events
+        ≡ after_purchase history.old.seats history.old.events seat company from) }
+    ensures sound { OnOk result (IsSound history.new) }
+{
+    pay_for_share(history, seat, company, from)?;
+    record_president(history, company)?;
+    record_float(history, company)
+}
+
+/// Pays for a share of a company, which the seat then has.
+fn pay_for_share(
+    history: &mut History,
+    seat: Seat,
+    company: Company,
+    from: ShareSource,
+) -> Result<(), AllocError>
+    requires at_table { seat.0 < history.old.seats }
+    requires may { MayBuy history.old.seats history.old.events seat company from }
+    requires sound { IsSound history.old }
+    ensures seats { OnOk result (history.new.seats ≡ history.old.seats) }
+    ensures events { OnOk result (history.new.events
+        ≡ bought history.old.events seat company from) }
+    ensures sound { OnOk result (IsSound history.new) }
+{
+    let price = share_cost(history, company, from);
+    history.append(Event::Bought {
+        company,
+        seat,
+        shares: 1,
+        from,
+        price,
+    })?;
+    Ok(())
+}

@@ -1,0 +1,70 @@
+//! The orders of a turn: which rule one breaks, and what follows if it breaks none.
+ghost use Rattle.std.specs.Prelude.{◌≡◌, ◌≤◌, ◌<◌, IfOk, OnOk};
+ghost use Rattle.history.specs.Sound.{IsSound};
+ghost use Rattle.stock_round.specs.Deals.{with_deal};
+ghost use Rattle.stock_round.specs.Orders.{MayAct, after_act, judgement_of};
+
+use crate::deals::ShareDeals;
+use crate::{buy, exchange, par, sell};
+use history::{History, StockRule};
+use order_grammar::Order;
+use std::alloc::AllocError;
+use tables::{Company, Seat};
+
+/// Returns the first rule that an order of a seat breaks in its turn, in which it has bought of
+/// this company or of none; `None` if it breaks none.
+pub(crate) fn judge(
+    history: &History,
+    seat: Seat,
+    order: &Order,
+    bought: Option<Company>,
+) -> Option<StockRule>
+    ensures { result ≡ judgement_of history.now.seats history.now.events seat bought order.now }
+{
+    match order {
+        Order::Par { company, price } => par::judge(history, seat, *company, *price, bought),
+        Order::BuyShare { company, from } => buy::judge(history, seat, *company, *from, bought),
+        Order::Sell { company, shares } => sell::judge(history, seat, *company, *shares),
+        Order::ExchangeMohawk => exchange::judge(history, seat),
+        _ => Some(StockRule::NotOfStock),
+    }
+}
+
+/// Does what a seat orders in its turn, by an order that breaks no rule. Returns what the seat has
+/// done in the turn by then: an exchange is neither a purchase nor a sale.
+pub(crate) fn act(
+    history: &mut History,
+    seat: Seat,
+    order: &Order,
+    deals: ShareDeals,
+) -> Result<ShareDeals, AllocError>
+    requires few { history.old.seats ≤ 6 }
+    requires at_table { seat.0 < history.old.seats }
+    requires may { MayAct history.old.seats history.old.events seat order.now }
+    requires sound { IsSound history.old }
+    ensures seats { OnOk result (history.new.seats ≡ history.old.seats) }
+    ensures events { OnOk result (history.new.events
+        ≡ after_act history.old.seats seat history.old.events order.now) }
+    ensures deals { IfOk result (λ now. now ≡ with_deal deals order.now) }
+    ensures sound { OnOk result (IsSound history.new) }
+{
+    match order {
+        Order::Par { company, price } => {
+            par::act(history, seat, *company, *price)?;
+            Ok(deals.with_purchase(*company))
+        }
+        Order::BuyShare { company, from } => {
+            buy::act(history, seat, *company, *from)?;
+            Ok(deals.with_purchase(*company))
+        }
+        Order::Sell { company, shares } => {
+            sell::act(history, seat, *company, *shares)?;
+            Ok(deals.with_sale())
+        }
+        Order::ExchangeMohawk => {
+            exchange::act(history, seat)?;
+            Ok(deals)
+        }
+        _ => Ok(deals),
+    }
+}

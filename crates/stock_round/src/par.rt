@@ -1,0 +1,58 @@
+//! PAR: a seat sets the par value of a company that is not started, and so buys its president's
+//! certificate, two shares of the initial offering, each at that value. It then presides.
+//!
+//! The rules are the rows of a purchase in `certs` (`share_purchase_rules`).
+ghost use Rattle.std.specs.Prelude.{◌≡◌, ◌<◌, OnOk};
+ghost use Rattle.history.specs.Sound.{IsSound};
+ghost use Rattle.stock_round.specs.Par.{MayStart, after_start, par_judgement};
+
+use certs::{Purchase, may_buy};
+use history::{Event, History, StockRule};
+use order_grammar::ShareSource;
+use std::alloc::AllocError;
+use tables::{Amount, Company, Seat};
+
+/// The shares of a president's certificate.
+const PRESIDENT_SHARES: u8 = 2;
+
+/// Returns the first rule that a seat breaks if it sets this par value, in dollars, in a turn in
+/// which it has bought of this company or of none; `None` if it breaks none.
+pub(crate) fn judge(
+    history: &History,
+    seat: Seat,
+    company: Company,
+    price: Amount,
+    bought: Option<Company>,
+) -> Option<StockRule>
+    ensures { result
+        ≡ par_judgement history.now.seats history.now.events seat company price bought }
+{
+    may_buy(history, seat, Purchase::Par { company, price }, bought).err()
+}
+
+/// Sets the par value of a company, in dollars, and so buys its president's certificate for a seat.
+pub(crate) fn act(
+    history: &mut History,
+    seat: Seat,
+    company: Company,
+    price: Amount,
+) -> Result<(), AllocError>
+    requires at_table { seat.0 < history.old.seats }
+    requires may { MayStart history.old.seats history.old.events seat company price }
+    requires sound { IsSound history.old }
+    ensures seats { OnOk result (history.new.seats ≡ history.old.seats) }
+    ensures events { OnOk result (history.new.events
+        ≡ after_start history.old.events seat company price) }
+    ensures sound { OnOk result (IsSound history.new) }
+{
+    history.append(Event::Par { company, price })?;
+    history.append(Event::Bought {
+        company,
+        seat,
+        shares: PRESIDENT_SHARES,
+        from: ShareSource::InitialOffering,
+        price: Amount::from(PRESIDENT_SHARES) * price,
+    })?;
+    history.append(Event::President { company, seat })?;
+    Ok(())
+}

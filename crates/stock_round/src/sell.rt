@@ -1,0 +1,46 @@
+//! SELL: a seat sells shares of a company to the bank pool, as one block, at the market price. The
+//! presidency passes if another seat then has more shares, and the company's token moves down a
+//! square for each share.
+//!
+//! The rules are the rows of a sale in `certs` (`sale_rules`).
+ghost use Rattle.std.specs.Prelude.{◌≡◌, ◌≤◌, ◌<◌, OnOk};
+ghost use Rattle.history.specs.Sound.{IsSound};
+ghost use Rattle.stock_round.specs.Sell.{MaySell, after_sale, sale_of, sell_judgement};
+
+use certs::{Sale, may_sell, sell_block};
+use history::{History, StockRule};
+use std::alloc::AllocError;
+use tables::{Amount, Company, Seat};
+
+/// Returns the first rule that a seat breaks if it sells this many shares; `None` if it breaks
+/// none.
+pub(crate) fn judge(
+    history: &History,
+    seat: Seat,
+    company: Company,
+    shares: Amount,
+) -> Option<StockRule>
+    ensures { result
+        ≡ sell_judgement history.now.seats history.now.events seat company shares }
+{
+    may_sell(history, seat, Sale { company, shares }, None).err()
+}
+
+/// Sells this many shares of a company that a seat has.
+pub(crate) fn act(
+    history: &mut History,
+    seat: Seat,
+    company: Company,
+    shares: Amount,
+) -> Result<(), AllocError>
+    requires few { history.old.seats ≤ 6 }
+    requires at_table { seat.0 < history.old.seats }
+    requires may { MaySell history.old.seats history.old.events seat (sale_of company shares) }
+    requires sound { IsSound history.old }
+    ensures seats { OnOk result (history.new.seats ≡ history.old.seats) }
+    ensures events { OnOk result (history.new.events
+        ≡ after_sale history.old.seats history.old.events seat company shares) }
+    ensures sound { OnOk result (IsSound history.new) }
+{
+    sell_block(history, seat, Sale { company, shares })
+}
