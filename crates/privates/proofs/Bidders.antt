@@ -1,8 +1,8 @@
 -- The bidders of an auction that follows from a sale, and what its winner pays.
-use Rattle.std.proofs.Common.{◌≡◌, ◌≢◌, ℕ, ◌<◌, ◌≤◌, List, [], ◌∷◌, length, map, Option, Some, None, ℤ, pos, negsuc}
+use Rattle.std.proofs.Common.{◌≡◌, ◌≢◌, ℕ, ◌<◌, ◌≤◌, List, [], ◌∷◌, length, map, Some, ℤ, pos, negsuc}
 use Rattle.std.proofs.Common.{◌≤ℤ◌, inl, inr, refl, sym, subst, ap, ◌∙◌, arith}
 use Rattle.std.specs.Int.RustNames.{unsigned_abs}
-use Rattle.std.proofs.lemmas.Int.{ints, clamps}
+use Rattle.std.proofs.lemmas.Int.{ints}
 use Rattle.std.proofs.lemmas.List.{length-map}
 use Rattle.events.specs.declared.event.Bid.{Bid}
 use Rattle.events.specs.declared.event.Event.{Event}
@@ -10,31 +10,15 @@ use Rattle.totals.specs.Bids.{bid_of, bids_on, free_for}
 use Rattle.totals.specs.LookBack.{Game, cheapest_of}
 use Rattle.totals.specs.Orders.{bid_limit_of}
 use Rattle.privates.proofs.Auctions.{auction_won}
+use Rattle.privates.proofs.LimitLemmas.{limit_in_cash, limit_is_small, limit_over_bid}
 use Rattle.privates.proofs.StandingBids.{AmountsDiffer, EachBid, IsStandingBid, bid_free, bids_differ, bids_stand}
 use Rattle.privates.proofs.StandingBids.{cheapest_unsold}
-use Rattle.privates.specs.Act.{MayPay}
+use Rattle.privates.specs.Bank.{MayPay}
 use Rattle.privates.specs.Auction.{Bidder, BidsDiffer, EachBidder, IsAmong, LimitsHold, auction_of, bid_by, limit_by}
-use Rattle.privates.specs.Sale.{after_auction, after_sale, bidder_of, limit_from, settled_by}
+use Rattle.privates.specs.Sale.{after_auction, after_sale, bidder_of, settled_by}
 use Rattle.privates.specs.Underway.{IsUnderway}
 use Rattle.tables.specs.declared.roster.Private.{Private}
 use Rattle.tables.specs.declared.seat.Seat.{Seat}
-
--- no limit is under its bid
-limit_over_bid : (bid : ℤ) (ordered : Option ℕ) (free : ℤ) → bid ≤ℤ limit_from bid ordered free
-limit_over_bid bid None free = omega (arith, ints)
-limit_over_bid bid (Some ordered) free = omega (arith, ints, clamps)
-
--- nor over what the bidder can spend, if the bid isn't
-limit_in_cash : (bid : ℤ) (ordered : Option ℕ) (free : ℤ) → bid ≤ℤ free → limit_from bid ordered free ≤ℤ free
-limit_in_cash bid None free within = within
-limit_in_cash bid (Some ordered) free within = omega (arith, ints, clamps)
-
--- nor over 99,999, if neither the bid nor what was ordered is
-limit_is_small : (bid : ℕ) (ordered : Option ℕ) (free : ℤ) → bid ≤ 99999
-    → ((amount : ℕ) → ordered ≡ Some amount → amount ≤ 99999) → limit_from (pos bid) ordered free ≤ℤ pos 99999
-limit_is_small bid None free small ordered_small = omega (arith, ints)
-limit_is_small bid (Some ordered) free small ordered_small =
-    let low = ordered_small ordered refl in omega (arith, ints, clamps)
 
 -- the limits of bidders hold
 pub limits_hold : (seats : ℕ) (events : List Event) (private : Private) (bids : List Bid)

@@ -25,23 +25,21 @@ use Rattle.history.specs.Record.{after_revenues, breaks, paid_to_owner, with_bro
 use Rattle.order_grammar.specs.declared.condition.Condition.{Condition}
 use Rattle.order_grammar.specs.declared.order.Order.{Order}
 use Rattle.order_grammar.specs.declared.order.Order.TheVariants as order
-use Rattle.privates.proofs.AtTable.{by_rules, is_under, rules_at}
-use Rattle.privates.proofs.BidsMade.{both}
-use Rattle.privates.proofs.Judged.{may_act_after}
-use Rattle.privates.proofs.Sales.{neither}
-use Rattle.privates.specs.Act.{MayBid}
+use Rattle.privates.proofs.RulesAtTable.{by_rules, is_under, rules_at}
+use Rattle.privates.proofs.BidLemmas.{both, neither}
+use Rattle.privates.proofs.TurnLemmas.{may_act_after}
+use Rattle.privates.specs.Bid.{MayBid, is_near_some}
 use Rattle.privates.specs.BidsRise.{BidsRise, OpeningBidsRise, is_near_earlier}
 use Rattle.privates.specs.Closing.{after_fall, after_passing, all_sold, closed, given_away}
-use Rattle.privates.specs.Judgement.{is_near_some, judgement_of, price_of, refusal_of}
+use Rattle.privates.specs.Bank.{price_of}
 use Rattle.privates.specs.Sale.{after_sale, gifts, settle_auctions, settled, settled_by, settled_of}
 use Rattle.privates.specs.Standing.{standing_ruling}
-use Rattle.privates.specs.Turn.{InTurn, acted, after_opening_line, after_ruling}
+use Rattle.privates.specs.Turn.{InTurn, acted, after_opening_line, after_ruling, judgement_of, refusal_of}
 use Rattle.sheets.specs.Part.{Numbered}
 use Rattle.tables.specs.Roster.{face_of, privates, revenue_of, same_private}
 use Rattle.tables.specs.Steps.{iterate}
 use Rattle.tables.specs.declared.roster.Private.{Private}
 use Rattle.tables.specs.declared.roster.Private.TheVariants as private
-use Rattle.tables.specs.declared.round.Round.{Round}
 use Rattle.tables.specs.declared.seat.Seat.{Seat}
 use Rattle.turns.proofs.RoundLeads.{round_leads}
 use Rattle.turns.proofs.Ruled.{none_as_refusal, of_ruled}

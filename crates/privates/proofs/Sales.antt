@@ -1,30 +1,24 @@
--- What acts keep an opening round under way: bids, sales with what comes with them, and the fall of
--- SV.
-use Rattle.std.proofs.Common.{◌≡◌, ◌≢◌, ℕ, ◌+◌, ◌-◌, ◌<◌, ◌≤◌, Bool, true, false, ◌||◌, nat_lt, List, []}
+-- What keeps an opening round under way: sales with what comes with them, and the fall of SV.
+use Rattle.std.proofs.Common.{◌≡◌, ◌≢◌, ℕ, ◌-◌, ◌<◌, true, false, List, []}
 use Rattle.std.proofs.Common.{◌∷◌, ◌++◌, Option, Some, None, is_some, append_assoc, inl, inr, refl, sym, subst, ap, ◌∙◌}
 use Rattle.std.proofs.Common.{arith}
-use Rattle.std.proofs.lemmas.Bool.Decides.{nat_tests}
 use Rattle.events.specs.Event.{is_par_value, ownership_of, placed, square_set}
 use Rattle.events.specs.declared.event.Event.{Event}
 use Rattle.events.specs.declared.event.Event.TheVariants as event
-use Rattle.history.proofs.Acts.{bid_sound, gift_sound, price_sound, sale_sound}
+use Rattle.history.proofs.Acts.{gift_sound, price_sound, sale_sound}
 use Rattle.totals.proofs.EventAtEnd.{last_said_at_end, last_said_before, square_of_before}
 use Rattle.history.proofs.Gifts.{ca_sound}
 use Rattle.history.proofs.Starts.{started_sound}
-use Rattle.totals.specs.Bids.{bid_of}
 use Rattle.totals.specs.LookBack.{Game, is_sold, owner_said, sv_price_of, with_event}
 use Rattle.totals.specs.Shares.{square_of, square_said}
-use Rattle.history.specs.Sound.{IsSound, IsSvPrice}
+use Rattle.history.specs.Sound.{IsSvPrice}
 use Rattle.privates.specs.LimitsKept.{limits_kept}
-use Rattle.privates.proofs.Pars.{par_set_is_par}
+use Rattle.privates.proofs.ParOfBoLemmas.{par_set_is_par}
 use Rattle.privates.specs.UnderwayKept.{event_underway, unsold_before, waiting_silent}
-use Rattle.privates.specs.Act.{MayBid, MayPay}
-use Rattle.privates.proofs.BidsMade.{standing_was_made}
-use Rattle.privates.specs.Judgement.{is_near_some}
-use Rattle.privates.specs.Sale.{par_set_by}
+use Rattle.privates.specs.Bank.{MayPay}
+use Rattle.privates.specs.ParOfBo.{par_set_by}
 use Rattle.privates.specs.Underway.{IsUnderway, IsWaiting}
 use Rattle.tables.specs.Chart.{par_square_of}
-use Rattle.tables.specs.Roster.{face_of}
 use Rattle.tables.specs.declared.roster.Company.TheVariants as company
 use Rattle.tables.specs.declared.roster.Private.{Private}
 use Rattle.tables.specs.declared.roster.Private.TheVariants.{SchuylkillValley, CamdenAmboy, BaltimoreOhio}
@@ -153,28 +147,3 @@ bop_underway game new buyer price par may seated is_par recorded before =
           ++ event.Given company.BaltimoreOhio buyer 2 ∷ []) (event.President company.BaltimoreOhio buyer) refl
           (λ its other. refl) after_gift;
     })
-
--- neither of two tests passes
-pub neither : (a b : Bool) → (a || b) ≡ false → (a ≡ false) × (b ≡ false)
-neither true b fails = absurd (cc)
-neither false b fails = (refl, fails)
-
--- no other seat has bid what a seat may bid
-no_other_bid : (game : Game) (private : Private) (seat : Seat) (amount : ℕ)
-    → MayBid game.seats game.events seat private amount → IsSound game → (other : Seat)
-    → bid_of game.events private other ≡ Some amount → other ≡ seat
-no_other_bid game private seat amount may sound other is =
-    let far = (neither (nat_lt amount (face_of private + 5)) (is_near_some amount game.events private) may.high).1 in
-    let itself : nat_lt amount (amount + 5) ≡ true = grind (arith, nat_tests) in
-    let near = standing_was_made game.events private other amount amount is itself in
-    let wrong : true ≡ false = sym near ∙ far in
-    cc
-
--- a bid
-pub bid_underway : (game new : Game) (private : Private) (seat : Seat) (amount : ℕ) → amount ≤ 99999
-    → seat.0 < game.seats → MayBid game.seats game.events seat private amount
-    → new ≡ with_event game (event.Bids private seat amount) → IsUnderway game → IsUnderway new
-bid_underway game new private seat amount small seated may recorded before =
-    event_underway game new (event.Bids private seat amount) refl (λ its other. refl) recorded
-    (bid_sound game private seat amount small seated (no_other_bid game private seat amount may before.sound)
-    may.pays.free before.sound) before

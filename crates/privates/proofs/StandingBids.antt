@@ -10,7 +10,7 @@ use Rattle.totals.proofs.Standing.{bids_split}
 use Rattle.totals.specs.Bids.{as_bid, bid_of, bids_on, free_cash_of, free_for, tied_on}
 use Rattle.totals.specs.LookBack.{Game, cheapest_of, first_unsold, is_sold}
 use Rattle.history.specs.Sound.{IsSound}
-use Rattle.privates.specs.Act.{MayPay}
+use Rattle.privates.specs.Bank.{MayPay}
 use Rattle.tables.specs.Roster.{privates}
 use Rattle.tables.specs.Seat.{seat_at}
 use Rattle.tables.specs.declared.roster.Private.{Private}

@@ -8,7 +8,7 @@ use Rattle.events.specs.declared.event.Event.{Event}
 use Rattle.totals.specs.Bids.{bid_made}
 use Rattle.totals.specs.LookBack.{Game}
 use Rattle.history.specs.Sound.{BiddersAreSeated}
-use Rattle.privates.specs.Judgement.{is_near}
+use Rattle.privates.specs.Bid.{is_near}
 use Rattle.privates.specs.Opening.{IsOpeningRound}
 use Rattle.tables.specs.declared.round.Round.{Round}
 

@@ -1,9 +1,12 @@
-pub mod Judgement
-pub mod Standing
+pub mod Bank
 pub mod Auction
+pub mod Limit
+pub mod ParOfBo
 pub mod Sale
-pub mod Act
+pub mod Buy
+pub mod Bid
 pub mod Closing
+pub mod Standing
 pub mod Turn
 pub mod Opening
 pub mod Underway

@@ -3,26 +3,21 @@
 -- par. When the cheapest private is sold, the next is sold at once if there are bids on it. A
 -- single bidder buys it at that bid, and of more the winner of the auction. So it goes on, until
 -- there are no bids on the cheapest.
-use Rattle.std.specs.Prelude.{ℕ, ℤ, pos, List, [], ◌∷◌, ◌++◌, map, Option, Some, None, unwrap_or}
-use Rattle.std.specs.Int.{int_max, int_min}
+use Rattle.std.specs.Prelude.{ℕ, ℤ, pos, List, [], ◌∷◌, ◌++◌, map, Option, Some, None}
 use Rattle.std.specs.Int.RustNames.{unsigned_abs}
 use Rattle.events.specs.declared.event.Bid.{Bid}
 use Rattle.events.specs.declared.event.Event.{Event}
 use Rattle.events.specs.declared.event.Event.TheVariants.{Given, Par, President, Sold}
-use Rattle.totals.specs.Bids.{bids_on, free_for}
+use Rattle.totals.specs.Bids.{bids_on}
 use Rattle.totals.specs.LookBack.{cheapest_of}
-use Rattle.totals.specs.Orders.{bid_limit_of, par_ordered_of}
 use Rattle.privates.specs.Auction.{Bidder, auction_of}
+use Rattle.privates.specs.Limit.{limit_of}
+use Rattle.privates.specs.ParOfBo.{par_set_by}
 use Rattle.tables.specs.Steps.{iterate}
 use Rattle.tables.specs.declared.roster.Company.TheVariants as company
 use Rattle.tables.specs.declared.roster.Private.{Private}
 use Rattle.tables.specs.declared.roster.Private.TheVariants.{CamdenAmboy, BaltimoreOhio}
 use Rattle.tables.specs.declared.seat.Seat.{Seat}
-
--- the par value that a buyer of BOP sets for BO: that of their last obeyed order to set it,
--- otherwise 67
-abbrev pub par_set_by : List Event → Seat → ℕ
-par_set_by events buyer = unwrap_or (par_ordered_of events buyer) 67
 
 -- BO starts at this par value, and a seat has its president's certificate
 abbrev pub started_at : Seat → ℕ → List Event
@@ -40,19 +35,9 @@ gifts events other buyer = []
 abbrev pub after_sale : List Event → Private → Seat → ℕ → List Event
 after_sale events private buyer price = events ++ Sold private buyer price ∷ gifts events private buyer
 
--- The limit of a bidder who bid this much, by the limit that they ordered, if they did, and by what
--- they can spend. It is at least the bid, and without an order no more.
-abbrev pub limit_from : ℤ → Option ℕ → ℤ → ℤ
-limit_from bid None free = bid
-limit_from bid (Some ordered) free = int_max bid (int_min (pos ordered) free)
-
 -- a bidder in the auction of a private, with a bid and a limit
 abbrev pub bidder_of : ℕ → List Event → Private → Bid → Bidder
-bidder_of seats events private bid = (
-  bid.seat,
-  pos bid.amount,
-  limit_from (pos bid.amount) (bid_limit_of events private bid.seat) (free_for seats events bid.seat private),
-)
+bidder_of seats events private bid = (bid.seat, pos bid.amount, limit_of seats events private bid)
 
 -- after a sale to the winner of an auction, who pays this; no price is under 0
 abbrev pub after_auction : List Event → Private → Seat × ℤ → List Event

@@ -1,18 +1,22 @@
 -- A seat's turn: the lines of its written turn are ruled in order, each on the list that the one
--- before left. An obeyed purchase is a sale at the bank's price, with the sales that follow from
--- it; an obeyed bid is held. A seat that neither bought nor bid passes.
-use Rattle.std.specs.Prelude.{ℕ, Bool, true, false, List, [], ◌∷◌, ◌++◌}
+-- before left. In a turn a seat may buy or bid, once. A seat that neither bought nor bid passes.
+use Rattle.std.specs.Prelude.{ℕ, Bool, true, false, List, Option, Some, option_map}
 use Rattle.events.specs.declared.event.Event.{Event}
-use Rattle.events.specs.declared.event.Event.TheVariants.{Bids}
+use Rattle.events.specs.declared.ruling.OpeningRule.{OpeningRule}
+use Rattle.events.specs.declared.ruling.OpeningRule.TheVariants.{NotOfOpening}
+use Rattle.events.specs.declared.ruling.Refusal.{Refusal}
+use Rattle.events.specs.declared.ruling.Refusal.TheVariants.{Opening}
 use Rattle.events.specs.declared.ruling.Ruling.{Ruling}
 use Rattle.order_grammar.specs.declared.order.Order.{Order}
 use Rattle.order_grammar.specs.declared.order.Order.TheVariants.{BuyPrivate, Bid}
+use Rattle.privates.specs.Bank.{MayPay, price_of}
+use Rattle.privates.specs.Bid.{MayBid, after_bid, bid_rules}
+use Rattle.privates.specs.Buy.{after_purchase, private_purchase_rules}
 pub use Rattle.privates.specs.Closing.{all_sold}
 use Rattle.privates.specs.Closing.{closed}
-use Rattle.privates.specs.Judgement.{price_of, refusal_of}
-use Rattle.privates.specs.Sale.{after_sale, settled}
 use Rattle.privates.specs.Standing.{after_standing_line}
 use Rattle.sheets.specs.Part.{Numbered}
+use Rattle.tables.specs.Rules.{first_broken}
 use Rattle.tables.specs.Turns.{Play}
 use Rattle.tables.specs.declared.seat.Seat.{Seat}
 use Rattle.turns.specs.RoundOfTurns.{RoundRules, in_turn, turns_of}
@@ -23,11 +27,28 @@ use Rattle.turns.specs.Ruling.{after_ruling as turn_ruled, has_place_in_turn, li
 abbrev pub InTurn : Type 0
 InTurn = turns.InTurn Bool
 
+-- the first rule that an order breaks in a turn; any order but a purchase or a bid breaks the first
+abbrev pub judgement_of : ℕ → List Event → Seat → Bool → Order → Option OpeningRule
+judgement_of seats events seat used (BuyPrivate private) =
+    first_broken (private_purchase_rules seats events seat used private)
+judgement_of seats events seat used (Bid private amount) =
+    first_broken (bid_rules seats events seat used private amount)
+judgement_of seats events seat used other = Some NotOfOpening
+
+-- the first rule that an order breaks in a turn, as a ruling refuses an order
+abbrev pub refusal_of : ℕ → List Event → Seat → Bool → Order → Option Refusal
+refusal_of seats events seat used order = option_map Opening (judgement_of seats events seat used order)
+
+-- the order can be done, whatever the turn has done before
+abbrev pub MayAct : ℕ → List Event → Seat → Order → Type 0
+MayAct seats events seat (BuyPrivate private) = MayPay seats events seat private (price_of events private)
+MayAct seats events seat (Bid private amount) = MayBid seats events seat private amount
+MayAct seats events seat other = Unit {0}
+
 -- after what follows from an order that was obeyed in a turn
 abbrev pub after_act : ℕ → Seat → List Event → Order → List Event
-after_act seats seat events (BuyPrivate private) =
-    settled seats (after_sale events private seat (price_of events private))
-after_act seats seat events (Bid private amount) = events ++ Bids private seat amount ∷ []
+after_act seats seat events (BuyPrivate private) = after_purchase seats seat events private
+after_act seats seat events (Bid private amount) = after_bid seat events private amount
 after_act seats seat events other = events
 
 -- in a turn, after what follows from an order that is done: the seat has bought or bid

@@ -7,23 +7,28 @@
 //! succession. Then SV falls by 5 if it is unsold, and at 0 goes to the holder of priority for
 //! nothing; if it is sold, each sold private pays.
 //!
-//! Reading order: `judgement` (the rules that an order may break), `standing` (the lines before the
-//! first written turn), `bidding` (the auction), `sale` (what comes with it, and what follows from
-//! it), `turn` (the lines of a turn), `closing`, `opening` (what makes it a round of `turns`),
-//! `laws` (what holds of every opening round and auction). In `specs/`, `LimitsKept`,
-//! `UnderwayKept` and `Keeping` are no rules: they prove what a round of turns needs.
+//! Reading order: the four orders, each with its rules, its judgement and its act (`buy`, `bid`,
+//! `limit`, `par_of_bo`), and what they share (`bank`). Then `standing` (the lines before the first
+//! written turn), `bidding` (the auction), `sale` (what comes with it, and what follows from it),
+//! `turn` (the lines of a turn), `closing`, `opening` (what makes it a round of `turns`), `laws`
+//! (what holds of every opening round and auction). In `specs/`, `LimitsKept`, `UnderwayKept` and
+//! `Keeping` are no rules: they prove what a round of turns needs.
 #![tactic(auto)]
 
+mod bank;
+mod bid;
 mod bidding;
+mod buy;
 mod closing;
-mod judgement;
 pub mod laws;
+mod limit;
 mod opening;
+mod par_of_bo;
 mod sale;
 mod standing;
 mod turn;
 
 pub use bidding::auction;
-pub use judgement::judge;
 pub use opening::play_opening;
 pub use standing::judge_standing;
+pub use turn::judge;

@@ -3,19 +3,18 @@ ghost use Rattle.std.specs.Int.RustNames.{unsigned_abs};
 ghost use Rattle.events.specs.declared.event.Event.TheVariants as event;
 ghost use Rattle.totals.specs.Bids.{bids_on};
 ghost use Rattle.totals.specs.LookBack.{cheapest_of, with_event};
-ghost use Rattle.privates.specs.Act.{MayPay};
-ghost use Rattle.privates.specs.Sale.{after_sale, bidder_of, par_set_by, settle_auctions, settled, settled_by};
+ghost use Rattle.privates.specs.Bank.{MayPay};
+ghost use Rattle.privates.specs.Sale.{after_sale, bidder_of, settle_auctions, settled, settled_by};
 ghost use Rattle.tables.specs.declared.roster.Private.TheVariants.{BaltimoreOhio, CamdenAmboy};
 ghost use Rattle.privates.specs.Underway.{IsUnderway};
 
 use crate::bidding::auction;
+use crate::limit::limit_of;
+use crate::par_of_bo::par_set_by;
 use arrayvec::ArrayVec;
 use history::{Bid, Event, GameView, History};
 use std::alloc::AllocError;
 use tables::{Amount, Company, Money, PLAYERS_MOST, Private, Seat};
-
-/// The par value of BO if the buyer of BOP ordered none.
-const PAR_UNLESS_ORDERED: Amount = 67;
 
 /// Sells a private that is unsold to a seat that has its price, with what comes with the sale.
 pub(crate) fn sell(
@@ -124,15 +123,6 @@ fn sell_baltimore(history: &mut History, buyer: Seat, price: Amount) -> Result<(
     Ok(())
 }
 
-/// Returns the par value that a buyer of BOP sets for BO, in dollars: that of their last obeyed PAR
-/// line, otherwise 67.
-fn par_set_by(view: &GameView, buyer: Seat) -> Amount
-    ensures par { result ≡ par_set_by view.now.events.now buyer }
-    ensures small { result ≤ 1000000 }
-{
-    view.par_ordered(buyer).unwrap_or(PAR_UNLESS_ORDERED)
-}
-
 /// Makes the sales that follow from a sale: as long as there are bids on the cheapest private, it
 /// is sold.
 pub(crate) fn settle_all(history: &mut History) -> Result<(), AllocError>
@@ -230,10 +220,6 @@ fn bidders_of(
 fn bidder_of(view: &GameView, private: Private, bid: Bid) -> (Seat, Money, Money)
     ensures { result ≡ bidder_of view.now.seats view.now.events.now private bid }
 {
-    let amount = Money::from(bid.amount);
-    let limit = match view.limit(private, bid.seat) {
-        Some(ordered) => amount.max(Money::from(ordered).min(view.free_for(bid.seat, private))),
-        None => amount,
-    };
-    (bid.seat, amount, limit)
+    let limit = limit_of(view, private, bid);
+    (bid.seat, Money::from(bid.amount), limit)
 }

@@ -1,3 +1,4 @@
+//! The standing lines of an opening sheet, those before its first written turn: LIMIT and PAR.
 ghost use Rattle.std.specs.Prelude.{◌≡◌, OnOk};
 ghost use Rattle.turns.specs.Small.{IsSmallReading};
 ghost use Rattle.privates.specs.Standing.{after_standing_line, has_place_before as may_stand_before};
@@ -5,11 +6,13 @@ ghost use Rattle.privates.specs.Standing.{standing_judgement, standing_refusal};
 ghost use Rattle.privates.specs.Underway.{IsUnderway};
 ghost use Rattle.sheets.specs.Part.{line_unread};
 
+use crate::limit::judge_limit;
+use crate::par_of_bo::judge_par;
 use history::{History, OpeningRule, Refusal};
 use order_grammar::Order;
 use sheets::UnreadLine;
 use std::alloc::AllocError;
-use tables::{Company, Seat, par_square};
+use tables::Seat;
 use turns::Family;
 
 /// The standing lines of a sheet, those before its first written turn.
@@ -63,20 +66,8 @@ pub fn judge_standing(history: &History, order: &Order) -> Option<OpeningRule>
     ensures { result ≡ standing_judgement history.now.events order.now }
 {
     match order {
-        Order::Limit { private, .. } => {
-            if history.now().is_sold(*private) {
-                Some(OpeningRule::Sold)
-            } else {
-                None
-            }
-        }
-        Order::Par { company, price } => {
-            if *company == Company::BaltimoreOhio && par_square(*price).is_some() {
-                None
-            } else {
-                Some(OpeningRule::NotOfOpening)
-            }
-        }
+        Order::Limit { private, .. } => judge_limit(&history.now(), *private),
+        Order::Par { company, price } => judge_par(*company, *price),
         _ => Some(OpeningRule::NotOfOpening),
     }
 }

@@ -1,23 +1,19 @@
+//! The lines of a written turn: in a turn a seat may buy or bid, once.
 ghost use Rattle.std.specs.Prelude.{◌≡◌, ◌≤◌, ◌<◌, OnOk, IfOk};
-ghost use Rattle.events.specs.declared.event.Event.TheVariants as event;
-ghost use Rattle.totals.specs.LookBack.{with_event};
-ghost use Rattle.privates.specs.Act.{MayAct, MayBid, MayPay};
-ghost use Rattle.privates.specs.Judgement.{price_of as price_asked, refusal_of};
-ghost use Rattle.privates.specs.Sale.{after_sale, settled};
-ghost use Rattle.privates.specs.Turn.{after_act, after_opening_line};
+ghost use Rattle.privates.specs.Turn.{MayAct, after_act, after_opening_line, judgement_of, refusal_of};
 ghost use Rattle.privates.specs.Underway.{IsUnderway};
 ghost use Rattle.sheets.specs.Part.{line_unread};
 ghost use Rattle.turns.specs.RoundOfTurns.{in_turn};
 ghost use Rattle.turns.specs.Ruling.{has_place_in_turn};
 ghost use Rattle.turns.specs.Small.{IsSmallOrder, IsSmallReading};
 
-use crate::judgement::{judge, price_of};
-use crate::sale::{sell, settle_all};
-use history::{Event, History, Refusal};
+use crate::bid::{bid, judge_bid};
+use crate::buy::{buy, judge_purchase};
+use history::{History, OpeningRule, Refusal};
 use order_grammar::Order;
 use sheets::{UnreadLine, is_of_file};
 use std::alloc::AllocError;
-use tables::{Amount, Private, Seat};
+use tables::Seat;
 use turns::Family;
 
 /// The lines of a written turn, in a turn in which the seat has bought or bid, or has not.
@@ -68,6 +64,19 @@ pub(crate) fn rule_line(
     Ok(true)
 }
 
+/// Returns the first rule that an order of a seat breaks in its turn, which is used or not; `None`
+/// if it breaks none. `judge_standing` judges standing lines.
+pub fn judge(history: &History, seat: Seat, order: &Order, turn_used: bool) -> Option<OpeningRule>
+    ensures { result ≡ judgement_of history.now.seats history.now.events seat turn_used order.now }
+{
+    let now = history.now();
+    match order {
+        Order::BuyPrivate(private) => judge_purchase(&now, seat, *private, turn_used),
+        Order::Bid { private, amount } => judge_bid(&now, seat, *private, *amount, turn_used),
+        _ => Some(OpeningRule::NotOfOpening),
+    }
+}
+
 /// Does what a seat orders in its turn.
 fn act(history: &mut History, seat: Seat, order: &Order) -> Result<(), AllocError>
     requires few { history.old.seats ≤ 6 }
@@ -85,45 +94,4 @@ fn act(history: &mut History, seat: Seat, order: &Order) -> Result<(), AllocErro
         Order::Bid { private, amount } => bid(history, seat, *private, *amount),
         _ => Ok(()),
     }
-}
-
-/// Buys a private for a seat at the bank's price.
-fn buy(history: &mut History, seat: Seat, private: Private) -> Result<(), AllocError>
-    requires few { history.old.seats ≤ 6 }
-    requires at_table { seat.0 < history.old.seats }
-    requires may { MayPay history.old.seats history.old.events seat private
-        (price_asked history.old.events private) }
-    requires underway { IsUnderway history.old }
-    ensures seats { OnOk result (history.new.seats ≡ history.old.seats) }
-    ensures events { OnOk result (history.new.events
-        ≡ settled history.old.seats
-        (after_sale history.old.events private seat (price_asked history.old.events private))) }
-    ensures underway { OnOk result (IsUnderway history.new) }
-{
-    let price = price_of(&history.now(), private);
-    sell(history, private, seat, price)?;
-    settle_all(history)
-}
-
-/// Bids on a private for a seat.
-fn bid(
-    history: &mut History,
-    seat: Seat,
-    private: Private,
-    amount: Amount,
-) -> Result<(), AllocError>
-    requires at_table { seat.0 < history.old.seats }
-    requires small { amount ≤ 99999 }
-    requires may { MayBid history.old.seats history.old.events seat private amount }
-    requires underway { IsUnderway history.old }
-    ensures event { OnOk result (history.new
-        ≡ with_event history.old (event.Bids private seat amount)) }
-    ensures underway { OnOk result (IsUnderway history.new) }
-{
-    history.append(Event::Bids {
-        private,
-        seat,
-        amount,
-    })?;
-    Ok(())
 }

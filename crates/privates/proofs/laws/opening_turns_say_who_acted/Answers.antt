@@ -1,4 +1,4 @@
-use Rattle.privates.proofs.Acted.{opening_turns_say}
+use Rattle.privates.proofs.WhoActed.{opening_turns_say}
 use Rattle.privates.proofs.laws.opening_turns_say_who_acted.Goals as goal
 
 pub returns : goal.returns

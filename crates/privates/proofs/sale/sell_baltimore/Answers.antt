@@ -3,7 +3,8 @@ use Rattle.events.specs.declared.event.Event.{Event}
 use Rattle.events.specs.declared.event.Event.TheVariants.{Given, Par, President, Sold}
 use Rattle.totals.specs.LookBack.{Game, with_event}
 use Rattle.privates.proofs.Sales.{bop_underway, four_more}
-use Rattle.privates.specs.Sale.{par_set_by, started_at}
+use Rattle.privates.specs.ParOfBo.{par_set_by}
+use Rattle.privates.specs.Sale.{started_at}
 use Rattle.tables.specs.declared.roster.Company.TheVariants.{BaltimoreOhio}
 use Rattle.tables.specs.declared.roster.Private.TheVariants as private
 use Rattle.privates.proofs.sale.sell_baltimore.Goals as goal

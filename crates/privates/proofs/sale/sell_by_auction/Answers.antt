@@ -2,7 +2,7 @@
 use Rattle.std.proofs.Common.{◌≡◌, ℕ, List, OnOk, sym, subst, arith}
 use Rattle.events.specs.declared.event.Event.{Event}
 use Rattle.privates.proofs.Bidders.{auction_differs, auction_settles, limits_hold, payable, same_bidders}
-use Rattle.privates.specs.Act.{MayPay}
+use Rattle.privates.specs.Bank.{MayPay}
 use Rattle.privates.specs.Auction.{BidsDiffer, LimitsHold}
 use Rattle.privates.proofs.sale.sell_by_auction.Goals as goal
 

@@ -1,8 +1,8 @@
 use Rattle.std.proofs.Common.{subst}
 use Rattle.events.specs.declared.ruling.Refusal.TheVariants.{Opening}
 use Rattle.history.proofs.NearlySound.{ruling_quiet}
-use Rattle.privates.proofs.Judged.{may_act_after}
-use Rattle.privates.specs.Judgement.{judgement_of, refusal_of}
+use Rattle.privates.proofs.TurnLemmas.{may_act_after}
+use Rattle.privates.specs.Turn.{judgement_of, refusal_of}
 use Rattle.privates.specs.UnderwayKept.{ruling_underway}
 use Rattle.sheets.specs.Part.{line_unread}
 use Rattle.turns.proofs.Ruled.{none_as_refusal, small_ruling}

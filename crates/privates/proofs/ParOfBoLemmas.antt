@@ -10,7 +10,7 @@ use Rattle.events.specs.declared.event.Event.{Event}
 use Rattle.totals.specs.Orders.{par_ordered_of}
 use Rattle.order_grammar.specs.declared.order.Order.{Order}
 use Rattle.order_grammar.specs.declared.order.Order.TheVariants as order
-use Rattle.privates.specs.Sale.{par_set_by}
+use Rattle.privates.specs.ParOfBo.{par_set_by}
 use Rattle.tables.specs.Chart.{par_squares, price_of}
 use Rattle.tables.specs.Roster.{same_company}
 use Rattle.tables.specs.declared.roster.Company.TheVariants.{BaltimoreOhio}

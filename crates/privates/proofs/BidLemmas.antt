@@ -1,18 +1,28 @@
--- A bid that stands was made, so a sum that is near it is near some earlier bid; and what is near
--- some bid is near the greatest.
-use Rattle.std.proofs.Common.{◌≡◌, ℕ, ◌+◌, max, ◌==◌, ◌⊎◌, inl, inr, Bool, true, false, ◌||◌, ◌&&◌, nat_lt}
+-- A bid that breaks no rule can be made, and keeps the round under way. A bid that stands was made,
+-- so a sum that is near it is near some earlier bid; and what is near some bid is near the greatest.
+use Rattle.std.proofs.Common.{◌≡◌, ℕ, ◌+◌, ◌<◌, ◌≤◌, max, ◌==◌, ◌⊎◌, inl, inr, Bool, true, false, ◌||◌, ◌&&◌, nat_lt}
 use Rattle.std.proofs.Common.{if◌then◌else◌, List, [], ◌∷◌, ◌++◌, Option, Some, None, refl, sym, ap, ◌∙◌, arith}
 use Rattle.std.proofs.lemmas.Bool.Decides.{nat_tests}
 use Rattle.std.proofs.lemmas.List.Folds.{list_any-append}
 use Rattle.std.specs.Option.{option_flatten, option_or}
-use Rattle.events.specs.Event.{IsQuiet, bidding_of}
+use Rattle.events.specs.Event.{IsQuiet, bidding_of, code_of_opening_rule}
 use Rattle.events.specs.declared.event.Bidding.{Bidding}
 use Rattle.events.specs.declared.event.Bidding.TheVariants.{Made, Ended}
 use Rattle.events.specs.declared.event.Event.{Event}
+use Rattle.events.specs.declared.event.Event.TheVariants as event
+use Rattle.events.specs.declared.ruling.OpeningRule.TheVariants.{Sold, BidTooLow, CashTooSmall}
 use Rattle.totals.specs.Bids.{bid_made, bid_of, bid_said, greater_bid, greatest_bid_from, greatest_bid_of}
-use Rattle.totals.specs.LookBack.{last_said}
-use Rattle.privates.specs.Judgement.{is_near, is_near_some}
-use Rattle.tables.specs.Roster.{same_private}
+use Rattle.totals.specs.AtEnd.{SaysTheSame}
+use Rattle.totals.specs.LookBack.{Game, last_said, with_event}
+use Rattle.history.proofs.Acts.{bid_sound}
+use Rattle.history.specs.Sound.{IsSound}
+use Rattle.privates.proofs.BankLemmas.{same_pay, within}
+use Rattle.privates.specs.Bid.{MayBid, bid_rules, is_near, is_near_some}
+use Rattle.privates.specs.Underway.{IsUnderway}
+use Rattle.privates.specs.UnderwayKept.{event_underway}
+use Rattle.tables.proofs.Rules.{not_broken}
+use Rattle.tables.specs.Roster.{face_of, same_private}
+use Rattle.tables.specs.Rules.{first_broken}
 use Rattle.tables.specs.declared.roster.Private.{Private}
 use Rattle.tables.specs.declared.seat.Seat.{Seat}
 
@@ -122,3 +132,49 @@ near_after private sum events event quiet =
     list_any-append near events (event ∷ [])
     ∙ ap (λ word. is_near_some sum events private || (is_near sum (bid_made private word) || false)) quiet.bidding
     ∙ sym (or_none (is_near_some sum events private))
+
+-- a bid that breaks no rule can be made
+pub may_bid : (seats : ℕ) (events : List Event) (seat : Seat) (used : Bool) (private : Private) (amount : ℕ)
+    → first_broken (bid_rules seats events seat used private amount) ≡ None
+    → MayBid seats events seat private amount
+may_bid seats events seat used private amount none =
+    let kept = not_broken code_of_opening_rule (bid_rules seats events seat used private amount) none in
+    record {
+      pays = record { unsold = kept Sold; free = within seats events seat private amount (kept CashTooSmall) };
+      high = kept BidTooLow;
+    }
+
+-- and still can where a list says the same
+pub still_may_bid : (seats : ℕ) (before after : List Event) (seat : Seat) (private : Private) (amount : ℕ)
+    → SaysTheSame before after → is_near_some amount after private ≡ is_near_some amount before private
+    → MayBid seats before seat private amount → MayBid seats after seat private amount
+still_may_bid seats before after seat private amount same near may =
+    record {
+      pays = same_pay seats before after seat private amount amount same refl may.pays;
+      high = ap (λ (b : Bool). nat_lt amount (face_of private + 5) || b) near ∙ may.high;
+    }
+
+-- neither of two tests passes
+pub neither : (a b : Bool) → (a || b) ≡ false → (a ≡ false) × (b ≡ false)
+neither true b fails = absurd (cc)
+neither false b fails = (refl, fails)
+
+-- no other seat has bid what a seat may bid
+no_other_bid : (game : Game) (private : Private) (seat : Seat) (amount : ℕ)
+    → MayBid game.seats game.events seat private amount → IsSound game → (other : Seat)
+    → bid_of game.events private other ≡ Some amount → other ≡ seat
+no_other_bid game private seat amount may sound other is =
+    let far = (neither (nat_lt amount (face_of private + 5)) (is_near_some amount game.events private) may.high).1 in
+    let itself : nat_lt amount (amount + 5) ≡ true = grind (arith, nat_tests) in
+    let near = standing_was_made game.events private other amount amount is itself in
+    let wrong : true ≡ false = sym near ∙ far in
+    cc
+
+-- a bid keeps the round under way
+pub bid_underway : (game new : Game) (private : Private) (seat : Seat) (amount : ℕ) → amount ≤ 99999
+    → seat.0 < game.seats → MayBid game.seats game.events seat private amount
+    → new ≡ with_event game (event.Bids private seat amount) → IsUnderway game → IsUnderway new
+bid_underway game new private seat amount small seated may recorded before =
+    event_underway game new (event.Bids private seat amount) refl (λ its other. refl) recorded
+    (bid_sound game private seat amount small seated (no_other_bid game private seat amount may before.sound)
+    may.pays.free before.sound) before

@@ -2,8 +2,8 @@
 use Rattle.std.proofs.Common.{ℕ, List, sym, ap, ◌∙◌}
 use Rattle.events.specs.declared.event.Event.{Event}
 use Rattle.order_grammar.specs.declared.order.Order.TheVariants.{BuyPrivate, Bid}
-use Rattle.privates.specs.Judgement.{judgement_of}
-use Rattle.privates.proofs.judgement.judge.Goals as goal
+use Rattle.privates.specs.Turn.{judgement_of}
+use Rattle.privates.proofs.turn.judge.Goals as goal
 
 pub returns-in-BuyPrivate : goal.returns-in-BuyPrivate
 returns-in-BuyPrivate c =

@@ -1,7 +1,7 @@
 use Rattle.std.proofs.Common.{◌≡◌, ℕ, Option, unwrap_or, ap, ◌∙◌, arith}
-use Rattle.privates.proofs.Pars.{par_low, par_set_is_par}
-use Rattle.privates.specs.Sale.{par_set_by}
-use Rattle.privates.proofs.sale.par_set_by.Goals as goal
+use Rattle.privates.proofs.ParOfBoLemmas.{par_low, par_set_is_par}
+use Rattle.privates.specs.ParOfBo.{par_set_by}
+use Rattle.privates.proofs.par_of_bo.par_set_by.Goals as goal
 
 pub returns-clause-small : goal.returns-clause-small
 returns-clause-small c =

@@ -2,7 +2,7 @@ use Rattle.std.proofs.Common.{ℤ, pos, ap, SFits}
 use Rattle.std.specs.Int.{w128}
 use Rattle.std.specs.Int.Signed.{lt_z}
 use Rattle.std.proofs.lemmas.Int.{to_z-of_z}
-use Rattle.privates.proofs.judgement.is_short.Goals as goal
+use Rattle.privates.proofs.bank.is_short.Goals as goal
 
 pub returns : goal.returns
 returns c =
