@@ -15,9 +15,10 @@ use Rattle.totals.specs.LookBack.{Game, cash_of, with_event}
 use Rattle.history.specs.Sound.{IsSound}
 use Rattle.totals.specs.Trains.{at_least_zero}
 use Rattle.forced_purchase.proofs.Cheapest.{cheapest_low, company_itself, less_is, not_less_is}
-use Rattle.forced_purchase.specs.Forced.{cheapest, falls_short, lack_of, with_aid}
+use Rattle.forced_purchase.specs.Forced.{with_aid}
+use Rattle.forced_purchase.specs.Shortfall.{cheapest, falls_short, lack_of}
 use Rattle.forced_purchase.specs.ForcedLaws.{AidIsWhatLacks, NoAidWithoutLack}
-use Rattle.purchases.specs.Trains.{cost_of}
+use Rattle.purchases.specs.Train.{cost_of}
 use Rattle.forced_purchase.specs.declared.operator.Operator.{Operator}
 use Rattle.tables.specs.Roster.{same_company}
 use Rattle.tables.specs.declared.roster.Company.{Company}

@@ -14,22 +14,20 @@ use Rattle.events.specs.declared.event.Event.TheVariants as event
 use Rattle.events.specs.declared.event.TrainPlace.TheVariants as place
 use Rattle.events.specs.declared.event.TrainSeller.{TrainSeller}
 use Rattle.events.specs.declared.event.TrainSeller.TheVariants as seller
-use Rattle.events.specs.declared.ruling.TrainRule.{TrainRule}
-use Rattle.events.specs.declared.ruling.TrainRule.TheVariants.{NotOnSale, TrainLimit, CashTooSmall, NoConsent}
-use Rattle.events.specs.declared.ruling.TrainRule.TheVariants.{NotSellers, NoTradeIn}
 use Rattle.totals.proofs.EventAtEnd.{cash_of_at_end, trains_at_before}
 use Rattle.history.proofs.Rolling.{sold_at_end}
 use Rattle.totals.specs.LookBack.{Game, cash_of, with_event}
 use Rattle.totals.specs.Trains.{one_if, phase_of, at_least_zero, train_count, train_goes, trains_held, trains_sold}
-use Rattle.forced_purchase.specs.Forced.{cheapest, first_on_sale, lack_of, plain, with_aid}
-use Rattle.purchases.specs.Trains.{are_left, cost_of, first_left, first_left_of, has_trains, is_at_train_limit, is_kind}
-use Rattle.purchases.specs.Trains.{is_left, is_on_sale, is_too_dear, numbered_kinds, sells, sells_diesels}
-use Rattle.purchases.specs.Trains.{train_judgement}
+use Rattle.forced_purchase.specs.Forced.{with_aid}
+use Rattle.forced_purchase.specs.Shortfall.{cheapest, first_on_sale, lack_of, plain}
+use Rattle.purchases.specs.Train.{are_left, cost_of, first_left, first_left_of, has_trains, is_at_train_limit, is_kind}
+use Rattle.purchases.specs.Train.{is_left, is_not_sellers, is_on_sale, is_too_dear, lacks_consent, numbered_kinds}
+use Rattle.purchases.specs.Train.{sells, sells_diesels, train_judgement, train_purchase_rules}
 use Rattle.forced_purchase.specs.declared.operator.Operator.{Operator}
-use Rattle.purchases.specs.declared.purchase.Purchase.{Purchase}
+use Rattle.purchases.specs.declared.train.TrainPurchase.{TrainPurchase}
 use Rattle.forced_purchase.proofs.TrainCounts.{size_before}
 use Rattle.tables.specs.Roster.{same_company}
-use Rattle.tables.specs.Rules.{first_broken}
+use Rattle.tables.specs.Rules.{AreKept, Rule, first_broken}
 use Rattle.tables.specs.Train.{limit_of, same_kind, trains_of}
 use Rattle.tables.specs.declared.rolling_stock.Kind.{Kind}
 use Rattle.tables.specs.declared.rolling_stock.Kind.TheVariants.{Two, Three, Four, Five, Six, Diesel}
@@ -148,7 +146,7 @@ module _ (events : List Event) where
   cheapest_on_sale = on_sale numbered_kinds sells_one
 
   -- it is the bank's or the pool's, and none is traded in for it
-  abbrev pub IsPlain : Purchase → Type 0
+  abbrev pub IsPlain : TrainPurchase → Type 0
   IsPlain purchase = (kind : Kind) × ((purchase ≡ plain kind seller.Bank) ⊎ (purchase ≡ plain kind seller.BankPool))
 
   first_plain : (some : List Kind) → IsPlain (first_on_sale events some)
@@ -234,45 +232,34 @@ room size limit none low =
     let few : size ≤ℤ pos 0 = grind (arith, ints, none) in
     not_so (lt_z (size -ℤ pos 0) (pos limit)) (less_is (size -ℤ pos 0) (pos limit) (omega (arith, ints, few, low)))
 
--- none of six rules is broken
-none_of : (a b c : Bool) → a ≡ false → b ≡ false → c ≡ false →
-    first_broken {Code = TrainRule} (record { code = NotOnSale; broken = a }
-    ∷ record { code = TrainLimit; broken = b } ∷ record { code = CashTooSmall; broken = c }
-    ∷ record { code = NoConsent; broken = false } ∷ record { code = NotSellers; broken = false }
-    ∷ record { code = NoTradeIn; broken = false } ∷ []) ≡ None
-none_of true b c first second third = absurd cc
-none_of false true c first second third = absurd cc
-none_of false false true first second third = absurd cc
-none_of false false false first second third = refl
+-- a table of which each rule is kept
+all_kept : {Code : Type 0} (rules : List (Rule Code)) → AreKept rules → first_broken rules ≡ None
+all_kept [] kept = refl
+all_kept (rule ∷ rules) kept =
+    ap (λ (b : Bool). if b then Some rule.code else first_broken rules) kept.0 ∙ all_kept rules kept.1
 
 module _ (game : Game) (company : Company) (none : has_trains game.events company ≡ false) where
-  -- a purchase of the bank or of the pool
-  from_there : (from : TrainSeller) (kind : Kind) (a : Bool) → a ≡ false
-      → is_too_dear game company (plain kind from) ≡ false
-      → first_broken {Code = TrainRule} (record { code = NotOnSale; broken = a }
-      ∷ record { code = TrainLimit; broken = is_at_train_limit game.events company None }
-      ∷ record { code = CashTooSmall; broken = is_too_dear game company (plain kind from) }
-      ∷ record { code = NoConsent; broken = false } ∷ record { code = NotSellers; broken = false }
-      ∷ record { code = NoTradeIn; broken = false } ∷ []) ≡ None
-  from_there from kind a sale enough =
-      none_of a (is_at_train_limit game.events company None) (is_too_dear game company (plain kind from)) sale
-      (room (train_count game.events (Some company)) (limit_of (phase_of game.events)) none
-      (limit_low (phase_of game.events))) enough
+  -- a purchase of the bank or of the pool, for which no company has to consent
+  from_there : (from : TrainSeller) (kind : Kind) → lacks_consent game.events company (plain kind from) ≡ false
+      → is_not_sellers game.events company kind from ≡ false → is_on_sale game.events from kind ≡ true
+      → is_too_dear game company (plain kind from) ≡ false → train_judgement game company (plain kind from) ≡ None
+  from_there from kind given theirs sale enough =
+      let has_room : is_at_train_limit game.events company None ≡ false =
+      room (train_count game.events (Some company)) (limit_of (phase_of game.events)) none
+      (limit_low (phase_of game.events)) in
+      all_kept (train_purchase_rules game company (plain kind from))
+      (not_so (is_on_sale game.events from kind) sale, (has_room, (enough, (given, (theirs, (refl, tt))))))
 
-  abbrev Allows : Purchase → Type 0
+  abbrev Allows : TrainPurchase → Type 0
   Allows purchase = is_on_sale game.events purchase.from purchase.kind ≡ true
       → is_too_dear game company purchase ≡ false → train_judgement game company purchase ≡ None
 
   -- of what is for sale, by a company without trains that has the price, breaks no rule
-  plain_allowed : (events : List Event) (purchase : Purchase) → IsPlain events purchase → Allows purchase
+  plain_allowed : (events : List Event) (purchase : TrainPurchase) → IsPlain events purchase → Allows purchase
   plain_allowed events purchase its =
       elim its.1 [
-        | inl is ↦ subst Allows (sym is) (λ sale enough. from_there seller.Bank its.0
-            (not (is_on_sale game.events seller.Bank its.0)) (not_so (is_on_sale game.events seller.Bank its.0) sale)
-            enough)
-        | inr is ↦ subst Allows (sym is) (λ sale enough. from_there seller.BankPool its.0
-            (not (is_on_sale game.events seller.BankPool its.0))
-            (not_so (is_on_sale game.events seller.BankPool its.0) sale) enough)
+        | inl is ↦ subst Allows (sym is) (from_there seller.Bank its.0 refl refl)
+        | inr is ↦ subst Allows (sym is) (from_there seller.BankPool its.0 refl refl)
       ]
 
 -- a company is itself
@@ -298,7 +285,7 @@ enough_before cash lack cost lacks none =
 aided : (by : Operator) (game : Game) → is_too_dear (with_aid by game) by.company (cheapest game.events) ≡ false
 unfolding with_aid lack_of
 aided by game =
-    let purchase : Purchase = cheapest game.events in
+    let purchase : TrainPurchase = cheapest game.events in
     let cost : ℕ = cost_of purchase in
     let cash : ℤ = cash_of game.seats game.events (party_of_company by.company) in
     let lack : ℤ = pos cost -ℤ cash in
@@ -353,6 +340,6 @@ pub cheapest_low : (events : List Event) → cost_of (cheapest events) ≤ 1100
 cheapest_low events =
     let its = cheapest_plain events in
     elim its.1 [
-      | inl is ↦ subst (λ (purchase : Purchase). cost_of purchase ≤ 1100) (sym is) (price_low its.0)
-      | inr is ↦ subst (λ (purchase : Purchase). cost_of purchase ≤ 1100) (sym is) (price_low its.0)
+      | inl is ↦ subst (λ (purchase : TrainPurchase). cost_of purchase ≤ 1100) (sym is) (price_low its.0)
+      | inr is ↦ subst (λ (purchase : TrainPurchase). cost_of purchase ≤ 1100) (sym is) (price_low its.0)
     ]

@@ -20,16 +20,15 @@ use Rattle.totals.specs.Trains.{trains_at, trains_held}
 use Rattle.forced_purchase.proofs.Cheapest.{cheapest_plain, company_itself, limit_low}
 use Rattle.purchases.proofs.Rust.{all_go, by_train_owner, has}
 use Rattle.purchases.proofs.TrainSteps.{IsPassedOn, of_bop, of_fold, of_iterate, of_kind, of_privates}
-use Rattle.purchases.specs.Discards.{next_discard}
-use Rattle.forced_purchase.specs.Forced.{cheapest}
-use Rattle.forced_purchase.specs.Forced.{lack_of, plain, with_aid}
-use Rattle.purchases.specs.Trains.{cost_of, has_trains}
-use Rattle.purchases.specs.Phases.{after_train, begins_phase, bought, excess_of, rusts_at, with_discarded}
-use Rattle.purchases.specs.Phases.{with_kind_rusted, with_kind_rusted_at, with_limit_kept, with_limits_kept}
-use Rattle.purchases.specs.Phases.{with_next_discarded, with_one_rusted, with_phase, with_privates_closed, with_rusted}
+use Rattle.purchases.specs.Discard.{next_discard, with_discarded, with_next_discarded}
+use Rattle.forced_purchase.specs.Forced.{with_aid}
+use Rattle.forced_purchase.specs.Shortfall.{cheapest, lack_of, plain}
+use Rattle.purchases.specs.Train.{after_train, begins_phase, bought, cost_of, has_trains}
+use Rattle.purchases.specs.Phases.{excess_of, rusts_at, with_kind_rusted, with_kind_rusted_at, with_limit_kept}
+use Rattle.purchases.specs.Phases.{with_limits_kept, with_one_rusted, with_phase, with_privates_closed, with_rusted}
 use Rattle.purchases.specs.Phases.{with_trains_rusted}
 use Rattle.forced_purchase.specs.declared.operator.Operator.{Operator}
-use Rattle.purchases.specs.declared.purchase.Purchase.{Purchase}
+use Rattle.purchases.specs.declared.train.TrainPurchase.{TrainPurchase}
 use Rattle.tables.specs.Roster.{companies, same_company}
 use Rattle.tables.specs.Steps.{iterate}
 use Rattle.tables.specs.Train.{kinds, limit_of, rusting_of, same_kind}
@@ -279,7 +278,7 @@ has_bought by game held none =
     let aided : Game = with_aid by game in
     let nothing : (kind : Kind) → trains_held aided.events (Some company) kind ≡ pos 0 =
     λ kind. none_with_aid by game kind (none_of_any game company held none kind) in
-    let Has : Purchase → Type 0 = λ purchase. has_trains (after_train aided company purchase).events company ≡ true in
+    let Has : TrainPurchase → Type 0 = λ purchase. has_trains (after_train aided company purchase).events company ≡ true in
     let from_there : (kind : Kind) (from : TrainSeller)
     → same_train_place (place_of_seller from) (train_owner_place (Some company)) ≡ false → Has (plain kind from) =
     λ kind from apart.

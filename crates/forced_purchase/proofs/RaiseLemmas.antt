@@ -3,7 +3,7 @@ use Rattle.std.proofs.Common.{◌≡◌, ◌↔◌, ℕ, Bool, true, false, ◌|
 use Rattle.std.proofs.Common.{codes, ltb, inl, inr, refl, sym, ap, ◌∙◌}
 use Rattle.std.proofs.lemmas.Bool.{cases_Bool}
 use Rattle.totals.specs.LookBack.{Game}
-use Rattle.forced_purchase.specs.Forced.{after_raise_line, may_spell_raise}
+use Rattle.forced_purchase.specs.Raise.{after_raise_line, may_spell_raise}
 use Rattle.forced_purchase.specs.declared.operator.Operator.{Operator}
 use Rattle.order_grammar.specs.Condition.{Ordered}
 use Rattle.order_grammar.specs.SpellsVersion.{AreWordsUnder, SpellsInVersion}

@@ -10,10 +10,11 @@ use Rattle.certs.specs.Purchase.{market_price_of}
 use Rattle.certs.specs.Sale.{kept_after, none_is_left, must_stay, moves_operating, one_has, sale_judgement, sale_rules}
 use Rattle.certs.specs.SaleAct.{sold, with_president, with_successor}
 use Rattle.certs.specs.declared.deal.Sale.{Sale}
-use Rattle.events.specs.Event.{office_of}
+use Rattle.events.specs.Event.{code_of_stock_rule, office_of}
 use Rattle.events.specs.declared.event.Event.{Event}
 use Rattle.events.specs.declared.event.Event.TheVariants as event
 use Rattle.events.specs.declared.event.Shareholder.TheVariants.{Seat as OfSeat}
+use Rattle.events.specs.declared.ruling.StockRule.TheVariants.{PresidentMustStay}
 use Rattle.totals.proofs.Choices.{same_company_is}
 use Rattle.totals.proofs.EventAtEnd.{last_said_before, president_of_before, shares_of_at_end, shares_of_before}
 use Rattle.totals.specs.LookBack.{Game}
@@ -22,9 +23,9 @@ use Rattle.history.specs.Record.{breaks}
 use Rattle.market.specs.Moves.{fallen}
 use Rattle.market.specs.Token.{moved_from, same_square}
 use Rattle.forced_purchase.proofs.Cheapest.{company_itself, not_less_is}
-use Rattle.forced_purchase.specs.Forced.{sale_rule, with_sale}
+use Rattle.forced_purchase.specs.Raise.{sale_rule, with_sale}
 use Rattle.forced_purchase.specs.declared.operator.Operator.{Operator}
-use Rattle.tables.proofs.Rules.{none_broken}
+use Rattle.tables.proofs.Rules.{not_broken}
 use Rattle.tables.specs.Roster.{same_company}
 use Rattle.tables.specs.declared.roster.Company.{Company}
 use Rattle.tables.specs.declared.seat.Seat.{Seat}
@@ -178,7 +179,8 @@ stays_where_allowed : (by : Operator) (game : Game) (sale : Sale) → sale_rule 
     → must_stay game.seats game.events by.president sale (Some by.company) ≡ false
 unfolding sale_rule sale_judgement
 stays_where_allowed by game sale none =
-    (none_broken (sale_rules game.seats game.events by.president sale (Some by.company)) none).1.1.1.0
+    not_broken code_of_stock_rule (sale_rules game.seats game.events by.president sale (Some by.company)) none
+    PresidentMustStay
 
 none_over : (by : Operator) (game : Game) (sale : Sale) → sale_rule by game sale ≡ None → by.company ≡ sale.company
     → president_of game.events by.company ≡ Some by.president →

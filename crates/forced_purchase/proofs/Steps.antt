@@ -16,12 +16,14 @@ use Rattle.events.specs.declared.ruling.StockRule.TheVariants.{NotOfStock}
 use Rattle.totals.proofs.EventAtEnd.{last_said_before, quiet_same}
 use Rattle.history.specs.Conditions.{is_met}
 use Rattle.totals.specs.LookBack.{Game, with_event}
-use Rattle.forced_purchase.specs.Forced.{after_forced, after_raise, after_raises, cheapest, concluded, falls_short}
-use Rattle.forced_purchase.specs.Forced.{needed_rule, next_to_sell, one_share, raise_rule, raise_ruled, sale_rule}
-use Rattle.forced_purchase.specs.Forced.{sold_further, sold_singly, with_aid, with_one_sold, with_ruling, with_sale}
-use Rattle.purchases.specs.Phases.{after_train}
+use Rattle.forced_purchase.specs.Forced.{after_forced, concluded, next_to_sell, one_share, sold_further, sold_singly}
+use Rattle.forced_purchase.specs.Forced.{with_aid, with_one_sold}
+use Rattle.forced_purchase.specs.Raise.{after_raise, after_raises, needed_rule, raise_rule, raise_ruled, sale_rule}
+use Rattle.forced_purchase.specs.Raise.{with_ruling, with_sale}
+use Rattle.forced_purchase.specs.Shortfall.{cheapest, falls_short}
+use Rattle.purchases.specs.Train.{after_train}
 use Rattle.forced_purchase.specs.declared.operator.Operator.{Operator}
-use Rattle.purchases.specs.declared.purchase.Purchase.{Purchase}
+use Rattle.purchases.specs.declared.train.TrainPurchase.{TrainPurchase}
 use Rattle.order_grammar.specs.declared.condition.Condition.{Condition}
 use Rattle.order_grammar.specs.declared.order.Order.TheVariants as order
 use Rattle.sheets.specs.Part.{Numbered}
@@ -190,7 +192,7 @@ bankrupt_then by old new short recorded =
     (with_aid by old) by.company (cheapest old.events)) (sym short)
 
 -- or the company buys
-pub bought_then : (by : Operator) (old aided new : Game) (purchase : Purchase) → falls_short by old ≡ false
+pub bought_then : (by : Operator) (old aided new : Game) (purchase : TrainPurchase) → falls_short by old ≡ false
     → purchase ≡ cheapest old.events → aided ≡ with_aid by old → new ≡ after_train aided by.company purchase
     → new ≡ concluded by old
 unfolding concluded

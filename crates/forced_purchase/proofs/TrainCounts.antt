@@ -18,9 +18,10 @@ use Rattle.history.specs.Record.{breaks, with_broken}
 use Rattle.totals.specs.Trains.{train_count, trains_held, trains_of_kinds}
 use Rattle.market.specs.Moves.{fallen}
 use Rattle.market.specs.Token.{moved_from, same_square}
-use Rattle.forced_purchase.specs.Forced.{after_raise_line, after_raises, falls_short, next_to_sell, raise_rule}
-use Rattle.forced_purchase.specs.Forced.{raise_ruled, sold_further, sold_singly, with_one_sold}
-use Rattle.purchases.specs.Trains.{has_trains}
+use Rattle.forced_purchase.specs.Forced.{next_to_sell, sold_further, sold_singly, with_one_sold}
+use Rattle.forced_purchase.specs.Raise.{after_raise_line, after_raises, raise_rule, raise_ruled}
+use Rattle.forced_purchase.specs.Shortfall.{falls_short}
+use Rattle.purchases.specs.Train.{has_trains}
 use Rattle.forced_purchase.specs.declared.operator.Operator.{Operator}
 use Rattle.order_grammar.specs.declared.fault.Fault.{Fault}
 use Rattle.order_grammar.specs.declared.order.Order.{Order}

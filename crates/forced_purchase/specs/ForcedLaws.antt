@@ -3,9 +3,10 @@ use Rattle.std.specs.Prelude.{◌≡◌, true, false, pos}
 use Rattle.std.specs.Int.Signed.{lt_z}
 use Rattle.events.specs.Event.{party_of_company}
 use Rattle.totals.specs.LookBack.{Game, cash_of}
-use Rattle.forced_purchase.specs.Forced.{cheapest, lack_of, with_aid}
+use Rattle.forced_purchase.specs.Forced.{with_aid}
+use Rattle.forced_purchase.specs.Shortfall.{cheapest, lack_of}
 use Rattle.forced_purchase.specs.declared.operator.Operator.{Operator}
-use Rattle.purchases.specs.Trains.{cost_of}
+use Rattle.purchases.specs.Train.{cost_of}
 
 -- once the president has paid what the company lacks for the cheapest train that is for sale, it
 -- has exactly its price

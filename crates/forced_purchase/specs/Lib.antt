@@ -1,2 +1,4 @@
+pub mod Shortfall
+pub mod Raise
 pub mod Forced
 pub mod ForcedLaws

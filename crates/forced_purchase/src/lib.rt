@@ -6,12 +6,16 @@
 //!
 //! The caller checks whether a company must buy: here it has no train.
 //!
-//! Reading order: `operator` (the company and its president), `forced`, `laws`.
+//! Reading order: `operator` (the company and its president), `shortfall` (what it lacks), `raise`
+//! (the order RAISE), `forced` (the purchase), `laws`.
 #![tactic(auto)]
 
 mod forced;
 pub mod laws;
 mod operator;
+mod raise;
+mod shortfall;
 
-pub use forced::{buy_by_force, rule_raises};
+pub use forced::buy_by_force;
 pub use operator::Operator;
+pub use raise::rule_raises;

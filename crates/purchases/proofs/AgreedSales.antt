@@ -5,10 +5,9 @@ use Rattle.events.specs.declared.event.Holder.TheVariants as holder
 use Rattle.totals.specs.LookBack.{Game, owner_of}
 use Rattle.purchases.proofs.Consents.{companies_agree, owners_agree}
 use Rattle.purchases.specs.ConsentLaws.{CompanyAgrees, OwnerAgrees}
-use Rattle.purchases.specs.Phases.{with_trade}
-use Rattle.purchases.specs.Privates.{private_judgement}
+use Rattle.purchases.specs.Train.{cost_of, purchase_of, train_judgement, with_trade}
+use Rattle.purchases.specs.Private.{private_judgement}
 use Rattle.purchases.specs.SaleLaws.{IsAgreed, IsGiven}
-use Rattle.purchases.specs.Trains.{cost_of, purchase_of, train_judgement}
 use Rattle.order_grammar.specs.declared.order.TrainSource.{TrainSource}
 use Rattle.order_grammar.specs.declared.order.TrainSource.TheVariants as source
 use Rattle.tables.specs.declared.rolling_stock.Kind.{Kind}

@@ -1,19 +1,22 @@
 -- Who sells has agreed, by the rules that are kept.
 use Rattle.std.proofs.Common.{◌≡◌, ℕ, ◌<◌, ◌==◌, Bool, true, false, not, Option, Some, None, refl, arith}
 use Rattle.std.proofs.lemmas.Bool.Decides.{nat_tests}
+use Rattle.events.specs.Event.{code_of_private_rule, code_of_train_rule}
 use Rattle.events.specs.declared.event.Holder.{Holder}
 use Rattle.events.specs.declared.event.Holder.TheVariants as holder
+use Rattle.events.specs.declared.ruling.PrivateRule.TheVariants as private_rule
+use Rattle.events.specs.declared.ruling.TrainRule.TheVariants as train_rule
 use Rattle.totals.specs.LookBack.{Game, owner_of}
 use Rattle.totals.specs.Shares.{president_of}
-use Rattle.purchases.proofs.Buying.{neither, so}
+use Rattle.purchases.proofs.TrainLemmas.{neither, so}
 use Rattle.purchases.specs.ConsentLaws.{CompaniesAgree, CompanyAgrees, OwnerAgrees, OwnersAgree}
-use Rattle.purchases.specs.Discards.{has_train}
-use Rattle.purchases.specs.Privates.{is_given, is_given_by, private_rules}
-use Rattle.purchases.specs.Trains.{presidents_agree, purchase_of, train_purchase_rules}
+use Rattle.purchases.specs.Discard.{has_train}
+use Rattle.purchases.specs.Private.{is_given, is_given_by, private_rules}
+use Rattle.purchases.specs.Train.{presidents_agree, purchase_of, train_purchase_rules}
 use Rattle.order_grammar.specs.declared.order.Offer.{Offer}
 use Rattle.order_grammar.specs.declared.order.Offer.TheVariants as offer
 use Rattle.order_grammar.specs.declared.order.TrainSource.TheVariants.{Company as OfCompany}
-use Rattle.tables.proofs.Rules.{none_broken}
+use Rattle.tables.proofs.Rules.{not_broken}
 use Rattle.tables.specs.Roster.{same_company}
 use Rattle.tables.specs.declared.rolling_stock.Kind.{Kind}
 use Rattle.tables.specs.declared.roster.Company.{Company}
@@ -47,12 +50,14 @@ agree_by game seller buyer kind price None taker presides leads agrees some has 
 
 pub companies_agree : CompaniesAgree
 companies_agree game buyer seller kind price none =
-    let kept = none_broken (train_purchase_rules game buyer (purchase_of kind (OfCompany seller price))) none in
+    let rules = train_purchase_rules game buyer (purchase_of kind (OfCompany seller price)) in
+    let kept = not_broken code_of_train_rule rules none in
     let sale : Offer = offer.Train kind seller buyer price in
     let agree : Bool = presidents_agree game.events (president_of game.events seller) (president_of game.events buyer)
     sale in
-    let given = neither (price == 0) (not agree) kept.1.1.1.0 in
-    let other = neither (not (has_train game.events seller kind)) (same_company buyer seller) kept.1.1.1.1.0 in
+    let given = neither (price == 0) (not agree) (kept train_rule.NoConsent) in
+    let other = neither (not (has_train game.events seller kind)) (same_company buyer seller)
+    (kept train_rule.NotSellers) in
     agree_by game seller buyer kind price (president_of game.events seller) (president_of game.events buyer) refl refl
     (so agree given.1) (priced price given.0) (so (has_train game.events seller kind) other.0) other.1
 
@@ -70,6 +75,6 @@ given_by game buyer private price None taker owns leads agrees = absurd (cc)
 
 pub owners_agree : OwnersAgree
 owners_agree game buyer private price none =
-    let kept = none_broken (private_rules game buyer private price) none in
+    let kept = not_broken code_of_private_rule (private_rules game buyer private price) none in
     given_by game buyer private price (owner_of game.events private) (president_of game.events buyer) refl refl
-    (so (is_given game.events buyer private price) kept.1.1.0)
+    (so (is_given game.events buyer private price) (kept private_rule.NoConsent))

@@ -4,7 +4,7 @@ use Rattle.std.proofs.Common.{get_or, take, drop, Option, Some, sym, ap, ◌∙�
 use Rattle.std.proofs.lemmas.List.{append-nil, append_assoc, at_drop_all, at_drop_more, take_all, take_more}
 use Rattle.std.specs.List.{remove}
 use Rattle.events.specs.declared.event.Event.{Event}
-use Rattle.purchases.specs.Discards.{first_held, has_train, without_first}
+use Rattle.purchases.specs.Discard.{first_held, has_train, without_first}
 use Rattle.tables.specs.Train.{same_kind}
 use Rattle.tables.specs.declared.rolling_stock.Kind.{Kind}
 use Rattle.tables.specs.declared.roster.Company.{Company}

@@ -3,19 +3,20 @@ use Rattle.std.proofs.Common.{◌≡◌, ◌⊎◌, ℕ, zero, suc, ◌<◌, ◌
 use Rattle.std.proofs.Common.{if◌then◌else◌, List, Option, Some, None, pos, refl, sym, ap, subst, ◌∙◌, arith}
 use Rattle.std.proofs.lemmas.Bool.Decides.{nat_tests}
 use Rattle.std.proofs.lemmas.Int.{ints}
-use Rattle.events.specs.Event.{place_of_seller, train_moved}
+use Rattle.events.specs.Event.{code_of_train_rule, place_of_seller, train_moved}
 use Rattle.events.specs.declared.event.Event.{Event}
 use Rattle.events.specs.declared.event.Event.TheVariants as event
 use Rattle.events.specs.declared.event.TrainPlace.TheVariants as place
 use Rattle.events.specs.declared.event.TrainSeller.{TrainSeller}
 use Rattle.events.specs.declared.event.TrainSeller.TheVariants as seller
+use Rattle.events.specs.declared.ruling.TrainRule.TheVariants.{NotOnSale}
 use Rattle.totals.proofs.AllTrains.{trains_stay}
 use Rattle.totals.proofs.Choices.{truth}
 use Rattle.history.proofs.Rolling.{same_kind_is, sold_at_end, trains_kept}
 use Rattle.totals.specs.LookBack.{Game, with_event}
 use Rattle.totals.specs.Trains.{IsThere, TrainsAreHeld, one_if, phase_of, train_goes, trains_at, trains_in_play}
 use Rattle.totals.specs.Trains.{trains_sold}
-use Rattle.purchases.proofs.Buying.{may_buy, so}
+use Rattle.purchases.proofs.TrainLemmas.{may_buy, so}
 use Rattle.purchases.proofs.Complete.{Alike, alike_closed, alike_discarded, alike_on, alike_phase, alike_rusted}
 use Rattle.purchases.proofs.Complete.{there_is}
 use Rattle.purchases.proofs.Held.{bought_held, purchase_held}
@@ -23,12 +24,12 @@ use Rattle.purchases.proofs.Rust.{none_in_play}
 use Rattle.purchases.proofs.Sales.{between_sold, earlier_sold, is_bought, one_sold, sold_or_not}
 use Rattle.purchases.proofs.TrainSteps.{IsPassedOn, later_begins, of_choice, of_fold, of_kind, of_limits, of_next}
 use Rattle.purchases.proofs.TrainSteps.{of_phase, of_privates, of_train_owner, phase_bought, phase_then}
-use Rattle.purchases.specs.Phases.{begins_phase, bought, rusts_at, with_kind_rusted, with_kind_rusted_at}
-use Rattle.purchases.specs.Phases.{with_limits_kept, with_phase, with_privates_closed, with_rusted}
+use Rattle.purchases.specs.Phases.{rusts_at, with_kind_rusted, with_kind_rusted_at, with_limits_kept, with_phase}
+use Rattle.purchases.specs.Phases.{with_privates_closed, with_rusted}
+use Rattle.purchases.specs.Train.{begins_phase, bought, is_on_sale, train_judgement, train_purchase_rules}
 use Rattle.purchases.specs.TrainLaws.{PurchasesKeepAll, TrainsAreAll, has_come}
-use Rattle.purchases.specs.Trains.{is_on_sale, train_judgement, train_purchase_rules}
-use Rattle.purchases.specs.declared.purchase.Purchase.{Purchase}
-use Rattle.tables.proofs.Rules.{none_broken}
+use Rattle.purchases.specs.declared.train.TrainPurchase.{TrainPurchase}
+use Rattle.tables.proofs.Rules.{not_broken}
 use Rattle.tables.specs.Train.{kinds, place_of_kind, rusting_of, same_kind, trains_of}
 use Rattle.tables.specs.declared.rolling_stock.Kind.{Kind}
 use Rattle.tables.specs.declared.rolling_stock.Kind.TheVariants.{Two, Three, Four, Five, Six, Diesel}
@@ -134,19 +135,19 @@ phase_gone game phase kind rusts held =
     )
 
 -- what is known of a purchase by the rules where all trains are there
-record IsFair (game : Game) (buyer : Company) (purchase : Purchase) : Type 0 where
+record IsFair (game : Game) (buyer : Company) (purchase : TrainPurchase) : Type 0 where
   none : train_judgement game buyer purchase ≡ None
   held : TrainsAreHeld game.events
   all : TrainsAreAll game.events
 
 -- it is on sale
-on_sale : (game : Game) (buyer : Company) (purchase : Purchase) → IsFair game buyer purchase
+on_sale : (game : Game) (buyer : Company) (purchase : TrainPurchase) → IsFair game buyer purchase
     → is_on_sale game.events purchase.from purchase.kind ≡ true
 on_sale game buyer purchase fair = so (is_on_sale game.events purchase.from purchase.kind)
-    (none_broken (train_purchase_rules game buyer purchase) fair.none).0
+    (not_broken code_of_train_rule (train_purchase_rules game buyer purchase) fair.none NotOnSale)
 
 -- at the bank, where the bank sells it
-at_bank : (game : Game) (buyer : Company) (purchase : Purchase) (kind : Kind) → IsFair game buyer purchase
+at_bank : (game : Game) (buyer : Company) (purchase : TrainPurchase) (kind : Kind) → IsFair game buyer purchase
     → purchase.from ≡ seller.Bank → purchase.kind ≡ kind → is_on_sale game.events seller.Bank kind ≡ true
 at_bank game buyer purchase kind fair bank is =
     ap (λ (k : Kind). is_on_sale game.events seller.Bank k) (sym is)
@@ -162,7 +163,7 @@ left_by events seller.BankPool of kind number bank is has there = absurd (cc)
 left_by events (seller.Company owner) of kind number bank is has there = absurd (cc)
 
 -- where one of a kind is sold, one was left
-had_left : (game : Game) (buyer : Company) (purchase : Purchase) (kind : Kind) (number : ℕ)
+had_left : (game : Game) (buyer : Company) (purchase : TrainPurchase) (kind : Kind) (number : ℕ)
     → IsFair game buyer purchase → purchase.from ≡ seller.Bank → purchase.kind ≡ kind
     → (trains_of kind).number ≡ Some number → trains_sold game.events kind < number
 had_left game buyer purchase kind number fair bank is there =
@@ -170,7 +171,7 @@ had_left game buyer purchase kind number fair bank is there =
     left_by game.events purchase.from purchase.kind kind number bank is may.there there
 
 -- the kinds are sold in their order after a purchase
-in_order_then : (game : Game) (buyer : Company) (purchase : Purchase) → IsFair game buyer purchase
+in_order_then : (game : Game) (buyer : Company) (purchase : TrainPurchase) → IsFair game buyer purchase
     → (earlier later : Kind) (number : ℕ) → (trains_of earlier).number ≡ Some number → place_of_kind earlier < 4
     → place_of_kind earlier < place_of_kind later → 0 < trains_sold (bought game buyer purchase).events later
     → trains_sold (bought game buyer purchase).events earlier ≡ number
@@ -223,7 +224,7 @@ not_later : (sold phase kind : ℕ) → sold ≡ 0 → (sold == 0 && nat_lt phas
 not_later sold phase kind none begins = grind (arith, nat_tests, none, begins)
 
 -- a kind that is sold after a purchase by which no phase begins
-latest_then : (game : Game) (buyer : Company) (purchase : Purchase)
+latest_then : (game : Game) (buyer : Company) (purchase : TrainPurchase)
     → begins_phase game.events purchase.from purchase.kind ≡ false → IsFair game buyer purchase → (kind : Kind)
     → 0 < trains_sold (bought game buyer purchase).events kind
     → place_of_kind kind ≤ place_of_kind (phase_of game.events)
@@ -244,7 +245,7 @@ latest_then game buyer purchase begins fair kind sold =
     ]
 
 -- where no phase begins
-no_phase : (game : Game) (buyer : Company) (purchase : Purchase)
+no_phase : (game : Game) (buyer : Company) (purchase : TrainPurchase)
     → begins_phase game.events purchase.from purchase.kind ≡ false → IsFair game buyer purchase
     → TrainsAreAll (bought game buyer purchase).events
 no_phase game buyer purchase begins fair =
@@ -301,7 +302,7 @@ one_by seller.BankPool kind buyer bank = absurd (cc)
 one_by (seller.Company owner) kind buyer bank = absurd (cc)
 
 -- the bank sells one
-one_more : (game : Game) (buyer : Company) (purchase : Purchase) → purchase.from ≡ seller.Bank
+one_more : (game : Game) (buyer : Company) (purchase : TrainPurchase) → purchase.from ≡ seller.Bank
     → one_sold buyer purchase purchase.kind ≡ 1
 one_more game buyer purchase bank = one_by (purchase.from) purchase.kind buyer bank
 
@@ -316,7 +317,7 @@ rusts_early phase Six rusts = absurd (cc)
 rusts_early phase Diesel rusts = absurd (cc)
 
 -- where one does
-new_phase : (game : Game) (buyer : Company) (purchase : Purchase)
+new_phase : (game : Game) (buyer : Company) (purchase : TrainPurchase)
     → begins_phase game.events purchase.from purchase.kind ≡ true → IsFair game buyer purchase
     → TrainsAreAll (with_phase (bought game buyer purchase) purchase.kind).events
 new_phase game buyer purchase begins fair =
@@ -388,7 +389,7 @@ new_phase game buyer purchase begins fair =
           early ∙ in_order_then game buyer purchase fair earlier other number has numbered before (omega arith);
     }
 
-by_phase : (game : Game) (buyer : Company) (purchase : Purchase) (begins : Bool)
+by_phase : (game : Game) (buyer : Company) (purchase : TrainPurchase) (begins : Bool)
     → begins_phase game.events purchase.from purchase.kind ≡ begins → IsFair game buyer purchase
     → TrainsAreAll (if begins then with_phase (bought game buyer purchase) purchase.kind else bought game buyer
     purchase).events

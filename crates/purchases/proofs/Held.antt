@@ -8,15 +8,14 @@ use Rattle.history.proofs.Rolling.{trains_after_move, trains_kept}
 use Rattle.history.proofs.TrainActs.{came_held}
 use Rattle.totals.specs.LookBack.{Game, with_event}
 use Rattle.totals.specs.Trains.{TrainsAreHeld, at_least_zero, trains_held}
-use Rattle.purchases.proofs.Buying.{may_buy, there_traded}
+use Rattle.purchases.proofs.TrainLemmas.{may_buy, there_traded}
 use Rattle.purchases.proofs.PhaseLemmas.{below_many, first_of_either}
 use Rattle.purchases.proofs.Rust.{so_many_less}
 use Rattle.purchases.proofs.TrainSteps.{IsPassedOn, OfClosings, OfNextDiscards, OfStables, of_bop, of_choice, of_phase}
-use Rattle.purchases.specs.Discards.{next_discard}
-use Rattle.purchases.specs.Phases.{after_train, begins_phase, bought, with_discarded, with_one_rusted, with_phase}
-use Rattle.purchases.specs.Phases.{with_trade}
-use Rattle.purchases.specs.Trains.{cost_of, train_judgement}
-use Rattle.purchases.specs.declared.purchase.Purchase.{Purchase}
+use Rattle.purchases.specs.Discard.{next_discard, with_discarded}
+use Rattle.purchases.specs.Phases.{with_one_rusted, with_phase}
+use Rattle.purchases.specs.Train.{after_train, begins_phase, bought, cost_of, train_judgement, with_trade}
+use Rattle.purchases.specs.declared.train.TrainPurchase.{TrainPurchase}
 use Rattle.tables.specs.Steps.{iterate}
 use Rattle.tables.specs.Train.{kinds}
 use Rattle.tables.specs.declared.rolling_stock.Kind.{Kind}
@@ -84,7 +83,7 @@ traded_held game company (Some kind) has held =
     held
 
 -- after the company has bought
-pub bought_held : (game : Game) (buyer : Company) (purchase : Purchase) → train_judgement game buyer purchase ≡ None
+pub bought_held : (game : Game) (buyer : Company) (purchase : TrainPurchase) → train_judgement game buyer purchase ≡ None
     → StillHeld game (bought game buyer purchase)
 bought_held game buyer purchase none held =
     let may = may_buy game buyer purchase none in
@@ -97,7 +96,7 @@ bought_held game buyer purchase none held =
     (traded_held game buyer purchase.trade_in may.trades held))
 
 -- and after all that follows
-pub purchase_held : (game : Game) (buyer : Company) (purchase : Purchase) → train_judgement game buyer purchase ≡ None
+pub purchase_held : (game : Game) (buyer : Company) (purchase : TrainPurchase) → train_judgement game buyer purchase ≡ None
     → StillHeld game (after_train game buyer purchase)
 purchase_held game buyer purchase none =
     let came = bought game buyer purchase in

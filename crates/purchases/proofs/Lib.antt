@@ -2,7 +2,7 @@ pub mod Folding
 pub mod Recorded
 pub mod PhaseLemmas
 pub mod DiscardLemmas
-pub mod Buying
+pub mod TrainLemmas
 pub mod TrainSteps
 pub mod Rust
 pub mod Complete
@@ -10,7 +10,7 @@ pub mod Held
 pub mod Sales
 pub mod Fleet
 pub mod Still
-pub mod PrivateSales
+pub mod PrivateLemmas
 pub mod ClosedPrivates
 pub mod Consents
 pub mod AgreedSales

@@ -15,12 +15,12 @@ use Rattle.totals.proofs.EventAtEnd.{trains_at_end}
 use Rattle.history.proofs.TrainActs.{discard_sound, rusting_sound}
 use Rattle.totals.specs.LookBack.{Game, IsModerate, with_event}
 use Rattle.totals.specs.Trains.{one_if, phase_of, at_least_zero, train_count, train_comes, train_goes, trains_held}
-use Rattle.purchases.specs.Discards.{first_held, has_train, next_discard}
+use Rattle.purchases.specs.Discard.{first_held, has_train, next_discard}
 use Rattle.history.specs.Sound.{IsSound}
-use Rattle.purchases.specs.Phases.{after_train, begins_phase, bought, excess_of, with_limits_kept, with_one_rusted}
-use Rattle.purchases.specs.Phases.{with_phase, with_privates_closed, with_rusted}
-use Rattle.purchases.specs.Trains.{traded_count}
-use Rattle.purchases.specs.declared.purchase.Purchase.{Purchase}
+use Rattle.purchases.specs.Phases.{excess_of, with_limits_kept, with_one_rusted, with_phase, with_privates_closed}
+use Rattle.purchases.specs.Phases.{with_rusted}
+use Rattle.purchases.specs.Train.{after_train, begins_phase, bought, traded_count}
+use Rattle.purchases.specs.declared.train.TrainPurchase.{TrainPurchase}
 use Rattle.tables.specs.Train.{kinds, limit_of}
 use Rattle.tables.specs.declared.rolling_stock.Kind.{Kind}
 use Rattle.tables.specs.declared.rolling_stock.Kind.TheVariants.{Two, Three, Four, Five, Six, Diesel}
@@ -36,7 +36,7 @@ phase_begins game recorded rusted closed new phase is_recorded is_rusted is_clos
     (is_closed ∙ ap (with_privates_closed phase) (is_rusted ∙ ap (with_rusted phase) is_recorded))
 
 -- a train that is the first of a phase
-pub train_begins : (game has new : Game) (company : Company) (purchase : Purchase)
+pub train_begins : (game has new : Game) (company : Company) (purchase : TrainPurchase)
     → begins_phase game.events purchase.from purchase.kind ≡ true → has ≡ bought game company purchase
     → new ≡ with_phase has purchase.kind → new ≡ after_train game company purchase
 train_begins game has new company purchase begins is_bought is_new =

@@ -16,28 +16,28 @@ use Rattle.totals.proofs.EventAtEnd.{trains_at_end}
 use Rattle.history.proofs.Rolling.{same_kind_is, sold_at_end}
 use Rattle.totals.specs.LookBack.{Game, with_event}
 use Rattle.totals.specs.Trains.{TrainsAreHeld, one_if, train_goes, trains_at, trains_sold}
-use Rattle.purchases.proofs.Buying.{both, either}
+use Rattle.purchases.proofs.TrainLemmas.{both, either}
 use Rattle.purchases.proofs.Complete.{Alike, alike_closed, alike_on, alike_traded, never}
 use Rattle.purchases.proofs.TrainSteps.{of_bop, of_trade}
-use Rattle.purchases.specs.Phases.{bought, with_bop_closed, with_trade}
+use Rattle.purchases.specs.Train.{are_left, bought, cost_of, first_left, is_kind, is_left, is_on_sale, with_bop_closed}
+use Rattle.purchases.specs.Train.{with_trade}
 use Rattle.purchases.specs.TrainLaws.{TrainsAreAll}
-use Rattle.purchases.specs.Trains.{are_left, cost_of, first_left, is_kind, is_left, is_on_sale}
-use Rattle.purchases.specs.declared.purchase.Purchase.{Purchase}
+use Rattle.purchases.specs.declared.train.TrainPurchase.{TrainPurchase}
 use Rattle.tables.specs.Train.{place_of_kind, same_kind, trains_of}
 use Rattle.tables.specs.declared.rolling_stock.Kind.{Kind}
 use Rattle.tables.specs.declared.rolling_stock.Kind.TheVariants.{Two, Three, Four, Five, Six, Diesel}
 use Rattle.tables.specs.declared.roster.Company.{Company}
 
 -- the train that is bought, as it moves
-abbrev pub sale_of : Company → Purchase → TrainMove
+abbrev pub sale_of : Company → TrainPurchase → TrainMove
 sale_of buyer purchase = record { kind = purchase.kind; from = place_of_seller purchase.from; to = place.Company buyer }
 
 -- one more of a kind is sold, where the bank sells one of it
-abbrev pub one_sold : Company → Purchase → Kind → ℕ
+abbrev pub one_sold : Company → TrainPurchase → Kind → ℕ
 one_sold buyer purchase kind = one_if (train_goes place.Bank kind (Some (sale_of buyer purchase)))
 
 -- after a purchase
-pub record IsBought (buyer : Company) (purchase : Purchase) (kind : Kind) (before after : Game) : Type 0 where
+pub record IsBought (buyer : Company) (purchase : TrainPurchase) (kind : Kind) (before after : Game) : Type 0 where
   pub sold : trains_sold after.events kind ≡ trains_sold before.events kind + one_sold buyer purchase kind
   pub out : trains_at after.events place.OutOfPlay kind ≡ trains_at before.events place.OutOfPlay kind
 
@@ -50,7 +50,7 @@ from_play seller.BankPool kind of buyer = never (same_kind of kind)
 from_play (seller.Company owner) kind of buyer = never (same_kind of kind)
 
 -- so it is
-pub is_bought : (game : Game) (buyer : Company) (purchase : Purchase) (kind : Kind)
+pub is_bought : (game : Game) (buyer : Company) (purchase : TrainPurchase) (kind : Kind)
     → IsBought buyer purchase kind game (bought game buyer purchase)
 is_bought game buyer purchase kind =
     let traded = with_trade game buyer purchase.trade_in in
@@ -91,7 +91,7 @@ by_seller seller.BankPool of kind buyer = inl (ap one_if (never (same_kind of ki
 by_seller (seller.Company owner) of kind buyer = inl (ap one_if (never (same_kind of kind)))
 
 -- the kind that the bank sells by a purchase, if it sells one
-pub sold_or_not : (buyer : Company) (purchase : Purchase) (kind : Kind)
+pub sold_or_not : (buyer : Company) (purchase : TrainPurchase) (kind : Kind)
     → (one_sold buyer purchase kind ≡ 0) ⊎ ((purchase.from ≡ seller.Bank)
     × ((purchase.kind ≡ kind) × (one_sold buyer purchase kind ≡ 1)))
 sold_or_not buyer purchase kind = by_seller purchase.from purchase.kind kind buyer

@@ -16,20 +16,17 @@ use Rattle.events.specs.declared.event.TrainSeller.{TrainSeller}
 use Rattle.events.specs.declared.event.TrainSeller.TheVariants as seller
 use Rattle.events.specs.declared.ruling.Ruling.{Ruling}
 use Rattle.events.specs.declared.ruling.Ruling.TheVariants.{Obeyed}
-use Rattle.events.specs.declared.ruling.TrainRule.{TrainRule}
-use Rattle.events.specs.declared.ruling.TrainRule.TheVariants.{NotOnSale, TrainLimit, CashTooSmall, NoConsent}
-use Rattle.events.specs.declared.ruling.TrainRule.TheVariants.{NotSellers, NoTradeIn}
 use Rattle.totals.proofs.EventAtEnd.{balance_before, cash_of_before, last_said_before, president_of_before}
 use Rattle.totals.specs.LookBack.{Game, in_round, with_event}
 use Rattle.totals.specs.Offers.{has_consent}
 use Rattle.totals.specs.Shares.{president_of}
 use Rattle.totals.specs.Trains.{one_if, phase_of, train_count, train_comes, train_goes, trains_held, trains_of_kinds}
 use Rattle.totals.specs.Trains.{trains_sold}
-use Rattle.purchases.specs.Trains.{are_left, cost_of, first_left, first_left_of, is_at_train_limit, is_kind, is_left}
-use Rattle.purchases.specs.Trains.{is_no_trade_in, is_not_given, is_not_sellers, is_on_sale, is_too_dear, lacks_consent}
-use Rattle.purchases.specs.Trains.{may_be_traded, numbered_kinds, presidents_agree, sells_diesels}
-use Rattle.purchases.specs.Trains.{traded_count, train_judgement}
-use Rattle.purchases.specs.declared.purchase.Purchase.{Purchase}
+use Rattle.purchases.specs.Train.{are_left, cost_of, first_left, first_left_of, is_at_train_limit, is_kind, is_left}
+use Rattle.purchases.specs.Train.{is_no_trade_in, is_not_given, is_not_sellers, is_on_sale}
+use Rattle.purchases.specs.Train.{may_be_traded, numbered_kinds, presidents_agree, sells_diesels, traded_count}
+use Rattle.purchases.specs.Train.{train_judgement, train_purchase_rules}
+use Rattle.purchases.specs.declared.train.TrainPurchase.{TrainPurchase}
 use Rattle.order_grammar.specs.declared.order.Offer.{Offer}
 use Rattle.order_grammar.specs.declared.order.Offer.TheVariants as offer
 use Rattle.order_grammar.specs.declared.order.Order.TheVariants.{BuyTrain}
@@ -154,7 +151,7 @@ module _ (events : List Event) (seat : Seat) (line : Numbered) (kind : Kind) (fr
   same_agreement None taker sale = refl
 
   -- and the same lacks it
-  same_lack : (buyer : Company) (purchase : Purchase) (of : TrainSeller) →
+  same_lack : (buyer : Company) (purchase : TrainPurchase) (of : TrainSeller) →
       is_not_given (events ++ obeyed ∷ []) buyer purchase of ≡ is_not_given events buyer purchase of
   same_lack buyer purchase seller.Bank = refl
   same_lack buyer purchase seller.BankPool = refl
@@ -168,42 +165,22 @@ module _ (events : List Event) (seat : Seat) (line : Numbered) (kind : Kind) (fr
       ∙ ap (λ (taker : Option Seat). presidents_agree events (president_of events company) taker sale)
       (same_president events seat line ruling buyer))
 
--- a table of the rules of a purchase
-abbrev table_of : Bool → Bool → Bool → Bool → Bool → Bool → Option TrainRule
-table_of sale full dear lacks other trade =
-    first_broken
-    (record { code = NotOnSale; broken = not sale } ∷ record { code = TrainLimit; broken = full }
-    ∷ record { code = CashTooSmall; broken = dear }
-    ∷ record { code = NoConsent; broken = lacks } ∷ record { code = NotSellers; broken = other }
-    ∷ record { code = NoTradeIn; broken = trade } ∷ [])
-
 -- the rules say the same
 pub same_judgement : (game ruled : Game) (seat : Seat) (line : Numbered) (kind : Kind) (from : TrainSource)
-    (company : Company) (purchase : Purchase) →
+    (company : Company) (purchase : TrainPurchase) →
     ruled ≡ with_event game (Ruled seat line.number (Obeyed line.condition (BuyTrain kind from))) →
     train_judgement ruled company purchase ≡ train_judgement game company purchase
 same_judgement game ruled seat line kind from company purchase is =
     let events = game.events in
     let ruling : Ruling = Obeyed line.condition (BuyTrain kind from) in
-    let after = with_event game (Ruled seat line.number ruling) in
-    let lacks = λ (now : List Event). lacks_consent now company purchase in
-    let other = λ (now : List Event). is_not_sellers now company purchase.kind purchase.from in
-    let trade = λ (now : List Event). is_no_trade_in now company purchase.kind purchase.trade_in in
-    let sale = is_on_sale events purchase.from purchase.kind in
-    let full = is_at_train_limit events company purchase.trade_in in
-    let dear = is_too_dear game company purchase in
-    ap (λ (g : Game). train_judgement g company purchase) is
-    ∙ ap (λ (b : Bool). table_of b (is_at_train_limit after.events company purchase.trade_in)
-    (is_too_dear after company purchase) (lacks after.events) (other after.events) (trade after.events))
-    (same_sale events seat line ruling purchase.from purchase.kind)
-    ∙ ap (λ (b : Bool). table_of sale b (is_too_dear after company purchase) (lacks after.events) (other after.events)
-    (trade after.events)) (same_full events seat line ruling company purchase.trade_in)
-    ∙ ap (λ (cash : ℤ). table_of sale full (lt_z cash (pos (cost_of purchase))) (lacks after.events)
-    (other after.events) (trade after.events)) (cash_of_before game.seats events (Ruled seat line.number ruling)
-    (party_of_company company) refl)
-    ∙ ap (λ (b : Bool). table_of sale full dear b (other after.events) (trade after.events))
-    (same_lack events seat line kind from company purchase purchase.from)
-    ∙ ap (λ (b : Bool). table_of sale full dear (lacks events) b (trade after.events))
-    (same_seller events seat line ruling company purchase.kind purchase.from)
-    ∙ ap (λ (b : Bool). table_of sale full dear (lacks events) (other events) b)
-    (same_trade events seat line ruling company purchase.kind purchase.trade_in)
+    let its : Event = Ruled seat line.number ruling in
+    let same : train_purchase_rules (with_event game its) company purchase ≡ train_purchase_rules game company purchase =
+    cc (
+      same_sale events seat line ruling purchase.from purchase.kind,
+      same_full events seat line ruling company purchase.trade_in,
+      cash_of_before game.seats events its (party_of_company company) refl,
+      same_lack events seat line kind from company purchase purchase.from,
+      same_seller events seat line ruling company purchase.kind purchase.from,
+      same_trade events seat line ruling company purchase.kind purchase.trade_in,
+    ) in
+    ap (λ (g : Game). train_judgement g company purchase) is ∙ ap first_broken same

@@ -12,15 +12,13 @@ use Rattle.events.specs.declared.event.TrainSeller.TheVariants as seller
 use Rattle.totals.proofs.EventAtEnd.{last_said_at_end, last_said_before}
 use Rattle.totals.specs.LookBack.{Game, owner_of, with_event}
 use Rattle.totals.specs.Trains.{phase_of, at_least_zero, trains_held, trains_sold}
-use Rattle.purchases.specs.Discards.{next_discard}
-use Rattle.purchases.specs.Phases.{begins_phase, bought, excess_of, rusts_at, with_all_closed, with_bop_closed}
-use Rattle.purchases.specs.Phases.{with_closed, with_company_rusted, with_discarded, with_kind_rusted}
-use Rattle.purchases.specs.Phases.{with_kind_rusted_at, with_limit_kept, with_limits_kept, with_next_discarded}
-use Rattle.purchases.specs.Phases.{with_one_rusted, with_phase, with_privates_closed, with_rusted, with_trade}
-use Rattle.purchases.specs.Phases.{with_trains_rusted}
+use Rattle.purchases.specs.Discard.{next_discard, with_discarded, with_next_discarded}
+use Rattle.purchases.specs.Phases.{excess_of, rusts_at, with_all_closed, with_closed, with_company_rusted}
+use Rattle.purchases.specs.Phases.{with_kind_rusted, with_kind_rusted_at, with_limit_kept, with_limits_kept}
+use Rattle.purchases.specs.Phases.{with_one_rusted, with_phase, with_privates_closed, with_rusted, with_trains_rusted}
+use Rattle.purchases.specs.Train.{begins_phase, bought, cost_of, with_bop_closed, with_trade}
 use Rattle.purchases.specs.TrainLaws.{PhasesGoOn}
-use Rattle.purchases.specs.Trains.{cost_of}
-use Rattle.purchases.specs.declared.purchase.Purchase.{Purchase}
+use Rattle.purchases.specs.declared.train.TrainPurchase.{TrainPurchase}
 use Rattle.tables.specs.Roster.{companies, privates, same_company}
 use Rattle.tables.specs.Steps.{iterate}
 use Rattle.tables.specs.Train.{kinds, place_of_kind, rusting_of, same_kind}
@@ -169,7 +167,7 @@ same_phase_on : IsPassedOn SamePhase
 same_phase_on = record { same = λ game. refl; both = λ a b c first second. second ∙ first }
 
 -- a purchase by itself begins none
-pub phase_bought : (game : Game) (buyer : Company) (purchase : Purchase) → SamePhase game (bought game buyer purchase)
+pub phase_bought : (game : Game) (buyer : Company) (purchase : TrainPurchase) → SamePhase game (bought game buyer purchase)
 phase_bought game buyer purchase =
     let traded = with_trade game buyer purchase.trade_in in
     let price = cost_of purchase in
@@ -211,7 +209,7 @@ later_begins events seller.BankPool kind begins = absurd (cc)
 later_begins events (seller.Company owner) kind begins = absurd (cc)
 
 -- the phase after a purchase
-phase_after : (game : Game) (buyer : Company) (purchase : Purchase) (begins : Bool)
+phase_after : (game : Game) (buyer : Company) (purchase : TrainPurchase) (begins : Bool)
     → begins_phase game.events purchase.from purchase.kind ≡ begins
     → place_of_kind (phase_of game.events) ≤ place_of_kind
     (phase_of (if begins then with_phase (bought game buyer purchase) purchase.kind else bought game buyer

@@ -7,9 +7,9 @@ use Rattle.events.specs.declared.event.Holder.TheVariants as holder
 use Rattle.totals.specs.LookBack.{Game, owner_of}
 use Rattle.totals.specs.Offers.{has_consent}
 use Rattle.totals.specs.Shares.{president_of}
-use Rattle.purchases.specs.Discards.{has_train}
-use Rattle.purchases.specs.Privates.{private_judgement}
-use Rattle.purchases.specs.Trains.{purchase_of, train_judgement}
+use Rattle.purchases.specs.Discard.{has_train}
+use Rattle.purchases.specs.Private.{private_judgement}
+use Rattle.purchases.specs.Train.{purchase_of, train_judgement}
 use Rattle.order_grammar.specs.declared.order.Offer.TheVariants as offer
 use Rattle.order_grammar.specs.declared.order.TrainSource.TheVariants.{Company as OfCompany}
 use Rattle.tables.specs.Roster.{same_company}

@@ -1,9 +1,9 @@
-pub mod Discards
-pub mod Trains
+pub mod Discard
 pub mod Phases
-pub mod Offers
+pub mod Train
+pub mod Private
+pub mod Offer
 pub mod Standing
-pub mod Privates
 pub mod ConsentLaws
 pub mod SaleLaws
 pub mod PrivateLaws

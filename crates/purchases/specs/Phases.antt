@@ -1,35 +1,20 @@
--- What follows from the purchase of a train, event by event, each on the list that the one before
--- left. A train that is traded in goes to the pool, and then the train goes to the company. BOP
--- closes once BO buys. The first train of a later kind from the bank begins its phase. The trains
--- that it rusts leave play, company by company and then those of the pool. With the first 5 all
--- privates close. Then each company with more trains than the new phase allows discards those that
--- are too many to the pool.
-use Rattle.std.specs.Prelude.{ℕ, ◌==◌, Bool, false, ◌&&◌, nat_lt, if◌then◌else◌, List, Option, Some, None, is_some, pos}
-use Rattle.std.specs.Prelude.{◌-ℤ◌}
+-- What the first train of a later kind from the bank brings, event by event, each on the list that
+-- the one before left. Its phase begins. The trains that it rusts leave play, company by company
+-- and then those of the pool. With the first 5 all privates close. Then each company with more
+-- trains than the new phase allows discards those that are too many to the pool.
+use Rattle.std.specs.Prelude.{ℕ, Bool, false, if◌then◌else◌, Option, Some, None, is_some, pos, ◌-ℤ◌}
 use Rattle.std.specs.List.{fold}
-use Rattle.events.specs.declared.event.Event.{Event}
 use Rattle.events.specs.declared.event.Event.TheVariants as event
-use Rattle.events.specs.declared.event.TrainSeller.{TrainSeller}
-use Rattle.events.specs.declared.event.TrainSeller.TheVariants as seller
 use Rattle.totals.specs.LookBack.{Game, owner_of, with_event}
-use Rattle.totals.specs.Trains.{phase_of, at_least_zero, train_count, trains_held, trains_sold}
-use Rattle.purchases.specs.Discards.{next_discard}
-use Rattle.purchases.specs.Trains.{cost_of}
-use Rattle.purchases.specs.declared.purchase.Purchase.{Purchase}
-use Rattle.tables.specs.Roster.{companies, privates, same_company}
+use Rattle.totals.specs.Trains.{phase_of, at_least_zero, train_count, trains_held}
+use Rattle.purchases.specs.Discard.{with_next_discarded}
+use Rattle.tables.specs.Roster.{companies, privates}
 use Rattle.tables.specs.Steps.{iterate}
-use Rattle.tables.specs.Train.{kinds, limit_of, place_of_kind, rusting_of, same_kind}
+use Rattle.tables.specs.Train.{kinds, limit_of, rusting_of, same_kind}
 use Rattle.tables.specs.declared.rolling_stock.Kind.{Kind}
 use Rattle.tables.specs.declared.rolling_stock.Kind.TheVariants.{Five}
 use Rattle.tables.specs.declared.roster.Company.{Company}
-use Rattle.tables.specs.declared.roster.Company.TheVariants as company
 use Rattle.tables.specs.declared.roster.Private.{Private}
-use Rattle.tables.specs.declared.roster.Private.TheVariants as private
-
--- with TRADED, if a train is traded in
-abbrev pub with_trade : Game → Company → Option Kind → Game
-with_trade game company None = game
-with_trade game company (Some kind) = with_event game (event.Traded company kind)
 
 -- with CLOSED, if a private is open
 abbrev pub with_closed : Game → Private → Game
@@ -39,11 +24,6 @@ with_closed game private =
 -- with CLOSED of each private that is open, in roster order
 abbrev pub with_all_closed : Game → Game
 with_all_closed game = fold with_closed game privates
-
--- with CLOSED of BOP, if BO has bought
-abbrev pub with_bop_closed : Game → Company → Game
-with_bop_closed game buyer = if same_company buyer company.BaltimoreOhio then with_closed game
-    private.BaltimoreOhio else game
 
 -- with RUSTED of a train of the kind that a company has, or the pool
 abbrev pub with_one_rusted : Option Company → Kind → Game → Game
@@ -79,15 +59,6 @@ with_rusted new game = fold (with_kind_rusted_at new) game kinds
 abbrev pub with_privates_closed : Kind → Game → Game
 with_privates_closed phase game = if same_kind phase Five then with_all_closed game else game
 
--- with DISCARDED of a train of this kind, if of any
-abbrev pub with_discarded : Game → Company → Option Kind → Game
-with_discarded game company None = game
-with_discarded game company (Some kind) = with_event game (event.Discarded company kind)
-
--- with DISCARDED of the train that a company discards next
-abbrev pub with_next_discarded : Company → Game → Game
-with_next_discarded company game = with_discarded game company (next_discard game.events company)
-
 -- how many trains a company has over the limit of the phase
 abbrev pub excess_of : Game → Company → ℕ
 excess_of game company = at_least_zero (train_count game.events (Some company) -ℤ pos (limit_of (phase_of game.events)))
@@ -104,24 +75,3 @@ with_limits_kept game = fold with_limit_kept game companies
 abbrev pub with_phase : Game → Kind → Game
 with_phase game phase =
     with_limits_kept (with_privates_closed phase (with_rusted phase (with_event game (event.Phase phase))))
-
--- the purchase is that of the first train of a later kind from the bank
-abbrev pub begins_phase : List Event → TrainSeller → Kind → Bool
-begins_phase events seller.Bank kind =
-    trains_sold events kind == 0 && nat_lt (place_of_kind (phase_of events)) (place_of_kind kind)
-begins_phase events seller.BankPool kind = false
-begins_phase events (seller.Company company) kind = false
-
--- after the train has gone to the company
-abbrev pub bought : Game → Company → Purchase → Game
-bought game company purchase =
-    with_bop_closed
-    (with_event (with_trade game company purchase.trade_in)
-    (event.Train company purchase.kind purchase.from (cost_of purchase)))
-    company
-
--- after a purchase by a company, and what follows from it
-abbrev pub after_train : Game → Company → Purchase → Game
-after_train game company purchase =
-    if begins_phase game.events purchase.from purchase.kind then with_phase (bought game company purchase)
-    purchase.kind else bought game company purchase

@@ -9,8 +9,8 @@ use Rattle.events.specs.declared.event.Event.{Event}
 use Rattle.events.specs.declared.ruling.Refusal.{Refusal}
 use Rattle.events.specs.declared.ruling.Refusal.TheVariants as refusal
 use Rattle.events.specs.declared.ruling.Ruling.{Ruling}
-use Rattle.purchases.specs.Discards.{discard_judgement}
-use Rattle.purchases.specs.Offers.{offer_judgement}
+use Rattle.purchases.specs.Discard.{discard_judgement}
+use Rattle.purchases.specs.Offer.{offer_judgement}
 use Rattle.order_grammar.specs.declared.order.Order.{Order}
 use Rattle.order_grammar.specs.declared.order.Order.TheVariants as order
 use Rattle.sheets.specs.Part.{Numbered}

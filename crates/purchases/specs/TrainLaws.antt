@@ -6,9 +6,8 @@ use Rattle.events.specs.Event.{phase_set, train_moved}
 use Rattle.events.specs.declared.event.Event.{Event}
 use Rattle.totals.specs.LookBack.{Game}
 use Rattle.totals.specs.Trains.{TrainsAreHeld, phase_of, trains_in_play, trains_sold}
-use Rattle.purchases.specs.Phases.{after_train}
-use Rattle.purchases.specs.Trains.{train_judgement}
-use Rattle.purchases.specs.declared.purchase.Purchase.{Purchase}
+use Rattle.purchases.specs.Train.{after_train, train_judgement}
+use Rattle.purchases.specs.declared.train.TrainPurchase.{TrainPurchase}
 use Rattle.tables.specs.Train.{place_of_kind, rusting_of, trains_of}
 use Rattle.tables.specs.declared.rolling_stock.Kind.{Kind}
 use Rattle.tables.specs.declared.roster.Company.{Company}
@@ -16,7 +15,7 @@ use Rattle.tables.specs.declared.roster.Company.{Company}
 -- after the purchase of a train the phase is the same or a later one
 abbrev pub PhasesGoOn : Type 0
 PhasesGoOn =
-    (game : Game) (buyer : Company) (purchase : Purchase) →
+    (game : Game) (buyer : Company) (purchase : TrainPurchase) →
     place_of_kind (phase_of game.events) ≤ place_of_kind (phase_of (after_train game buyer purchase).events)
 
 -- the first train of this kind has come by a phase, if it is that of a kind
@@ -71,6 +70,6 @@ OthersKeepStanding =
 -- after the purchase of a train by the rules they are still as many
 abbrev pub PurchasesKeepAll : Type 0
 PurchasesKeepAll =
-    (game : Game) (buyer : Company) (purchase : Purchase) →
+    (game : Game) (buyer : Company) (purchase : TrainPurchase) →
     train_judgement game buyer purchase ≡ None → AllTrainsAreThere game.events
     → AllTrainsAreThere (after_train game buyer purchase).events

@@ -9,20 +9,23 @@
 //!
 //! Nothing here depends on the board, or on how far a company's turn has come.
 //!
-//! Reading order: `purchase` (the rules of trains), `discards`, `phases` (what follows from a
-//! train), `private` (the rules of privates), `standing` (the lines before the first company's
-//! orders) with `offers`, `laws`.
+//! An order is a file: what it is, its rules as rows, its judgement and its act. So is its file of
+//! definitions in `specs/`.
+//!
+//! Reading order: `train`, `phases` (what the first train of a later kind brings), `discard`,
+//! `private`, `offer`, `standing` (the lines before the first company's orders), `laws`.
 #![tactic(auto)]
 
-mod discards;
+mod discard;
 pub mod laws;
-mod offers;
+mod offer;
 mod phases;
 mod private;
-mod purchase;
 mod standing;
+mod train;
 
-pub use phases::buy_train;
 pub use private::{buy_private, judge_private};
-pub use purchase::{NUMBERED, Purchase, has_trains, judge_purchase, purchase_of, sells};
 pub use standing::rule_standing_lines;
+pub use train::{
+    NUMBERED, TrainPurchase, buy_train, has_trains, judge_purchase, purchase_of, sells,
+};

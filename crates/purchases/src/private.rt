@@ -1,62 +1,17 @@
-//! The purchase of a private by a company.
+//! PRIVATE: the purchase of a private by a company, from the player who owns it.
+//!
+//! It needs phase 3, a price from half of the face value to twice that, the consent of the player,
+//! a private that is not BOP, and the cash. The company owns the private from then on.
 ghost use Rattle.std.specs.Prelude.{◌≡◌, OnOk, None, Some};
 ghost use Rattle.totals.specs.LookBack.{owner_of};
 ghost use Rattle.history.specs.Sound.{IsSound};
-ghost use Rattle.purchases.specs.Privates.{private_bought, private_judgement, sold_by};
-ghost use Rattle.purchases.specs.Privates.{is_given, is_given_by};
-ghost use Rattle.purchases.specs.Privates.{is_too_dear, is_too_early};
-ghost use Rattle.purchases.specs.Privates.{is_wrong_price};
+ghost use Rattle.purchases.specs.Private.{is_given, is_given_by, is_too_dear, is_too_early, is_wrong_price};
+ghost use Rattle.purchases.specs.Private.{private_bought, private_judgement, sold_by};
 
 use history::{Event, GameView, History, Holder, Party, PrivateRule};
 use order_grammar::Offer;
 use std::alloc::AllocError;
 use tables::{Amount, Company, Kind, Money, Private, Seat, face};
-
-/// Buys a private for a company from the player who owns it, by an order that breaks no rule. Fails
-/// only if allocation fails.
-pub fn buy_private(
-    history: &mut History,
-    company: Company,
-    private: Private,
-    price: Amount,
-) -> Result<(), AllocError>
-    requires may { private_judgement history.old company private price ≡ None }
-    requires sound { IsSound history.old }
-    ensures after { OnOk result (history.new ≡ private_bought history.old company private price) }
-    ensures sound { OnOk result (IsSound history.new) }
-{
-    let Some(owner) = history.owner(private) else {
-        return Ok(());
-    };
-    buy_from(history, company, private, price, owner)
-}
-
-/// Buys a private for a company from this owner, if that is a player.
-fn buy_from(
-    history: &mut History,
-    company: Company,
-    private: Private,
-    price: Amount,
-    owner: Holder,
-) -> Result<(), AllocError>
-    requires owner { owner_of history.old.events private ≡ Some owner }
-    requires may { private_judgement history.old company private price ≡ None }
-    requires sound { IsSound history.old }
-    ensures after { OnOk result (history.new
-        ≡ sold_by history.old company private price (Some owner)) }
-    ensures sound { OnOk result (IsSound history.new) }
-{
-    let Holder::Seat(seller) = owner else {
-        return Ok(());
-    };
-    history.append(Event::PrivateBought {
-        private,
-        company,
-        seller,
-        price,
-    })?;
-    Ok(())
-}
 
 /// Returns the first rule that the purchase of a private by a company breaks; `None` if it breaks
 /// none.
@@ -81,22 +36,13 @@ fn broken_by(
     ensures { result ≡ private_judgement
         (record { seats = view.now.seats; events = view.now.events.now }) company private price }
 {
-    if is_too_early(view) {
-        return Some(PrivateRule::TooEarly);
+    tables::rules! { PrivateRule
+        TooEarly: is_too_early(view),
+        WrongPrice: is_wrong_price(private, price),
+        NoConsent: !is_given(view, company, private, price),
+        NeverSold: private == Private::BaltimoreOhio,
+        CashTooSmall: is_too_dear(view, company, price),
     }
-    if is_wrong_price(private, price) {
-        return Some(PrivateRule::WrongPrice);
-    }
-    if !is_given(view, company, private, price) {
-        return Some(PrivateRule::NoConsent);
-    }
-    if private == Private::BaltimoreOhio {
-        return Some(PrivateRule::NeverSold);
-    }
-    if is_too_dear(view, company, price) {
-        return Some(PrivateRule::CashTooSmall);
-    }
-    None
 }
 
 /// Returns whether a company has less than a price.
@@ -142,4 +88,50 @@ fn is_given_by(view: &GameView, owner: Option<Holder>, taker: Option<Seat>, sale
         (Some(Holder::Seat(giver)), Some(taker)) => view.has_consent(giver, taker, sale),
         _ => false,
     }
+}
+
+/// Buys a private for a company from the player who owns it, by an order that breaks no rule. Fails
+/// only if allocation fails.
+pub fn buy_private(
+    history: &mut History,
+    company: Company,
+    private: Private,
+    price: Amount,
+) -> Result<(), AllocError>
+    requires may { private_judgement history.old company private price ≡ None }
+    requires sound { IsSound history.old }
+    ensures after { OnOk result (history.new ≡ private_bought history.old company private price) }
+    ensures sound { OnOk result (IsSound history.new) }
+{
+    let Some(owner) = history.owner(private) else {
+        return Ok(());
+    };
+    buy_from(history, company, private, price, owner)
+}
+
+/// Buys a private for a company from this owner, if that is a player.
+fn buy_from(
+    history: &mut History,
+    company: Company,
+    private: Private,
+    price: Amount,
+    owner: Holder,
+) -> Result<(), AllocError>
+    requires owner { owner_of history.old.events private ≡ Some owner }
+    requires may { private_judgement history.old company private price ≡ None }
+    requires sound { IsSound history.old }
+    ensures after { OnOk result (history.new
+        ≡ sold_by history.old company private price (Some owner)) }
+    ensures sound { OnOk result (IsSound history.new) }
+{
+    let Holder::Seat(seller) = owner else {
+        return Ok(());
+    };
+    history.append(Event::PrivateBought {
+        private,
+        company,
+        seller,
+        price,
+    })?;
+    Ok(())
 }

@@ -1,11 +1,14 @@
+//! The standing lines of an operating round's sheets, those before the first head. They are ruled
+//! seat by seat, in order, each by its condition and then by the rules of its order. DISCARD and
+//! OFFER have a place there.
 ghost use Rattle.std.specs.Prelude.{◌≡◌, OnOk, length};
 ghost use Rattle.history.specs.Sound.{IsSound};
 ghost use Rattle.purchases.specs.Standing.{after_standing, after_standing_line, has_place_before, standing_judgement};
 ghost use Rattle.sheets.specs.File.{players_of};
 ghost use Rattle.sheets.specs.Taken.{after_each};
 
-use crate::discards::judge_discard;
-use crate::offers::judge_offer;
+use crate::discard::judge_discard;
+use crate::offer::judge_offer;
 use history::{History, Refusal};
 use order_grammar::Order;
 use sheets::{PartsLeft, Sheets};

@@ -3,9 +3,9 @@ use Rattle.std.proofs.Common.{◌≡◌, None, ap, sym, subst, ◌∙◌}
 use Rattle.totals.specs.LookBack.{Game}
 use Rattle.forced_purchase.proofs.Cheapest.{forced_allowed}
 use Rattle.forced_purchase.proofs.Steps.{bankrupt_then, bought_then}
-use Rattle.forced_purchase.specs.Forced.{cheapest}
-use Rattle.purchases.specs.Trains.{train_judgement}
-use Rattle.purchases.specs.declared.purchase.Purchase.{Purchase}
+use Rattle.forced_purchase.specs.Shortfall.{cheapest}
+use Rattle.purchases.specs.Train.{train_judgement}
+use Rattle.purchases.specs.declared.train.TrainPurchase.{TrainPurchase}
 use Rattle.forced_purchase.proofs.forced.conclude.Goals as goal
 
 pub aid-requires-clause-enough : goal.aid-requires-clause-enough
@@ -13,7 +13,7 @@ aid-requires-clause-enough c = sym c.falls_short.ensures ∙ c.if-falls_short.fa
 
 pub buy_train-requires-clause-may : goal.buy_train-requires-clause-may
 buy_train-requires-clause-may c =
-    subst (λ (purchase : Purchase). train_judgement c.aid.new.history c.args.by.company purchase ≡ None)
+    subst (λ (purchase : TrainPurchase). train_judgement c.aid.new.history c.args.by.company purchase ≡ None)
     (sym (c.cheapest-purchase.ensures.purchase ∙ ap cheapest c.now.ensures.events))
     (subst (λ (game : Game). train_judgement game c.args.by.company (cheapest c.args.history.now.events) ≡ None)
     (sym c.in_ok-aid.ensures.after) (forced_allowed c.args.by c.args.history.now c.requires.none))

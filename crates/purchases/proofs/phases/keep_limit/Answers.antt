@@ -1,5 +1,5 @@
 use Rattle.purchases.proofs.Folding.{iterate_goes_on}
-use Rattle.purchases.specs.Phases.{with_next_discarded}
+use Rattle.purchases.specs.Discard.{with_next_discarded}
 use Rattle.purchases.proofs.phases.keep_limit.Goals as goal
 
 pub loop-preserved : goal.loop-preserved

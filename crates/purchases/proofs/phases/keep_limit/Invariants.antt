@@ -1,6 +1,6 @@
 use Rattle.std.proofs.Common.{◌≡◌}
 use Rattle.history.specs.Sound.{IsSound}
-use Rattle.purchases.specs.Phases.{with_next_discarded}
+use Rattle.purchases.specs.Discard.{with_next_discarded}
 use Rattle.purchases.proofs.phases.keep_limit.Given as goal
 use Rattle.tables.specs.Steps.{iterate}
 

@@ -1,7 +1,7 @@
 use Rattle.std.proofs.Common.{Some, ap, sym, subst, ◌∙◌, arith}
 use Rattle.history.proofs.PrivateActs.{private_sound}
 use Rattle.history.specs.Sound.{IsSound}
-use Rattle.purchases.proofs.PrivateSales.{may_sell}
+use Rattle.purchases.proofs.PrivateLemmas.{may_sell}
 use Rattle.purchases.proofs.private.buy_from.Goals as goal
 
 pub append-requires : goal.append-requires

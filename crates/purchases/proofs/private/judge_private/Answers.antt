@@ -1,7 +1,7 @@
 -- The game as it stands is the one that is judged.
 use Rattle.std.proofs.Common.{ℕ, List, ap, ◌∙◌}
 use Rattle.events.specs.declared.event.Event.{Event}
-use Rattle.purchases.specs.Privates.{private_judgement}
+use Rattle.purchases.specs.Private.{private_judgement}
 use Rattle.purchases.proofs.private.judge_private.Goals as goal
 
 pub returns : goal.returns

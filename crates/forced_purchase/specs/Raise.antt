@@ -1,0 +1,79 @@
+-- RAISE: the president of a company sells shares to pay for the train that it must buy. The RAISE
+-- lines of its orders are used in order. A line is refused, whatever its condition, if no purchase
+-- is due, and once the president does not fall short. Then come its condition and the rules of a
+-- sale. No sale may move the presidency of the company.
+use Rattle.std.specs.Prelude.{ℕ, Bool, ◌&&◌, ◌||◌, if◌then◌else◌, List, [], ◌∷◌, Option, Some, option_map, Result, Ok}
+use Rattle.std.specs.Prelude.{codes}
+use Rattle.certs.specs.Sale.{sale_judgement}
+use Rattle.certs.specs.SaleAct.{after_sale}
+use Rattle.certs.specs.declared.deal.Sale.{Sale}
+use Rattle.events.specs.declared.event.Event.TheVariants as event
+use Rattle.events.specs.declared.ruling.Refusal.{Refusal}
+use Rattle.events.specs.declared.ruling.Refusal.TheVariants as refusal
+use Rattle.events.specs.declared.ruling.Ruling.{Ruling}
+use Rattle.events.specs.declared.ruling.StockRule.{StockRule}
+use Rattle.events.specs.declared.ruling.StockRule.TheVariants.{NotOfStock}
+use Rattle.history.specs.Conditions.{is_met}
+use Rattle.totals.specs.LookBack.{Game, with_event}
+use Rattle.forced_purchase.specs.Shortfall.{falls_short}
+use Rattle.forced_purchase.specs.declared.operator.Operator.{Operator}
+use Rattle.order_grammar.specs.Words.{first_of_words, same_word, words_of}
+use Rattle.order_grammar.specs.declared.condition.Condition.{Condition}
+use Rattle.order_grammar.specs.declared.fault.Fault.{Fault}
+use Rattle.order_grammar.specs.declared.order.Order.{Order}
+use Rattle.order_grammar.specs.declared.order.Order.TheVariants as order
+use Rattle.sheets.specs.Part.{Numbered}
+use Rattle.turns.specs.Ruling.{done, judged, obeyed_by}
+
+-- the first rule that a sale to raise money for the company breaks
+unfoldable pub sale_rule : Operator → Game → Sale → Option StockRule
+sale_rule by game sale = sale_judgement game.seats game.events by.president sale (Some by.company)
+
+-- the first rule that a RAISE under this condition breaks, if it is needed: the condition comes
+-- first, and then the rules of a sale
+abbrev pub needed_rule : Operator → Game → Option Condition → Sale → Option Refusal
+needed_rule by game condition sale =
+    if is_met game.events condition then option_map refusal.Stock (sale_rule by game sale) else Some refusal.Condition
+
+-- the first rule that it breaks, given whether a purchase is due
+unfoldable pub raise_rule : Bool → Operator → Game → Option Condition → Sale → Option Refusal
+raise_rule due by game condition sale =
+    if due && falls_short by game then needed_rule by game condition sale else Some (refusal.Stock NotOfStock)
+
+-- the list after a sale of the president
+abbrev pub with_sale : Operator → Game → Sale → Game
+with_sale by game sale =
+    record { seats = game.seats; events = after_sale game.seats game.events by.president sale.company sale.shares }
+
+-- after the ruling of this line
+abbrev pub with_ruling : Operator → Game → Numbered → Ruling → Game
+with_ruling by game line ruling = with_event game (event.Ruled by.president line.number ruling)
+
+-- after a RAISE in this line, with the rule that refuses it, if one does
+abbrev pub raise_ruled : Operator → Game → Numbered → Sale → Option Refusal → Game
+raise_ruled by game line sale broken =
+    let ruling = judged line.condition (order.Raise sale.company sale.shares) broken in
+    done (λ (after : Game) (its : Order). with_sale by after sale) (with_ruling by game line ruling) (obeyed_by ruling)
+
+-- after a sale of a RAISE in this line
+abbrev pub after_raise : Bool → Operator → Game → Numbered → Sale → Game
+after_raise due by game line sale = raise_ruled by game line sale (raise_rule due by game line.condition sale)
+
+-- after this line of the company's orders with this reading: lines other than RAISE were ruled at
+-- their place
+abbrev pub after_raise_line : Bool → Operator → Game → Numbered → Result Order Fault → Game
+after_raise_line due by game line (Ok (order.Raise company shares)) =
+    after_raise due by game line (record { company = company; shares = shares })
+after_raise_line due by game line other = game
+
+-- the first word of a line is one with which a RAISE begins: that word, or IF
+abbrev pub may_spell_raise : List ℕ → Bool
+may_spell_raise text =
+    same_word (first_of_words (words_of text)) (codes "RAISE")
+    || same_word (first_of_words (words_of text)) (codes "IF")
+
+-- after the RAISE lines of the company's orders, in order
+abbrev pub after_raises : Bool → Operator → Game → List Numbered → Game
+after_raises due by game [] = game
+after_raises due by game (line ∷ lines) =
+    after_raises due by (after_raise_line due by game line line.reading) lines

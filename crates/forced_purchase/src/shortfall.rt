@@ -1,0 +1,67 @@
+//! What a company lacks that must buy a train, and whether its president falls short of that.
+ghost use Rattle.std.specs.Prelude.{◌≡◌};
+ghost use Rattle.forced_purchase.specs.Shortfall.{cheapest, falls_short, first_on_sale, lack_of, plain};
+ghost use Rattle.purchases.specs.Train.{IsSmallPurchase};
+
+use crate::operator::Operator;
+use history::{GameView, History, Party, TrainSeller};
+use purchases::{NUMBERED, TrainPurchase, sells};
+use tables::{Company, Kind, Money};
+
+/// Returns whether the president has less cash free of standing bids than the company lacks.
+#[tactic(auto, unfolding(crate::specs::Shortfall::falls_short))]
+pub(crate) fn falls_short(history: &History, by: Operator) -> bool
+    ensures { result ≡ falls_short by history.now }
+{
+    history.now().free_cash(by.president) < lack(history, by.company)
+}
+
+/// Returns what a company lacks for the cheapest train that is for sale, in dollars; 0 or less if
+/// it has enough.
+#[tactic(auto, unfolding(crate::specs::Shortfall::lack_of))]
+pub(crate) fn lack(history: &History, company: Company) -> Money
+    ensures { result ≡ lack_of history.now company }
+{
+    let cost = cheapest(&history.now()).price();
+    Money::from(cost) - history.cash(Party::of_company(company))
+}
+
+/// Returns the purchase of the cheapest train that the bank or the pool sells, from the bank if
+/// both sell it.
+#[tactic(auto, unfolding(crate::specs::Shortfall::cheapest))]
+pub(crate) fn cheapest(view: &GameView) -> TrainPurchase
+    ensures purchase { result ≡ cheapest view.now.events.now }
+    ensures small { IsSmallPurchase result }
+{
+    first_on_sale(view, &NUMBERED)
+}
+
+/// Returns the purchase of the first of these kinds that is for sale; of a D of the bank if none
+/// is.
+#[tactic(auto, unfolding(crate::specs::Shortfall::first_on_sale))]
+fn first_on_sale(view: &GameView, kinds: &[Kind]) -> TrainPurchase
+    ensures purchase { result ≡ first_on_sale view.now.events.now kinds.now }
+    ensures small { IsSmallPurchase result }
+{
+    for kind in kinds {
+        if sells(view, *kind) {
+            return plain(*kind, TrainSeller::Bank);
+        }
+        if view.trains(None, *kind) > 0 {
+            return plain(*kind, TrainSeller::BankPool);
+        }
+    }
+    plain(Kind::Diesel, TrainSeller::Bank)
+}
+
+/// Returns the purchase of a train for which none is traded in.
+fn plain(kind: Kind, from: TrainSeller) -> TrainPurchase
+    ensures { result ≡ plain kind from }
+{
+    TrainPurchase {
+        kind,
+        from,
+        trade_in: None,
+        asked: None,
+    }
+}

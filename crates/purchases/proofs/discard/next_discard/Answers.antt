@@ -1,0 +1,20 @@
+-- There is no line of the president to use, so the company discards of its least kind.
+use Rattle.std.proofs.Common.{◌≡◌, ◌∙◌, ap, sym, Option, None}
+use Rattle.std.specs.Option.{option_or}
+use Rattle.purchases.specs.Discard.{first_held, lines_of, next_discard}
+use Rattle.totals.specs.Shares.{president_of}
+use Rattle.tables.specs.Train.{kinds}
+use Rattle.tables.specs.declared.rolling_stock.Kind.{Kind}
+use Rattle.purchases.proofs.discard.next_discard.Goals as goal
+
+pub returns : goal.returns
+returns c =
+    let events = c.now-now.result.events.now in
+    let company = c.args.company in
+    let lines = c.as_slice.ensures.value ∙ (c.in_ok-lines.ensures ∙ ap (lines_of events company) c.president.ensures) in
+    let none : None ≡ first_held events company (lines_of events company (president_of events company)) =
+    sym c.in-None.is ∙ (c.first_held.ensures ∙ ap (first_held events company) lines)
+    in
+    c.first_held-in-None.ensures
+    ∙ (ap (λ (first : Option Kind). option_or first (first_held events company kinds)) none
+    ∙ ap (λ list. next_discard list company) c.now-now.ensures.events)

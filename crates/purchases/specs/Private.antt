@@ -1,0 +1,79 @@
+-- PRIVATE: the purchase of a private by a company, from the player who owns it. The company owns
+-- the private from then on. It needs, in this order:
+--
+-- - phase 3;
+-- - a price from half of the face value to twice that;
+-- - the consent of the player, as for a train;
+-- - a private that is not BOP, which is never sold to a company;
+-- - the cash.
+use Rattle.std.specs.Prelude.{ℕ, ◌+◌, Bool, false, not, ◌||◌, nat_lt, List, [], ◌∷◌, Option, Some, pos}
+use Rattle.std.specs.Int.Signed.{lt_z}
+use Rattle.events.specs.Event.{party_of_company}
+use Rattle.events.specs.declared.event.Event.{Event}
+use Rattle.events.specs.declared.event.Event.TheVariants as event
+use Rattle.events.specs.declared.event.Holder.{Holder}
+use Rattle.events.specs.declared.event.Holder.TheVariants as holder
+use Rattle.events.specs.declared.ruling.PrivateRule.{PrivateRule}
+use Rattle.events.specs.declared.ruling.PrivateRule.TheVariants.{TooEarly, WrongPrice, NoConsent, NeverSold}
+use Rattle.events.specs.declared.ruling.PrivateRule.TheVariants.{CashTooSmall}
+use Rattle.totals.specs.LookBack.{Game, cash_of, owner_of, with_event}
+use Rattle.totals.specs.Offers.{has_consent}
+use Rattle.totals.specs.Shares.{president_of}
+use Rattle.totals.specs.Trains.{phase_of}
+use Rattle.order_grammar.specs.declared.order.Offer.{Offer}
+use Rattle.order_grammar.specs.declared.order.Offer.TheVariants as offer
+use Rattle.tables.specs.Roster.{face_of, same_private}
+use Rattle.tables.specs.Rules.{Rule, first_broken}
+use Rattle.tables.specs.Train.{place_of_kind}
+use Rattle.tables.specs.declared.rolling_stock.Kind.TheVariants.{Three}
+use Rattle.tables.specs.declared.roster.Company.{Company}
+use Rattle.tables.specs.declared.roster.Private.{Private}
+use Rattle.tables.specs.declared.roster.Private.TheVariants.{BaltimoreOhio}
+use Rattle.tables.specs.declared.seat.Seat.{Seat}
+
+-- phase 3 has not begun
+abbrev pub is_too_early : List Event → Bool
+is_too_early events = nat_lt (place_of_kind (phase_of events)) (place_of_kind Three)
+
+-- the price is under half of the face value, or over twice that
+abbrev pub is_wrong_price : Private → ℕ → Bool
+is_wrong_price private price =
+    nat_lt (price + price) (face_of private) || nat_lt (face_of private + face_of private) price
+
+-- a player owns the private, and consents to the sale to this seat
+abbrev pub is_given_by : List Event → Option Holder → Option Seat → Offer → Bool
+is_given_by events (Some (holder.Seat giver)) (Some taker) sale = has_consent events giver taker sale
+is_given_by events owner taker sale = false
+
+-- the private has an owner who consents to the sale
+abbrev pub is_given : List Event → Company → Private → ℕ → Bool
+is_given events company private price =
+    is_given_by events (owner_of events private) (president_of events company) (offer.Private private company price)
+
+-- the company has less than the price
+abbrev pub is_too_dear : Game → Company → ℕ → Bool
+is_too_dear game company price = lt_z (cash_of game.seats game.events (party_of_company company)) (pos price)
+
+-- the rules of the purchase of a private by a company
+abbrev pub private_rules : Game → Company → Private → ℕ → List (Rule PrivateRule)
+private_rules game company private price =
+    record { code = TooEarly; broken = is_too_early game.events }
+    ∷ record { code = WrongPrice; broken = is_wrong_price private price }
+    ∷ record { code = NoConsent; broken = not (is_given game.events company private price) }
+    ∷ record { code = NeverSold; broken = same_private private BaltimoreOhio }
+    ∷ record { code = CashTooSmall; broken = is_too_dear game company price }
+    ∷ []
+
+-- the first rule that it breaks
+abbrev pub private_judgement : Game → Company → Private → ℕ → Option PrivateRule
+private_judgement game company private price = first_broken (private_rules game company private price)
+
+-- after this owner has sold a private to a company; only a player sells one
+abbrev pub sold_by : Game → Company → Private → ℕ → Option Holder → Game
+sold_by game company private price (Some (holder.Seat seller)) =
+    with_event game (event.PrivateBought private company seller price)
+sold_by game company private price other = game
+
+-- after its owner has sold a private to a company
+abbrev pub private_bought : Game → Company → Private → ℕ → Game
+private_bought game company private price = sold_by game company private price (owner_of game.events private)
