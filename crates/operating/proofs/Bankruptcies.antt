@@ -18,12 +18,14 @@ use Rattle.operating.proofs.Presidency.{president_stays}
 use Rattle.purchases.proofs.TrainSteps.{IsPassedOn}
 use Rattle.operating.proofs.TurnEvents.{IsOfTurn}
 use Rattle.operating.proofs.TurnGames.{OfEvents, by_each, of_paid_turn}
-use Rattle.operating.specs.Ending.{EndLeads}
-use Rattle.forced_purchase.specs.Forced.{after_forced, cheapest, concluded, falls_short, with_aid}
-use Rattle.purchases.specs.Trains.{has_trains}
+use Rattle.operating.specs.TurnEnd.{EndLeads}
+use Rattle.forced_purchase.specs.Forced.{after_forced, concluded, with_aid}
+use Rattle.forced_purchase.specs.Shortfall.{cheapest, falls_short}
+use Rattle.purchases.specs.Train.{has_trains}
 use Rattle.operating.specs.ForcedLaws.{BankruptcyEndsTurns, EndsBankrupt}
-use Rattle.purchases.specs.Phases.{after_train}
-use Rattle.operating.specs.Turn.{CompanyOrdersEnd, withheld_if_unpaid}
+use Rattle.purchases.specs.Train.{after_train}
+use Rattle.operating.specs.Pay.{withheld_if_unpaid}
+use Rattle.operating.specs.Turn.{CompanyOrdersEnd}
 use Rattle.forced_purchase.specs.declared.operator.Operator.{Operator}
 use Rattle.sheets.specs.CompanyOrders.{company_orders_for}
 use Rattle.sheets.specs.Part.{Numbered}

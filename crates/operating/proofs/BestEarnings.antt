@@ -28,14 +28,16 @@ use Rattle.totals.specs.Trains.{at_least_zero, trains_held}
 use Rattle.map_tables.specs.declared.rules.RunRule.{RunRule}
 use Rattle.map_tables.specs.declared.place.Place.{Place}
 use Rattle.operating.proofs.Fitting.{same_map_state}
-use Rattle.operating.proofs.Judged.{judged_legal, judged_ran, judged_room}
 use Rattle.operating.proofs.LegalRuns.{at_first}
 use Rattle.operating.proofs.NoRuns.{kind_low, none_counted, nothing_ran}
-use Rattle.operating.specs.Best.{BestRuled, trains_now, with_those_held}
+use Rattle.operating.proofs.RunLemmas.{judged_legal, judged_ran, judged_room}
 use Rattle.operating.specs.BestLaws.{BestEarnsNoLess, OrdersRun}
-use Rattle.operating.specs.InTurn.{InTurn, line_recorded, no_runs}
-use Rattle.operating.specs.Runs.{has_run, judged_run, position_now, run_ruled, steps_now}
-use Rattle.operating.specs.Turn.{AskedLeads, LineLeads, LinesLead, ReadingLeads, is_held}
+use Rattle.operating.specs.CompanyOrders.{AskedLeads, LineLeads, LinesLead, ReadingLeads, is_held}
+use Rattle.operating.specs.MapState.{position_now, steps_now}
+use Rattle.operating.specs.Run.{judged_run, run_ruled}
+use Rattle.operating.specs.RunBest.{BestRuled, trains_now, with_those_held}
+use Rattle.operating.specs.Runs.{has_run, no_runs}
+use Rattle.operating.specs.TurnState.{TurnState, line_recorded}
 use Rattle.forced_purchase.specs.declared.operator.Operator.{Operator}
 use Rattle.operating.specs.declared.runs.CompletedRun.{CompletedRun}
 use Rattle.operating.specs.declared.runs.Runs.{Runs}
@@ -157,7 +159,7 @@ some_left : (held : ℤ) (n : ℕ) → le_z held (pos n) ≡ false → n < at_le
 some_left (pos m) n some = leb-false m n some
 some_left (negsuc m) n some = cc
 
-module _ (by : Operator) (first : InTurn) where
+module _ (by : Operator) (first : TurnState) where
   abbrev there : Position
   there = position_now first.game.events
 
@@ -169,7 +171,7 @@ module _ (by : Operator) (first : InTurn) where
   held_first kind = trains_held first.game.events (Some by.company) kind
 
   -- some lines that order runs have led to this turn, and these are the runs that were obeyed
-  record HaveRun (runs : List TrainRun) (now : InTurn) : Type 0 where
+  record HaveRun (runs : List TrainRun) (now : TurnState) : Type 0 where
     pub map_state : position_now now.game.events ≡ there
     pub held : (kind : Kind) → trains_held now.game.events (Some by.company) kind ≡ held_first kind
     pub set : IsLegalSet there by.company trains runs
@@ -193,7 +195,7 @@ module _ (by : Operator) (first : InTurn) where
       }
 
   -- after a ruling
-  after_ruling : (runs : List TrainRun) (now : InTurn) (line : Numbered) (ruling : Ruling) → HaveRun runs now
+  after_ruling : (runs : List TrainRun) (now : TurnState) (line : Numbered) (ruling : Ruling) → HaveRun runs now
       → HaveRun runs (line_recorded by now line ruling)
   after_ruling runs now line ruling have =
       let its = event.Ruled by.president line.number ruling in
@@ -235,12 +237,12 @@ module _ (by : Operator) (first : InTurn) where
           (omega (arith, room, held_now first.game.events by.company kind))
 
   -- a run that is obeyed, and those before it
-  abbrev with_run : InTurn → Kind → List Place → List TrainRun → List TrainRun
+  abbrev with_run : TurnState → Kind → List Place → List TrainRun → List TrainRun
   with_run now kind run runs = record { kind = kind; steps = steps_now now.game.events run } ∷ runs
 
   -- it is legal where their borders are used
   run_legal :
-      (runs : List TrainRun) (now : InTurn) (kind : Kind) (run : List Place) (ran : CompletedRun)
+      (runs : List TrainRun) (now : TurnState) (kind : Kind) (run : List Place) (ran : CompletedRun)
       → judged_run now by.company kind run ≡ Ok ran →
       HaveRun runs now → IsLegalRun there by.company kind (all_crossed (walks_of runs)) (steps_now now.game.events run)
   run_legal runs now kind run ran judged have =
@@ -253,7 +255,7 @@ module _ (by : Operator) (first : InTurn) where
 
   -- and a train is left for it
   run_room :
-      (runs : List TrainRun) (now : InTurn) (kind : Kind) (run : List Place) (ran : CompletedRun)
+      (runs : List TrainRun) (now : TurnState) (kind : Kind) (run : List Place) (ran : CompletedRun)
       → judged_run now by.company kind run ≡ Ok ran →
       HaveRun runs now → in_number kind (trains_that_run runs) < at_least_zero (held_first kind)
   run_room runs now kind run ran judged have =
@@ -265,14 +267,14 @@ module _ (by : Operator) (first : InTurn) where
 
   -- after it
   after_obeyed :
-      (runs : List TrainRun) (now : InTurn) (line : Numbered) (its : Order) (kind : Kind) (run : List Place)
+      (runs : List TrainRun) (now : TurnState) (line : Numbered) (its : Order) (kind : Kind) (run : List Place)
       (ran : CompletedRun) →
       judged_run now by.company kind run ≡ Ok ran → HaveRun runs now
       → HaveRun (with_run now kind run runs) (run_ruled by now line its (Ok ran))
   after_obeyed runs now line its kind run ran judged have =
       let steps : List Step = steps_now now.game.events run in
       let done : Runs = now.progress.runs in
-      let ruled : InTurn = line_recorded by now line (Obeyed line.condition its) in
+      let ruled : TurnState = line_recorded by now line (Obeyed line.condition its) in
       let after : HaveRun runs ruled = after_ruling runs now line (Obeyed line.condition its) have in
       let earns : Event = event.Runs by.company (earned (position_now now.game.events) steps) in
       subst (λ (what : CompletedRun). HaveRun (with_run now kind run runs) (run_ruled by now line its (Ok what)))
@@ -294,7 +296,7 @@ module _ (by : Operator) (first : InTurn) where
 
   -- after a RUN, obeyed or refused
   after_judged :
-      (runs : List TrainRun) (now : InTurn) (line : Numbered) (its : Order) (kind : Kind) (run : List Place)
+      (runs : List TrainRun) (now : TurnState) (line : Numbered) (its : Order) (kind : Kind) (run : List Place)
       (judged : Result CompletedRun RunRule) →
       judged_run now by.company kind run ≡ judged → HaveRun runs now
       → (more : List TrainRun) × HaveRun more (run_ruled by now line its judged)
@@ -305,7 +307,7 @@ module _ (by : Operator) (first : InTurn) where
 
   -- after a RUN whose condition is checked
   after_asked :
-      (runs : List TrainRun) (now next : InTurn) (line : Numbered) (kind : Kind) (run : List Place) (held : Bool) →
+      (runs : List TrainRun) (now next : TurnState) (line : Numbered) (kind : Kind) (run : List Place) (held : Bool) →
       AskedLeads by now line (order.Run kind run) held next → HaveRun runs now
       → (more : List TrainRun) × HaveRun more next
   after_asked runs now next line kind run true leads have =
@@ -317,7 +319,7 @@ module _ (by : Operator) (first : InTurn) where
 
   -- after a line that orders a run
   after_line :
-      (runs : List TrainRun) (now next : InTurn) (line : Numbered) → OrdersRun line → LineLeads by now line next
+      (runs : List TrainRun) (now next : TurnState) (line : Numbered) → OrdersRun line → LineLeads by now line next
       → HaveRun runs now →
       (more : List TrainRun) × HaveRun more next
   after_line runs now next line (kind, run, reads) leads have =
@@ -326,7 +328,8 @@ module _ (by : Operator) (first : InTurn) where
 
   -- after such lines
   after_lines :
-      (runs : List TrainRun) (now : InTurn) (lines : List Numbered) (new : InTurn) → AllByRecursion OrdersRun lines
+      (runs : List TrainRun) (now : TurnState) (lines : List Numbered) (new : TurnState)
+      → AllByRecursion OrdersRun lines
       → LinesLead by now lines new →
       HaveRun runs now → (more : List TrainRun) × HaveRun more new
   after_lines runs now [] new orders leads have = (runs, subst (HaveRun runs) (sym leads) have)
@@ -336,13 +339,13 @@ module _ (by : Operator) (first : InTurn) where
 
   -- they have earned no more than the best
   no_more_earned :
-      (lines : List Numbered) (written best : InTurn) (line : Numbered) → first.progress.runs ≡ no_runs →
+      (lines : List Numbered) (written best : TurnState) (line : Numbered) → first.progress.runs ≡ no_runs →
       AllByRecursion OrdersRun lines → LinesLead by first lines written →
       BestRuled by first line None best → written.progress.runs.revenue ≤ best.progress.runs.revenue
   no_more_earned lines written best line none orders writes leads =
       let after = after_lines [] first lines written orders writes (none_yet none) in
       let greatest : IsGreatest there by.company trains leads.0 = leads.1 in
-      let is : best.progress.runs.revenue ≡ leads.0 = ap (λ (turn : InTurn). turn.progress.runs.revenue) leads.2 in
+      let is : best.progress.runs.revenue ≡ leads.0 = ap (λ (turn : TurnState). turn.progress.runs.revenue) leads.2 in
       omega (arith, is, after.1.sum, greatest.most after.0 after.1.set)
 
 pub best_earns_no_less : BestEarnsNoLess

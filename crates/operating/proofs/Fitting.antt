@@ -1,41 +1,39 @@
 -- What lies on the map by a list still fits after a lay, a token or a home token of a company's
--- turn. So these keep a list sound, and so does what a company withholds.
-use Rattle.std.proofs.Common.{◌≡◌, ℕ, ◌+◌, ◌<◌, Bool, true, false, if◌then◌else◌, List, [], ◌∷◌, ◌++◌, length, take}
-use Rattle.std.proofs.Common.{get_or, Option, None, unwrap_or, refl, sym, subst, ap, ◌∙◌}
+-- turn. A home token keeps a list sound.
+use Rattle.std.proofs.Common.{◌≡◌, ℕ, ◌+◌, ◌<◌, List, [], ◌∷◌, ◌++◌, length, take, get_or, ap, ◌∙◌, Option, None}
+use Rattle.std.proofs.Common.{unwrap_or, refl, sym, subst, false}
 use Rattle.std.proofs.lemmas.List.{append-nil, take_more}
 use Rattle.board.proofs.FitLaws.{home_keeps_fit, lay_keeps_fit, token_keeps_fit}
-use Rattle.board_state.specs.MapState.{map_state_of}
 use Rattle.board.specs.Homes.{Fits}
 use Rattle.board.specs.LayRules.{map_rules}
 use Rattle.board.specs.TokenRules.{slot_rules}
 use Rattle.board.specs.declared.asker.Asker.{Asker}
-use Rattle.events.specs.Event.{phase_set, tile_laid, token_placed}
+use Rattle.board_state.specs.MapState.{map_state_of}
+use Rattle.events.specs.Event.{party_of_company, phase_set, tile_laid, token_placed}
 use Rattle.events.specs.declared.event.Event.{Event}
 use Rattle.events.specs.declared.event.Event.TheVariants as event
-use Rattle.totals.proofs.EventAtEnd.{last_said_before}
-use Rattle.totals.proofs.InOrder.{lays_before, lays_grow, tokens_before, tokens_grow}
-use Rattle.history.proofs.Payments.{home_sound, withholding_sound}
-use Rattle.certs.proofs.Dividends.{broken_sound}
-use Rattle.totals.specs.LookBack.{Game, with_event}
-use Rattle.totals.specs.Operating.{lays_of, tokens_of}
+use Rattle.events.specs.declared.ruling.Ruling.{Ruling}
+use Rattle.history.proofs.Payments.{home_sound}
 use Rattle.history.specs.Sound.{IsSound, LiesFit}
-use Rattle.history.specs.Record.{broken_recorded}
-use Rattle.totals.specs.Trains.{phase_of}
 use Rattle.map_tables.specs.Fit.{AreFitWithHomes}
 use Rattle.map_tables.specs.Home.{home_of}
 use Rattle.map_tables.specs.Place.{place_of}
 use Rattle.map_tables.specs.declared.lay.Lay.{Lay}
 use Rattle.map_tables.specs.declared.place.Place.{Place}
 use Rattle.map_tables.specs.declared.place.Stop.{Stop}
-use Rattle.market.proofs.Tokens.{move_sound}
-use Rattle.market.specs.Moves.{square_left_of}
-use Rattle.market.specs.Token.{with_move}
-use Rattle.operating.specs.Act.{has_home_token, moved_left, withheld}
+use Rattle.operating.specs.HomeToken.{has_home_token}
 use Rattle.operating.specs.MapState.{map_state_now}
+use Rattle.sheets.specs.Part.{Numbered}
 use Rattle.tables.specs.Rules.{first_broken}
-use Rattle.tables.specs.declared.roster.Company.{Company}
 use Rattle.tables.specs.declared.rolling_stock.Kind.{Kind}
 use Rattle.tables.specs.declared.rolling_stock.Kind.TheVariants.{Two}
+use Rattle.tables.specs.declared.roster.Company.{Company}
+use Rattle.tables.specs.declared.seat.Seat.{Seat}
+use Rattle.totals.proofs.EventAtEnd.{cash_of_before, last_said_before}
+use Rattle.totals.proofs.InOrder.{lays_before, lays_grow, tokens_before, tokens_grow}
+use Rattle.totals.specs.LookBack.{Game, cash_of, with_event}
+use Rattle.totals.specs.Operating.{lays_of, tokens_of}
+use Rattle.totals.specs.Trains.{phase_of}
 
 -- the tiles of some events, with that of one more
 pub lays_more : (events : List Event) (i : ℕ) (d : Event) → i < length events
@@ -116,22 +114,18 @@ home_sound_after game new company stop place is_home is_place recorded none soun
     (is_place ∙ ap place_of is_home)))
     (home_sound game company (place_of (home_of company)) (home_fits game.events company none sound.fit) sound)
 
--- what a company withholds keeps a list sound
-pub withheld_sound : (game new : Game) (company : Company) (amount : ℕ) → new ≡ withheld game company amount
-    → IsSound game → IsSound new
-withheld_sound game new company amount is sound =
-    let recorded = broken_recorded (with_event game (event.Withheld company amount)) in
-    subst IsSound (sym is)
-    (move_sound square_left_of recorded (withheld game company amount) company refl refl
-    (broken_sound (with_event game (event.Withheld company amount)) (withholding_sound game company amount sound)))
+-- the same lies after a ruling, and the company has as much
+pub same_after_ruling : (game ruled : Game) (seat : Seat) (line : Numbered) (ruling : Ruling)
+    → ruled ≡ with_event game (event.Ruled seat line.number ruling)
+    → map_state_now ruled.events ≡ map_state_now game.events
+same_after_ruling game ruled seat line ruling is =
+    ap (λ (g : Game). map_state_now g.events) is ∙ same_map_state game.events (event.Ruled seat line.number ruling)
+    refl refl refl
 
--- what a withholding brings, step by step
-pub withheld_steps : (game paid recorded new : Game) (company : Company) (amount : ℕ)
-    → paid ≡ with_event game (event.Withheld company amount) → recorded ≡ broken_recorded paid
-    → new.seats ≡ recorded.seats → new.events ≡ with_move square_left_of recorded.events company
-    → new ≡ withheld game company amount
-withheld_steps game paid recorded new company amount is_paid is_recorded seats events =
-    let made : ℕ → List Event → Game = λ seats events. record { seats = seats; events = events } in
-    ap (λ (n : ℕ). made n new.events) seats
-    ∙ ap (made recorded.seats) events
-    ∙ ap (λ (game : Game). moved_left game company) (is_recorded ∙ ap broken_recorded is_paid)
+pub same_cash : (game ruled : Game) (seat : Seat) (line : Numbered) (ruling : Ruling) (company : Company)
+    → ruled ≡ with_event game (event.Ruled seat line.number ruling)
+    → cash_of ruled.seats ruled.events (party_of_company company)
+    ≡ cash_of game.seats game.events (party_of_company company)
+same_cash game ruled seat line ruling company is =
+    ap (λ (g : Game). cash_of g.seats g.events (party_of_company company)) is
+    ∙ cash_of_before game.seats game.events (event.Ruled seat line.number ruling) (party_of_company company) refl

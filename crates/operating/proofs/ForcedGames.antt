@@ -25,17 +25,23 @@ use Rattle.forced_purchase.proofs.TrainCounts.{still_none}
 use Rattle.forced_purchase.proofs.Steps.{next_allowed, raise_obeyed, still_allowed}
 use Rattle.purchases.proofs.TrainSteps.{of_choice}
 use Rattle.operating.proofs.TurnGames.{OfEvents, of_paid_turn}
-use Rattle.operating.specs.Ending.{EndLeads}
-use Rattle.forced_purchase.specs.Forced.{after_forced, after_raise_line, after_raises, cheapest, concluded, falls_short}
-use Rattle.forced_purchase.specs.Forced.{lack_of, next_to_sell, one_share, raise_rule, raise_ruled, sale_rule}
-use Rattle.forced_purchase.specs.Forced.{sold_further, sold_singly, with_aid, with_one_sold, with_ruling, with_sale}
-use Rattle.purchases.specs.Trains.{has_trains, train_judgement}
-use Rattle.purchases.specs.Phases.{after_train}
+use Rattle.operating.specs.TurnEnd.{EndLeads}
+use Rattle.forced_purchase.specs.Forced.{after_forced, concluded}
+use Rattle.forced_purchase.specs.Raise.{after_raise_line, after_raises}
+use Rattle.forced_purchase.specs.Shortfall.{cheapest, falls_short}
+use Rattle.forced_purchase.specs.Shortfall.{lack_of}
+use Rattle.forced_purchase.specs.Forced.{next_to_sell, one_share}
+use Rattle.forced_purchase.specs.Raise.{raise_rule, raise_ruled, sale_rule}
+use Rattle.forced_purchase.specs.Forced.{sold_further, sold_singly, with_aid, with_one_sold}
+use Rattle.forced_purchase.specs.Raise.{with_ruling, with_sale}
+use Rattle.purchases.specs.Train.{has_trains, train_judgement}
+use Rattle.purchases.specs.Train.{after_train}
 use Rattle.purchases.specs.PrivateLaws.{names_owner}
 use Rattle.purchases.specs.SaleLaws.{sells_to_company}
-use Rattle.operating.specs.Turn.{CompanyOrdersEnd, IsCompanyTurn, withheld_if_unpaid}
+use Rattle.operating.specs.Pay.{withheld_if_unpaid}
+use Rattle.operating.specs.Turn.{CompanyOrdersEnd, IsCompanyTurn}
 use Rattle.forced_purchase.specs.declared.operator.Operator.{Operator}
-use Rattle.purchases.specs.declared.purchase.Purchase.{Purchase}
+use Rattle.purchases.specs.declared.train.TrainPurchase.{TrainPurchase}
 use Rattle.order_grammar.specs.declared.fault.Fault.{Fault}
 use Rattle.order_grammar.specs.declared.order.Order.{Order}
 use Rattle.order_grammar.specs.declared.order.Order.TheVariants as order
@@ -232,10 +238,10 @@ module _ (by : Operator) (R : Game → Game → Type 0) (of : OfEvents by.compan
       (of.others game its tt refl refl refl) (of.on.same game)
 
   -- of a purchase for which none is traded in
-  of_plain : (game : Game) (events : List Event) (purchase : Purchase) → IsPlain events purchase →
+  of_plain : (game : Game) (events : List Event) (purchase : TrainPurchase) → IsPlain events purchase →
       train_judgement game by.company purchase ≡ None → R game (after_train game by.company purchase)
   of_plain game events purchase its =
-      let Goes : Purchase → Type 0 = λ bought. train_judgement game by.company bought ≡ None
+      let Goes : TrainPurchase → Type 0 = λ bought. train_judgement game by.company bought ≡ None
       → R game (after_train game by.company bought) in
       elim its.1 [
         | inl is ↦ subst Goes (sym is) (of.purchases game its.0 source.Bank)

@@ -18,15 +18,19 @@ use Rattle.operating.proofs.ForcedGames.{gained_none, gained_of, of_gained, of_s
 use Rattle.forced_purchase.proofs.TrainCounts.{size_before}
 use Rattle.operating.proofs.TurnGames.{of_paid_turn}
 use Rattle.operating.proofs.TurnLaws.{KeepsTrains, events_keep_trains, forced_keeps_trains}
-use Rattle.operating.specs.Ending.{EndLeads, IsDue}
-use Rattle.forced_purchase.specs.Forced.{after_forced, after_raise_line, after_raises, cheapest, concluded, falls_short}
-use Rattle.forced_purchase.specs.Forced.{raise_rule, with_aid, with_ruling}
-use Rattle.purchases.specs.Trains.{has_trains}
+use Rattle.operating.specs.TurnEnd.{EndLeads, IsDue}
+use Rattle.forced_purchase.specs.Forced.{after_forced, concluded}
+use Rattle.forced_purchase.specs.Raise.{after_raise_line, after_raises}
+use Rattle.forced_purchase.specs.Shortfall.{cheapest, falls_short}
+use Rattle.forced_purchase.specs.Raise.{raise_rule, with_ruling}
+use Rattle.forced_purchase.specs.Forced.{with_aid}
+use Rattle.purchases.specs.Train.{has_trains}
 use Rattle.operating.specs.ForcedLaws.{TurnsEndWithTrains}
 use Rattle.operating.specs.MapState.{map_state_now}
-use Rattle.purchases.specs.Phases.{after_train}
+use Rattle.purchases.specs.Train.{after_train}
 use Rattle.purchases.specs.TrainLaws.{AllTrainsAreThere}
-use Rattle.operating.specs.Turn.{CompanyOrdersEnd, withheld_if_unpaid}
+use Rattle.operating.specs.Pay.{withheld_if_unpaid}
+use Rattle.operating.specs.Turn.{CompanyOrdersEnd}
 use Rattle.forced_purchase.specs.declared.operator.Operator.{Operator}
 use Rattle.order_grammar.specs.declared.fault.Fault.{Fault}
 use Rattle.order_grammar.specs.declared.order.Order.{Order}

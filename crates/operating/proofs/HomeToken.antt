@@ -20,9 +20,10 @@ use Rattle.operating.proofs.TurnGames.{of_steps}
 use Rattle.operating.proofs.TurnLaws.{adds_by, more_adds}
 use Rattle.operating.proofs.ForcedGames.{of_orders_end}
 use Rattle.operating.proofs.TurnSteps.{of_turn}
-use Rattle.operating.specs.Act.{has_home_token, with_home}
+use Rattle.operating.specs.HomeToken.{has_home_token, with_home}
 use Rattle.operating.specs.Laws.{HomeTokenLies, OnlyAdds}
-use Rattle.operating.specs.Turn.{begun, withheld_if_unpaid}
+use Rattle.operating.specs.Pay.{withheld_if_unpaid}
+use Rattle.operating.specs.Turn.{begun}
 use Rattle.tables.specs.Roster.{same_company}
 use Rattle.tables.specs.declared.roster.Company.{Company}
 use Rattle.tables.specs.declared.roster.Company.TheVariants.{Pennsylvania}

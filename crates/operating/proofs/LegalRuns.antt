@@ -8,13 +8,16 @@ use Rattle.legal_runs.specs.Legal.{all_crossed, crossed}
 use Rattle.legal_runs.specs.Marks.{IsUsed, MarksAre}
 use Rattle.map_tables.specs.declared.rules.RunRule.{RunRule}
 use Rattle.map_tables.specs.declared.place.Place.{Place}
-use Rattle.operating.proofs.Judged.{judged_borders, judged_legal}
 use Rattle.operating.proofs.OtherOrders.{after_other}
-use Rattle.operating.specs.Best.{BestRuled, best_judgement}
-use Rattle.operating.specs.InTurn.{InTurn, no_runs}
+use Rattle.operating.proofs.RunLemmas.{judged_borders, judged_legal}
+use Rattle.operating.specs.CompanyOrders.{AskedLeads, OrderLeads, ReadingLeads, is_held}
 use Rattle.operating.specs.LegalRuns.{LinesRun, ObeyedRunsAreLegal, walk_asked, walk_if_ran, walk_obeyed, walk_ordered}
-use Rattle.operating.specs.Runs.{judged_run, run_ruled, steps_now}
-use Rattle.operating.specs.Turn.{AskedLeads, OrderLeads, ReadingLeads, begun, is_held}
+use Rattle.operating.specs.MapState.{steps_now}
+use Rattle.operating.specs.Run.{judged_run, run_ruled}
+use Rattle.operating.specs.RunBest.{BestRuled, best_judgement}
+use Rattle.operating.specs.Runs.{no_runs}
+use Rattle.operating.specs.Turn.{begun}
+use Rattle.operating.specs.TurnState.{TurnState}
 use Rattle.forced_purchase.specs.declared.operator.Operator.{Operator}
 use Rattle.operating.specs.declared.runs.CompletedRun.{CompletedRun}
 use Rattle.operating.specs.declared.runs.Runs.{Runs}
@@ -26,23 +29,23 @@ use Rattle.sheets.specs.Part.{Numbered}
 use Rattle.tables.specs.declared.rolling_stock.Kind.{Kind}
 
 -- the borders that are marked in a turn
-abbrev marks_in : InTurn → List Bool
+abbrev marks_in : TurnState → List Bool
 marks_in turn = turn.progress.runs.borders
 
 -- the best of a company leaves them
 after_best :
-    (by : Operator) (turn : InTurn) (line : Numbered) (rule : Option RunRule) (new : InTurn) →
+    (by : Operator) (turn : TurnState) (line : Numbered) (rule : Option RunRule) (new : TurnState) →
     BestRuled by turn line rule new → marks_in new ≡ marks_in turn
 after_best by turn line (Some rule) new leads = ap marks_in leads
 after_best by turn line None new leads = ap marks_in leads.2
 
 -- these walks cross the borders that are marked
-abbrev AreWalks : List (List Step) → InTurn → Type 0
+abbrev AreWalks : List (List Step) → TurnState → Type 0
 AreWalks walks turn = MarksAre (all_crossed walks) (marks_in turn)
 
 -- a run that is obeyed marks its own
 after_run :
-    (by : Operator) (turn : InTurn) (line : Numbered) (its : Order) (kind : Kind) (run : List Place)
+    (by : Operator) (turn : TurnState) (line : Numbered) (its : Order) (kind : Kind) (run : List Place)
     (before : List (List Step)) (judged : Result CompletedRun RunRule) →
     judged_run turn by.company kind run ≡ judged → AreWalks before turn →
     AreWalks (walk_if_ran (steps_now turn.game.events run) judged ++ before) (run_ruled by turn line its judged)
@@ -53,17 +56,18 @@ after_run by turn line its kind run before (Ok ran) is are =
     (crossed_used (all_crossed before) (marks_in turn) (steps_now turn.game.events run) are)
 
 -- the marks that an order leaves
-left_as : (before : List (List Step)) (turn new : InTurn) → marks_in new ≡ marks_in turn → AreWalks before turn
+left_as : (before : List (List Step)) (turn new : TurnState) → marks_in new ≡ marks_in turn → AreWalks before turn
     → AreWalks before new
 left_as before turn new same are = subst (λ (marks : List Bool). MarksAre (all_crossed before) marks) (sym same) are
 
 -- after an order
 after_order :
-    (by : Operator) (turn : InTurn) (line : Numbered) (before : List (List Step)) (its : Order) (new : InTurn)
+    (by : Operator) (turn : TurnState) (line : Numbered) (before : List (List Step)) (its : Order) (new : TurnState)
     → OrderLeads by turn line its new →
     AreWalks before turn → AreWalks (walk_ordered by.company turn its ++ before) new
 after_order by turn line before (order.Run kind run) new leads are =
-    subst (λ (next : InTurn). AreWalks (walk_ordered by.company turn (order.Run kind run) ++ before) next) (sym leads)
+    subst (λ (next : TurnState). AreWalks (walk_ordered by.company turn (order.Run kind run) ++ before) next)
+    (sym leads)
     (after_run by turn line (order.Run kind run) kind run before (judged_run turn by.company kind run) refl are)
 after_order by turn line before order.RunBest new leads are =
     left_as before turn new (after_best by turn line (best_judgement turn by.company) new leads) are
@@ -73,8 +77,8 @@ after_order by turn line before other new leads are =
 
 -- after an order whose condition is checked
 after_asked :
-    (by : Operator) (turn : InTurn) (line : Numbered) (before : List (List Step)) (its : Order) (held : Bool)
-    (new : InTurn) →
+    (by : Operator) (turn : TurnState) (line : Numbered) (before : List (List Step)) (its : Order) (held : Bool)
+    (new : TurnState) →
     AskedLeads by turn line its held new → AreWalks before turn
     → AreWalks (walk_asked by.company turn its held ++ before) new
 after_asked by turn line before its true new leads are = left_as before turn new (ap marks_in leads) are
@@ -82,8 +86,8 @@ after_asked by turn line before its false new leads are = after_order by turn li
 
 -- after a line
 after_line :
-    (by : Operator) (turn : InTurn) (line : Numbered) (before : List (List Step)) (reading : Result Order Fault)
-    (new : InTurn) →
+    (by : Operator) (turn : TurnState) (line : Numbered) (before : List (List Step)) (reading : Result Order Fault)
+    (new : TurnState) →
     ReadingLeads by turn line reading new → AreWalks before turn
     → AreWalks (walk_obeyed by.company turn line reading ++ before) new
 after_line by turn line before (Err fault) new leads are = left_as before turn new (ap marks_in leads) are
@@ -92,7 +96,7 @@ after_line by turn line before (Ok its) new leads are =
 
 -- after some lines
 after_lines :
-    (by : Operator) (turn : InTurn) (before : List (List Step)) (lines : List Numbered) (new : InTurn)
+    (by : Operator) (turn : TurnState) (before : List (List Step)) (lines : List Numbered) (new : TurnState)
     (all : List (List Step)) →
     AreWalks before turn → LinesRun by turn before lines new all → AreWalks all new
 after_lines by turn before [] new all are ran =

@@ -9,15 +9,20 @@ use Rattle.std.proofs.lemmas.Int.{ints}
 use Rattle.std.specs.Int.Signed.{lt_z}
 use Rattle.std.specs.List.{list_any}
 use Rattle.totals.specs.LookBack.{Game}
+use Rattle.map_tables.specs.RuleCodes.{code_of_run_rule}
 use Rattle.map_tables.specs.declared.rules.RunRule.{RunRule}
 use Rattle.map_tables.specs.declared.rules.RunRule.TheVariants as run_rule
 use Rattle.forced_purchase.proofs.Cheapest.{less_is}
 use Rattle.operating.proofs.OtherOrders.{after_other}
-use Rattle.operating.specs.Best.{BestRuled, best_judgement}
-use Rattle.purchases.specs.Trains.{has_trains}
-use Rattle.operating.specs.InTurn.{InTurn, no_runs}
-use Rattle.operating.specs.Runs.{has_any_run, has_run, is_past_runs, judged_run, rule, run_ruled, with_ran}
-use Rattle.operating.specs.Turn.{AskedLeads, LinesLead, OrderLeads, ReadingLeads, begun, is_held}
+use Rattle.operating.proofs.RunLemmas.{second_false}
+use Rattle.operating.specs.RunBest.{BestRuled, best_judgement, rules_of_best}
+use Rattle.purchases.specs.Train.{has_trains}
+use Rattle.operating.specs.CompanyOrders.{AskedLeads, LinesLead, OrderLeads, ReadingLeads, is_held}
+use Rattle.operating.specs.Progress.{has_any_run}
+use Rattle.operating.specs.Run.{judged_run, run_ruled}
+use Rattle.operating.specs.Runs.{has_run, no_runs, with_ran}
+use Rattle.operating.specs.Turn.{begun}
+use Rattle.operating.specs.TurnState.{TurnState}
 use Rattle.forced_purchase.specs.declared.operator.Operator.{Operator}
 use Rattle.operating.specs.declared.runs.CompletedRun.{CompletedRun}
 use Rattle.operating.specs.declared.runs.Runs.{Runs}
@@ -25,7 +30,7 @@ use Rattle.order_grammar.specs.declared.fault.Fault.{Fault}
 use Rattle.order_grammar.specs.declared.order.Order.{Order}
 use Rattle.order_grammar.specs.declared.order.Order.TheVariants as order
 use Rattle.sheets.specs.Part.{Numbered}
-use Rattle.tables.specs.Rules.{first_broken}
+use Rattle.tables.proofs.Rules.{not_broken}
 use Rattle.tables.specs.Train.{place_of_kind}
 use Rattle.tables.specs.declared.rolling_stock.Kind.{Kind}
 use Rattle.tables.specs.declared.rolling_stock.Kind.TheVariants.{Two, Three, Four, Five, Six, Diesel}
@@ -73,7 +78,7 @@ pub record AreKept (best : Bool) (runs : Runs) : Type 0 where
   pub none : some_ran best runs ≡ false → runs ≡ no_runs
 
 -- so it is in a turn
-abbrev IsKeptIn : InTurn → Type 0
+abbrev IsKeptIn : TurnState → Type 0
 IsKeptIn turn = AreKept turn.progress.best_run turn.progress.runs
 
 -- a test or one that holds
@@ -104,21 +109,21 @@ with_best best runs revenue are = record { for_each = are.for_each; least = are.
 
 -- after a RUN
 after_run :
-    (by : Operator) (turn : InTurn) (line : Numbered) (its : Order) (judged : Result CompletedRun RunRule)
+    (by : Operator) (turn : TurnState) (line : Numbered) (its : Order) (judged : Result CompletedRun RunRule)
     → IsKeptIn turn → IsKeptIn (run_ruled by turn line its judged)
 after_run by turn line its (Err rule) are = are
 after_run by turn line its (Ok ran) are = with_run turn.progress.best_run turn.progress.runs ran are
 
 -- after a RUN BEST
 after_best :
-    (by : Operator) (turn : InTurn) (line : Numbered) (rule : Option RunRule) (new : InTurn)
+    (by : Operator) (turn : TurnState) (line : Numbered) (rule : Option RunRule) (new : TurnState)
     → BestRuled by turn line rule new → IsKeptIn turn → IsKeptIn new
 after_best by turn line (Some rule) new leads are = subst IsKeptIn (sym leads) are
 after_best by turn line None new leads are =
     subst IsKeptIn (sym leads.2) (with_best turn.progress.best_run turn.progress.runs leads.0 are)
 
 -- after an order
-after_order : (by : Operator) (turn : InTurn) (line : Numbered) (its : Order) (new : InTurn)
+after_order : (by : Operator) (turn : TurnState) (line : Numbered) (its : Order) (new : TurnState)
     → OrderLeads by turn line its new →
     IsKeptIn turn → IsKeptIn new
 after_order by turn line (order.Run kind run) new leads are =
@@ -129,14 +134,14 @@ after_order by turn line other new leads are =
     subst (λ (done : Bool × Runs). AreKept done.0 done.1) (sym (after_other by turn line other new tt leads)) are
 
 -- after an order whose condition is checked
-after_asked : (by : Operator) (turn : InTurn) (line : Numbered) (its : Order) (held : Bool) (new : InTurn)
+after_asked : (by : Operator) (turn : TurnState) (line : Numbered) (its : Order) (held : Bool) (new : TurnState)
     → AskedLeads by turn line its held new →
     IsKeptIn turn → IsKeptIn new
 after_asked by turn line its true new leads are = subst IsKeptIn (sym leads) are
 after_asked by turn line its false new leads are = after_order by turn line its new leads are
 
 -- after a line
-after_line : (by : Operator) (turn : InTurn) (line : Numbered) (reading : Result Order Fault) (new : InTurn)
+after_line : (by : Operator) (turn : TurnState) (line : Numbered) (reading : Result Order Fault) (new : TurnState)
     → ReadingLeads by turn line reading new →
     IsKeptIn turn → IsKeptIn new
 after_line by turn line (Err fault) new leads are = subst IsKeptIn (sym leads) are
@@ -144,7 +149,7 @@ after_line by turn line (Ok its) new leads are =
     after_asked by turn line its (is_held turn.game.events line.condition its) new leads are
 
 -- after some lines
-after_lines : (by : Operator) (turn : InTurn) (lines : List Numbered) (new : InTurn) → LinesLead by turn lines new
+after_lines : (by : Operator) (turn : TurnState) (lines : List Numbered) (new : TurnState) → LinesLead by turn lines new
     → IsKeptIn turn → IsKeptIn new
 after_lines by turn [] new leads are = subst IsKeptIn (sym leads) are
 after_lines by turn (line ∷ lines) new leads are =
@@ -162,18 +167,11 @@ none_counted Diesel = refl
 none_kept : AreKept false no_runs
 none_kept = record { for_each = refl; least = λ kind. omega (arith, ints, none_counted kind); none = λ none. refl }
 
--- a RUN BEST that breaks no rule finds that no train has run
-none_ran : (past held ran : Bool) → first_broken
-    (rule run_rule.StepUsed past ∷ rule run_rule.NoTrain (not held || ran) ∷ []) ≡ None → ran ≡ false
-none_ran past held false none = refl
-none_ran true held true none = cc
-none_ran false true true none = cc
-none_ran false false true none = cc
-
--- so nothing is set down where it is obeyed
-pub nothing_ran : (by : Operator) (game : Game) (lines : List Numbered) (turn : InTurn)
+-- nothing is set down where a RUN BEST is obeyed: no train has run
+pub nothing_ran : (by : Operator) (game : Game) (lines : List Numbered) (turn : TurnState)
     → LinesLead by (begun game by.company) lines turn →
     best_judgement turn by.company ≡ None → turn.progress.runs ≡ no_runs
 nothing_ran by game lines turn leads none =
     (after_lines by (begun game by.company) lines turn leads none_kept).none
-    (none_ran (is_past_runs turn.progress) (has_trains turn.game.events by.company) (has_any_run turn.progress) none)
+    (second_false (not (has_trains turn.game.events by.company)) (has_any_run turn.progress)
+    (not_broken code_of_run_rule (rules_of_best turn.game by.company turn.progress) none run_rule.NoTrain))

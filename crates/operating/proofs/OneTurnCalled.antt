@@ -9,14 +9,16 @@ use Rattle.totals.specs.Shares.{president_of}
 use Rattle.map_tables.specs.declared.rules.RunRule.{RunRule}
 use Rattle.operating.proofs.OneCourse.{Agree, none_first, then_agree, unasked_agrees}
 use Rattle.operating.proofs.Outcome.{AllLawful, order_once, orders_end_once}
-use Rattle.operating.specs.Best.{BestRuled, best_judgement, trains_now}
 use Rattle.operating.specs.Calls.{Call, Course, Unasked}
-use Rattle.operating.specs.InTurn.{InTurn, line_recorded}
-use Rattle.operating.specs.Runs.{position_now}
-use Rattle.operating.specs.Turn.{AskedLeads, CompanyOrdersEnd, OrderLeads, begun, is_held, withheld_if_unpaid}
+use Rattle.operating.specs.CompanyOrders.{AskedLeads, OrderLeads, is_held}
+use Rattle.operating.specs.MapState.{position_now}
+use Rattle.operating.specs.Pay.{withheld_if_unpaid}
+use Rattle.operating.specs.RunBest.{BestRuled, best_judgement, trains_now}
+use Rattle.operating.specs.Turn.{CompanyOrdersEnd, begun}
 use Rattle.operating.specs.TurnCalls.{AskedCalls, Asks, BegunCalls, BestCalls, CompanyOrdersCall, EndCalls, IsCredited}
 use Rattle.operating.specs.TurnCalls.{LineCalls, LinesCall, OneListOfTurnCalls, OrderCalls, ReadingCalls}
 use Rattle.operating.specs.TurnCalls.{RefusedTurnCallsAreAPrefix, TurnCalls, asked}
+use Rattle.operating.specs.TurnState.{TurnState, line_recorded}
 use Rattle.forced_purchase.specs.declared.operator.Operator.{Operator}
 use Rattle.order_grammar.specs.declared.fault.Fault.{Fault}
 use Rattle.order_grammar.specs.declared.order.Order.{Order}
@@ -66,8 +68,8 @@ asks_once round company =
 
 module _ (all : AllLawful) (by : Operator) (round : Round) where
   -- an order to run the best
-  best_once : (line : Numbered) (turn : InTurn) (rule : Option RunRule) →
-      IsOne round by.company (λ (from : InTurn). BestCalls by round line rule turn)
+  best_once : (line : Numbered) (turn : TurnState) (rule : Option RunRule) →
+      IsOne round by.company (λ (from : TurnState). BestCalls by round line rule turn)
   best_once line turn (Some rule) =
       let ruled = unasked_agrees Memory (TellsOf round by.company) (λ old new. BestRuled by old line (Some rule) new)
       (λ from a b first second. first ∙ sym second) in

@@ -3,29 +3,29 @@ use Rattle.std.proofs.Common.{◌≡◌, ℕ, ◌==◌, Bool, true, false, not, 
 use Rattle.std.proofs.Common.{Some, None, is_some, refl, sym}
 use Rattle.std.proofs.Common.{ap, subst, ◌∙◌}
 use Rattle.std.specs.Option.{option_flatten, option_map, option_or}
-use Rattle.events.specs.Event.{operated_by, round_begun_by}
+use Rattle.events.specs.Event.{code_of_pay_rule, operated_by, round_begun_by}
 use Rattle.events.specs.declared.event.Event.{Event}
 use Rattle.events.specs.declared.event.Event.TheVariants as event
-use Rattle.events.specs.declared.ruling.PayRule.{PayRule}
 use Rattle.events.specs.declared.ruling.PayRule.TheVariants.{NothingToPay}
 use Rattle.totals.proofs.EventAtEnd.{last_said_at_end}
 use Rattle.totals.specs.LookBack.{Game, in_round, last_said, with_event}
 use Rattle.totals.specs.Shares.{president_of}
 use Rattle.totals.specs.Operating.{has_operated, turn_said}
+use Rattle.operating.proofs.RunLemmas.{second_false}
 use Rattle.operating.proofs.TurnEvents.{begins_none, own_alone}
 use Rattle.operating.proofs.ForcedGames.{OfForced, forced_begins_none, forced_operates_none, of_game_turn}
 use Rattle.operating.proofs.ForcedGames.{of_orders_end}
 use Rattle.operating.proofs.TurnGames.{OfEvents, after_withheld, by_each, of_steps}
 use Rattle.operating.proofs.TurnSteps.{OfSteps, of_turn}
-use Rattle.operating.specs.Act.{withheld}
-use Rattle.operating.specs.Pay.{is_past_pay}
-use Rattle.operating.specs.InTurn.{InTurn, in_turn, is_unpaid, pay_done}
 use Rattle.operating.specs.Laws.{CompanyOperates}
-use Rattle.operating.specs.Turn.{IsCompanyTurn, withheld_if_unpaid}
+use Rattle.operating.specs.Pay.{pay_judgement, pay_rules, withheld, withheld_if_unpaid}
+use Rattle.operating.specs.Progress.{is_past_pay, is_unpaid, pay_done}
+use Rattle.operating.specs.Turn.{IsCompanyTurn}
+use Rattle.operating.specs.TurnState.{TurnState, turn_state}
 use Rattle.operating.specs.declared.progress.Progress.{Progress}
 use Rattle.tables.proofs.Companies.{company_is, company_is_same}
 use Rattle.tables.specs.Roster.{same_company}
-use Rattle.tables.specs.Rules.{first_broken}
+use Rattle.tables.proofs.Rules.{not_broken}
 use Rattle.tables.specs.declared.roster.Company.{Company}
 use Rattle.tables.specs.declared.round.Round.{Round}
 
@@ -110,18 +110,17 @@ abbrev has_done : Progress → Bool
 has_done progress = not (is_unpaid progress) || not (progress.runs.revenue == 0)
 
 -- then the company has operated
-abbrev Has : Company → InTurn → Type 0
+abbrev Has : Company → TurnState → Type 0
 Has company turn = has_done turn.progress ≡ true → has_operated turn.game.events company ≡ true
 
 -- PAY that is obeyed finds a revenue
-some_revenue : (past none : Bool) → first_broken {Code = PayRule}
-    (record { code = NothingToPay; broken = past || none } ∷ []) ≡ None → none ≡ false
-some_revenue true none kept = cc
-some_revenue false true kept = cc
-some_revenue false false kept = refl
+some_revenue : (progress : Progress) → pay_judgement progress ≡ None → (progress.runs.revenue == 0) ≡ false
+some_revenue progress kept =
+    second_false (is_past_pay progress) (progress.runs.revenue == 0)
+    (not_broken code_of_pay_rule (pay_rules progress) kept NothingToPay)
 
 -- each step of a turn keeps it so
-has_steps : (company : Company) → OfSteps company (λ (old new : InTurn). Has company old → Has company new)
+has_steps : (company : Company) → OfSteps company (λ (old new : TurnState). Has company old → Has company new)
 has_steps company =
     let on = of_steps company (Operates company) (by_events company) in
     record {
@@ -137,7 +136,7 @@ has_steps company =
       ran = λ turn progress revenue has done. now_has company turn.game (event.Runs company revenue) refl refl;
       paid = λ turn rules has done. (on.paid turn rules).still company
           (has (ap (λ (b : Bool). not (is_unpaid turn.progress) || not b)
-          (some_revenue (is_past_pay turn.progress) (turn.progress.runs.revenue == 0) rules)
+          (some_revenue turn.progress rules)
           ∙ or_true (not (is_unpaid turn.progress))));
       kept = λ turn has done. (after_withheld company (Operates company) (by_events company) turn.game
           turn.progress.runs.revenue).still company
@@ -146,10 +145,10 @@ has_steps company =
     }
 
 -- what the company has withheld by itself, where it was unpaid, is past its pay
-withheld_is_paid : (company : Company) (turn : InTurn) → is_unpaid (withheld_if_unpaid company turn).progress ≡ false
+withheld_is_paid : (company : Company) (turn : TurnState) → is_unpaid (withheld_if_unpaid company turn).progress ≡ false
 withheld_is_paid company turn =
     elim (is_unpaid turn.progress) as (λ (b : Bool). is_unpaid turn.progress ≡ b →
-    is_unpaid (if b then in_turn (withheld turn.game company turn.progress.runs.revenue)
+    is_unpaid (if b then turn_state (withheld turn.game company turn.progress.runs.revenue)
     (pay_done turn.progress) else turn).progress ≡ false) [
       | true ↦ λ unpaid. refl
       | false ↦ λ past. past

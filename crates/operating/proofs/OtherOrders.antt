@@ -9,16 +9,21 @@ use Rattle.map_tables.specs.declared.rules.LayRule.{LayRule}
 use Rattle.map_tables.specs.declared.rules.TokenRule.{TokenRule}
 use Rattle.map_tables.specs.declared.lay.Lay.{Lay}
 use Rattle.map_tables.specs.declared.place.Place.{Place}
-use Rattle.operating.specs.Act.{withheld}
+use Rattle.operating.specs.Pay.{withheld}
 use Rattle.certs.specs.Dividend.{paid_out}
 use Rattle.operating.specs.Pay.{pay_judgement, pay_ruled, withhold_judgement}
-use Rattle.operating.specs.InTurn.{InTurn, in_turn, is_unpaid, pay_done}
-use Rattle.purchases.specs.Privates.{private_judgement}
-use Rattle.operating.specs.Turn.{OrderLeads, lay_answered, private_ruled, withheld_if_unpaid, token_answered}
-use Rattle.operating.specs.Turn.{train_ruled}
-use Rattle.purchases.specs.Trains.{purchase_of, train_judgement}
+use Rattle.operating.specs.Progress.{is_unpaid, pay_done}
+use Rattle.operating.specs.TurnState.{TurnState, turn_state}
+use Rattle.purchases.specs.Private.{private_judgement}
+use Rattle.operating.specs.CompanyOrders.{OrderLeads}
+use Rattle.operating.specs.Lay.{lay_answered}
+use Rattle.operating.specs.Pay.{withheld_if_unpaid}
+use Rattle.operating.specs.Private.{private_ruled}
+use Rattle.operating.specs.Token.{token_answered}
+use Rattle.operating.specs.Train.{train_ruled}
+use Rattle.purchases.specs.Train.{purchase_of, train_judgement}
 use Rattle.forced_purchase.specs.declared.operator.Operator.{Operator}
-use Rattle.purchases.specs.declared.purchase.Purchase.{Purchase}
+use Rattle.purchases.specs.declared.train.TrainPurchase.{TrainPurchase}
 use Rattle.operating.specs.declared.runs.Runs.{Runs}
 use Rattle.order_grammar.specs.declared.order.Order.{Order}
 use Rattle.order_grammar.specs.declared.order.Order.TheVariants as order
@@ -27,7 +32,7 @@ use Rattle.tables.specs.declared.roster.Company.{Company}
 use Rattle.tables.specs.declared.roster.Private.{Private}
 
 -- what the trains have done in a turn: whether the best has been run, and what is kept of the runs
-abbrev pub did : InTurn → Bool × Runs
+abbrev pub did : TurnState → Bool × Runs
 did turn = (turn.progress.best_run, turn.progress.runs)
 
 -- an order runs no train
@@ -38,29 +43,29 @@ RunsNone other = Unit
 
 -- a LAY
 after_lay :
-    (by : Operator) (turn : InTurn) (line : Numbered) (lay : Lay) (answer : Result ℤ LayRule) →
+    (by : Operator) (turn : TurnState) (line : Numbered) (lay : Lay) (answer : Result ℤ LayRule) →
     did (lay_answered by turn line lay answer) ≡ did turn
 after_lay by turn line lay (Ok cost) = refl
 after_lay by turn line lay (Err rule) = refl
 
 -- a TOKEN
 after_token :
-    (by : Operator) (turn : InTurn) (line : Numbered) (place : Place) (answer : Result ℤ TokenRule) →
+    (by : Operator) (turn : TurnState) (line : Numbered) (place : Place) (answer : Result ℤ TokenRule) →
     did (token_answered by turn line place answer) ≡ did turn
 after_token by turn line place (Ok cost) = refl
 after_token by turn line place (Err rule) = refl
 
 -- PAY or WITHHOLD, and what a company withholds by itself
 after_pay :
-    (by : Operator) (turn : InTurn) (line : Numbered) (its : Order) (rule : Option PayRule) (after : Game → Game) →
+    (by : Operator) (turn : TurnState) (line : Numbered) (its : Order) (rule : Option PayRule) (after : Game → Game) →
     did (pay_ruled by turn line its rule after) ≡ did turn
 after_pay by turn line its None after = refl
 after_pay by turn line its (Some rule) after = refl
 
-after_withholding : (company : Company) (turn : InTurn) → did (withheld_if_unpaid company turn) ≡ did turn
+after_withholding : (company : Company) (turn : TurnState) → did (withheld_if_unpaid company turn) ≡ did turn
 after_withholding company turn =
     elim (is_unpaid turn.progress) as
-    (λ (b : Bool). did (if b then in_turn (withheld turn.game company turn.progress.runs.revenue)
+    (λ (b : Bool). did (if b then turn_state (withheld turn.game company turn.progress.runs.revenue)
     (pay_done turn.progress) else turn) ≡ did turn) [
       | true ↦ refl
       | false ↦ refl
@@ -68,21 +73,21 @@ after_withholding company turn =
 
 -- a TRAIN
 after_train :
-    (by : Operator) (turn : InTurn) (line : Numbered) (its : Order) (purchase : Purchase) (rule : Option TrainRule) →
+    (by : Operator) (turn : TurnState) (line : Numbered) (its : Order) (purchase : TrainPurchase) (rule : Option TrainRule) →
     did (train_ruled by turn line its purchase rule) ≡ did turn
 after_train by turn line its purchase None = refl
 after_train by turn line its purchase (Some rule) = refl
 
 -- the purchase of a private
 after_private :
-    (by : Operator) (turn : InTurn) (line : Numbered) (private : Private) (price : ℕ) (rule : Option PrivateRule) →
+    (by : Operator) (turn : TurnState) (line : Numbered) (private : Private) (price : ℕ) (rule : Option PrivateRule) →
     did (private_ruled by turn line private price rule) ≡ did turn
 after_private by turn line private price None = refl
 after_private by turn line private price (Some rule) = refl
 
 -- what an order leaves that runs no train
 pub after_other :
-    (by : Operator) (turn : InTurn) (line : Numbered) (its : Order) (new : InTurn) → RunsNone its
+    (by : Operator) (turn : TurnState) (line : Numbered) (its : Order) (new : TurnState) → RunsNone its
     → OrderLeads by turn line its new →
     did new ≡ did turn
 after_other by turn line (order.Run kind run) new none leads = absurd none

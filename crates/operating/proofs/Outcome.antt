@@ -17,18 +17,20 @@ use Rattle.totals.specs.Shares.{president_of}
 use Rattle.map_tables.specs.declared.lay.Lay.{Lay}
 use Rattle.map_tables.specs.declared.place.Place.{Place}
 use Rattle.operating.proofs.Decided.{IsTested, piece_tested, place_tested}
-use Rattle.operating.specs.Best.{BestRuled, best_earned, best_judgement, trains_now}
-use Rattle.operating.specs.MapState.{map_state_now}
-use Rattle.operating.specs.InTurn.{InTurn}
-use Rattle.operating.specs.Judgement.{asker_of}
-use Rattle.operating.specs.Runs.{position_now}
+use Rattle.operating.specs.BoardAsker.{asker_of}
 use Rattle.operating.specs.Laws.{CompanyTurnEnds, OneCompanyTurn}
-use Rattle.operating.specs.Ending.{EndLeads, IsDue}
-use Rattle.forced_purchase.specs.Forced.{after_forced, after_raises}
-use Rattle.purchases.specs.Trains.{has_trains}
-use Rattle.operating.specs.Turn.{AskedLeads, CompanyOrdersEnd, CompanyOrdersLead, IsCompanyTurn, LinesLead, OrderLeads}
-use Rattle.operating.specs.Turn.{ReadingLeads}
-use Rattle.operating.specs.Turn.{begun, is_held, lay_answered, withheld_if_unpaid, token_answered}
+use Rattle.operating.specs.MapState.{map_state_now, position_now}
+use Rattle.operating.specs.RunBest.{BestRuled, best_earned, best_judgement, trains_now}
+use Rattle.operating.specs.TurnEnd.{EndLeads, IsDue}
+use Rattle.operating.specs.TurnState.{TurnState}
+use Rattle.forced_purchase.specs.Forced.{after_forced}
+use Rattle.forced_purchase.specs.Raise.{after_raises}
+use Rattle.purchases.specs.Train.{has_trains}
+use Rattle.operating.specs.CompanyOrders.{AskedLeads, LinesLead, OrderLeads, ReadingLeads, is_held}
+use Rattle.operating.specs.Lay.{lay_answered}
+use Rattle.operating.specs.Pay.{withheld_if_unpaid}
+use Rattle.operating.specs.Token.{token_answered}
+use Rattle.operating.specs.Turn.{CompanyOrdersEnd, CompanyOrdersLead, IsCompanyTurn, begun}
 use Rattle.forced_purchase.specs.declared.operator.Operator.{Operator}
 use Rattle.order_grammar.specs.declared.fault.Fault.{Fault}
 use Rattle.order_grammar.specs.declared.order.Order.{Order}
@@ -106,7 +108,7 @@ module _ (all : AllLawful) where
       }
 
   -- so has the run of the best: there is a greatest revenue, and no second one
-  one_best : (by : Operator) (turn : InTurn) (line : Numbered) (rule : Option RunRule)
+  one_best : (by : Operator) (turn : TurnState) (line : Numbered) (rule : Option RunRule)
       → IsOne (BestRuled by turn line rule)
   one_best by turn line (Some rule) = record { it = _; so = refl; only = λ new leads. leads }
   one_best by turn line None =
@@ -122,7 +124,7 @@ module _ (all : AllLawful) where
       }
 
   -- an order leads to one turn
-  one_order : (by : Operator) (turn : InTurn) (line : Numbered) (its : Order) → IsOne (OrderLeads by turn line its)
+  one_order : (by : Operator) (turn : TurnState) (line : Numbered) (its : Order) → IsOne (OrderLeads by turn line its)
   one_order by turn line (order.Lay lay) =
       let answer = one_lay_answer (map_state_now turn.game.events) (asker_of turn.game by.company turn.progress) lay in
       record {
@@ -143,25 +145,25 @@ module _ (all : AllLawful) where
   one_order by turn line other = record { it = _; so = refl; only = λ new leads. leads }
 
   -- two turns to which an order leads are the same
-  pub order_once : (by : Operator) (turn : InTurn) (line : Numbered) (its : Order) (a b : InTurn)
+  pub order_once : (by : Operator) (turn : TurnState) (line : Numbered) (its : Order) (a b : TurnState)
       → OrderLeads by turn line its a → OrderLeads by turn line its b → a ≡ b
   order_once by turn line its a b first second = let one =
       one_order by turn line its in one.only a first ∙ sym (one.only b second)
 
   -- one whose condition is checked does
-  one_asked : (by : Operator) (turn : InTurn) (line : Numbered) (its : Order) (held : Bool)
+  one_asked : (by : Operator) (turn : TurnState) (line : Numbered) (its : Order) (held : Bool)
       → IsOne (AskedLeads by turn line its held)
   one_asked by turn line its true = record { it = _; so = refl; only = λ new leads. leads }
   one_asked by turn line its false = one_order by turn line its
 
   -- a line does
-  one_line : (by : Operator) (turn : InTurn) (line : Numbered) (reading : Result Order Fault)
+  one_line : (by : Operator) (turn : TurnState) (line : Numbered) (reading : Result Order Fault)
       → IsOne (ReadingLeads by turn line reading)
   one_line by turn line (Err fault) = record { it = _; so = refl; only = λ new leads. leads }
   one_line by turn line (Ok its) = one_asked by turn line its (is_held turn.game.events line.condition its)
 
   -- lines do
-  one_way : (by : Operator) (turn : InTurn) (lines : List Numbered) → IsOne (LinesLead by turn lines)
+  one_way : (by : Operator) (turn : TurnState) (lines : List Numbered) → IsOne (LinesLead by turn lines)
   one_way by turn [] = record { it = turn; so = refl; only = λ new leads. leads }
   one_way by turn (line ∷ lines) =
       let first = one_line by turn line line.reading in
@@ -169,12 +171,13 @@ module _ (all : AllLawful) where
       record {
         it = rest.it;
         so = (first.it, first.so, rest.so);
-        only = λ new leads. rest.only new (subst (λ (next : InTurn). LinesLead by next lines new)
+        only = λ new leads. rest.only new (subst (λ (next : TurnState). LinesLead by next lines new)
             (first.only leads.0 leads.1) leads.2);
       }
 
   -- a company's orders do
-  orders_lead_to_one : (file : List ℕ) (round : Round) (company : Company) (turn : InTurn) (president : Option Seat) →
+  orders_lead_to_one : (file : List ℕ) (round : Round) (company : Company) (turn : TurnState)
+      (president : Option Seat) →
       IsOne (CompanyOrdersLead file round company turn president)
   orders_lead_to_one file round company turn None = record { it = turn; so = refl; only = λ new leads. leads }
   orders_lead_to_one file round company turn (Some seat) =
@@ -236,7 +239,7 @@ module _ (all : AllLawful) where
       record {
         it = end.it;
         so = record { last = orders.it; orders = orders.so; after = end.so };
-        only = λ new turn. end.only new (subst (λ (last : InTurn). CompanyOrdersEnd file round company
+        only = λ new turn. end.only new (subst (λ (last : TurnState). CompanyOrdersEnd file round company
             (withheld_if_unpaid company last).game president new) (orders.only turn.last turn.orders) turn.after);
       }
 

@@ -12,10 +12,11 @@ use Rattle.totals.specs.Operating.{lays_of, tokens_of}
 use Rattle.operating.proofs.TurnGames.{of_steps}
 use Rattle.operating.proofs.TurnLaws.{adds_by}
 use Rattle.operating.proofs.TurnSteps.{of_line, of_withheld_if_unpaid}
-use Rattle.operating.specs.MapState.{BeginsWith, IsPrefix, map_state_now}
-use Rattle.operating.specs.InTurn.{InTurn, in_turn}
+use Rattle.operating.specs.CompanyOrders.{ReadingLeads}
 use Rattle.operating.specs.Laws.{OnlyAdds}
-use Rattle.operating.specs.Turn.{ReadingLeads, withheld_if_unpaid}
+use Rattle.operating.specs.MapState.{BeginsWith, IsPrefix, map_state_now}
+use Rattle.operating.specs.Pay.{withheld_if_unpaid}
+use Rattle.operating.specs.TurnState.{TurnState, turn_state}
 use Rattle.forced_purchase.specs.declared.operator.Operator.{Operator}
 use Rattle.operating.specs.declared.progress.Progress.{Progress}
 use Rattle.order_grammar.specs.declared.fault.Fault.{Fault}
@@ -103,14 +104,14 @@ prefix_on laid old new adds prefix =
     })
 
 -- a line only adds events
-pub line_adds : (by : Operator) (turn : InTurn) (line : Numbered) (reading : Result Order Fault) (new : InTurn)
+pub line_adds : (by : Operator) (turn : TurnState) (line : Numbered) (reading : Result Order Fault) (new : TurnState)
     → ReadingLeads by turn line reading new → OnlyAdds turn.game new.game
 line_adds by turn line reading new leads =
     of_line by _ (of_steps by.company OnlyAdds (adds_by by.company)) turn line reading new leads
 
 -- and so does what a company withholds by itself
 pub withholding_adds : (company : Company) (ruled paid : Game) (progress last : Progress)
-    → in_turn paid last ≡ withheld_if_unpaid company (in_turn ruled progress) → OnlyAdds ruled paid
+    → turn_state paid last ≡ withheld_if_unpaid company (turn_state ruled progress) → OnlyAdds ruled paid
 withholding_adds company ruled paid progress last is =
-    subst (λ (turn : InTurn). OnlyAdds ruled turn.game) (sym is)
-    (of_withheld_if_unpaid company _ (of_steps company OnlyAdds (adds_by company)) (in_turn ruled progress))
+    subst (λ (turn : TurnState). OnlyAdds ruled turn.game) (sym is)
+    (of_withheld_if_unpaid company _ (of_steps company OnlyAdds (adds_by company)) (turn_state ruled progress))

@@ -27,7 +27,7 @@ use Rattle.purchases.proofs.TrainSteps.{IsPassedOn}
 use Rattle.operating.proofs.ForcedGames.{of_game_turn}
 use Rattle.operating.proofs.TurnGames.{of_purchase}
 use Rattle.operating.specs.MapState.{map_state_now}
-use Rattle.purchases.specs.Trains.{purchase_of}
+use Rattle.purchases.specs.Train.{purchase_of}
 use Rattle.operating.specs.TileLaws.{LaysKeepTiles, OthersKeepTiles, TilesAreAll, TilesAreAllAtFirst, TurnsKeepTiles}
 use Rattle.operating.specs.TileLaws.{returned_by, returned_of, stock_of, taken_of}
 use Rattle.reach.proofs.Hexes.{same_index}

@@ -8,15 +8,17 @@ use Rattle.totals.specs.LookBack.{Game}
 use Rattle.totals.specs.Shares.{president_of}
 use Rattle.map_tables.specs.declared.rules.RunRule.{RunRule}
 use Rattle.operating.proofs.Calls.{broken_off, joined, silent}
-use Rattle.operating.specs.Act.{with_home}
-use Rattle.operating.specs.Best.{BestRuled, best_judgement}
 use Rattle.operating.specs.Calls.{Call, Earns, Makes, Unasked}
-use Rattle.operating.specs.Ending.{EndLeads}
-use Rattle.operating.specs.InTurn.{InTurn, at_start, in_turn}
-use Rattle.operating.specs.Turn.{AskedLeads, CompanyOrdersLead, IsCompanyTurn, LinesLead, OrderLeads, ReadingLeads}
-use Rattle.operating.specs.Turn.{begun, is_held, withheld_if_unpaid}
+use Rattle.operating.specs.CompanyOrders.{AskedLeads, LinesLead, OrderLeads, ReadingLeads, is_held}
+use Rattle.operating.specs.HomeToken.{with_home}
+use Rattle.operating.specs.Pay.{withheld_if_unpaid}
+use Rattle.operating.specs.Progress.{at_start}
+use Rattle.operating.specs.RunBest.{BestRuled, best_judgement}
+use Rattle.operating.specs.Turn.{CompanyOrdersLead, IsCompanyTurn, begun}
 use Rattle.operating.specs.TurnCalls.{AskedCalls, BegunCalls, BestCalls, CompanyOrdersCall, LineCalls, LinesCall}
 use Rattle.operating.specs.TurnCalls.{OrderCalls, OrdersCall, ReadingCalls, SomeTurnCalls, TurnCalls, asked}
+use Rattle.operating.specs.TurnEnd.{EndLeads}
+use Rattle.operating.specs.TurnState.{TurnState, turn_state}
 use Rattle.forced_purchase.specs.declared.operator.Operator.{Operator}
 use Rattle.order_grammar.specs.declared.fault.Fault.{Fault}
 use Rattle.order_grammar.specs.declared.order.Order.{Order}
@@ -30,17 +32,17 @@ use Rattle.tables.specs.declared.seat.Seat.{Seat}
 module _ {Runner : Type 0} (earns : Earns Runner) where
   -- where no line is left, no call is made
   pub no_line_calls :
-      (by : Operator) (round : Round) (lines : List Numbered) (turn : InTurn) (runner : Runner) → lines ≡ [] →
+      (by : Operator) (round : Round) (lines : List Numbered) (turn : TurnState) (runner : Runner) → lines ≡ [] →
       Makes earns runner (LinesCall by round lines turn (Ok turn)) runner
   no_line_calls by round lines turn runner none =
       subst (λ (all : List Numbered). Makes earns runner (LinesCall by round all turn (Ok turn)) runner) (sym none)
-      (silent earns Memory (λ (old new : InTurn). new ≡ old) turn turn runner runner refl refl)
+      (silent earns Memory (λ (old new : TurnState). new ≡ old) turn turn runner runner refl refl)
 
   -- a line led on, and those after it
   pub line_calls_on :
       (by : Operator) (round : Round) (all : List Numbered) (line : Numbered) (lines : List Numbered)
-      (turn next : InTurn)
-      (outcome : Result InTurn RunnerFault) (before between after : Runner) →
+      (turn next : TurnState)
+      (outcome : Result TurnState RunnerFault) (before between after : Runner) →
       all ≡ line ∷ lines → Makes earns before (LineCalls by round line turn (Ok next)) between →
       Makes earns between (LinesCall by round lines next outcome) after
       → Makes earns before (LinesCall by round all turn outcome) after
@@ -51,7 +53,7 @@ module _ {Runner : Type 0} (earns : Earns Runner) where
 
   -- a line was broken off
   pub line_calls_end :
-      (by : Operator) (round : Round) (all : List Numbered) (line : Numbered) (lines : List Numbered) (turn : InTurn)
+      (by : Operator) (round : Round) (all : List Numbered) (line : Numbered) (lines : List Numbered) (turn : TurnState)
       (fault : RunnerFault)
       (before after : Runner) →
       all ≡ line ∷ lines → Makes earns before (LineCalls by round line turn (Err fault)) after →
@@ -65,48 +67,50 @@ module _ {Runner : Type 0} (earns : Earns Runner) where
       (file : List ℕ) (round : Round) (company : Company) (old placed : Game) (president : Option Seat)
       (outcome : Result Game RunnerFault) (before after : Runner) →
       president ≡ president_of old.events company → placed ≡ with_home old company →
-      Makes earns before (BegunCalls file round company president (in_turn placed at_start) outcome) after →
+      Makes earns before (BegunCalls file round company president (turn_state placed at_start) outcome) after →
       Makes earns before (TurnCalls file round company old outcome) after
   of_begun file round company old placed president outcome before after is_president is_placed rest =
-      let is_begun : in_turn placed at_start ≡ begun old company = λ i. in_turn (is_placed i) at_start in
-      joined earns (Unasked Memory (λ (game : Game) (turn : InTurn). turn ≡ begun game company))
-      (BegunCalls file round company (president_of old.events company)) old (in_turn placed at_start) outcome
+      let is_begun : turn_state placed at_start ≡ begun old company = λ i. turn_state (is_placed i) at_start in
+      joined earns (Unasked Memory (λ (game : Game) (turn : TurnState). turn ≡ begun game company))
+      (BegunCalls file round company (president_of old.events company)) old (turn_state placed at_start) outcome
       before before after
-      (silent earns Memory (λ (game : Game) (turn : InTurn). turn ≡ begun game company) old (in_turn placed at_start)
+      (silent earns Memory (λ (game : Game) (turn : TurnState). turn ≡ begun game company) old
+      (turn_state placed at_start)
       before before is_begun refl)
       (subst (λ (seat : Option Seat). Makes earns before
-      (BegunCalls file round company seat (in_turn placed at_start) outcome) after) is_president rest)
+      (BegunCalls file round company seat (turn_state placed at_start) outcome) after) is_president rest)
 
   -- the lines of a block, and the end, make the calls of its orders
   pub orders_called :
-      (by : Operator) (round : Round) (taken lines : List Numbered) (old ruled : InTurn)
+      (by : Operator) (round : Round) (taken lines : List Numbered) (old ruled : TurnState)
       (outcome : Result Game RunnerFault) (before after : Runner) → taken ≡ lines →
       Makes earns before (LinesCall by round taken old (Ok ruled)) after →
-      Unasked Memory (λ (last : InTurn) (new : Game). EndLeads by lines
+      Unasked Memory (λ (last : TurnState) (new : Game). EndLeads by lines
       (withheld_if_unpaid by.company last).game new) ruled outcome [] →
       Makes earns before (OrdersCall by round lines old outcome) after
   orders_called by round taken lines old ruled outcome before after are called ends =
       joined earns (LinesCall by round lines)
-      (Unasked Memory (λ (last : InTurn) (new : Game). EndLeads by lines
+      (Unasked Memory (λ (last : TurnState) (new : Game). EndLeads by lines
       (withheld_if_unpaid by.company last).game new)) old ruled outcome before after after
       (subst (λ (l : List Numbered). Makes earns before (LinesCall by round l old (Ok ruled)) after) are called)
       ([], ends, refl)
 
   -- so do the lines where they are broken off
   pub orders_broken_off :
-      (by : Operator) (round : Round) (taken lines : List Numbered) (old : InTurn) (fault : RunnerFault)
+      (by : Operator) (round : Round) (taken lines : List Numbered) (old : TurnState) (fault : RunnerFault)
       (before after : Runner) → taken ≡ lines →
       Makes earns before (LinesCall by round taken old (Err fault)) after →
       Makes earns before (OrdersCall by round lines old (Err fault)) after
   orders_broken_off by round taken lines old fault before after are called =
       broken_off earns (LinesCall by round lines)
-      (Unasked Memory (λ (last : InTurn) (new : Game). EndLeads by lines
+      (Unasked Memory (λ (last : TurnState) (new : Game). EndLeads by lines
       (withheld_if_unpaid by.company last).game new)) old fault before after
       (subst (λ (l : List Numbered). Makes earns before (LinesCall by round l old (Err fault)) after) are called)
 
 -- an order to run the best that makes these calls leads on as it is ruled
 best_leads :
-    (by : Operator) (round : Round) (line : Numbered) (rule : Option RunRule) (turn new : InTurn) (calls : List Call) →
+    (by : Operator) (round : Round) (line : Numbered) (rule : Option RunRule) (turn new : TurnState)
+    (calls : List Call) →
     BestCalls by round line rule turn (Ok new) calls → BestRuled by turn line rule new
 best_leads by round line (Some rule) turn new calls course = course.0
 best_leads by round line None turn new calls course =
@@ -117,7 +121,7 @@ best_leads by round line None turn new calls course =
 
 -- so does an order
 order_leads :
-    (by : Operator) (round : Round) (line : Numbered) (its : Order) (turn new : InTurn) (calls : List Call) →
+    (by : Operator) (round : Round) (line : Numbered) (its : Order) (turn new : TurnState) (calls : List Call) →
     OrderCalls by round line its turn (Ok new) calls → OrderLeads by turn line its new
 order_leads by round line its turn new calls course =
     elim course [
@@ -129,7 +133,7 @@ order_leads by round line its turn new calls course =
 
 -- so does one whose condition is checked
 asked_leads :
-    (by : Operator) (round : Round) (line : Numbered) (its : Order) (held : Bool) (turn new : InTurn)
+    (by : Operator) (round : Round) (line : Numbered) (its : Order) (held : Bool) (turn new : TurnState)
     (calls : List Call) →
     AskedCalls by round line its held turn (Ok new) calls → AskedLeads by turn line its held new
 asked_leads by round line its true turn new calls course = course.0
@@ -137,7 +141,7 @@ asked_leads by round line its false turn new calls course = order_leads by round
 
 -- so does a line
 reading_leads :
-    (by : Operator) (round : Round) (line : Numbered) (reading : Result Order Fault) (turn new : InTurn)
+    (by : Operator) (round : Round) (line : Numbered) (reading : Result Order Fault) (turn new : TurnState)
     (calls : List Call) →
     ReadingCalls by round line reading turn (Ok new) calls → ReadingLeads by turn line reading new
 reading_leads by round line (Ok its) turn new calls course =
@@ -146,7 +150,7 @@ reading_leads by round line (Err fault) turn new calls course = course.0
 
 -- so do lines
 lines_lead :
-    (by : Operator) (round : Round) (lines : List Numbered) (turn new : InTurn) (calls : List Call) →
+    (by : Operator) (round : Round) (lines : List Numbered) (turn new : TurnState) (calls : List Call) →
     LinesCall by round lines turn (Ok new) calls → LinesLead by turn lines new
 lines_lead by round [] turn new calls course = course.0
 lines_lead by round (line ∷ lines) turn new calls course =
@@ -161,7 +165,7 @@ lines_lead by round (line ∷ lines) turn new calls course =
 
 -- so do a company's orders
 orders_lead :
-    (file : List ℕ) (round : Round) (company : Company) (president : Option Seat) (turn new : InTurn)
+    (file : List ℕ) (round : Round) (company : Company) (president : Option Seat) (turn new : TurnState)
     (calls : List Call) →
     CompanyOrdersCall file round company president turn (Ok new) calls → CompanyOrdersLead file round company turn
     president new
@@ -182,7 +186,7 @@ turn_leads file round company old new calls course =
         | inr rest ↦ record {
           last = rest.between;
           orders =
-              subst (λ (turn : InTurn). CompanyOrdersLead file round company turn (president_of old.events company)
+              subst (λ (turn : TurnState). CompanyOrdersLead file round company turn (president_of old.events company)
               rest.between) first.leads.0
               (orders_lead file round company (president_of old.events company) first.between rest.between
               rest.earlier rest.leads);
@@ -193,7 +197,7 @@ turn_leads file round company old new calls course =
 
 -- an order to run the best that leads on as it is ruled makes calls
 best_called :
-    (by : Operator) (round : Round) (line : Numbered) (rule : Option RunRule) (turn new : InTurn) →
+    (by : Operator) (round : Round) (line : Numbered) (rule : Option RunRule) (turn new : TurnState) →
     BestRuled by turn line rule new → (calls : List Call) × BestCalls by round line rule turn (Ok new) calls
 best_called by round line (Some rule) turn new leads = ([], (leads, refl))
 best_called by round line None turn new leads = (
@@ -210,7 +214,7 @@ best_called by round line None turn new leads = (
 
 -- so does an order
 order_called :
-    (by : Operator) (round : Round) (line : Numbered) (its : Order) (turn new : InTurn) →
+    (by : Operator) (round : Round) (line : Numbered) (its : Order) (turn new : TurnState) →
     OrderLeads by turn line its new → (calls : List Call) × OrderCalls by round line its turn (Ok new) calls
 order_called by round line order.RunBest turn new leads =
     let best = best_called by round line (best_judgement turn by.company) turn new leads in (best.0, inl (refl, best.1))
@@ -218,14 +222,14 @@ order_called by round line other turn new leads = ([], inr ((λ (best : other �
 
 -- so does one whose condition is checked
 asked_called :
-    (by : Operator) (round : Round) (line : Numbered) (its : Order) (held : Bool) (turn new : InTurn) →
+    (by : Operator) (round : Round) (line : Numbered) (its : Order) (held : Bool) (turn new : TurnState) →
     AskedLeads by turn line its held new → (calls : List Call) × AskedCalls by round line its held turn (Ok new) calls
 asked_called by round line its true turn new leads = ([], (leads, refl))
 asked_called by round line its false turn new leads = order_called by round line its turn new leads
 
 -- so does a line
 reading_called :
-    (by : Operator) (round : Round) (line : Numbered) (reading : Result Order Fault) (turn new : InTurn) →
+    (by : Operator) (round : Round) (line : Numbered) (reading : Result Order Fault) (turn new : TurnState) →
     ReadingLeads by turn line reading new → (calls : List Call) × ReadingCalls by round line reading turn (Ok new) calls
 reading_called by round line (Ok its) turn new leads =
     asked_called by round line its (is_held turn.game.events line.condition its) turn new leads
@@ -233,7 +237,7 @@ reading_called by round line (Err fault) turn new leads = ([], (leads, refl))
 
 -- so do lines
 lines_called :
-    (by : Operator) (round : Round) (lines : List Numbered) (turn new : InTurn) →
+    (by : Operator) (round : Round) (lines : List Numbered) (turn new : TurnState) →
     LinesLead by turn lines new → (calls : List Call) × LinesCall by round lines turn (Ok new) calls
 lines_called by round [] turn new leads = ([], (leads, refl))
 lines_called by round (line ∷ lines) turn new leads =
@@ -253,7 +257,7 @@ lines_called by round (line ∷ lines) turn new leads =
 
 -- so do a company's orders
 company_orders_called :
-    (file : List ℕ) (round : Round) (company : Company) (president : Option Seat) (turn new : InTurn) →
+    (file : List ℕ) (round : Round) (company : Company) (president : Option Seat) (turn new : TurnState) →
     CompanyOrdersLead file round company turn president new
     → (calls : List Call) × CompanyOrdersCall file round company president turn (Ok new) calls
 company_orders_called file round company None turn new leads = ([], (leads, refl))

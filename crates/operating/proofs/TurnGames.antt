@@ -22,15 +22,18 @@ use Rattle.purchases.proofs.TrainSteps.{IsPassedOn, OfClosings, of_bop, of_choic
 use Rattle.purchases.proofs.TrainSteps.{of_train_owner}
 use Rattle.operating.proofs.TurnEvents.{IsOfTurn}
 use Rattle.operating.proofs.TurnSteps.{OfSteps, of_turn}
-use Rattle.operating.specs.Act.{has_home_token, with_home, withheld}
+use Rattle.operating.specs.HomeToken.{has_home_token, with_home}
+use Rattle.operating.specs.Pay.{withheld}
 use Rattle.certs.specs.Dividend.{all_paid, paid_for, paid_out, paid_to, paid_to_seats}
 use Rattle.operating.specs.MapState.{map_state_now}
-use Rattle.operating.specs.InTurn.{InTurn}
-use Rattle.purchases.specs.Phases.{after_train, begins_phase, bought, with_phase, with_trade}
+use Rattle.operating.specs.TurnState.{TurnState}
+use Rattle.purchases.specs.Train.{after_train, begins_phase, bought, with_trade}
+use Rattle.purchases.specs.Phases.{with_phase}
 use Rattle.purchases.specs.SaleLaws.{IsAgreed}
-use Rattle.purchases.specs.Trains.{cost_of, purchase_of, train_judgement}
-use Rattle.operating.specs.Turn.{IsCompanyTurn, begun, withheld_if_unpaid}
-use Rattle.purchases.specs.declared.purchase.Purchase.{Purchase}
+use Rattle.purchases.specs.Train.{cost_of, purchase_of, train_judgement}
+use Rattle.operating.specs.Pay.{withheld_if_unpaid}
+use Rattle.operating.specs.Turn.{IsCompanyTurn, begun}
+use Rattle.purchases.specs.declared.train.TrainPurchase.{TrainPurchase}
 use Rattle.std.proofs.Common.{◌≡◌, ℕ, ◌==◌, Bool, true, false, if◌then◌else◌, List, [], ◌∷◌, ◌++◌, Option, Some, None}
 use Rattle.std.proofs.Common.{refl}
 use Rattle.tables.specs.Rules.{first_broken}
@@ -60,7 +63,7 @@ pub record OfEvents (company : Company) (R : Game → Game → Type 0) : Type 0 
 -- what holds of each event of a turn that lays no tile holds of a purchase that is agreed
 pub of_purchase : (company : Company) (R : Game → Game → Type 0) → IsPassedOn R →
     ((game : Game) (its : Event) → IsOfTurn company game its → tile_laid its ≡ None → R game (with_event game its)) →
-    (game : Game) (purchase : Purchase) →
+    (game : Game) (purchase : TrainPurchase) →
     IsAgreed (with_trade game company purchase.trade_in).events
     (event.Train company purchase.kind purchase.from (cost_of purchase)) →
     R game (after_train game company purchase)
@@ -171,7 +174,7 @@ module _ (company : Company) (R : Game → Game → Type 0) (of : OfEvents compa
       (of.others game home tt refl refl refl)
 
   -- so of the steps of its turn
-  pub of_steps : OfSteps company (λ (old new : InTurn). R old.game new.game)
+  pub of_steps : OfSteps company (λ (old new : TurnState). R old.game new.game)
   of_steps =
       record {
         same = λ turn. of.on.same turn.game;

@@ -16,12 +16,12 @@ use Rattle.operating.proofs.TurnEvents.{begins_none}
 use Rattle.operating.proofs.ForcedGames.{OfForced, forced_begins_none, of_game_turn}
 use Rattle.operating.proofs.TurnGames.{OfEvents, by_each, of_steps}
 use Rattle.operating.proofs.TurnSteps.{of_line}
-use Rattle.operating.specs.InTurn.{InTurn}
 use Rattle.operating.specs.Laws.{OnlyAdds, TurnOnlyAdds}
 use Rattle.operating.specs.TrainLaws.{PhasesGoOnInTurns, TurnsKeepAll}
+use Rattle.operating.specs.TurnState.{TurnState}
 use Rattle.purchases.specs.TrainLaws.{AllTrainsAreThere}
-use Rattle.operating.specs.Turn.{ReadingLeads}
-use Rattle.purchases.specs.Trains.{purchase_of}
+use Rattle.operating.specs.CompanyOrders.{ReadingLeads}
+use Rattle.purchases.specs.Train.{purchase_of}
 use Rattle.forced_purchase.specs.declared.operator.Operator.{Operator}
 use Rattle.order_grammar.specs.declared.fault.Fault.{Fault}
 use Rattle.order_grammar.specs.declared.order.Order.{Order}
@@ -76,7 +76,7 @@ only_adds file round company old new turn = of_game_turn company OnlyAdds (adds_
     new turn
 
 -- a line leaves the seats as they are
-pub line_seats : (by : Operator) (turn : InTurn) (line : Numbered) (reading : Result Order Fault) (new : InTurn) →
+pub line_seats : (by : Operator) (turn : TurnState) (line : Numbered) (reading : Result Order Fault) (new : TurnState) →
     ReadingLeads by turn line reading new → new.game.seats ≡ turn.game.seats
 line_seats by turn line reading new leads =
     ap (λ (game : Game). game.seats) (of_line by _ (of_steps by.company OnlyAdds (adds_by by.company)) turn line

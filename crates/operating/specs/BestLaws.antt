@@ -4,9 +4,10 @@ use Rattle.std.specs.Prelude.{◌≡◌, ◌≤◌, List, None, Ok}
 use Rattle.std.specs.List.{AllByRecursion}
 use Rattle.totals.specs.LookBack.{Game}
 use Rattle.map_tables.specs.declared.place.Place.{Place}
-use Rattle.operating.specs.Best.{BestLeads, best_judgement}
-use Rattle.operating.specs.InTurn.{InTurn}
-use Rattle.operating.specs.Turn.{LinesLead, begun}
+use Rattle.operating.specs.CompanyOrders.{LinesLead}
+use Rattle.operating.specs.RunBest.{BestLeads, best_judgement}
+use Rattle.operating.specs.Turn.{begun}
+use Rattle.operating.specs.TurnState.{TurnState}
 use Rattle.forced_purchase.specs.declared.operator.Operator.{Operator}
 use Rattle.order_grammar.specs.declared.order.Order.TheVariants as order
 use Rattle.sheets.specs.Part.{Numbered}
@@ -21,7 +22,7 @@ OrdersRun line = (kind : Kind) × (run : List Place) × (line.reading ≡ Ok (or
 -- BEST to another. The first has earned no more than the second.
 abbrev pub BestEarnsNoLess : Type 0
 BestEarnsNoLess =
-    (by : Operator) (game : Game) (earlier lines : List Numbered) (turn written best : InTurn) (line : Numbered) →
+    (by : Operator) (game : Game) (earlier lines : List Numbered) (turn written best : TurnState) (line : Numbered) →
     LinesLead by (begun game by.company) earlier turn →
     AllByRecursion OrdersRun lines → LinesLead by turn lines written →
     best_judgement turn by.company ≡ None → BestLeads by turn line best →

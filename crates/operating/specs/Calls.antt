@@ -2,7 +2,8 @@
 -- fault that breaks it off; and it makes calls of the runner, in order. Of courses one after
 -- another, the calls of the second come after those of the first. If the first is broken off, the
 -- second does not begin.
-use Rattle.std.specs.Prelude.{◌≡◌, ◌⊎◌, ℕ, zero, suc, ℤ, List, [], ◌∷◌, ◌++◌, Result, Ok, Err}
+use Rattle.std.specs.List.{AllByRecursion}
+use Rattle.std.specs.Prelude.{ℤ, List, Result, ◌≡◌, [], ◌∷◌, Ok, Err, ◌++◌, ◌⊎◌, ℕ, zero, suc, IsOk}
 use Rattle.legal_runs.specs.declared.runner.RunnerFault.{RunnerFault}
 use Rattle.reach.specs.Position.{Position}
 use Rattle.tables.specs.declared.rolling_stock.Kind.{Kind}
@@ -100,3 +101,12 @@ abbrev pub IsPrefix : {Fault : Type 0} → Fault → (Fault → RunnerFault → 
 IsPrefix memory Tells fault some all =
     ((fault ≡ memory) × AreFirst some all)
     ⊎ ((why : RunnerFault) × (short : AreCutShort why some all) × Tells fault why short.next)
+
+-- each of some calls succeeded
+abbrev pub AreAnswered : List Call → Type 0
+AreAnswered calls = AllByRecursion (λ call. IsOk call.answer) calls
+
+-- the calls of a course succeed if it leads on
+abbrev pub IsAnswered : {A B F : Type 0} → Course A B F → Type 0
+IsAnswered {A = A} {B = B} course =
+    (from : A) (to : B) (calls : List Call) → course from (Ok to) calls → AreAnswered calls

@@ -4,12 +4,12 @@
 use Rattle.std.specs.Prelude.{◌≡◌}
 use Rattle.history.specs.Sound.{IsSound}
 use Rattle.operating.specs.MapState.{IsPrefix}
-use Rattle.operating.specs.InTurn.{InTurn, in_turn}
+use Rattle.operating.specs.TurnState.{TurnState, turn_state}
 use Rattle.operating.specs.declared.company_turn.CompanyTurn.{CompanyTurn}
 
 -- the game, and how far the turn has come
-abbrev pub state : CompanyTurn → InTurn
-state turn = in_turn turn.history turn.progress
+abbrev pub state : CompanyTurn → TurnState
+state turn = turn_state turn.history turn.progress
 
 -- a turn is in order
 pub record IsInOrder (turn : CompanyTurn) : Type 0 where

@@ -6,7 +6,7 @@ use Rattle.events.specs.declared.event.Event.{Event}
 use Rattle.events.specs.declared.event.Event.TheVariants as event
 use Rattle.totals.specs.LookBack.{Game, bankrupt_in}
 use Rattle.totals.specs.Shares.{president_of}
-use Rattle.purchases.specs.Trains.{has_trains}
+use Rattle.purchases.specs.Train.{has_trains}
 use Rattle.operating.specs.MapState.{map_state_now}
 use Rattle.purchases.specs.TrainLaws.{AllTrainsAreThere}
 use Rattle.operating.specs.Turn.{IsCompanyTurn}

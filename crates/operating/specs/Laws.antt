@@ -5,7 +5,7 @@ use Rattle.events.specs.Event.{round_begun_by}
 use Rattle.events.specs.declared.event.Event.{Event}
 use Rattle.totals.specs.LookBack.{Game}
 use Rattle.totals.specs.Operating.{has_operated}
-use Rattle.operating.specs.Act.{has_home_token}
+use Rattle.operating.specs.HomeToken.{has_home_token}
 use Rattle.operating.specs.Turn.{IsCompanyTurn}
 use Rattle.tables.specs.Roster.{same_company}
 use Rattle.tables.specs.declared.roster.Company.{Company}

@@ -1,53 +1,76 @@
--- A company pays out or withholds what its trains earned in its turn. Either needs a turn that is
--- not past its pay, and to pay needs a revenue over 0; the turn is then past it. If it withholds,
--- the bank pays the company all of it, and its token on the chart moves left.
-use Rattle.std.specs.Prelude.{◌==◌, Bool, ◌||◌, nat_lt, [], ◌∷◌, Option, option_map}
-use Rattle.board.specs.Turn.{place_of_step}
-use Rattle.board.specs.declared.asker.TurnStep.TheVariants as step
+-- PAY and WITHHOLD: a company pays out or withholds what its trains earned in its turn. Either
+-- needs a turn that is not past its pay, and to pay needs a revenue over 0; the turn is then past
+-- it. If it withholds, the bank pays the company all of it, and its token on the chart moves left.
+-- A company whose turn is not past its pay withholds by itself before it buys a train, and when its
+-- orders end.
+use Rattle.std.specs.Prelude.{Bool, ◌==◌, ◌||◌, List, [], ◌∷◌, Option, ℕ, option_map, if◌then◌else◌}
 use Rattle.certs.specs.Dividend.{paid_out}
+use Rattle.events.specs.declared.event.Event.TheVariants as event
 use Rattle.events.specs.declared.ruling.PayRule.{PayRule}
 use Rattle.events.specs.declared.ruling.PayRule.TheVariants.{NothingToPay}
 use Rattle.events.specs.declared.ruling.Refusal.TheVariants as refusal
-use Rattle.totals.specs.LookBack.{Game}
-use Rattle.operating.specs.Act.{withheld}
-use Rattle.operating.specs.InTurn.{InTurn, in_turn, pay_done, ruled}
 use Rattle.forced_purchase.specs.declared.operator.Operator.{Operator}
+use Rattle.history.specs.Record.{broken_recorded}
+use Rattle.market.specs.Moves.{square_left_of}
+use Rattle.market.specs.Token.{with_move}
+use Rattle.operating.specs.Progress.{is_past_pay, is_unpaid, pay_done}
+use Rattle.operating.specs.TurnState.{TurnState, turn_state, ruled}
 use Rattle.operating.specs.declared.progress.Progress.{Progress}
 use Rattle.order_grammar.specs.declared.order.Order.{Order}
 use Rattle.sheets.specs.Part.{Numbered}
 use Rattle.tables.specs.Rules.{Rule, first_broken}
-
--- the turn is past its pay
-abbrev pub is_past_pay : Progress → Bool
-is_past_pay progress = nat_lt (place_of_step step.Pay) (place_of_step progress.pointer)
+use Rattle.tables.specs.declared.roster.Company.{Company}
+use Rattle.totals.specs.LookBack.{Game, with_event}
 
 -- a rule of PAY and WITHHOLD, and whether it is broken
 abbrev rule : PayRule → Bool → Rule PayRule
 rule code broken = record { code = code; broken = broken }
 
--- the rule that PAY breaks, if it breaks it
-abbrev pub pay_judgement : Progress → Option PayRule
-pay_judgement progress = first_broken (rule NothingToPay (is_past_pay progress || (progress.runs.revenue == 0)) ∷ [])
+-- the rules of PAY
+abbrev pub pay_rules : Progress → List (Rule PayRule)
+pay_rules progress = rule NothingToPay (is_past_pay progress || (progress.runs.revenue == 0)) ∷ []
 
--- the rule that WITHHOLD breaks, if it breaks it
+-- the first one that is broken
+abbrev pub pay_judgement : Progress → Option PayRule
+pay_judgement progress = first_broken (pay_rules progress)
+
+-- the rules of WITHHOLD
+abbrev pub withhold_rules : Progress → List (Rule PayRule)
+withhold_rules progress = rule NothingToPay (is_past_pay progress) ∷ []
+
+-- the first one that is broken
 abbrev pub withhold_judgement : Progress → Option PayRule
-withhold_judgement progress = first_broken (rule NothingToPay (is_past_pay progress) ∷ [])
+withhold_judgement progress = first_broken (withhold_rules progress)
+
+-- with the token of a company moved left on the chart
+abbrev pub moved_left : Game → Company → Game
+moved_left game company = record { seats = game.seats; events = with_move square_left_of game.events company }
+
+-- after the company has withheld this much
+abbrev pub withheld : Game → Company → ℕ → Game
+withheld game company amount = moved_left (broken_recorded (with_event game (event.Withheld company amount))) company
 
 -- after this line, with the rule that refuses its order, if one does; otherwise the game is as
 -- given
-abbrev pub pay_ruled : Operator → InTurn → Numbered → Order → Option PayRule → (Game → Game) → InTurn
+abbrev pub pay_ruled : Operator → TurnState → Numbered → Order → Option PayRule → (Game → Game) → TurnState
 pay_ruled by turn line order broken act =
     ruled by turn line order (option_map refusal.Pay broken)
-    (λ (after : InTurn). in_turn (act after.game) (pay_done after.progress))
+    (λ (after : TurnState). turn_state (act after.game) (pay_done after.progress))
 
 -- after a PAY in this line
-abbrev pub after_pay : Operator → InTurn → Numbered → Order → InTurn
+abbrev pub after_pay : Operator → TurnState → Numbered → Order → TurnState
 after_pay by turn line order =
     pay_ruled by turn line order (pay_judgement turn.progress)
     (λ game. paid_out game by.company turn.progress.runs.revenue)
 
 -- after a WITHHOLD
-abbrev pub after_withhold : Operator → InTurn → Numbered → Order → InTurn
+abbrev pub after_withhold : Operator → TurnState → Numbered → Order → TurnState
 after_withhold by turn line order =
     pay_ruled by turn line order (withhold_judgement turn.progress)
     (λ game. withheld game by.company turn.progress.runs.revenue)
+
+-- with what the company withholds by itself, if the turn is not past its pay
+abbrev pub withheld_if_unpaid : Company → TurnState → TurnState
+withheld_if_unpaid company turn =
+    if is_unpaid turn.progress then turn_state (withheld turn.game company turn.progress.runs.revenue)
+    (pay_done turn.progress) else turn

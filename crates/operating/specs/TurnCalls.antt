@@ -12,13 +12,14 @@ use Rattle.events.specs.declared.ruling.Ruling.TheVariants.{Faulty}
 use Rattle.totals.specs.LookBack.{Game}
 use Rattle.totals.specs.Shares.{president_of}
 use Rattle.map_tables.specs.declared.rules.RunRule.{RunRule}
-use Rattle.operating.specs.Best.{BestRuled, best_earned, best_judgement, trains_now}
 use Rattle.operating.specs.Calls.{Call, Course, IsPrefix, Then, Unasked}
-use Rattle.operating.specs.Ending.{EndLeads}
-use Rattle.operating.specs.InTurn.{InTurn, line_recorded}
-use Rattle.operating.specs.Runs.{position_now}
-use Rattle.operating.specs.Turn.{AskedLeads, CompanyOrdersEnd, IsCompanyTurn, OrderLeads, begun, is_held}
-use Rattle.operating.specs.Turn.{withheld_if_unpaid}
+use Rattle.operating.specs.CompanyOrders.{AskedLeads, OrderLeads, is_held}
+use Rattle.operating.specs.MapState.{position_now}
+use Rattle.operating.specs.Pay.{withheld_if_unpaid}
+use Rattle.operating.specs.RunBest.{BestRuled, best_earned, best_judgement, trains_now}
+use Rattle.operating.specs.Turn.{CompanyOrdersEnd, IsCompanyTurn, begun}
+use Rattle.operating.specs.TurnEnd.{EndLeads}
+use Rattle.operating.specs.TurnState.{TurnState, line_recorded}
 use Rattle.forced_purchase.specs.declared.operator.Operator.{Operator}
 use Rattle.order_grammar.specs.declared.fault.Fault.{Fault}
 use Rattle.order_grammar.specs.declared.order.Order.{Order}
@@ -50,59 +51,59 @@ Asks company round events (Err fault) calls =
     (calls ≡ asked company round events (Err fault) ∷ []) ⊎ ((fault ≡ Memory) × (calls ≡ []))
 
 -- a revenue is credited to a company that is ordered to run its best, in this line
-abbrev pub IsCredited : Operator → InTurn → Numbered → ℕ → InTurn → Type 0
+abbrev pub IsCredited : Operator → TurnState → Numbered → ℕ → TurnState → Type 0
 IsCredited by turn line revenue new = new ≡ best_earned by turn line revenue
 
 -- the course of a RUN BEST in this line, with the rule that refuses it, if one does
-abbrev pub BestCalls : Operator → Round → Numbered → Option RunRule → Course InTurn InTurn RunnerFault
+abbrev pub BestCalls : Operator → Round → Numbered → Option RunRule → Course TurnState TurnState RunnerFault
 BestCalls by round line (Some rule) turn =
     Unasked Memory (λ old new. BestRuled by old line (Some rule) new) turn
 BestCalls by round line None turn =
     Then (Asks by.company round) (Unasked Memory (IsCredited by turn line)) turn.game.events
 
 -- the course of an order in this line
-abbrev pub OrderCalls : Operator → Round → Numbered → Order → Course InTurn InTurn RunnerFault
+abbrev pub OrderCalls : Operator → Round → Numbered → Order → Course TurnState TurnState RunnerFault
 OrderCalls by round line its turn outcome calls =
     ((its ≡ order.RunBest) × BestCalls by round line (best_judgement turn by.company) turn outcome calls)
     ⊎ ((its ≢ order.RunBest) × Unasked Memory (λ old new. OrderLeads by old line its new) turn outcome calls)
 
 -- the course of an order in this line, given whether its condition is not met: then the runner is
 -- not called
-abbrev pub AskedCalls : Operator → Round → Numbered → Order → Bool → Course InTurn InTurn RunnerFault
+abbrev pub AskedCalls : Operator → Round → Numbered → Order → Bool → Course TurnState TurnState RunnerFault
 AskedCalls by round line its true = Unasked Memory (λ old new. AskedLeads by old line its true new)
 AskedCalls by round line its false = OrderCalls by round line its
 
 -- the course of this line with this reading
-abbrev pub ReadingCalls : Operator → Round → Numbered → Result Order Fault → Course InTurn InTurn RunnerFault
+abbrev pub ReadingCalls : Operator → Round → Numbered → Result Order Fault → Course TurnState TurnState RunnerFault
 ReadingCalls by round line (Ok its) turn = AskedCalls by round line its (is_held turn.game.events line.condition its)
     turn
 ReadingCalls by round line (Err fault) turn = Unasked Memory (λ old new. new ≡ line_recorded by old line (Faulty fault))
     turn
 
 -- the course of a line
-abbrev pub LineCalls : Operator → Round → Numbered → Course InTurn InTurn RunnerFault
+abbrev pub LineCalls : Operator → Round → Numbered → Course TurnState TurnState RunnerFault
 LineCalls by round line = ReadingCalls by round line line.reading
 
 -- the course of lines, one after another
-abbrev pub LinesCall : Operator → Round → List Numbered → Course InTurn InTurn RunnerFault
+abbrev pub LinesCall : Operator → Round → List Numbered → Course TurnState TurnState RunnerFault
 LinesCall by round [] = Unasked Memory (λ turn new. new ≡ turn)
 LinesCall by round (line ∷ lines) = Then (LineCalls by round line) (LinesCall by round lines)
 
 -- the course of the orders for a company in the sheet of its president; without a president there
 -- is none
-abbrev pub CompanyOrdersCall : List ℕ → Round → Company → Option Seat → Course InTurn InTurn RunnerFault
+abbrev pub CompanyOrdersCall : List ℕ → Round → Company → Option Seat → Course TurnState TurnState RunnerFault
 CompanyOrdersCall file round company None = Unasked Memory (λ turn new. new ≡ turn)
 CompanyOrdersCall file round company (Some seat) =
     LinesCall (record { company = company; president = seat }) round (company_orders_for file round seat.0 company)
 
 -- the course of what follows the orders in the turn of a company
-abbrev pub EndCalls : List ℕ → Round → Company → Option Seat → Course InTurn Game RunnerFault
+abbrev pub EndCalls : List ℕ → Round → Company → Option Seat → Course TurnState Game RunnerFault
 EndCalls file round company president =
     Unasked Memory (λ last new. CompanyOrdersEnd file round company (withheld_if_unpaid company last).game president
     new)
 
 -- the course of a turn once its home token lies
-abbrev pub BegunCalls : List ℕ → Round → Company → Option Seat → Course InTurn Game RunnerFault
+abbrev pub BegunCalls : List ℕ → Round → Company → Option Seat → Course TurnState Game RunnerFault
 BegunCalls file round company president =
     Then (CompanyOrdersCall file round company president) (EndCalls file round company president)
 
@@ -113,7 +114,7 @@ TurnCalls file round company old =
     (BegunCalls file round company (president_of old.events company)) old
 
 -- the course of the orders of a company, these lines of its sheet
-abbrev pub OrdersCall : Operator → Round → List Numbered → Course InTurn Game RunnerFault
+abbrev pub OrdersCall : Operator → Round → List Numbered → Course TurnState Game RunnerFault
 OrdersCall by round lines =
     Then (LinesCall by round lines)
     (Unasked Memory (λ last new. EndLeads by lines (withheld_if_unpaid by.company last).game new))

@@ -1,6 +1,6 @@
 //! The turn of a company: what lasts while it operates.
 ghost use Rattle.std.specs.Prelude.{◌≡◌};
-ghost use Rattle.operating.specs.InTurn.{at_start};
+ghost use Rattle.operating.specs.Progress.{at_start};
 
 use crate::progress::Progress;
 use board::Board;

@@ -1,12 +1,15 @@
+//! LAY: a company lays a tile, or puts one in the place of another, at the step of lays. Its rules
+//! are those of the map, as rows in `board` (`Board::try_lay`). The company pays the bank what the
+//! terrain costs.
 ghost use Rattle.std.specs.Prelude.{◌≡◌, OnOk};
 ghost use Rattle.operating.specs.CompanyTurn.{GoesOn, IsInOrder, state};
-ghost use Rattle.operating.specs.Turn.{LayLeads};
+ghost use Rattle.operating.specs.Lay.{LayLeads};
 ghost use Rattle.order_grammar.specs.declared.order.Order.TheVariants as form;
 ghost use Rattle.sheets.specs.Part.{line_with};
 
-use crate::asker::asker;
+use crate::amount::amount_of;
+use crate::board_asker::asker;
 use crate::company_turn::CompanyTurn;
-use crate::cost::amount_of;
 use crate::map_state::update_map_state;
 use board::LayFault;
 use history::{Event, Refusal};
@@ -40,7 +43,7 @@ impl CompanyTurn {
                 let company = by.company;
                 let cost = amount_of(cost);
                 self.history.append(Event::Laid { company, lay, cost })?;
-                self.progress = self.progress.with_lay(board, &asker, lay);
+                self.progress.count_lay(board, &asker, lay);
                 Ok(())
             }
             Err(LayFault::Rule(rule)) => {

@@ -14,39 +14,38 @@
 //!
 //! Reading order: `runs` (what its trains have done), `progress` (how far the turn has come),
 //! `company_turn` (all that lasts for the turn: the functions that rule a line are its methods),
-//! `table` (the game and its board between turns), `map_state` (the tiles and tokens on the map),
-//! `asker` (the company as the rules of the board see it), `home`, `lay` and `token` (what orders
-//! do) with `cost`, `running`, `best`, `withholding`, `pay`, `train`, `private` (that it buys),
-//! `turn` (the company's orders), `ending` (what it must buy), `playing`, `laws` (what holds of
+//! `game_and_board` (the game and its board between turns), `map_state` (the tiles and tokens on
+//! the map), `board_asker` (the company as the rules of the board see it), `home_token`; a file for
+//! each order: `lay` and `token` with `amount`, `run`, `run_best`, `pay`, `train`, `private`;
+//! `company_orders` (line by line), `turn_end` (what it must buy), `turn`, `laws` (what holds of
 //! every turn), `train_laws`, `tile_laws`, `private_laws`, `sale_laws`, `forced_laws`, `best_laws`.
 #![tactic(auto)]
 
-mod asker;
-mod best;
+mod amount;
 mod best_laws;
+mod board_asker;
+mod company_orders;
 mod company_turn;
-mod cost;
-mod ending;
 mod forced_laws;
-mod home;
+mod game_and_board;
+mod home_token;
 pub mod laws;
 mod lay;
 mod map_state;
 mod pay;
-mod playing;
 mod private;
 mod private_laws;
 mod progress;
-mod running;
+mod run;
+mod run_best;
 mod runs;
 mod sale_laws;
-mod table;
 mod tile_laws;
 mod token;
 mod train;
 mod train_laws;
 mod turn;
-mod withholding;
+mod turn_end;
 
-pub use playing::{play_company, play_on};
-pub use table::Table;
+pub use game_and_board::GameAndBoard;
+pub use turn::{play_company, play_on};

@@ -2,7 +2,7 @@
 //! is brought up to date.
 ghost use Rattle.std.specs.Prelude.{◌≡◌, OnOk};
 ghost use Rattle.totals.specs.Operating.{lays_of, tokens_of};
-ghost use Rattle.operating.specs.MapState.{IsPrefix, BeginsWith, map_state_now};
+ghost use Rattle.operating.specs.MapState.{BeginsWith, IsPrefix, map_state_now};
 
 use board::Board;
 use history::History;

@@ -1,20 +1,45 @@
-ghost use Rattle.std.specs.Prelude.{◌≡◌, ◌≤◌, IfOk, OnOk};
-ghost use Rattle.operating.specs.Pay.{after_pay, after_withhold, pay_judgement, withhold_judgement};
+//! PAY and WITHHOLD: a company pays out what its trains earned in its turn, or withholds it. Either
+//! needs a turn that is not past its pay, and to pay needs a revenue; the turn is then past it. A
+//! company that withholds gets all of it from the bank, and its token on the chart moves left. A
+//! company that has done neither withholds by itself before it buys a train, and when its orders
+//! end.
+ghost use Rattle.std.specs.Prelude.{◌≡◌, ◌≤◌, OnOk};
 ghost use Rattle.history.specs.Sound.{IsSound};
 ghost use Rattle.operating.specs.CompanyTurn.{GoesOn, IsInOrder, state};
-ghost use Rattle.operating.specs.InTurn.{in_turn};
+ghost use Rattle.operating.specs.Pay.{after_pay, after_withhold, pay_judgement, withheld};
+ghost use Rattle.operating.specs.Pay.{withheld_if_unpaid, withhold_judgement};
+ghost use Rattle.operating.specs.TurnState.{turn_state};
 ghost use Rattle.sheets.specs.Part.{line_with};
 
 use crate::company_turn::CompanyTurn;
 use crate::progress::Progress;
-use crate::withholding::withhold;
 use certs::pay_out;
 use forced_purchase::Operator;
-use history::{History, PayRule, Refusal};
+use history::{Event, History, PayRule, Refusal};
+use market::move_token_left;
 use order_grammar::Order;
 use sheets::ReadLine;
 use std::alloc::AllocError;
+use tables::{Amount, Company, rules};
 use turns::record;
+
+/// Returns the rule that a PAY breaks; `None` if it breaks none.
+fn pay_rule(progress: &Progress) -> Option<PayRule>
+    ensures { result ≡ pay_judgement progress.now }
+{
+    rules! { PayRule
+        NothingToPay: progress.is_past_pay() || progress.runs.revenue == 0,
+    }
+}
+
+/// Returns the rule that a WITHHOLD breaks; `None` if it breaks none.
+fn withhold_rule(progress: &Progress) -> Option<PayRule>
+    ensures { result ≡ withhold_judgement progress.now }
+{
+    rules! { PayRule
+        NothingToPay: progress.is_past_pay(),
+    }
+}
 
 impl CompanyTurn {
     /// Rules a PAY in this line, and pays if it is obeyed.
@@ -25,8 +50,7 @@ impl CompanyTurn {
             ≡ after_pay self.old.by (state self.old) (line_with line order.now) order.now) }
         ensures order { OnOk result (GoesOn self.old self.new) }
     {
-        self.progress = rule_pay(&mut self.history, self.by, line, order, self.progress)?;
-        Ok(())
+        rule_pay(&mut self.history, self.by, line, order, &mut self.progress)
     }
 
     /// Rules a WITHHOLD in this line, and withholds if it is obeyed.
@@ -40,52 +64,67 @@ impl CompanyTurn {
         let broken = withhold_rule(&self.progress).map(Refusal::Pay);
         if record(&mut self.history, by.president, line, order, broken)? {
             withhold(&mut self.history, by.company, self.progress.runs.revenue)?;
-            self.progress = self.progress.with_pay();
+            self.progress.pass_pay();
         }
+        Ok(())
+    }
+
+    /// Withholds what the company earned, by itself, if its turn is not past its pay.
+    pub(crate) fn withhold_if_unpaid(&mut self) -> Result<(), AllocError>
+        requires { IsInOrder self.old }
+        ensures turn { OnOk result (state self.new
+            ≡ withheld_if_unpaid self.old.by.company (state self.old)) }
+        ensures order { OnOk result (GoesOn self.old self.new) }
+        ensures board { OnOk result (self.new.board ≡ self.old.board) }
+    {
+        if !self.progress.is_unpaid() {
+            return Ok(());
+        }
+        withhold(
+            &mut self.history,
+            self.by.company,
+            self.progress.runs.revenue,
+        )?;
+        self.progress.pass_pay();
         Ok(())
     }
 }
 
-/// Rules a PAY in this line, and pays if it is obeyed. Returns how far the turn has then come.
+/// Rules a PAY in this line, and pays if it is obeyed: the turn is then past its pay.
 fn rule_pay(
     history: &mut History,
     by: Operator,
     line: ReadLine,
     order: &Order,
-    progress: Progress,
-) -> Result<Progress, AllocError>
+    progress: &mut Progress,
+) -> Result<(), AllocError>
     requires few { history.old.seats ≤ 6 }
     requires sound { IsSound history.old }
-    ensures turn { IfOk result (λ now. in_turn history.new now
-        ≡ after_pay by (in_turn history.old progress) (line_with line order.now) order.now) }
+    ensures turn { OnOk result (turn_state history.new progress.new
+        ≡ after_pay by (turn_state history.old progress.old) (line_with line order.now) order.now) }
     ensures sound { OnOk result (IsSound history.new) }
 {
-    let broken = pay_rule(&progress).map(Refusal::Pay);
-    if !record(history, by.president, line, order, broken)? {
-        return Ok(progress);
+    let broken = pay_rule(progress).map(Refusal::Pay);
+    if record(history, by.president, line, order, broken)? {
+        pay_out(history, by.company, progress.runs.revenue)?;
+        progress.pass_pay();
     }
-    pay_out(history, by.company, progress.runs.revenue)?;
-    Ok(progress.with_pay())
+    Ok(())
 }
 
-/// Returns the rule that a PAY breaks; `None` if it breaks none.
-fn pay_rule(progress: &Progress) -> Option<PayRule>
-    ensures { result ≡ pay_judgement progress.now }
+/// Pays a company from the bank what it withholds, and moves its token on the chart left.
+pub(crate) fn withhold(
+    history: &mut History,
+    company: Company,
+    amount: Amount,
+) -> Result<(), AllocError>
+    requires sound { IsSound history.old }
+    requires sum { amount ≤ 1000000 }
+    ensures after { OnOk result (history.new ≡ withheld history.old company amount) }
+    ensures sound { OnOk result (IsSound history.new) }
 {
-    if progress.is_past_pay() || progress.runs.revenue == 0 {
-        Some(PayRule::NothingToPay)
-    } else {
-        None
-    }
-}
-
-/// Returns the rule that a WITHHOLD breaks; `None` if it breaks none.
-fn withhold_rule(progress: &Progress) -> Option<PayRule>
-    ensures { result ≡ withhold_judgement progress.now }
-{
-    if progress.is_past_pay() {
-        Some(PayRule::NothingToPay)
-    } else {
-        None
-    }
+    history.append(Event::Withheld { company, amount })?;
+    history.record_broken()?;
+    move_token_left(history, company)?;
+    Ok(())
 }

@@ -1,6 +1,8 @@
+//! PRIVATE: a company buys a private from a player, at any step. The rules are those of a purchase,
+//! as rows in `purchases` (`judge_private`). The turn stays as far as it had come.
 ghost use Rattle.std.specs.Prelude.{◌≡◌, OnOk};
 ghost use Rattle.operating.specs.CompanyTurn.{GoesOn, IsInOrder, state};
-ghost use Rattle.operating.specs.Turn.{after_private};
+ghost use Rattle.operating.specs.Private.{after_private};
 ghost use Rattle.order_grammar.specs.declared.order.Order.TheVariants.{BuyOwnedPrivate};
 ghost use Rattle.sheets.specs.Part.{line_with};
 

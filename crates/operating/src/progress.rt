@@ -1,8 +1,8 @@
 ghost use Rattle.std.specs.Prelude.{◌≡◌, ◌≤◌};
-ghost use Rattle.operating.specs.Best.{best_done};
-ghost use Rattle.operating.specs.Pay.{is_past_pay};
-ghost use Rattle.operating.specs.Runs.{IsCounted, has_any_run, is_past_runs, run_done};
-ghost use Rattle.operating.specs.InTurn.{at_start, is_unpaid, lay_done, pay_done, token_done};
+ghost use Rattle.operating.specs.Progress.{at_start, best_done, has_any_run, is_past_pay};
+ghost use Rattle.operating.specs.Progress.{is_past_runs, is_unpaid, lay_done, pay_done, run_done};
+ghost use Rattle.operating.specs.Progress.{token_done};
+ghost use Rattle.operating.specs.Runs.{IsCounted};
 
 use crate::runs::{CompletedRun, Runs};
 use board::{Asker, Board, TurnStep, is_dh_lay};
@@ -38,60 +38,46 @@ impl Progress {
         }
     }
 
-    /// Returns the progress once a tile is laid: CS's lay leaves the lay of the turn as it is, and
-    /// DH's is remembered for its token.
-    pub(crate) fn with_lay(self, board: &Board, asker: &Asker, lay: Lay) -> Progress
-        ensures { result ≡ lay_done board.now.lays asker.now lay self }
+    /// Counts a tile that is laid: CS's lay leaves the lay of the turn as it is, and DH's is
+    /// remembered for its token.
+    pub(crate) fn count_lay(&mut self, board: &Board, asker: &Asker, lay: Lay)
+        ensures { self.new ≡ lay_done board.now.lays asker.now lay self.old }
     {
-        Progress {
-            lay_used: self.lay_used || !board.is_cs_lay(asker, lay.hex),
-            dh_laid: self.dh_laid || is_dh_lay(asker, lay),
-            ..self
-        }
+        self.lay_used = self.lay_used || !board.is_cs_lay(asker, lay.hex);
+        self.dh_laid = self.dh_laid || is_dh_lay(asker, lay);
     }
 
-    /// Returns the progress once a token is placed: the turn is past its lay, too.
-    pub(crate) fn with_token(self) -> Progress
-        ensures { result ≡ token_done self }
+    /// Moves the turn past its lay and its token.
+    pub(crate) fn pass_token(&mut self)
+        ensures { self.new ≡ token_done self.old }
     {
-        Progress {
-            pointer: TurnStep::Run,
-            ..self
-        }
+        self.pointer = TurnStep::Run;
     }
 
-    /// Returns the progress once a train has run: the turn is past its token, too.
-    pub(crate) fn with_run(self, ran: CompletedRun) -> Progress
-        requires { IsCounted self.runs ran }
-        ensures { result ≡ run_done self ran }
+    /// Counts a train that has run: the turn is past its token, too.
+    pub(crate) fn count_run(&mut self, ran: &CompletedRun)
+        requires { IsCounted self.old.runs ran.now }
+        ensures { self.new ≡ run_done self.old ran.now }
     {
-        Progress {
-            runs: self.runs.with(ran),
-            ..self.with_token()
-        }
+        self.runs.count(ran);
+        self.pass_token();
     }
 
-    /// Returns the progress once the company has run its best, for this much.
-    pub(crate) fn with_best(self, revenue: Amount) -> Progress
+    /// Counts the best runs, which earned this much: the turn is past its token, too.
+    pub(crate) fn count_best(&mut self, revenue: Amount)
         requires { revenue ≤ 50000 }
-        ensures { result ≡ best_done self revenue }
+        ensures { self.new ≡ best_done self.old revenue }
     {
-        Progress {
-            pointer: TurnStep::Run,
-            best_run: true,
-            runs: self.runs.with_revenue(revenue),
-            ..self
-        }
+        self.best_run = true;
+        self.runs.set_revenue(revenue);
+        self.pass_token();
     }
 
-    /// Returns the progress once the company has paid or withheld.
-    pub(crate) fn with_pay(self) -> Progress
-        ensures { result ≡ pay_done self }
+    /// Moves the turn past its pay, once the company has paid or withheld.
+    pub(crate) fn pass_pay(&mut self)
+        ensures { self.new ≡ pay_done self.old }
     {
-        Progress {
-            pointer: TurnStep::Trains,
-            ..self
-        }
+        self.pointer = TurnStep::Trains;
     }
 
     /// Returns whether the turn is past its runs.

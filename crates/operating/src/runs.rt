@@ -30,9 +30,9 @@ pub(crate) struct Runs {
 
 /// In a contract it is the record of its fields.
 impl Model for Runs {
-    ghost use Rattle.operating.specs.Done.{Done, IsBounded};
+    ghost use Rattle.operating.specs.Runs.{RunsOfTurn, IsBounded};
 
-    ghost Value = { Done };
+    ghost Value = { RunsOfTurn };
 
     ghost view = { λ runs. record {
       trains = runs.trains;
@@ -50,8 +50,7 @@ impl Model for Runs {
 }
 
 impl Runs {
-    ghost use Rattle.operating.specs.Runs.{IsCounted, has_run, with_ran};
-    ghost use Rattle.operating.specs.InTurn.{no_runs};
+    ghost use Rattle.operating.specs.Runs.{IsCounted, has_run, no_runs, with_ran};
     ghost use Rattle.std.specs.List.{list_any};
     ghost use Rattle.std.specs.Prelude.{◌≤◌, pos};
     ghost use lib.Signed.{lt_z};
@@ -67,26 +66,22 @@ impl Runs {
         }
     }
 
-    /// Returns the runs once a train has run.
-    pub(crate) fn with(self, ran: CompletedRun) -> Runs
-        requires { IsCounted self ran }
-        ensures { result ≡ with_ran self ran }
+    /// Counts a train that has run.
+    pub(crate) fn count(&mut self, ran: &CompletedRun)
+        requires { IsCounted self.old ran.now }
+        ensures { self.new ≡ with_ran self.old ran.now }
     {
-        let mut trains = self.trains;
-        trains[ran.kind.place()] += 1;
-        Runs {
-            trains,
-            borders: ran.borders,
-            revenue: self.revenue + ran.earned,
-        }
+        self.trains[ran.kind.place()] += 1;
+        self.borders = ran.borders;
+        self.revenue += ran.earned;
     }
 
-    /// Returns the runs once the best runs have earned this.
-    pub(crate) fn with_revenue(self, revenue: Amount) -> Runs
+    /// Sets what the best runs earned, in dollars.
+    pub(crate) fn set_revenue(&mut self, revenue: Amount)
         requires { revenue ≤ 50000 }
-        ensures { result ≡ record self { revenue = revenue } }
+        ensures { self.new ≡ record self.old { revenue = revenue } }
     {
-        Runs { revenue, ..self }
+        self.revenue = revenue;
     }
 
     /// Returns whether some train has run by an order of its own.

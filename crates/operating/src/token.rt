@@ -1,12 +1,15 @@
+//! TOKEN: a company places a further token, at the step of lays or that of tokens; the turn is then
+//! past both. Its rules are those of the map, as rows in `board` (`Board::try_token`). The company
+//! pays the bank what the token costs.
 ghost use Rattle.std.specs.Prelude.{◌≡◌, OnOk};
 ghost use Rattle.operating.specs.CompanyTurn.{GoesOn, IsInOrder, state};
-ghost use Rattle.operating.specs.Turn.{TokenLeads};
+ghost use Rattle.operating.specs.Token.{TokenLeads};
 ghost use Rattle.order_grammar.specs.declared.order.Order.TheVariants as form;
 ghost use Rattle.sheets.specs.Part.{line_with};
 
-use crate::asker::asker;
+use crate::amount::amount_of;
+use crate::board_asker::asker;
 use crate::company_turn::CompanyTurn;
-use crate::cost::amount_of;
 use crate::map_state::update_map_state;
 use board::TokenFault;
 use history::{Event, Refusal};
@@ -44,7 +47,7 @@ impl CompanyTurn {
                     place,
                     cost,
                 })?;
-                self.progress = self.progress.with_token();
+                self.progress.pass_token();
                 Ok(())
             }
             Err(TokenFault::Rule(rule)) => {

@@ -1,9 +1,13 @@
+//! TRAIN: a company buys a train, from the bank, the pool or another company. What it earned is
+//! paid or withheld before. The rules are those of a purchase, as rows in `purchases`
+//! (`judge_purchase`), which also does what a purchase brings (`buy_train`). The turn stays as far
+//! as it had come.
 ghost use Rattle.std.specs.Prelude.{◌≡◌, OnOk};
 ghost use Rattle.operating.specs.CompanyTurn.{GoesOn, IsInOrder, state};
 ghost use Rattle.order_grammar.specs.declared.order.Order.TheVariants.{BuyTrain};
 ghost use Rattle.sheets.specs.Part.{line_with};
 ghost use Rattle.turns.specs.Small.{IsSmallOrder};
-ghost use Rattle.operating.specs.Turn.{after_buying};
+ghost use Rattle.operating.specs.Train.{after_buying};
 
 use crate::company_turn::CompanyTurn;
 use history::Refusal;

@@ -1,204 +1,119 @@
-ghost use Rattle.std.specs.Prelude.{◌≡◌, ◌≢◌, ◌≤◌, IfErr, OnOk, true};
-ghost use Rattle.std.specs.Option.{option_copied};
+//! The turn of a company, from its home token to its end.
+ghost use Rattle.std.specs.Prelude.{◌≡◌, ◌≤◌, ◌<◌, IfErr, IfOk, OnOk, length, true};
 ghost use Rattle.legal_runs.specs.declared.runner.RunnerFault.TheVariants.{Refused};
-ghost use Rattle.events.specs.declared.ruling.Ruling.TheVariants.{Faulty};
+ghost use Rattle.totals.specs.Shares.{is_floated};
+ghost use Rattle.history.specs.Sound.{IsSound};
 ghost use Rattle.operating.specs.Calls.{Makes};
-ghost use Rattle.operating.specs.CompanyTurn.{GoesOn, IsInOrder, state};
-ghost use Rattle.operating.specs.InTurn.{line_recorded};
-ghost use Rattle.operating.specs.Turn.{AskedLeads, LineLeads, LinesLead, OrderLeads, is_held, is_ruled_there};
-ghost use Rattle.operating.specs.TurnCalls.{AskedCalls, LineCalls, LinesCall, OrderCalls, led_to};
-ghost use Rattle.order_grammar.specs.declared.order.Order.TheVariants.{RunBest};
-ghost use Rattle.sheets.specs.Part.{faulty_line, line_unread, line_with};
-ghost use Rattle.turns.specs.Small.{AreSmall, IsSmallOrder, IsSmallReading};
+ghost use Rattle.operating.specs.CompanyTurn.{IsInOrder, state};
+ghost use Rattle.operating.specs.GameAndBoard.{IsLaidOut, game_on};
+ghost use Rattle.operating.specs.MapState.{IsPrefix};
+ghost use Rattle.operating.specs.Turn.{IsCompanyTurn, OrdersLead};
+ghost use Rattle.operating.specs.TurnCalls.{OrdersCall, TurnCalls, led_to};
+ghost use Rattle.sheets.specs.File.{players_of};
+ghost use Rattle.turns.specs.Small.{AreSmall};
 
 use crate::company_turn::CompanyTurn;
-use history::{History, Refusal};
+use crate::game_and_board::GameAndBoard;
+use crate::home_token::place_home;
+use crate::pay::withhold;
+use forced_purchase::Operator;
+use history::History;
 use legal_runs::{Runner, RunnerFault};
-use order_grammar::{Condition, Fault, Order};
-use sheets::{PartsLeft, ReadLine, UnreadLine};
-use std::alloc::AllocError;
-use turns::{record, record_fault};
+use sheets::{PartsLeft, Sheets};
+use std::alloc::Global;
+use tables::{Company, Round};
+
+/// Plays the turn of a company in an operating round, with the sheets for it. The list of events
+/// must be sound, and its seats must be those of the sheets' players; the company has floated. It
+/// is meant for one that has not operated in this round. The turn begins with HOME if no token of
+/// the company lies at its home. In play that is at its first turn. In a list that no play makes,
+/// the tokens on the map decide, and not which turns or HOME events there were. The runner finds
+/// the greatest revenue if the company is ordered to run its best. The error comes from a failed
+/// allocation, or from a runner that refuses, and the game is dropped.
+pub fn play_company<R: Runner>(
+    alloc: Global,
+    history: History,
+    sheets: &Sheets,
+    round: Round,
+    company: Company,
+    runner: &mut R,
+) -> Result<History, RunnerFault>
+    requires floated { is_floated history.events company ≡ true }
+    requires sound { IsSound history }
+    requires seats { history.seats ≡ length (players_of sheets.now) }
+    ensures turn { IfOk result (IsCompanyTurn sheets.now round company history) }
+    ensures calls { Makes R.earns runner.old (TurnCalls sheets.now round company history result)
+        runner.new }
+    ensures seats { IfOk result (λ new. new.seats ≡ history.seats) }
+    ensures sound { IfOk result IsSound }
+    ensures refuses { IfErr result (λ fault. fault ≡ Refused → R.may_refuse ≡ true) }
+{
+    let game = GameAndBoard::lay_out(alloc, history)?;
+    let played = play_on(alloc, game, sheets, round, company, runner)?;
+    Ok(played.history)
+}
+
+/// Plays the turn of a company as `play_company` does, with a board that has the first of what was
+/// laid before. The board that comes back has the first of what was laid since.
+pub fn play_on<R: Runner>(
+    alloc: Global,
+    game: GameAndBoard,
+    sheets: &Sheets,
+    round: Round,
+    company: Company,
+    runner: &mut R,
+) -> Result<GameAndBoard, RunnerFault>
+    requires floated { is_floated game.history.events company ≡ true }
+    requires laid { IsLaidOut game }
+    requires seats { game.history.seats ≡ length (players_of sheets.now) }
+    ensures turn { IfOk result (λ next.
+        IsCompanyTurn sheets.now round company game.history next.history) }
+    ensures calls { Makes R.earns runner.old
+        (TurnCalls sheets.now round company game.history (game_on result)) runner.new }
+    ensures seats { IfOk result (λ next. next.history.seats ≡ game.history.seats) }
+    ensures laid { IfOk result IsLaidOut }
+    ensures refuses { IfErr result (λ fault. fault ≡ Refused → R.may_refuse ≡ true) }
+{
+    let GameAndBoard { mut history, board } = game;
+    let president = history.now().president(company);
+    // For the proof alone: the number is at most six, and so is that of the seats of the game.
+    let _few = sheets.seats();
+    place_home(&mut history, company)?;
+    let Some(president) = president else {
+        withhold(&mut history, company, 0)?;
+        return Ok(GameAndBoard { history, board });
+    };
+    let by = Operator { company, president };
+    let orders = sheets.company_orders(president, &round, company);
+    let mut turn = CompanyTurn::begin(alloc, by, round, history, board);
+    turn.play(&orders, runner)?;
+    Ok(GameAndBoard {
+        history: turn.history,
+        board: turn.board,
+    })
+}
 
 impl CompanyTurn {
-    /// Rules the lines of the company's orders.
-    pub(crate) fn rule_lines<R: Runner>(
-        &mut self,
-        orders: &mut PartsLeft,
-        runner: &mut R,
-    ) -> Result<(), RunnerFault>
+    /// Plays the turn once the company's home token lies: rules its orders, lets it withhold if it
+    /// has neither paid nor withheld, and ends the turn.
+    fn play<R: Runner>(&mut self, orders: &PartsLeft, runner: &mut R) -> Result<(), RunnerFault>
         requires few { self.old.history.seats ≤ 6 }
-        requires small { AreSmall orders.old.before }
+        requires at_table { self.old.by.president.0 < self.old.history.seats }
+        requires small { AreSmall orders.now.before }
         requires order { IsInOrder self.old }
-        ensures turn { OnOk result (LinesLead self.old.by (state self.old) orders.old.before
-            (state self.new)) }
-        ensures calls { Makes R.earns runner.old (LinesCall self.old.by self.old.round
-            orders.old.before (state self.old) (led_to (state self.new) result)) runner.new }
-        ensures by { OnOk result (self.new.by ≡ self.old.by) }
-        ensures seats { OnOk result (self.new.history.seats ≡ self.old.history.seats) }
-        ensures order { OnOk result (IsInOrder self.new) }
+        ensures turn { OnOk result (OrdersLead self.old.by orders.now.before (state self.old)
+            self.new.history) }
+        ensures calls { Makes R.earns runner.old (OrdersCall self.old.by self.old.round
+            orders.now.before (state self.old) (led_to self.new.history result)) runner.new }
+        ensures sound { OnOk result (IsSound self.new.history) }
+        ensures prefix { OnOk result (IsPrefix self.new.board.value self.new.history.events) }
         ensures refuses { IfErr result (λ fault. fault ≡ Refused → R.may_refuse ≡ true) }
     {
-        let mut order = Order::Blank;
-        while let Some(line) = orders.take_line() {
-            self.rule_line(line, &mut order, runner)?;
-        }
+        let mut lines = orders.duplicate();
+        self.rule_lines(&mut lines, runner)?;
+        self.withhold_if_unpaid()?;
+        let mut raises = orders.duplicate();
+        self.end(&mut raises)?;
         Ok(())
     }
-
-    /// Rules a line of the company's orders, and does what it orders if it is obeyed. Overwrites
-    /// `order`.
-    fn rule_line<R: Runner>(
-        &mut self,
-        line: UnreadLine,
-        order: &mut Order,
-        runner: &mut R,
-    ) -> Result<(), RunnerFault>
-        requires few { self.old.history.seats ≤ 6 }
-        requires small { IsSmallReading (line_unread line).reading }
-        requires order { IsInOrder self.old }
-        ensures turn { OnOk result (LineLeads self.old.by (state self.old) (line_unread line.entry)
-            (state self.new)) }
-        ensures calls { Makes R.earns runner.old (LineCalls self.old.by self.old.round
-            (line_unread line.entry) (state self.old) (led_to (state self.new) result)) runner.new }
-        ensures order { OnOk result (GoesOn self.old self.new) }
-        ensures refuses { IfErr result (λ fault. fault ≡ Refused → R.may_refuse ≡ true) }
-    {
-        match line.read_into(order) {
-            Ok(read) => self.rule_asked(read, order, runner),
-            Err(fault) => Ok(self.rule_faulty(line.number, fault)?),
-        }
-    }
-
-    /// Rules an order in this line. If it is ruled at its place, its condition comes first: if that
-    /// is not met the order is refused, and nothing else happens.
-    fn rule_asked<R: Runner>(
-        &mut self,
-        line: ReadLine,
-        order: &Order,
-        runner: &mut R,
-    ) -> Result<(), RunnerFault>
-        requires few { self.old.history.seats ≤ 6 }
-        requires small { IsSmallOrder order.now }
-        requires order { IsInOrder self.old }
-        ensures turn { OnOk result (AskedLeads self.old.by (state self.old) (line_with line order.now)
-            order.now
-            (is_held self.old.history.events line.condition order.now)
-            (state self.new)) }
-        ensures calls { Makes R.earns runner.old (AskedCalls self.old.by self.old.round
-            (line_with line order.now) order.now
-            (is_held self.old.history.events line.condition order.now)
-            (state self.old) (led_to (state self.new) result)) runner.new }
-        ensures order { OnOk result (GoesOn self.old self.new) }
-        ensures refuses { IfErr result (λ fault. fault ≡ Refused → R.may_refuse ≡ true) }
-    {
-        if is_held(&self.history, line.condition.as_ref(), order) {
-            return Ok(self.refuse_held(line, order)?);
-        }
-        self.rule_order(line, order, runner)
-    }
-
-    /// Records that the order in this line is refused because its condition is not met.
-    fn refuse_held(&mut self, line: ReadLine, order: &Order) -> Result<(), AllocError>
-        requires { IsInOrder self.old }
-        ensures turn { OnOk result (AskedLeads self.old.by (state self.old) (line_with line order.now)
-            order.now true (state self.new)) }
-        ensures order { OnOk result (GoesOn self.old self.new) }
-    {
-        let refusal = Some(Refusal::Condition);
-        record(&mut self.history, self.by.president, line, order, refusal)?;
-        Ok(())
-    }
-
-    /// Rules the line with this number, which has a fault of its own.
-    fn rule_faulty(&mut self, line: u32, fault: Fault) -> Result<(), AllocError>
-        requires { IsInOrder self.old }
-        ensures turn { OnOk result (state self.new
-            ≡ line_recorded self.old.by (state self.old) (faulty_line line fault) (Faulty fault)) }
-        ensures order { OnOk result (GoesOn self.old self.new) }
-    {
-        record_fault(&mut self.history, self.by.president, line, fault)
-    }
-
-    /// Rules an order in this line whose condition is met or absent, and does it if it is obeyed.
-    /// The runner is called only for the best runs.
-    fn rule_order<R: Runner>(
-        &mut self,
-        line: ReadLine,
-        order: &Order,
-        runner: &mut R,
-    ) -> Result<(), RunnerFault>
-        requires few { self.old.history.seats ≤ 6 }
-        requires small { IsSmallOrder order.now }
-        requires order { IsInOrder self.old }
-        ensures turn { OnOk result (OrderLeads self.old.by (state self.old) (line_with line order.now)
-            order.now (state self.new)) }
-        ensures calls { Makes R.earns runner.old (OrderCalls self.old.by self.old.round
-            (line_with line order.now) order.now (state self.old) (led_to (state self.new) result))
-            runner.new }
-        ensures order { OnOk result (GoesOn self.old self.new) }
-        ensures refuses { IfErr result (λ fault. fault ≡ Refused → R.may_refuse ≡ true) }
-    {
-        match order {
-            Order::RunBest => self.rule_best(line, runner),
-            _ => Ok(self.rule_other(line, order)?),
-        }
-    }
-
-    /// Rules an order other than RUN BEST. A RAISE is ruled at the end of the turn. An order that
-    /// is not named here has no place.
-    fn rule_other(&mut self, line: ReadLine, order: &Order) -> Result<(), AllocError>
-        requires few { self.old.history.seats ≤ 6 }
-        requires small { IsSmallOrder order.now }
-        requires order { IsInOrder self.old }
-        requires other { order.now ≢ RunBest }
-        ensures turn { OnOk result (OrderLeads self.old.by (state self.old) (line_with line order.now)
-            order.now (state self.new)) }
-        ensures order { OnOk result (GoesOn self.old self.new) }
-    {
-        match order {
-            Order::Lay(lay) => self.rule_lay(line, order, *lay),
-            Order::Token(place) => self.rule_token(line, order, *place),
-            Order::Run { kind, run } => self.rule_run(line, order, *kind, run),
-            Order::Pay => self.rule_pay(line, order),
-            Order::Withhold => self.rule_withhold(line, order),
-            Order::BuyTrain { kind, from } => {
-                self.withhold_if_unpaid()?;
-                self.rule_train(line, order, *kind, *from)?;
-                Ok(())
-            }
-            Order::BuyOwnedPrivate { private, price } => {
-                self.rule_private(line, order, *private, *price)
-            }
-            Order::Raise { .. } => Ok(()),
-            _ => self.rule_faulty(line.number, Fault::OutOfPlace),
-        }
-    }
-}
-
-/// Returns whether an order that is ruled at its place in a company's orders has a condition that
-/// is not met. The condition of a RAISE is checked at the end of the turn, and that of an order
-/// without a place never.
-fn is_held(history: &History, condition: Option<&Condition>, order: &Order) -> bool
-    ensures { result
-        ≡ is_held history.now.events (option_copied condition.entry) order.now }
-{
-    is_ruled_there(order) && !history.is_met(condition)
-}
-
-/// Returns whether an order is ruled at its place in a company's orders: a RAISE waits for the end
-/// of the turn, and others have no place.
-fn is_ruled_there(order: &Order) -> bool
-    ensures { result ≡ is_ruled_there order.now }
-{
-    matches!(
-        order,
-        Order::Lay(_)
-            | Order::Token(_)
-            | Order::Run { .. }
-            | Order::RunBest
-            | Order::Pay
-            | Order::Withhold
-            | Order::BuyTrain { .. }
-            | Order::BuyOwnedPrivate { .. }
-    )
 }

@@ -1,9 +1,9 @@
 use Rattle.std.proofs.Common.{Ok, Err, sym, ap, ◌∙◌}
 use Rattle.std.proofs.lemmas.Result.{err_from_is_err_and}
 use Rattle.board_state.specs.MapState.{position_of}
-use Rattle.operating.proofs.BestCalls.{answered_fault, answered_revenue}
-use Rattle.operating.proofs.BestLemmas.{answered_greatest, same_sum, small_sum}
-use Rattle.operating.specs.Best.{trains_now}
+use Rattle.operating.proofs.RunBestCalls.{answered_fault, answered_revenue}
+use Rattle.operating.proofs.RunBestLemmas.{answered_greatest, same_sum, small_sum}
+use Rattle.operating.specs.RunBest.{trains_now}
 use Rattle.operating.proofs.company_turn.CompanyTurn.best_revenue.Goals as goal
 
 pub amount-requires-clause-most : goal.amount-requires-clause-most

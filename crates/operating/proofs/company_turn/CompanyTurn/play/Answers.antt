@@ -5,16 +5,16 @@ use Rattle.std.proofs.lemmas.Result.{err_from_is_err_and}
 use Rattle.legal_runs.specs.declared.runner.RunnerFault.{RunnerFault}
 use Rattle.legal_runs.specs.declared.runner.RunnerFault.TheVariants.{Memory}
 use Rattle.forced_purchase.specs.declared.operator.Operator.{Operator}
-use Rattle.operating.proofs.Begun.{ended}
-use Rattle.operating.proofs.Going.{after_withholding}
-use Rattle.operating.proofs.Played.{withheld_seats}
-use Rattle.operating.proofs.Tables.{end_prefix}
+use Rattle.operating.proofs.PayLemmas.{withheld_seats}
+use Rattle.operating.proofs.PrefixStays.{end_prefix}
+use Rattle.operating.proofs.StaysInOrder.{after_withholding}
+use Rattle.operating.proofs.TurnBegun.{ended}
 use Rattle.operating.proofs.TurnCalled.{orders_broken_off, orders_called}
 use Rattle.operating.specs.Calls.{Makes}
+use Rattle.operating.specs.CompanyOrders.{LinesLead}
 use Rattle.operating.specs.CompanyTurn.{state}
-use Rattle.operating.specs.InTurn.{InTurn}
-use Rattle.operating.specs.Turn.{LinesLead}
 use Rattle.operating.specs.TurnCalls.{OrdersCall, led_to}
+use Rattle.operating.specs.TurnState.{TurnState}
 use Rattle.sheets.specs.Part.{Parts}
 use Rattle.turns.specs.Small.{AreSmall}
 use Rattle.operating.proofs.company_turn.CompanyTurn.play.Goals as goal
@@ -25,7 +25,7 @@ rule_lines-requires-clause-small g c =
 
 pub end-requires-clause-few : goal.end-requires-clause-few
 end-requires-clause-few g c =
-    subst (λ (n : ℕ). n ≤ 6) (sym (ap (λ (turn : InTurn). turn.game.seats) c.in_ok-withhold_if_unpaid.ensures.turn
+    subst (λ (n : ℕ). n ≤ 6) (sym (ap (λ (turn : TurnState). turn.game.seats) c.in_ok-withhold_if_unpaid.ensures.turn
     ∙ withheld_seats c.rule_lines.new.self.by.company (state c.rule_lines.new.self)
     ∙ c.in_ok-rule_lines.ensures.seats)) c.requires.few
 
@@ -34,7 +34,7 @@ end-requires-clause-at_table g c =
     subst (λ (by : Operator). by.president.0 < c.withhold_if_unpaid.new.self.history.seats)
     (sym (c.in_ok-withhold_if_unpaid.ensures.order.by ∙ c.in_ok-rule_lines.ensures.by))
     (subst (λ (n : ℕ). c.args.self.now.by.president.0 < n)
-    (sym (ap (λ (turn : InTurn). turn.game.seats) c.in_ok-withhold_if_unpaid.ensures.turn
+    (sym (ap (λ (turn : TurnState). turn.game.seats) c.in_ok-withhold_if_unpaid.ensures.turn
     ∙ withheld_seats c.rule_lines.new.self.by.company (state c.rule_lines.new.self)
     ∙ c.in_ok-rule_lines.ensures.seats)) c.requires.at_table)
 

@@ -2,7 +2,7 @@
 use Rattle.std.proofs.Common.{◌≡◌, Err, ap, ◌∙◌}
 use Rattle.std.proofs.lemmas.Result.{err_from_is_err_and}
 use Rattle.legal_runs.specs.declared.runner.RunnerFault.TheVariants.{Memory}
-use Rattle.operating.proofs.BestCalls.{best_unrecorded, best_unanswered, broken_unasked}
+use Rattle.operating.proofs.RunBestCalls.{best_unanswered, best_unrecorded, broken_unasked}
 use Rattle.operating.specs.CompanyTurn.{state}
 use Rattle.operating.specs.TurnCalls.{led_to}
 use Rattle.order_grammar.specs.declared.order.Order.TheVariants.{RunBest}

@@ -1,10 +1,10 @@
 use Rattle.std.proofs.Common.{Ok, Err, ap, refl, ◌∙◌}
 use Rattle.std.specs.Int.RustNames.{unsigned_abs}
-use Rattle.operating.proofs.Allowed.{amount_small, cost_kept, lay_allowed}
-use Rattle.operating.proofs.Answered.{lay_by, lay_done_by, lay_refused_steps, laid_sound, laid_steps}
+use Rattle.operating.proofs.Allowed.{amount_small, cost_kept}
+use Rattle.operating.proofs.LayLemmas.{laid_sound, laid_steps, lay_allowed, lay_by, lay_done_by, lay_refused_steps}
+use Rattle.operating.specs.BoardAsker.{asker_of}
 use Rattle.operating.specs.MapState.{map_state_now}
-use Rattle.operating.specs.Judgement.{asker_of}
-use Rattle.operating.specs.InTurn.{in_turn}
+use Rattle.operating.specs.TurnState.{turn_state}
 use Rattle.order_grammar.specs.declared.order.Order.TheVariants.{Lay}
 use Rattle.sheets.specs.Part.{line_with}
 use Rattle.operating.proofs.company_turn.CompanyTurn.rule_lay.Goals as goal
@@ -43,13 +43,13 @@ returns-in_ok-append-in-Ok-clause-turn c =
     record {
       answer = Ok cost;
       answered = answered;
-      after = laid_steps c.args.self.now.by (in_turn game c.args.self.now.progress)
+      after = laid_steps c.args.self.now.by (turn_state game c.args.self.now.progress)
           (line_with c.args.line (Lay c.args.lay)) c.args.lay cost c.record.new.history c.append.new.self _
-          c.amount_of-cost.result c.with_lay-self.result (rw c.requires.is at c.in_ok-record-in-Ok.ensures.ruling) refl
+          c.amount_of-cost.result c.count_lay.new.self (rw c.requires.is at c.in_ok-record-in-Ok.ensures.ruling) refl
           c.in_ok-append-in-Ok.ensures.ok (c.amount_of-cost.ensures ∙ ap unsigned_abs may.kept)
           (lay_done_by _ (map_state_now game.events) _ (asker_of game c.args.self.now.by.company
-          c.args.self.now.progress) c.args.lay c.args.self.now.progress c.with_lay-self.result
-          c.in_ok-update_map_state.ensures.map_state c.asker-asker.ensures c.with_lay-self.ensures);
+          c.args.self.now.progress) c.args.lay c.args.self.now.progress c.count_lay.new.self
+          c.in_ok-update_map_state.ensures.map_state c.asker-asker.ensures c.count_lay.ensures);
     }
 
 pub returns-in_ok-append-in-Ok-clause-order : goal.returns-in_ok-append-in-Ok-clause-order
@@ -80,7 +80,7 @@ returns-in_ok-record-in-Err-Rule-clause-turn c =
       answer = Err rule;
       answered = lay_by _ _ _ _ c.args.lay (Err rule) c.in_ok-update_map_state.ensures.map_state c.asker-asker.ensures
           answered;
-      after = lay_refused_steps c.args.self.now.by (in_turn game c.args.self.now.progress)
+      after = lay_refused_steps c.args.self.now.by (turn_state game c.args.self.now.progress)
           (line_with c.args.line (Lay c.args.lay)) c.args.lay rule c.record-in-Err-Rule.new.history _
           (rw c.in-Err-Rule.field-0-is at rw c.requires.is at c.in_ok-record-in-Err-Rule.ensures.ruling) refl;
     }

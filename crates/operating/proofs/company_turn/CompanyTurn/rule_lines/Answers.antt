@@ -1,12 +1,12 @@
 use Rattle.std.proofs.Common.{◌≡◌, List, Ok, Err, Result, ap, sym, subst, ◌∙◌}
 use Rattle.std.proofs.lemmas.Result.{err_from_is_err_and}
 use Rattle.legal_runs.specs.declared.runner.RunnerFault.{RunnerFault}
-use Rattle.operating.proofs.Going.{after_line}
+use Rattle.operating.proofs.StaysInOrder.{after_line}
 use Rattle.operating.proofs.TurnCalled.{line_calls_end, line_calls_on, no_line_calls}
 use Rattle.operating.proofs.TurnLaws.{line_seats}
 use Rattle.operating.specs.Calls.{Makes}
+use Rattle.operating.specs.CompanyOrders.{LineLeads, LinesLead}
 use Rattle.operating.specs.CompanyTurn.{state}
-use Rattle.operating.specs.Turn.{LineLeads, LinesLead}
 use Rattle.operating.specs.TurnCalls.{LineCalls, LinesCall, led_to}
 use Rattle.forced_purchase.specs.declared.operator.Operator.{Operator}
 use Rattle.sheets.specs.Part.{Numbered, Parts, line_unread}

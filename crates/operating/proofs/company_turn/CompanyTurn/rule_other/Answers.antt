@@ -2,7 +2,8 @@ use Rattle.std.proofs.Common.{ap, subst, sym, ◌∙◌}
 use Rattle.std.specs.Global.{Global}
 use Rattle.std.specs.Prelude.{Box}
 use Rattle.board_state.specs.MapState.{MapState}
-use Rattle.operating.proofs.Going.{after_withholding, train_leads_on}
+use Rattle.operating.proofs.StaysInOrder.{after_withholding}
+use Rattle.operating.proofs.TrainLemmas.{train_leads_on}
 use Rattle.operating.specs.CompanyTurn.{state}
 use Rattle.operating.specs.MapState.{IsPrefix}
 use Rattle.turns.specs.Small.{IsSmallOrder}

@@ -1,8 +1,8 @@
 use Rattle.std.proofs.Common.{◌≡◌, true, is_none, refl, sym, ◌∙◌}
-use Rattle.purchases.proofs.PrivateSales.{same_after_line}
-use Rattle.operating.proofs.Bought.{sold_steps}
+use Rattle.purchases.proofs.PrivateLemmas.{same_after_line}
+use Rattle.operating.proofs.PrivateLemmas.{sold_steps}
 use Rattle.purchases.proofs.Recorded.{kept_all, recorded_obeyed}
-use Rattle.operating.specs.InTurn.{in_turn}
+use Rattle.operating.specs.TurnState.{turn_state}
 use Rattle.order_grammar.specs.declared.order.Order.TheVariants.{BuyOwnedPrivate}
 use Rattle.sheets.specs.Part.{line_with}
 use Rattle.operating.proofs.company_turn.CompanyTurn.rule_private.Goals as goal
@@ -22,7 +22,7 @@ buy_private-requires-clause-may c =
 pub returns-in_ok-buy_private-clause-turn : goal.returns-in_ok-buy_private-clause-turn
 returns-in_ok-buy_private-clause-turn c =
     let none : is_none c.map-broken.result ≡ true = sym c.in_ok-record.ensures.obeyed ∙ c.if-branch.true in
-    sold_steps c.args.self.now.by (in_turn c.args.self.now.history c.args.self.now.progress)
+    sold_steps c.args.self.now.by (turn_state c.args.self.now.history c.args.self.now.progress)
     (line_with c.args.line (BuyOwnedPrivate c.args.private c.args.price)) c.args.private c.args.price
     (BuyOwnedPrivate c.args.private c.args.price) c.record.new.history c.buy_private.new.history refl
     (sym c.judge_private.ensures ∙ kept_all c.judge_private.result c.map-broken.result none

@@ -1,10 +1,10 @@
 use Rattle.std.proofs.Common.{Ok, Err, ap, refl, ◌∙◌}
 use Rattle.std.specs.Int.RustNames.{unsigned_abs}
-use Rattle.operating.proofs.Allowed.{amount_small, cost_kept, token_allowed}
-use Rattle.operating.proofs.Answered.{token_by, token_refused_steps, placed_sound, placed_steps}
+use Rattle.operating.proofs.Allowed.{amount_small, cost_kept}
+use Rattle.operating.proofs.TokenLemmas.{placed_sound, placed_steps, token_allowed, token_by, token_refused_steps}
+use Rattle.operating.specs.BoardAsker.{asker_of}
 use Rattle.operating.specs.MapState.{map_state_now}
-use Rattle.operating.specs.Judgement.{asker_of}
-use Rattle.operating.specs.InTurn.{in_turn}
+use Rattle.operating.specs.TurnState.{turn_state}
 use Rattle.order_grammar.specs.declared.order.Order.TheVariants.{Token}
 use Rattle.sheets.specs.Part.{line_with}
 use Rattle.operating.proofs.company_turn.CompanyTurn.rule_token.Goals as goal
@@ -43,11 +43,11 @@ returns-in_ok-append-in-Ok-clause-turn c =
     record {
       answer = Ok cost;
       answered = answered;
-      after = placed_steps c.args.self.now.by (in_turn game c.args.self.now.progress)
+      after = placed_steps c.args.self.now.by (turn_state game c.args.self.now.progress)
           (line_with c.args.line (Token c.args.place)) c.args.place cost c.record.new.history c.append.new.self _
-          c.amount_of-cost.result c.with_token-self.result (rw c.requires.is at c.in_ok-record-in-Ok.ensures.ruling) refl
+          c.amount_of-cost.result c.pass_token.new.self (rw c.requires.is at c.in_ok-record-in-Ok.ensures.ruling) refl
           c.in_ok-append-in-Ok.ensures.ok (c.amount_of-cost.ensures ∙ ap unsigned_abs may.kept)
-          c.with_token-self.ensures;
+          c.pass_token.ensures;
     }
 
 pub returns-in_ok-append-in-Ok-clause-order : goal.returns-in_ok-append-in-Ok-clause-order
@@ -79,7 +79,7 @@ returns-in_ok-record-in-Err-Rule-clause-turn c =
       answer = Err rule;
       answered = token_by _ _ _ _ c.args.place (Err rule) c.in_ok-update_map_state.ensures.map_state
           c.asker-asker.ensures answered;
-      after = token_refused_steps c.args.self.now.by (in_turn game c.args.self.now.progress)
+      after = token_refused_steps c.args.self.now.by (turn_state game c.args.self.now.progress)
           (line_with c.args.line (Token c.args.place)) c.args.place rule c.record-in-Err-Rule.new.history _
           (rw c.in-Err-Rule.field-0-is at rw c.requires.is at c.in_ok-record-in-Err-Rule.ensures.ruling) refl;
     }

@@ -1,8 +1,8 @@
 use Rattle.std.proofs.Common.{◌≡◌, true, is_none, refl, sym, ◌∙◌}
-use Rattle.operating.proofs.Bought.{bought_steps}
+use Rattle.operating.proofs.TrainLemmas.{bought_steps}
 use Rattle.purchases.proofs.Still.{same_judgement}
 use Rattle.purchases.proofs.Recorded.{kept_all, recorded_obeyed}
-use Rattle.operating.specs.InTurn.{in_turn}
+use Rattle.operating.specs.TurnState.{turn_state}
 use Rattle.order_grammar.specs.declared.order.Order.TheVariants.{BuyTrain}
 use Rattle.sheets.specs.Part.{line_with}
 use Rattle.operating.proofs.company_turn.CompanyTurn.rule_train.Goals as goal
@@ -22,7 +22,7 @@ buy_train-requires-clause-may c =
 pub returns-in_ok-buy_train-clause-turn : goal.returns-in_ok-buy_train-clause-turn
 returns-in_ok-buy_train-clause-turn c =
     let none : is_none c.map-broken.result ≡ true = sym c.in_ok-record.ensures.obeyed ∙ c.if-branch.true in
-    bought_steps c.args.self.now.by (in_turn c.args.self.now.history c.args.self.now.progress)
+    bought_steps c.args.self.now.by (turn_state c.args.self.now.history c.args.self.now.progress)
     (line_with c.args.line (BuyTrain c.args.kind c.args.from)) c.args.kind c.args.from
     c.purchase_of-purchase.result (BuyTrain c.args.kind c.args.from) c.record.new.history c.buy_train.new.history
     c.purchase_of-purchase.ensures.purchase refl

@@ -1,0 +1,47 @@
+-- What a company withholds keeps a list sound, and leaves the seats as they are.
+use Rattle.std.proofs.Common.{◌≡◌, ℕ, refl, sym, subst, List, ap, ◌∙◌, Bool, true, false, if◌then◌else◌}
+use Rattle.certs.proofs.Dividends.{broken_sound}
+use Rattle.events.specs.declared.event.Event.{Event}
+use Rattle.events.specs.declared.event.Event.TheVariants as event
+use Rattle.history.proofs.Payments.{withholding_sound}
+use Rattle.history.specs.Record.{broken_recorded}
+use Rattle.history.specs.Sound.{IsSound}
+use Rattle.market.proofs.Tokens.{move_sound}
+use Rattle.market.specs.Moves.{square_left_of}
+use Rattle.market.specs.Token.{with_move}
+use Rattle.operating.specs.Pay.{moved_left, withheld, withheld_if_unpaid}
+use Rattle.operating.specs.Progress.{is_unpaid, pay_done}
+use Rattle.operating.specs.TurnState.{TurnState, turn_state}
+use Rattle.tables.specs.declared.roster.Company.{Company}
+use Rattle.totals.specs.LookBack.{Game, with_event}
+
+-- what a company withholds keeps a list sound
+pub withheld_sound : (game new : Game) (company : Company) (amount : ℕ) → new ≡ withheld game company amount
+    → IsSound game → IsSound new
+withheld_sound game new company amount is sound =
+    let recorded = broken_recorded (with_event game (event.Withheld company amount)) in
+    subst IsSound (sym is)
+    (move_sound square_left_of recorded (withheld game company amount) company refl refl
+    (broken_sound (with_event game (event.Withheld company amount)) (withholding_sound game company amount sound)))
+
+-- what a withholding brings, step by step
+pub withheld_steps : (game paid recorded new : Game) (company : Company) (amount : ℕ)
+    → paid ≡ with_event game (event.Withheld company amount) → recorded ≡ broken_recorded paid
+    → new.seats ≡ recorded.seats → new.events ≡ with_move square_left_of recorded.events company
+    → new ≡ withheld game company amount
+withheld_steps game paid recorded new company amount is_paid is_recorded seats events =
+    let made : ℕ → List Event → Game = λ seats events. record { seats = seats; events = events } in
+    ap (λ (n : ℕ). made n new.events) seats
+    ∙ ap (made recorded.seats) events
+    ∙ ap (λ (game : Game). moved_left game company) (is_recorded ∙ ap broken_recorded is_paid)
+
+-- what the company withholds by itself leaves the seats as they are
+pub withheld_seats : (company : Company) (turn : TurnState)
+    → (withheld_if_unpaid company turn).game.seats ≡ turn.game.seats
+withheld_seats company turn =
+    elim (is_unpaid turn.progress) as (λ (b : Bool).
+    (if b then turn_state (withheld turn.game company turn.progress.runs.revenue) (pay_done turn.progress)
+    else turn).game.seats ≡ turn.game.seats) [
+      | true ↦ refl
+      | false ↦ refl
+    ]

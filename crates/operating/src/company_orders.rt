@@ -1,0 +1,207 @@
+//! The orders that a president has for a company, ruled line by line. First comes a line's own
+//! fault, then its place, then its condition, and then the rules of its order.
+ghost use Rattle.std.specs.Prelude.{◌≡◌, ◌≢◌, ◌≤◌, IfErr, OnOk, true};
+ghost use Rattle.std.specs.Option.{option_copied};
+ghost use Rattle.legal_runs.specs.declared.runner.RunnerFault.TheVariants.{Refused};
+ghost use Rattle.events.specs.declared.ruling.Ruling.TheVariants.{Faulty};
+ghost use Rattle.operating.specs.Calls.{Makes};
+ghost use Rattle.operating.specs.CompanyOrders.{AskedLeads, LineLeads, LinesLead, OrderLeads};
+ghost use Rattle.operating.specs.CompanyOrders.{is_held, is_ruled_there};
+ghost use Rattle.operating.specs.CompanyTurn.{GoesOn, IsInOrder, state};
+ghost use Rattle.operating.specs.TurnCalls.{AskedCalls, LineCalls, LinesCall, OrderCalls, led_to};
+ghost use Rattle.operating.specs.TurnState.{line_recorded};
+ghost use Rattle.order_grammar.specs.declared.order.Order.TheVariants.{RunBest};
+ghost use Rattle.sheets.specs.Part.{faulty_line, line_unread, line_with};
+ghost use Rattle.turns.specs.Small.{AreSmall, IsSmallOrder, IsSmallReading};
+
+use crate::company_turn::CompanyTurn;
+use history::{History, Refusal};
+use legal_runs::{Runner, RunnerFault};
+use order_grammar::{Condition, Fault, Order};
+use sheets::{PartsLeft, ReadLine, UnreadLine};
+use std::alloc::AllocError;
+use turns::{record, record_fault};
+
+impl CompanyTurn {
+    /// Rules the lines of the company's orders.
+    pub(crate) fn rule_lines<R: Runner>(
+        &mut self,
+        orders: &mut PartsLeft,
+        runner: &mut R,
+    ) -> Result<(), RunnerFault>
+        requires few { self.old.history.seats ≤ 6 }
+        requires small { AreSmall orders.old.before }
+        requires order { IsInOrder self.old }
+        ensures turn { OnOk result (LinesLead self.old.by (state self.old) orders.old.before
+            (state self.new)) }
+        ensures calls { Makes R.earns runner.old (LinesCall self.old.by self.old.round
+            orders.old.before (state self.old) (led_to (state self.new) result)) runner.new }
+        ensures by { OnOk result (self.new.by ≡ self.old.by) }
+        ensures seats { OnOk result (self.new.history.seats ≡ self.old.history.seats) }
+        ensures order { OnOk result (IsInOrder self.new) }
+        ensures refuses { IfErr result (λ fault. fault ≡ Refused → R.may_refuse ≡ true) }
+    {
+        let mut order = Order::Blank;
+        while let Some(line) = orders.take_line() {
+            self.rule_line(line, &mut order, runner)?;
+        }
+        Ok(())
+    }
+
+    /// Rules a line of the company's orders, and does what it orders if it is obeyed. Overwrites
+    /// `order`.
+    fn rule_line<R: Runner>(
+        &mut self,
+        line: UnreadLine,
+        order: &mut Order,
+        runner: &mut R,
+    ) -> Result<(), RunnerFault>
+        requires few { self.old.history.seats ≤ 6 }
+        requires small { IsSmallReading (line_unread line).reading }
+        requires order { IsInOrder self.old }
+        ensures turn { OnOk result (LineLeads self.old.by (state self.old) (line_unread line.entry)
+            (state self.new)) }
+        ensures calls { Makes R.earns runner.old (LineCalls self.old.by self.old.round
+            (line_unread line.entry) (state self.old) (led_to (state self.new) result)) runner.new }
+        ensures order { OnOk result (GoesOn self.old self.new) }
+        ensures refuses { IfErr result (λ fault. fault ≡ Refused → R.may_refuse ≡ true) }
+    {
+        match line.read_into(order) {
+            Ok(read) => self.rule_asked(read, order, runner),
+            Err(fault) => Ok(self.rule_faulty(line.number, fault)?),
+        }
+    }
+
+    /// Rules an order in this line. If it is ruled at its place, its condition comes first: if that
+    /// is not met the order is refused, and nothing else happens.
+    fn rule_asked<R: Runner>(
+        &mut self,
+        line: ReadLine,
+        order: &Order,
+        runner: &mut R,
+    ) -> Result<(), RunnerFault>
+        requires few { self.old.history.seats ≤ 6 }
+        requires small { IsSmallOrder order.now }
+        requires order { IsInOrder self.old }
+        ensures turn { OnOk result (AskedLeads self.old.by (state self.old)
+            (line_with line order.now) order.now
+            (is_held self.old.history.events line.condition order.now)
+            (state self.new)) }
+        ensures calls { Makes R.earns runner.old (AskedCalls self.old.by self.old.round
+            (line_with line order.now) order.now
+            (is_held self.old.history.events line.condition order.now)
+            (state self.old) (led_to (state self.new) result)) runner.new }
+        ensures order { OnOk result (GoesOn self.old self.new) }
+        ensures refuses { IfErr result (λ fault. fault ≡ Refused → R.may_refuse ≡ true) }
+    {
+        if is_held(&self.history, line.condition.as_ref(), order) {
+            return Ok(self.refuse_held(line, order)?);
+        }
+        self.rule_order(line, order, runner)
+    }
+
+    /// Records that the order in this line is refused because its condition is not met.
+    fn refuse_held(&mut self, line: ReadLine, order: &Order) -> Result<(), AllocError>
+        requires { IsInOrder self.old }
+        ensures turn { OnOk result (AskedLeads self.old.by (state self.old)
+            (line_with line order.now) order.now true (state self.new)) }
+        ensures order { OnOk result (GoesOn self.old self.new) }
+    {
+        let refusal = Some(Refusal::Condition);
+        record(&mut self.history, self.by.president, line, order, refusal)?;
+        Ok(())
+    }
+
+    /// Rules the line with this number, which has a fault of its own.
+    fn rule_faulty(&mut self, line: u32, fault: Fault) -> Result<(), AllocError>
+        requires { IsInOrder self.old }
+        ensures turn { OnOk result (state self.new
+            ≡ line_recorded self.old.by (state self.old) (faulty_line line fault) (Faulty fault)) }
+        ensures order { OnOk result (GoesOn self.old self.new) }
+    {
+        record_fault(&mut self.history, self.by.president, line, fault)
+    }
+
+    /// Rules an order in this line whose condition is met or absent, and does it if it is obeyed.
+    /// The runner is called only for the best runs.
+    fn rule_order<R: Runner>(
+        &mut self,
+        line: ReadLine,
+        order: &Order,
+        runner: &mut R,
+    ) -> Result<(), RunnerFault>
+        requires few { self.old.history.seats ≤ 6 }
+        requires small { IsSmallOrder order.now }
+        requires order { IsInOrder self.old }
+        ensures turn { OnOk result (OrderLeads self.old.by (state self.old)
+            (line_with line order.now) order.now (state self.new)) }
+        ensures calls { Makes R.earns runner.old (OrderCalls self.old.by self.old.round
+            (line_with line order.now) order.now (state self.old) (led_to (state self.new) result))
+            runner.new }
+        ensures order { OnOk result (GoesOn self.old self.new) }
+        ensures refuses { IfErr result (λ fault. fault ≡ Refused → R.may_refuse ≡ true) }
+    {
+        match order {
+            Order::RunBest => self.rule_best(line, runner),
+            _ => Ok(self.rule_other(line, order)?),
+        }
+    }
+
+    /// Rules an order other than RUN BEST. A RAISE is ruled at the end of the turn. An order that
+    /// is not named here has no place.
+    fn rule_other(&mut self, line: ReadLine, order: &Order) -> Result<(), AllocError>
+        requires few { self.old.history.seats ≤ 6 }
+        requires small { IsSmallOrder order.now }
+        requires order { IsInOrder self.old }
+        requires other { order.now ≢ RunBest }
+        ensures turn { OnOk result (OrderLeads self.old.by (state self.old)
+            (line_with line order.now) order.now (state self.new)) }
+        ensures order { OnOk result (GoesOn self.old self.new) }
+    {
+        match order {
+            Order::Lay(lay) => self.rule_lay(line, order, *lay),
+            Order::Token(place) => self.rule_token(line, order, *place),
+            Order::Run { kind, run } => self.rule_run(line, order, *kind, run),
+            Order::Pay => self.rule_pay(line, order),
+            Order::Withhold => self.rule_withhold(line, order),
+            Order::BuyTrain { kind, from } => {
+                self.withhold_if_unpaid()?;
+                self.rule_train(line, order, *kind, *from)?;
+                Ok(())
+            }
+            Order::BuyOwnedPrivate { private, price } => {
+                self.rule_private(line, order, *private, *price)
+            }
+            Order::Raise { .. } => Ok(()),
+            _ => self.rule_faulty(line.number, Fault::OutOfPlace),
+        }
+    }
+}
+
+/// Returns whether an order that is ruled at its place in a company's orders has a condition that
+/// is not met. The condition of a RAISE is checked at the end of the turn, and that of an order
+/// without a place never.
+fn is_held(history: &History, condition: Option<&Condition>, order: &Order) -> bool
+    ensures { result
+        ≡ is_held history.now.events (option_copied condition.entry) order.now }
+{
+    is_ruled_there(order) && !history.is_met(condition)
+}
+
+/// Returns whether an order is ruled at its place in a company's orders: a RAISE waits for the end
+/// of the turn, and others have no place.
+fn is_ruled_there(order: &Order) -> bool
+    ensures { result ≡ is_ruled_there order.now }
+{
+    matches!(
+        order,
+        Order::Lay(_)
+            | Order::Token(_)
+            | Order::Run { .. }
+            | Order::RunBest
+            | Order::Pay
+            | Order::Withhold
+            | Order::BuyTrain { .. }
+            | Order::BuyOwnedPrivate { .. }
+    )
+}
