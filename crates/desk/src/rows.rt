@@ -5,7 +5,7 @@ ghost use Rattle.desk.specs.StockLeft.{trains_left};
 ghost use Rattle.events.specs.Event.{party_of_company};
 ghost use Rattle.events.specs.declared.event.Shareholder.TheVariants.{BankPool, InitialOffering};
 ghost use Rattle.market.specs.OperatingOrder.{operates};
-ghost use Rattle.privates.specs.Judgement.{price_of};
+ghost use Rattle.privates.specs.Bank.{price_of};
 ghost use Rattle.std.specs.Prelude.{None};
 ghost use Rattle.tables.specs.Roster.{certificate_limit_of, face_of};
 ghost use Rattle.tables.specs.Train.{trains_of};

@@ -1,7 +1,7 @@
 -- Who presides over a company, if another does than a seat.
 use Rattle.std.specs.Prelude.{List, Option, Some, None, if◌then◌else◌}
 use Rattle.events.specs.declared.event.Event.{Event}
-use Rattle.purchases.specs.Discards.{is_president}
+use Rattle.purchases.specs.Discard.{is_president}
 use Rattle.tables.specs.declared.roster.Company.{Company}
 use Rattle.tables.specs.declared.seat.Seat.{Seat}
 use Rattle.totals.specs.Shares.{president_of}

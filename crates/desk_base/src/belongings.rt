@@ -1,7 +1,7 @@
 //! Orders about what a seat or a company has: offers, discards, trains of another company.
 ghost use Rattle.std.specs.Prelude.{◌≡◌};
 ghost use Rattle.desk_base.specs.Belongings.{other_president};
-ghost use Rattle.purchases.specs.Discards.{is_president};
+ghost use Rattle.purchases.specs.Discard.{is_president};
 
 use crate::objection::Objection;
 use history::{GameView, Holder};

@@ -4,9 +4,8 @@ ghost use Rattle.legal_runs.specs.Claim.{ClaimHolds};
 ghost use Rattle.legal_runs.specs.Set.{IsGreatest};
 ghost use Rattle.desk_base.specs.Laid.{laid_then};
 ghost use Rattle.totals.specs.Trains.{at_least_zero};
-ghost use Rattle.operating.specs.Best.{trains_now};
-ghost use Rattle.operating.specs.MapState.{map_state_now};
-ghost use Rattle.operating.specs.Runs.{position_now};
+ghost use Rattle.operating.specs.MapState.{map_state_now, position_now};
+ghost use Rattle.operating.specs.RunBest.{trains_now};
 
 use best_run::best;
 use board::Board;

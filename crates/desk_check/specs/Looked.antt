@@ -2,7 +2,7 @@
 -- for.
 use Rattle.std.specs.Prelude.{Bool, ◌&&◌, ◌||◌, not, List, is_some}
 use Rattle.events.specs.declared.event.Event.{Event}
-use Rattle.purchases.specs.Discards.{is_president}
+use Rattle.purchases.specs.Discard.{is_president}
 use Rattle.tables.specs.declared.roster.Company.{Company}
 use Rattle.tables.specs.declared.seat.Seat.{Seat}
 use Rattle.totals.specs.Shares.{is_floated, president_of, square_of}

@@ -1,7 +1,7 @@
 //! What a seat has to order as a round begins.
 ghost use Rattle.std.specs.Prelude.{◌≡◌};
 ghost use Rattle.desk_check.specs.Looked.{has_to_order};
-ghost use Rattle.purchases.specs.Discards.{is_president};
+ghost use Rattle.purchases.specs.Discard.{is_president};
 
 use history::GameView;
 use tables::{Company, Seat};

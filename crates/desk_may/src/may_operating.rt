@@ -8,7 +8,7 @@ use history::{History, Holder, Party, Refusal, TrainSeller};
 use market::operating_order;
 use moves::{Priced, owned_privates, trains};
 use order_grammar::{Order, TrainSource};
-use purchases::{Purchase, judge_private, judge_purchase, sells};
+use purchases::{TrainPurchase, judge_private, judge_purchase, sells};
 use report::name;
 use sheets::Sheets;
 use std::alloc::{AllocError, Global};
@@ -96,7 +96,7 @@ impl Buyer<'_> {
     }
 
     /// Adds a train that the company may buy, with who must consent, and up to which price.
-    fn push_train(self, out: &mut Vec<u8>, train: Priced<Purchase>) -> Result<(), AllocError> {
+    fn push_train(self, out: &mut Vec<u8>, train: Priced<TrainPurchase>) -> Result<(), AllocError> {
         push_may(out, &order_of_train(train.what), train.price)?;
         if let TrainSeller::Company(seller) = train.what.from {
             let president = self.history.now().president(seller);
@@ -143,10 +143,10 @@ impl Buyer<'_> {
     fn push_trains_not_bought(
         self,
         out: &mut Vec<u8>,
-        listed: &[Priced<Purchase>],
+        listed: &[Priced<TrainPurchase>],
     ) -> Result<(), AllocError> {
         for kind in &Kind::ALL {
-            let purchase = Purchase {
+            let purchase = TrainPurchase {
                 kind: *kind,
                 from: TrainSeller::Bank,
                 trade_in: None,
@@ -188,7 +188,7 @@ impl Buyer<'_> {
 }
 
 /// Returns the order of the purchase of a train.
-fn order_of_train(purchase: Purchase) -> Order {
+fn order_of_train(purchase: TrainPurchase) -> Order {
     let from = match (purchase.from, purchase.trade_in) {
         (TrainSeller::Bank, None) => TrainSource::Bank,
         (TrainSeller::Bank, Some(kind)) => TrainSource::Trade(kind),

@@ -14,10 +14,10 @@ use Rattle.map_tables.specs.Home.{home_of}
 use Rattle.map_tables.specs.Place.{place_of}
 use Rattle.map_tables.specs.declared.lay.Lay.{Lay}
 use Rattle.map_tables.specs.declared.place.Place.{Place}
-use Rattle.operating.specs.Act.{has_home_token, with_home}
-use Rattle.operating.specs.InTurn.{at_start}
-use Rattle.operating.specs.Judgement.{asker_of, is_companys, is_players}
+use Rattle.operating.specs.BoardAsker.{asker_of, is_companys, is_players}
+use Rattle.operating.specs.HomeToken.{has_home_token, with_home}
 use Rattle.operating.specs.MapState.{map_state_now}
+use Rattle.operating.specs.Progress.{at_start}
 use Rattle.tables.specs.Roster.{privates}
 use Rattle.tables.specs.declared.rolling_stock.Kind.{Kind}
 use Rattle.tables.specs.declared.rolling_stock.Kind.TheVariants.{Two}

@@ -3,7 +3,7 @@ ghost use Rattle.std.specs.Prelude.{IfOk};
 ghost use Rattle.board_state.specs.MapState.{position_of};
 ghost use Rattle.legal_runs.specs.Claim.{ClaimHolds};
 ghost use Rattle.legal_runs.specs.Set.{IsGreatest};
-ghost use Rattle.operating.specs.Act.{with_home};
+ghost use Rattle.operating.specs.HomeToken.{with_home};
 ghost use Rattle.operating.specs.MapState.{map_state_now};
 
 use crate::fault::{MovesFault, NoAnswer};

@@ -3,7 +3,7 @@
 ghost use Rattle.std.specs.Prelude.{◌≡◌, ◌++◌, IfOk, OnOk};
 ghost use Rattle.std.specs.List.{flat_map};
 ghost use Rattle.desk_moves.specs.Lines.{AreLines, lay_line, priced_line, token_line};
-ghost use Rattle.operating.specs.Act.{with_home};
+ghost use Rattle.operating.specs.HomeToken.{with_home};
 
 use crate::turn_start::{asker_at_start, board_at_start};
 use history::History;

@@ -3,10 +3,10 @@
 ghost use Rattle.std.specs.Prelude.{◌≡◌, IfOk, map};
 ghost use Rattle.desk_moves.specs.Start.{map_at_start};
 ghost use Rattle.map_tables.specs.OnMap.{has_token, names};
-ghost use Rattle.operating.specs.Act.{has_home_token, with_home};
-ghost use Rattle.operating.specs.InTurn.{at_start};
-ghost use Rattle.operating.specs.Judgement.{asker_of, is_companys, is_players};
+ghost use Rattle.operating.specs.BoardAsker.{asker_of, is_companys, is_players};
+ghost use Rattle.operating.specs.HomeToken.{has_home_token, with_home};
 ghost use Rattle.operating.specs.MapState.{map_state_now};
+ghost use Rattle.operating.specs.Progress.{at_start};
 ghost use Rattle.tables.specs.Roster.{privates};
 ghost use Rattle.totals.specs.LookBack.{owner_in};
 

@@ -22,7 +22,7 @@ use Rattle.order_grammar.specs.declared.condition.Condition.{Condition}
 use Rattle.order_grammar.specs.declared.condition.Condition.TheVariants as condition
 use Rattle.order_grammar.specs.declared.order.Order.{Order}
 use Rattle.order_grammar.specs.declared.order.Order.TheVariants as order
-use Rattle.purchases.specs.Trains.{sells}
+use Rattle.purchases.specs.Train.{sells}
 use Rattle.tables.specs.Roster.{certificate_limit_of, face_of}
 use Rattle.tables.specs.Train.{kinds, limit_of, stops_of}
 use Rattle.tables.specs.declared.rolling_stock.Kind.{Kind}

@@ -7,7 +7,8 @@ use Rattle.moves.specs.Bids.{IsBidAnswer, IsPrivateAnswer, least_bid_of}
 use Rattle.moves.specs.Listed.{Lists}
 use Rattle.moves.specs.declared.priced.Priced.{Priced}
 use Rattle.order_grammar.specs.declared.order.Order.TheVariants.{Bid, BuyPrivate}
-use Rattle.privates.specs.Judgement.{judgement_of, price_of}
+use Rattle.privates.specs.Bank.{price_of}
+use Rattle.privates.specs.Turn.{judgement_of}
 use Rattle.tables.specs.declared.roster.Private.{Private}
 use Rattle.tables.specs.declared.seat.Seat.{Seat}
 

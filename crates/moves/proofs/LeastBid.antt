@@ -5,9 +5,9 @@ use Rattle.std.proofs.lemmas.Bool.Decides.{nat_tests}
 use Rattle.std.specs.Int.Signed.{lt_z}
 use Rattle.forced_purchase.proofs.Cheapest.{not_less_is}
 use Rattle.moves.specs.Bids.{LeastBidIsLeast, least_bid_of, least_over, step_over}
-use Rattle.privates.proofs.BidsMade.{near_greatest}
-use Rattle.privates.specs.Judgement.{bid_rules, is_near, is_near_some, is_too_low}
-use Rattle.purchases.proofs.Buying.{not_less}
+use Rattle.privates.proofs.BidLemmas.{near_greatest}
+use Rattle.privates.specs.Bid.{bid_rules, is_near, is_near_some, is_too_low}
+use Rattle.purchases.proofs.TrainLemmas.{not_less}
 use Rattle.tables.proofs.Rules.{none_broken}
 use Rattle.tables.specs.Roster.{face_of}
 use Rattle.tables.specs.Rules.{AreKept, Rule, first_broken}

@@ -7,7 +7,8 @@ use Rattle.board.specs.LayRules.{cost_or}
 use Rattle.events.specs.declared.event.Event.{Event}
 use Rattle.events.specs.declared.ruling.OpeningRule.{OpeningRule}
 use Rattle.order_grammar.specs.declared.order.Order.TheVariants.{Bid, BuyPrivate}
-use Rattle.privates.specs.Judgement.{judgement_of, price_of}
+use Rattle.privates.specs.Bank.{price_of}
+use Rattle.privates.specs.Turn.{judgement_of}
 use Rattle.tables.specs.Roster.{face_of}
 use Rattle.tables.specs.declared.roster.Private.{Private}
 use Rattle.tables.specs.declared.seat.Seat.{Seat}

@@ -14,7 +14,7 @@ use Rattle.events.specs.declared.event.Event.{Event}
 use Rattle.events.specs.declared.ruling.StockRule.{StockRule}
 use Rattle.order_grammar.specs.declared.order.ShareSource.{ShareSource}
 use Rattle.order_grammar.specs.declared.order.ShareSource.TheVariants.{InitialOffering, BankPool}
-use Rattle.stock_round.specs.Judgement.{exchange_source, is_no_exchange}
+use Rattle.stock_round.specs.Exchange.{exchange_source, is_no_exchange}
 use Rattle.tables.specs.Roster.{companies}
 use Rattle.tables.specs.declared.roster.Company.{Company}
 use Rattle.tables.specs.declared.seat.Seat.{Seat}

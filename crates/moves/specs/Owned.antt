@@ -7,7 +7,7 @@ use Rattle.events.specs.declared.event.Holder.{Holder}
 use Rattle.events.specs.declared.event.Holder.TheVariants as holder
 use Rattle.events.specs.declared.ruling.PrivateRule.{PrivateRule}
 use Rattle.events.specs.declared.ruling.PrivateRule.TheVariants.{NoConsent, NeverSold, CashTooSmall}
-use Rattle.purchases.specs.Privates.{is_too_dear, private_judgement}
+use Rattle.purchases.specs.Private.{is_too_dear, private_judgement}
 use Rattle.tables.specs.Roster.{face_of, same_private}
 use Rattle.tables.specs.Rules.{first_broken}
 use Rattle.tables.specs.declared.roster.Company.{Company}

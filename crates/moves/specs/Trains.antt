@@ -8,8 +8,8 @@ use Rattle.board.specs.LayRules.{cost_or}
 use Rattle.events.specs.declared.event.TrainSeller.TheVariants as seller
 use Rattle.events.specs.declared.ruling.TrainRule.{TrainRule}
 use Rattle.events.specs.declared.ruling.TrainRule.TheVariants.{NoConsent, NotSellers}
-use Rattle.purchases.specs.Trains.{cost_of, is_not_sellers, train_judgement}
-use Rattle.purchases.specs.declared.purchase.Purchase.{Purchase}
+use Rattle.purchases.specs.Train.{cost_of, is_not_sellers, train_judgement}
+use Rattle.purchases.specs.declared.train.TrainPurchase.{TrainPurchase}
 use Rattle.tables.specs.Roster.{companies}
 use Rattle.tables.specs.Rules.{first_broken}
 use Rattle.tables.specs.Train.{kinds}
@@ -18,53 +18,53 @@ use Rattle.tables.specs.declared.roster.Company.{Company}
 use Rattle.totals.specs.LookBack.{Game}
 
 -- a train of the bank, with a train of this kind traded in, if one is
-abbrev pub of_bank : Kind → Option Kind → Purchase
+abbrev pub of_bank : Kind → Option Kind → TrainPurchase
 of_bank kind trade_in = record { kind = kind; from = seller.Bank; trade_in = trade_in; asked = None }
 
 -- a train of the pool
-abbrev pub of_pool : Kind → Purchase
+abbrev pub of_pool : Kind → TrainPurchase
 of_pool kind = record { kind = kind; from = seller.BankPool; trade_in = None; asked = None }
 
 -- a train of a company, at the least price
-abbrev pub of_company : Kind → Company → Purchase
+abbrev pub of_company : Kind → Company → TrainPurchase
 of_company kind its = record { kind = kind; from = seller.Company its; trade_in = None; asked = Some 1 }
 
 -- the trains of a kind of the bank: without a trade-in, and with each kind
-abbrev pub trains_of_bank : Kind → List Purchase
+abbrev pub trains_of_bank : Kind → List TrainPurchase
 trains_of_bank kind = flat_map (λ trade_in. of_bank kind trade_in ∷ []) (None ∷ map Some kinds)
 
 -- those of each company
-abbrev pub trains_of_companies : Kind → List Purchase
+abbrev pub trains_of_companies : Kind → List TrainPurchase
 trains_of_companies kind = flat_map (λ its. of_company kind its ∷ []) companies
 
 -- those of the pool and of each company
-abbrev pub trains_of_others : Kind → List Purchase
+abbrev pub trains_of_others : Kind → List TrainPurchase
 trains_of_others kind = (of_pool kind ∷ []) ++ trains_of_companies kind
 
 -- all trains of a kind
-abbrev pub trains_of_kind : Kind → List Purchase
+abbrev pub trains_of_kind : Kind → List TrainPurchase
 trains_of_kind kind = trains_of_bank kind ++ trains_of_others kind
 
 -- and of all kinds
-abbrev pub all_trains : List Purchase
+abbrev pub all_trains : List TrainPurchase
 all_trains = flat_map trains_of_kind kinds
 
 -- the first rule that is broken of those behind the consent, where another company sells
-abbrev pub broken_behind_consent : Game → Company → Purchase → Option TrainRule
+abbrev pub broken_behind_consent : Game → Company → TrainPurchase → Option TrainRule
 broken_behind_consent game company purchase =
     first_broken (record { code = NotSellers; broken = is_not_sellers game.events company purchase.kind purchase.from }
     ∷ [])
 
 -- the first rule that is broken, where whoever sells consents
-abbrev pub but_consent : Game → Company → Purchase → Option TrainRule → Option TrainRule
+abbrev pub but_consent : Game → Company → TrainPurchase → Option TrainRule → Option TrainRule
 but_consent game company purchase (Some NoConsent) = broken_behind_consent game company purchase
 but_consent game company purchase other = other
 
-abbrev pub judgement_with_consent : Game → Company → Purchase → Option TrainRule
+abbrev pub judgement_with_consent : Game → Company → TrainPurchase → Option TrainRule
 judgement_with_consent game company purchase =
     but_consent game company purchase (train_judgement game company purchase)
 
 -- the verdict on a purchase: its cost, or the first rule that it breaks
-abbrev pub IsTrainAnswer : Game → Company → Purchase → Result ℤ TrainRule → Type 0
+abbrev pub IsTrainAnswer : Game → Company → TrainPurchase → Result ℤ TrainRule → Type 0
 IsTrainAnswer game company purchase answer =
     answer ≡ cost_or (cost_of purchase) (judgement_with_consent game company purchase)

@@ -12,10 +12,13 @@ use Rattle.map_tables.specs.declared.rules.TokenRule.{TokenRule}
 use Rattle.moves.specs.Candidates.{all_lays, all_places}
 use Rattle.moves.specs.Listed.{AreListed}
 use Rattle.moves.specs.declared.priced.Priced.{Priced}
-use Rattle.operating.specs.InTurn.{InTurn, at_start, in_turn}
-use Rattle.operating.specs.Judgement.{asker_of}
+use Rattle.operating.specs.BoardAsker.{asker_of}
+use Rattle.operating.specs.CompanyOrders.{OrderLeads}
+use Rattle.operating.specs.Lay.{lay_answered}
 use Rattle.operating.specs.MapState.{map_state_now}
-use Rattle.operating.specs.Turn.{OrderLeads, lay_answered, token_answered}
+use Rattle.operating.specs.Progress.{at_start}
+use Rattle.operating.specs.Token.{token_answered}
+use Rattle.operating.specs.TurnState.{TurnState, turn_state}
 use Rattle.order_grammar.specs.declared.order.Order.TheVariants as order
 use Rattle.reach.specs.Position.{IsAmong}
 use Rattle.sheets.specs.Part.{Numbered}
@@ -35,41 +38,43 @@ AreTokensAtStart game company listed =
 -- a lay that is listed is obeyed at its price
 abbrev pub ListedLaysAreObeyed : Type 0
 ListedLaysAreObeyed =
-    (by : Operator) (game : Game) (line : Numbered) (lay : Lay) (listed : List (Priced Lay)) (new : InTurn) →
-    AreLaysAtStart game by.company listed → OrderLeads by (in_turn game at_start) line (order.Lay lay) new
+    (by : Operator) (game : Game) (line : Numbered) (lay : Lay) (listed : List (Priced Lay)) (new : TurnState) →
+    AreLaysAtStart game by.company listed → OrderLeads by (turn_state game at_start) line (order.Lay lay) new
     → (price : ℤ) → IsAmong (record { what = lay; price = price }) listed
-    → new ≡ lay_answered by (in_turn game at_start) line lay (Ok price)
+    → new ≡ lay_answered by (turn_state game at_start) line lay (Ok price)
 
 -- after a lay in this line was refused by some rule
-pub record IsLayRefused (by : Operator) (turn : InTurn) (line : Numbered) (lay : Lay) (new : InTurn) : Type 0 where
+pub record IsLayRefused (by : Operator) (turn : TurnState) (line : Numbered) (lay : Lay)
+    (new : TurnState) : Type 0 where
   pub rule : LayRule
   pub after : new ≡ lay_answered by turn line lay (Err rule)
 
 -- and one that is not listed is refused
 abbrev pub OtherLaysAreRefused : Type 0
 OtherLaysAreRefused =
-    (by : Operator) (game : Game) (line : Numbered) (lay : Lay) (listed : List (Priced Lay)) (new : InTurn) →
-    AreLaysAtStart game by.company listed → OrderLeads by (in_turn game at_start) line (order.Lay lay) new
+    (by : Operator) (game : Game) (line : Numbered) (lay : Lay) (listed : List (Priced Lay)) (new : TurnState) →
+    AreLaysAtStart game by.company listed → OrderLeads by (turn_state game at_start) line (order.Lay lay) new
     → ((price : ℤ) → IsAmong (record { what = lay; price = price }) listed → ⊥)
-    → IsLayRefused by (in_turn game at_start) line lay new
+    → IsLayRefused by (turn_state game at_start) line lay new
 
 -- a token that is listed is obeyed at its price
 abbrev pub ListedTokensAreObeyed : Type 0
 ListedTokensAreObeyed =
-    (by : Operator) (game : Game) (line : Numbered) (place : Place) (listed : List (Priced Place)) (new : InTurn) →
-    AreTokensAtStart game by.company listed → OrderLeads by (in_turn game at_start) line (order.Token place) new
+    (by : Operator) (game : Game) (line : Numbered) (place : Place) (listed : List (Priced Place)) (new : TurnState) →
+    AreTokensAtStart game by.company listed → OrderLeads by (turn_state game at_start) line (order.Token place) new
     → (price : ℤ) → IsAmong (record { what = place; price = price }) listed
-    → new ≡ token_answered by (in_turn game at_start) line place (Ok price)
+    → new ≡ token_answered by (turn_state game at_start) line place (Ok price)
 
 -- after a token in this line was refused by some rule
-pub record IsTokenRefused (by : Operator) (turn : InTurn) (line : Numbered) (place : Place) (new : InTurn) : Type 0 where
+pub record IsTokenRefused (by : Operator) (turn : TurnState) (line : Numbered) (place : Place)
+    (new : TurnState) : Type 0 where
   pub rule : TokenRule
   pub after : new ≡ token_answered by turn line place (Err rule)
 
 -- and one that is not listed is refused
 abbrev pub OtherTokensAreRefused : Type 0
 OtherTokensAreRefused =
-    (by : Operator) (game : Game) (line : Numbered) (place : Place) (listed : List (Priced Place)) (new : InTurn) →
-    AreTokensAtStart game by.company listed → OrderLeads by (in_turn game at_start) line (order.Token place) new
+    (by : Operator) (game : Game) (line : Numbered) (place : Place) (listed : List (Priced Place)) (new : TurnState) →
+    AreTokensAtStart game by.company listed → OrderLeads by (turn_state game at_start) line (order.Token place) new
     → ((price : ℤ) → IsAmong (record { what = place; price = price }) listed → ⊥)
-    → IsTokenRefused by (in_turn game at_start) line place new
+    → IsTokenRefused by (turn_state game at_start) line place new

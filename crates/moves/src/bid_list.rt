@@ -2,7 +2,7 @@
 ghost use Rattle.std.specs.Prelude.{◌≡◌, ◌≤◌, ◌∷◌, [], pos, IfOk, OnOk};
 ghost use Rattle.moves.specs.Bids.{IsBidAnswer, IsPrivateAnswer, least_bid_of};
 ghost use Rattle.moves.specs.Listed.{AreListed, Lists};
-ghost use Rattle.privates.specs.Judgement.{price_of};
+ghost use Rattle.privates.specs.Bank.{price_of};
 ghost use Rattle.tables.specs.Roster.{privates};
 
 use crate::priced::{Priced, push_priced};

@@ -6,7 +6,7 @@ ghost use Rattle.certs.specs.declared.deal.Sale.{Sale};
 ghost use Rattle.moves.specs.Deals.{IsPurchaseAnswer, IsSaleAnswer, all_purchases, all_sales, brought_by};
 ghost use Rattle.moves.specs.Deals.{exchange_of, purchases_of, sales_of, shares_of, starts_of};
 ghost use Rattle.moves.specs.Listed.{AreListed, Lists};
-ghost use Rattle.stock_round.specs.Judgement.{is_no_exchange, is_offered, is_owner, is_pooled};
+ghost use Rattle.stock_round.specs.Exchange.{is_no_exchange, is_offered, is_owner, is_pooled};
 ghost use Rattle.totals.specs.LookBack.{owner_of};
 ghost use Rattle.tables.specs.declared.roster.Private.TheVariants.{MohawkHudson};
 

@@ -3,7 +3,7 @@ ghost use Rattle.std.specs.Prelude.{◌≡◌, ◌∷◌, [], pos, IfOk, OnOk};
 ghost use Rattle.moves.specs.Listed.{AreListed, Lists};
 ghost use Rattle.moves.specs.Owned.{IsOwnedAnswer, broken_behind_consent, judgement_with_consent, least_price_of};
 ghost use Rattle.moves.specs.Owned.{is_no_players};
-ghost use Rattle.purchases.specs.Privates.{is_too_dear};
+ghost use Rattle.purchases.specs.Private.{is_too_dear};
 ghost use Rattle.tables.specs.Roster.{privates};
 
 use crate::priced::{Priced, push_priced};

@@ -4,12 +4,12 @@ ghost use Rattle.moves.specs.Listed.{AreListed, Lists};
 ghost use Rattle.moves.specs.Trains.{IsTrainAnswer, all_trains, broken_behind_consent};
 ghost use Rattle.moves.specs.Trains.{judgement_with_consent, trains_of_bank, trains_of_companies};
 ghost use Rattle.moves.specs.Trains.{trains_of_kind, trains_of_others};
-ghost use Rattle.purchases.specs.Trains.{IsSmallPurchase, is_not_sellers};
-ghost use Rattle.purchases.specs.declared.purchase.Purchase.{Purchase};
+ghost use Rattle.purchases.specs.Train.{IsSmallPurchase, is_not_sellers};
+ghost use Rattle.purchases.specs.declared.train.TrainPurchase.{TrainPurchase};
 
 use crate::priced::{Priced, push_priced};
 use history::{History, TrainRule, TrainSeller};
-use purchases::{Purchase, judge_purchase};
+use purchases::{TrainPurchase, judge_purchase};
 use std::alloc::{AllocError, Global};
 use tables::{Company, Kind, Money};
 
@@ -32,7 +32,7 @@ pub fn trains(
     alloc: Global,
     history: &History,
     company: Company,
-) -> Result<Vec<Priced<Purchase>>, AllocError>
+) -> Result<Vec<Priced<TrainPurchase>>, AllocError>
     ensures { IfOk result (λ trains.
         AreListed (IsTrainAnswer history.now company) all_trains trains.items) }
 {
@@ -45,7 +45,7 @@ pub fn trains(
 
 /// Adds the trains of a kind.
 fn push_trains_of_kind(
-    trains: &mut Vec<Priced<Purchase>>,
+    trains: &mut Vec<Priced<TrainPurchase>>,
     history: &History,
     company: Company,
     kind: Kind,
@@ -60,7 +60,7 @@ fn push_trains_of_kind(
 
 /// Adds the trains of a kind of the bank: without a trade-in, and with each.
 fn push_trains_of_bank(
-    trains: &mut Vec<Priced<Purchase>>,
+    trains: &mut Vec<Priced<TrainPurchase>>,
     history: &History,
     company: Company,
     kind: Kind,
@@ -69,7 +69,7 @@ fn push_trains_of_bank(
         trains.old.items trains.new.items) }
 {
     for trade_in in &TRADE_INS {
-        let purchase = Purchase {
+        let purchase = TrainPurchase {
             kind,
             from: TrainSeller::Bank,
             trade_in: *trade_in,
@@ -82,7 +82,7 @@ fn push_trains_of_bank(
 
 /// Adds the trains of a kind of the pool and of each company.
 fn push_trains_of_others(
-    trains: &mut Vec<Priced<Purchase>>,
+    trains: &mut Vec<Priced<TrainPurchase>>,
     history: &History,
     company: Company,
     kind: Kind,
@@ -90,7 +90,7 @@ fn push_trains_of_others(
     ensures { OnOk result (Lists (IsTrainAnswer history.now company) (trains_of_others kind)
         trains.old.items trains.new.items) }
 {
-    let of_pool = Purchase {
+    let of_pool = TrainPurchase {
         kind,
         from: TrainSeller::BankPool,
         trade_in: None,
@@ -103,7 +103,7 @@ fn push_trains_of_others(
 
 /// Adds the trains of a kind of each company, at the least price.
 fn push_trains_of_companies(
-    trains: &mut Vec<Priced<Purchase>>,
+    trains: &mut Vec<Priced<TrainPurchase>>,
     history: &History,
     company: Company,
     kind: Kind,
@@ -112,7 +112,7 @@ fn push_trains_of_companies(
         trains.old.items trains.new.items) }
 {
     for seller in &Company::ALL {
-        let purchase = Purchase {
+        let purchase = TrainPurchase {
             kind,
             from: TrainSeller::Company(*seller),
             trade_in: None,
@@ -126,10 +126,10 @@ fn push_trains_of_companies(
 /// Adds a purchase with its price if a company may make it, where whoever sells consents.
 #[tactic(auto, using(crate::proofs::TrainLemmas::lists_bought, crate::proofs::TrainLemmas::lists_not_bought))]
 fn push_train(
-    trains: &mut Vec<Priced<Purchase>>,
+    trains: &mut Vec<Priced<TrainPurchase>>,
     history: &History,
     company: Company,
-    purchase: Purchase,
+    purchase: TrainPurchase,
 ) -> Result<(), AllocError>
     requires { IsSmallPurchase purchase }
     ensures { OnOk result (Lists (IsTrainAnswer history.now company) (purchase ∷ [])
@@ -142,7 +142,11 @@ fn push_train(
 }
 
 /// Returns the first rule that a purchase breaks, but for the consent of whoever sells.
-fn judge_with_consent(history: &History, company: Company, purchase: Purchase) -> Option<TrainRule>
+fn judge_with_consent(
+    history: &History,
+    company: Company,
+    purchase: TrainPurchase,
+) -> Option<TrainRule>
     requires { IsSmallPurchase purchase }
     ensures { result ≡ judgement_with_consent history.now company purchase }
 {
@@ -157,7 +161,7 @@ fn judge_with_consent(history: &History, company: Company, purchase: Purchase) -
 fn broken_behind_consent(
     history: &History,
     company: Company,
-    purchase: Purchase,
+    purchase: TrainPurchase,
 ) -> Option<TrainRule>
     ensures { result ≡ broken_behind_consent history.now company purchase }
 {
@@ -168,7 +172,7 @@ fn broken_behind_consent(
 }
 
 /// Returns whether a company that is to sell a train has none of the kind, or is the buyer.
-fn is_not_sellers(history: &History, buyer: Company, purchase: Purchase) -> bool
+fn is_not_sellers(history: &History, buyer: Company, purchase: TrainPurchase) -> bool
     ensures { result ≡ is_not_sellers history.now.events buyer purchase.kind purchase.from }
 {
     match purchase.from {

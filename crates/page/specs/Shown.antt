@@ -9,8 +9,8 @@ use Rattle.legal_runs.specs.declared.claim.ClaimedRun.{ClaimedRun}
 use Rattle.map_tables.specs.OnMap.{has_token}
 use Rattle.map_tables.specs.declared.place.Place.{Place}
 use Rattle.map_tables.specs.declared.place.Stop.{Stop}
-use Rattle.operating.specs.Best.{trains_now}
-use Rattle.operating.specs.Runs.{position_now}
+use Rattle.operating.specs.MapState.{position_now}
+use Rattle.operating.specs.RunBest.{trains_now}
 use Rattle.page.specs.declared.routes.Route.{Route}
 use Rattle.page.specs.declared.routes.Visit.{Visit}
 use Rattle.tables.specs.Roster.{companies}

@@ -3,8 +3,7 @@ use Rattle.std.proofs.Common.{◌≡◌, ℕ, List, refl}
 use Rattle.totals.specs.LookBack.{Game}
 use Rattle.operating.proofs.CallsAnswered.{none_answered, then_answered, times_answered, turn_answered}
 use Rattle.operating.proofs.CallsAnswered.{unasked_answered}
-use Rattle.operating.specs.Answered.{IsAnswered}
-use Rattle.operating.specs.Calls.{Then, Unasked}
+use Rattle.operating.specs.Calls.{IsAnswered, Then, Unasked}
 use Rattle.rounds.specs.GameCalls.{AreOver, IsFinished, IsOpened, NextCalls, OperatingCalls, PlayedCalls, RoundCalls}
 use Rattle.rounds.specs.GameCalls.{Stops, TurnsCall, between_after}
 use Rattle.rounds.specs.Play.{Between, before_play}

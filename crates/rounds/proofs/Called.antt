@@ -4,8 +4,8 @@ use Rattle.std.proofs.Common.{◌∙◌, inl, inr}
 use Rattle.std.proofs.lemmas.List.{append-nil}
 use Rattle.totals.specs.LookBack.{Game}
 use Rattle.operating.proofs.Calls.{broken_off, joined, silent}
-use Rattle.operating.proofs.Played.{seats_stay}
 use Rattle.operating.proofs.TurnCalled.{turn_leads}
+use Rattle.operating.proofs.TurnLemmas.{seats_stay}
 use Rattle.operating.specs.Calls.{Call, Course, Earns, Makes, SomeTimesThen, Then, TimesThen, Unasked}
 use Rattle.operating.specs.TurnCalls.{SomeTurnCalls}
 use Rattle.rounds.specs.GameCalls.{AreOver, CallsAreOfTheGame, CompanyCalls, EachGameCalls, IsFinished, IsOpened}

@@ -7,9 +7,9 @@ use Rattle.legal_runs.specs.declared.runner.RunnerFault.TheVariants as runner
 use Rattle.totals.specs.LookBack.{Game, broken_in}
 use Rattle.totals.specs.Shares.{president_of}
 use Rattle.map_tables.specs.declared.rules.RunRule.{RunRule}
-use Rattle.operating.specs.Best.{best_judgement}
 use Rattle.operating.specs.Calls.{Call, Course, Then, TimesThen, Unasked}
-use Rattle.operating.specs.Turn.{is_held}
+use Rattle.operating.specs.CompanyOrders.{is_held}
+use Rattle.operating.specs.RunBest.{best_judgement}
 use Rattle.operating.specs.TurnCalls.{AskedCalls, Asks, BestCalls, CompanyOrdersCall, EndCalls, IsCredited, LineCalls}
 use Rattle.operating.specs.TurnCalls.{LinesCall, OrderCalls, ReadingCalls, TurnCalls, asked}
 use Rattle.order_grammar.specs.declared.fault.Fault.{Fault}

@@ -15,11 +15,12 @@ use Rattle.order_grammar.specs.declared.condition.Condition.{Condition}
 use Rattle.order_grammar.specs.declared.order.Order.{Order}
 use Rattle.order_grammar.specs.declared.order.Order.TheVariants as order
 use Rattle.privates.specs.Closing.{after_fall, after_passing, all_sold, closed, given_away}
-use Rattle.privates.specs.Judgement.{judgement_of, price_of, refusal_of}
+use Rattle.privates.specs.Bank.{price_of}
 use Rattle.privates.specs.Opening.{IsOpeningRound}
 use Rattle.privates.specs.Sale.{after_sale, gifts, settle_auctions, settled, settled_by, settled_of}
 use Rattle.privates.specs.Standing.{has_place_before, standing_judgement, standing_refusal, standing_ruling}
-use Rattle.privates.specs.Turn.{InTurn, acted, after_act, after_opening_line, after_ruling, opening_rules, ruling_in}
+use Rattle.privates.specs.Turn.{InTurn, acted, after_act, after_opening_line, after_ruling, judgement_of, opening_rules}
+use Rattle.privates.specs.Turn.{refusal_of, ruling_in}
 use Rattle.rounds.proofs.Growing.{Grows, GrowsPlainly, and_plain, by_steps, further, in_either, is_aside, passes_plain}
 use Rattle.rounds.proofs.Growing.{by_one_event, passes_test, revenues_grow, stays, still_is_plain}
 use Rattle.rounds.proofs.PlainLines.{of_mapped, recorded_plain, ruled_plain, ruling_plain}

@@ -9,7 +9,7 @@ use Rattle.history.proofs.BidWords.{seated_after_bid}
 use Rattle.totals.specs.Bids.{bid_of}
 use Rattle.totals.specs.LookBack.{Game}
 use Rattle.history.specs.Sound.{BiddersAreSeated}
-use Rattle.privates.proofs.AtTable.{by_rules, is_under, rules_at}
+use Rattle.privates.proofs.RulesAtTable.{by_rules, is_under, rules_at}
 use Rattle.privates.specs.Opening.{IsOpeningRound}
 use Rattle.privates.specs.Standing.{standing_ruling}
 use Rattle.privates.specs.Turn.{InTurn, after_opening_line}

@@ -20,12 +20,12 @@ use Rattle.history.specs.Record.{after_revenues}
 use Rattle.order_grammar.specs.declared.condition.Condition.{Condition}
 use Rattle.order_grammar.specs.declared.order.Order.{Order}
 use Rattle.order_grammar.specs.declared.order.Order.TheVariants as order
-use Rattle.privates.proofs.Judged.{may_act_after}
+use Rattle.privates.proofs.TurnLemmas.{may_act_after}
 use Rattle.privates.proofs.StandingBids.{cheapest_unsold}
 use Rattle.privates.specs.Closing.{after_fall, after_passing, all_sold, closed, given_away}
-use Rattle.privates.specs.Judgement.{judgement_of, price_of, refusal_of}
+use Rattle.privates.specs.Bank.{price_of}
 use Rattle.privates.specs.Sale.{after_sale, gifts, settle_auctions, settled, settled_by, settled_of}
-use Rattle.privates.specs.Turn.{InTurn, acted, after_opening_line, after_ruling}
+use Rattle.privates.specs.Turn.{InTurn, acted, after_opening_line, after_ruling, judgement_of, refusal_of}
 use Rattle.rounds.proofs.Growing.{GrowsStill, is_still, passes_test, revenues_grow}
 use Rattle.sheets.specs.Part.{Numbered}
 use Rattle.tables.specs.Roster.{privates}

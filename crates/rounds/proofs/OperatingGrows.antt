@@ -14,8 +14,8 @@ use Rattle.order_grammar.specs.declared.order.Offer.{Offer}
 use Rattle.order_grammar.specs.declared.order.Offer.TheVariants as offer
 use Rattle.order_grammar.specs.declared.order.Order.{Order}
 use Rattle.order_grammar.specs.declared.order.Order.TheVariants as order
-use Rattle.purchases.specs.Discards.{discard_judgement, is_president}
-use Rattle.purchases.specs.Offers.{is_seats, offer_judgement}
+use Rattle.purchases.specs.Discard.{discard_judgement, is_president}
+use Rattle.purchases.specs.Offer.{is_seats, offer_judgement}
 use Rattle.purchases.specs.Standing.{after_standing, after_standing_line, has_place_before, standing_judgement}
 use Rattle.purchases.specs.Standing.{standing_ruling}
 use Rattle.rounds.proofs.Growing.{Grows, GrowsPlainly, GrowsStill, and_plain, count_aside, further, is_still}

@@ -29,24 +29,33 @@ use Rattle.forced_purchase.proofs.Cheapest.{cheapest_plain}
 use Rattle.operating.proofs.ForcedGames.{operator}
 use Rattle.purchases.proofs.TrainSteps.{IsPassedOn, OfClosings, of_bop, of_choice, of_iterate, of_next, of_phase}
 use Rattle.purchases.proofs.TrainSteps.{of_trade, of_train_owner}
-use Rattle.operating.specs.Act.{has_home_token, with_home, withheld}
-use Rattle.operating.specs.Best.{BestRuled, best_earned, best_judgement}
+use Rattle.operating.specs.HomeToken.{has_home_token, with_home}
+use Rattle.operating.specs.Pay.{withheld}
+use Rattle.operating.specs.RunBest.{BestRuled, best_earned, best_judgement}
 use Rattle.certs.specs.Dividend.{all_paid, paid_for, paid_out, paid_to, paid_to_seats}
 use Rattle.operating.specs.Pay.{pay_judgement, withhold_judgement}
-use Rattle.operating.specs.Ending.{EndLeads}
-use Rattle.forced_purchase.specs.Forced.{after_forced, after_raise_line, after_raises, cheapest, concluded, falls_short}
-use Rattle.forced_purchase.specs.Forced.{needed_rule, sale_rule}
-use Rattle.forced_purchase.specs.Forced.{lack_of, next_to_sell, one_share, raise_rule, raise_ruled, sold_further}
-use Rattle.forced_purchase.specs.Forced.{sold_singly, with_aid, with_one_sold, with_ruling, with_sale}
-use Rattle.operating.specs.InTurn.{InTurn, in_turn, is_unpaid, line_recorded, pay_done, ruled}
-use Rattle.purchases.specs.Phases.{after_train, begins_phase, bought, with_phase, with_trade}
-use Rattle.purchases.specs.Privates.{private_bought, private_judgement, sold_by}
-use Rattle.operating.specs.Runs.{after_run, judged_run, run_ruled}
-use Rattle.purchases.specs.Trains.{cost_of, purchase_of, train_judgement}
-use Rattle.operating.specs.Turn.{AskedLeads, CompanyOrdersEnd, CompanyOrdersLead, IsCompanyTurn, LayLeads, LinesLead}
-use Rattle.operating.specs.Turn.{OrderLeads}
-use Rattle.operating.specs.Turn.{ReadingLeads, TokenLeads, begun, is_held, lay_answered, withheld_if_unpaid}
-use Rattle.operating.specs.Turn.{is_ruled_there, token_answered}
+use Rattle.operating.specs.TurnEnd.{EndLeads}
+use Rattle.forced_purchase.specs.Forced.{after_forced, concluded}
+use Rattle.forced_purchase.specs.Raise.{after_raise_line, after_raises}
+use Rattle.forced_purchase.specs.Shortfall.{cheapest, falls_short}
+use Rattle.forced_purchase.specs.Raise.{needed_rule, sale_rule}
+use Rattle.forced_purchase.specs.Shortfall.{lack_of}
+use Rattle.forced_purchase.specs.Forced.{next_to_sell, one_share, sold_further}
+use Rattle.forced_purchase.specs.Raise.{raise_rule, raise_ruled}
+use Rattle.forced_purchase.specs.Forced.{sold_singly, with_aid, with_one_sold}
+use Rattle.forced_purchase.specs.Raise.{with_ruling, with_sale}
+use Rattle.operating.specs.Progress.{is_unpaid, pay_done}
+use Rattle.operating.specs.TurnState.{TurnState, turn_state, line_recorded, ruled}
+use Rattle.purchases.specs.Train.{after_train, begins_phase, bought, with_trade}
+use Rattle.purchases.specs.Phases.{with_phase}
+use Rattle.purchases.specs.Private.{private_bought, private_judgement, sold_by}
+use Rattle.operating.specs.Run.{after_run, judged_run, run_ruled}
+use Rattle.purchases.specs.Train.{cost_of, purchase_of, train_judgement}
+use Rattle.operating.specs.CompanyOrders.{AskedLeads, LinesLead, OrderLeads, ReadingLeads, is_held, is_ruled_there}
+use Rattle.operating.specs.Lay.{LayLeads, lay_answered}
+use Rattle.operating.specs.Pay.{withheld_if_unpaid}
+use Rattle.operating.specs.Token.{TokenLeads, token_answered}
+use Rattle.operating.specs.Turn.{CompanyOrdersEnd, CompanyOrdersLead, IsCompanyTurn, begun}
 use Rattle.order_grammar.specs.declared.condition.Condition.{Condition}
 use Rattle.order_grammar.specs.declared.fault.Fault.{Fault}
 use Rattle.order_grammar.specs.declared.fault.Fault.TheVariants.{OutOfPlace}
@@ -75,7 +84,7 @@ abbrev pub AddsPlainly : Game → Game → Type 0
 AddsPlainly old new = GrowsPlain old.events new.events
 
 -- so does that of a turn
-abbrev TurnAdds : InTurn → InTurn → Type 0
+abbrev TurnAdds : TurnState → TurnState → Type 0
 TurnAdds old new = AddsPlainly old.game new.game
 
 -- that is passed on
@@ -122,11 +131,11 @@ module _ (company : Company) where
       let paid : Game = broken_recorded (with_event game its) in
       on.both game paid (withheld game company amount) (by_payment game its refl) (by_move square_left_of paid company)
 
-  by_withholding : (turn : InTurn) → TurnAdds turn (withheld_if_unpaid company turn)
+  by_withholding : (turn : TurnState) → TurnAdds turn (withheld_if_unpaid company turn)
   by_withholding turn =
       let kept : Game = withheld turn.game company turn.progress.runs.revenue in
       elim (is_unpaid turn.progress) as (λ (b : Bool). TurnAdds turn
-      (if b then in_turn kept (pay_done turn.progress) else turn)) [
+      (if b then turn_state kept (pay_done turn.progress) else turn)) [
         | true ↦ by_withheld turn.game turn.progress.runs.revenue
         | false ↦ on.same turn.game
       ]
@@ -204,12 +213,12 @@ module _ (company : Company) (seat : Seat) (line : Numbered) (plain : IsPlain li
   clear = ap (λ (condition : Option Condition). is_none condition && true) plain
 
   -- by a ruling of the line
-  by_ruling : (turn : InTurn) (ruling : Ruling) → is_ruled_plainly ruling ≡ true →
+  by_ruling : (turn : TurnState) (ruling : Ruling) → is_ruled_plainly ruling ≡ true →
       TurnAdds turn (line_recorded (operator company seat) turn line ruling)
   by_ruling turn ruling is = by_event turn.game (event.Ruled seat line.number ruling) is
 
   -- by that it is obeyed, and what follows from this
-  by_obeyed : (turn : InTurn) (its : Order) (new : Game) →
+  by_obeyed : (turn : TurnState) (its : Order) (new : Game) →
       AddsPlainly (line_recorded (operator company seat) turn line (Obeyed line.condition its)).game new →
       AddsPlainly turn.game new
   by_obeyed turn its new brings =
@@ -217,20 +226,21 @@ module _ (company : Company) (seat : Seat) (line : Numbered) (plain : IsPlain li
       (by_ruling turn (Obeyed line.condition its) clear) brings
 
   -- by that it breaks this rule first, or none
-  by_ruled : (turn : InTurn) (its : Order) (broken : Option Refusal) (act : InTurn → InTurn) →
-      IsOfFamily broken → ((after : InTurn) → TurnAdds after (act after)) →
+  by_ruled : (turn : TurnState) (its : Order) (broken : Option Refusal) (act : TurnState → TurnState) →
+      IsOfFamily broken → ((after : TurnState) → TurnAdds after (act after)) →
       TurnAdds turn (ruled (operator company seat) turn line its broken act)
   by_ruled turn its (Some rule) act of acts =
       by_ruling turn (Refused rule line.condition its) (refused_plain rule line.condition its plain of)
   by_ruled turn its None act of acts =
-      let obeyed : InTurn = line_recorded (operator company seat) turn line (Obeyed line.condition its) in
+      let obeyed : TurnState = line_recorded (operator company seat) turn line (Obeyed line.condition its) in
       by_obeyed turn its (act obeyed).game (acts obeyed)
 
   -- LAY
-  by_lay : (turn : InTurn) (lay : Lay) (new : InTurn) → LayLeads (operator company seat) turn line lay new →
+  by_lay : (turn : TurnState) (lay : Lay) (new : TurnState) → LayLeads (operator company seat) turn line lay new →
       TurnAdds turn new
   by_lay turn lay new leads =
-      let obeyed : InTurn = line_recorded (operator company seat) turn line (Obeyed line.condition (order.Lay lay)) in
+      let obeyed : TurnState = line_recorded (operator company seat) turn line
+      (Obeyed line.condition (order.Lay lay)) in
       subst (TurnAdds turn) (sym leads.after)
       (elim (leads.answer) as (λ answer. TurnAdds turn (lay_answered (operator company seat) turn line lay answer)) [
         | Err rule ↦ by_ruling turn (Refused (refusal.Lay rule) line.condition (order.Lay lay)) clear
@@ -240,10 +250,11 @@ module _ (company : Company) (seat : Seat) (line : Numbered) (plain : IsPlain li
       ])
 
   -- TOKEN
-  by_token : (turn : InTurn) (at : Place) (new : InTurn) → TokenLeads (operator company seat) turn line at new →
+  by_token : (turn : TurnState) (at : Place) (new : TurnState) → TokenLeads (operator company seat) turn line at new →
       TurnAdds turn new
   by_token turn at new leads =
-      let obeyed : InTurn = line_recorded (operator company seat) turn line (Obeyed line.condition (order.Token at)) in
+      let obeyed : TurnState = line_recorded (operator company seat) turn line
+      (Obeyed line.condition (order.Token at)) in
       subst (TurnAdds turn) (sym leads.after)
       (elim (leads.answer) as (λ answer. TurnAdds turn (token_answered (operator company seat) turn line at answer)) [
         | Err rule ↦ by_ruling turn (Refused (refusal.Token rule) line.condition (order.Token at)) clear
@@ -253,10 +264,10 @@ module _ (company : Company) (seat : Seat) (line : Numbered) (plain : IsPlain li
       ])
 
   -- RUN
-  by_run : (turn : InTurn) (kind : Kind) (run : List Place) →
+  by_run : (turn : TurnState) (kind : Kind) (run : List Place) →
       TurnAdds turn (after_run (operator company seat) turn line (order.Run kind run) kind run)
   by_run turn kind run =
-      let obeyed : InTurn = line_recorded (operator company seat) turn line
+      let obeyed : TurnState = line_recorded (operator company seat) turn line
       (Obeyed line.condition (order.Run kind run)) in
       elim (judged_run turn company kind run) as (λ judged. TurnAdds turn
       (run_ruled (operator company seat) turn line (order.Run kind run) judged)) [
@@ -267,7 +278,7 @@ module _ (company : Company) (seat : Seat) (line : Numbered) (plain : IsPlain li
       ]
 
   -- RUN BEST
-  by_best : (turn : InTurn) (rule : Option RunRule) (new : InTurn) →
+  by_best : (turn : TurnState) (rule : Option RunRule) (new : TurnState) →
       BestRuled (operator company seat) turn line rule new →
       TurnAdds turn new
   by_best turn (Some rule) new leads =
@@ -280,7 +291,7 @@ module _ (company : Company) (seat : Seat) (line : Numbered) (plain : IsPlain li
       (event.Runs company leads.0) refl))
 
   -- an order in this line
-  by_order : (turn : InTurn) (its : Order) (new : InTurn) → OrderLeads (operator company seat) turn line its new →
+  by_order : (turn : TurnState) (its : Order) (new : TurnState) → OrderLeads (operator company seat) turn line its new →
       TurnAdds turn new
   by_order turn (order.Lay lay) new leads = by_lay turn lay new leads
   by_order turn (order.Token at) new leads = by_token turn at new leads
@@ -288,23 +299,25 @@ module _ (company : Company) (seat : Seat) (line : Numbered) (plain : IsPlain li
   by_order turn order.RunBest new leads = by_best turn (best_judgement turn company) new leads
   by_order turn order.Pay new leads =
       let revenue : ℕ = turn.progress.runs.revenue in
-      let act : InTurn → InTurn = λ after. in_turn (paid_out after.game company revenue) (pay_done after.progress) in
+      let act : TurnState → TurnState =
+      λ after. turn_state (paid_out after.game company revenue) (pay_done after.progress) in
       subst (TurnAdds turn) (sym leads)
       (by_ruled turn order.Pay (option_map refusal.Pay (pay_judgement turn.progress)) act
       (of_mapped refusal.Pay (λ rule. tt) (pay_judgement turn.progress))
       (λ after. by_paid_out company after.game revenue))
   by_order turn order.Withhold new leads =
       let revenue : ℕ = turn.progress.runs.revenue in
-      let act : InTurn → InTurn = λ after. in_turn (withheld after.game company revenue) (pay_done after.progress) in
+      let act : TurnState → TurnState =
+      λ after. turn_state (withheld after.game company revenue) (pay_done after.progress) in
       subst (TurnAdds turn) (sym leads)
       (by_ruled turn order.Withhold (option_map refusal.Pay (withhold_judgement turn.progress)) act
       (of_mapped refusal.Pay (λ rule. tt) (withhold_judgement turn.progress))
       (λ after. by_withheld company after.game revenue))
   by_order turn (order.BuyTrain kind from) new leads =
-      let paid : InTurn = withheld_if_unpaid company turn in
+      let paid : TurnState = withheld_if_unpaid company turn in
       let purchase = purchase_of kind from in
       let rule : Option Refusal = option_map refusal.Train (train_judgement paid.game company purchase) in
-      let act : InTurn → InTurn = λ after. in_turn (after_train after.game company purchase) after.progress in
+      let act : TurnState → TurnState = λ after. turn_state (after_train after.game company purchase) after.progress in
       subst (TurnAdds turn) (sym leads)
       (on.both turn.game paid.game (ruled (operator company seat) paid line (order.BuyTrain kind from) rule act).game
       (by_withholding company turn)
@@ -313,8 +326,8 @@ module _ (company : Company) (seat : Seat) (line : Numbered) (plain : IsPlain li
       (λ after. by_train company after.game kind from)))
   by_order turn (order.BuyOwnedPrivate private price) new leads =
       let rule : Option Refusal = option_map refusal.Private (private_judgement turn.game company private price) in
-      let act : InTurn → InTurn =
-      λ after. in_turn (private_bought after.game company private price) after.progress in
+      let act : TurnState → TurnState =
+      λ after. turn_state (private_bought after.game company private price) after.progress in
       subst (TurnAdds turn) (sym leads)
       (by_ruled turn (order.BuyOwnedPrivate private price) rule act
       (of_mapped refusal.Private (λ rule. tt) (private_judgement turn.game company private price))
@@ -324,7 +337,7 @@ module _ (company : Company) (seat : Seat) (line : Numbered) (plain : IsPlain li
   by_order turn other new leads = subst (TurnAdds turn) (sym leads) (by_ruling turn (Faulty OutOfPlace) refl)
 
   -- one whose condition is checked
-  by_asked : (turn : InTurn) (its : Order) (held : Bool) (new : InTurn) → held ≡ false →
+  by_asked : (turn : TurnState) (its : Order) (held : Bool) (new : TurnState) → held ≡ false →
       AskedLeads (operator company seat) turn line its held new →
       TurnAdds turn new
   by_asked turn its true new free leads = absurd (let wrong : true ≡ false = free in cc)
@@ -337,7 +350,7 @@ module _ (company : Company) (seat : Seat) (line : Numbered) (plain : IsPlain li
       (not_held (is_ruled_there its))
 
   -- the line
-  by_line : (turn : InTurn) (reading : Result Order Fault) (new : InTurn) →
+  by_line : (turn : TurnState) (reading : Result Order Fault) (new : TurnState) →
       ReadingLeads (operator company seat) turn line reading new →
       TurnAdds turn new
   by_line turn (Err fault) new leads = subst (TurnAdds turn) (sym leads) (by_ruling turn (Faulty fault) refl)
@@ -380,7 +393,7 @@ module _ (company : Company) (seat : Seat) (line : Numbered) (plain : IsPlain li
 
 module _ (company : Company) (seat : Seat) where
   -- a company's orders
-  by_lines : (turn : InTurn) (lines : List Numbered) (new : InTurn) → ArePlain lines →
+  by_lines : (turn : TurnState) (lines : List Numbered) (new : TurnState) → ArePlain lines →
       LinesLead (operator company seat) turn lines new →
       TurnAdds turn new
   by_lines turn [] new are leads =
@@ -468,7 +481,7 @@ module _ (company : Company) (seat : Seat) where
 
 module _ (file : List ℕ) (round : Round) (sheets : SheetsArePlain file round) (company : Company) where
   -- a company's orders
-  by_orders : (turn : InTurn) (president : Option Seat) (new : InTurn) →
+  by_orders : (turn : TurnState) (president : Option Seat) (new : TurnState) →
       CompanyOrdersLead file round company turn president new →
       TurnAdds turn new
   by_orders turn None new leads =

@@ -9,11 +9,12 @@ use Rattle.totals.specs.LookBack.{Game, priority_of}
 use Rattle.totals.specs.Operating.{rulings_in_round}
 use Rattle.totals.specs.Shares.{president_of}
 use Rattle.history.specs.Record.{revenues_recorded, with_left}
-use Rattle.operating.specs.InTurn.{InTurn}
+use Rattle.operating.specs.TurnState.{TurnState}
 use Rattle.purchases.specs.Standing as rules
-use Rattle.operating.specs.Ending.{EndLeads}
-use Rattle.operating.specs.Turn.{CompanyOrdersEnd, CompanyOrdersLead, IsCompanyTurn, LinesLead, begun}
-use Rattle.operating.specs.Turn.{withheld_if_unpaid}
+use Rattle.operating.specs.CompanyOrders.{LinesLead}
+use Rattle.operating.specs.Pay.{withheld_if_unpaid}
+use Rattle.operating.specs.Turn.{CompanyOrdersEnd, CompanyOrdersLead, IsCompanyTurn, begun}
+use Rattle.operating.specs.TurnEnd.{EndLeads}
 use Rattle.privates.specs.Opening.{IsOpeningRound, written_turns_for, in_play, opened}
 use Rattle.privates.specs.Standing as opening
 use Rattle.privates.specs.Turn.{opening_turns}
@@ -101,7 +102,7 @@ module _ (first second : List ℕ) where
       (range_with_len 0 old.seats) same)
 
   -- a company's orders lead to the same
-  same_orders : (round : Round) (company : Company) (turn new : InTurn) (president : Option Seat)
+  same_orders : (round : Round) (company : Company) (turn new : TurnState) (president : Option Seat)
       → ReadAlikeFor round first second → CompanyOrdersLead first round company turn president new
       → CompanyOrdersLead second round company turn president new
   same_orders round company turn new None same leads = leads

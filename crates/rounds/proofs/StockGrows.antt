@@ -23,10 +23,11 @@ use Rattle.rounds.proofs.Growing.{by_one_event, passes_plain, passes_test, stays
 use Rattle.rounds.proofs.PlainLines.{of_mapped, recorded_plain, ruled_plain, ruling_plain}
 use Rattle.rounds.proofs.PlainTurns.{AddsPlain}
 use Rattle.sheets.specs.Part.{Numbered}
-use Rattle.stock_round.specs.Act.{after_act, after_exchange, after_purchase, bought, exchanged, floated_at, is_to_float}
-use Rattle.stock_round.specs.Act.{with_float}
+use Rattle.stock_round.specs.Buy.{after_purchase, bought}
 use Rattle.stock_round.specs.Closing.{all_risen, is_sold_out, risen}
-use Rattle.stock_round.specs.Judgement.{exchange_source, judgement_of, refusal_of}
+use Rattle.stock_round.specs.Exchange.{after_exchange, exchange_source, exchanged}
+use Rattle.stock_round.specs.Float.{floated_at, is_to_float, with_float}
+use Rattle.stock_round.specs.Orders.{after_act, judgement_of, refusal_of}
 use Rattle.stock_round.specs.Standing.{fault_of_standing}
 use Rattle.stock_round.specs.StockRound.{IsStockRound}
 use Rattle.stock_round.specs.Turn.{InTurn, acted, after_stock_line, after_ruling, ruling_in, stock_rules}

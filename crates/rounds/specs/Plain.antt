@@ -10,8 +10,8 @@ use Rattle.events.specs.declared.ruling.Refusal.{Refusal}
 use Rattle.events.specs.declared.ruling.Refusal.TheVariants as refusal
 use Rattle.events.specs.declared.ruling.Ruling.{Ruling}
 use Rattle.events.specs.declared.ruling.Ruling.TheVariants.{Obeyed, Refused, Faulty}
-use Rattle.forced_purchase.specs.Forced.{needed_rule, sale_rule}
-use Rattle.operating.specs.Turn.{is_held}
+use Rattle.forced_purchase.specs.Raise.{needed_rule, sale_rule}
+use Rattle.operating.specs.CompanyOrders.{is_held}
 use Rattle.order_grammar.specs.declared.condition.Condition.{Condition}
 use Rattle.order_grammar.specs.declared.condition.Version.TheVariants.{One}
 use Rattle.order_grammar.specs.declared.order.Order.{Order}

@@ -2,8 +2,7 @@
 -- until play stops, are the calls of the game. Each of them succeeds, since one that fails breaks
 -- play off.
 use Rattle.std.specs.Prelude.{◌≡◌, ℕ, zero, suc, List, [], ◌++◌, Ok}
-use Rattle.operating.specs.Answered.{AreAnswered}
-use Rattle.operating.specs.Calls.{Call}
+use Rattle.operating.specs.Calls.{AreAnswered, Call}
 use Rattle.rounds.specs.GameCalls.{GameCalls}
 use Rattle.rounds.specs.Play.{Played}
 use Rattle.rounds.specs.Steps.{PlaysNext, Stays, StepCalls, Underway, started}

@@ -5,7 +5,7 @@ ghost use Rattle.totals.specs.Shares.{is_floated};
 ghost use Rattle.history.specs.Sound.{IsSound};
 ghost use Rattle.history.specs.Record.{with_left};
 ghost use Rattle.operating.specs.Calls.{Makes};
-ghost use Rattle.operating.specs.Table.{IsLaidOut, game_on};
+ghost use Rattle.operating.specs.GameAndBoard.{IsLaidOut, game_on};
 ghost use Rattle.operating.specs.Turn.{IsCompanyTurn};
 ghost use Rattle.rounds.specs.Faults.{IsRefused};
 ghost use Rattle.rounds.specs.GameCalls.{CompanyCalls, OperatingCalls, TurnsCall};
@@ -17,7 +17,7 @@ use crate::fault::PlayFault;
 use history::{Event, History};
 use legal_runs::Runner;
 use market::operating_order;
-use operating::{Table, play_on};
+use operating::{GameAndBoard, play_on};
 use purchases::rule_standing_lines;
 use sheets::Sheets;
 use std::alloc::{AllocError, Global};
@@ -83,35 +83,35 @@ fn take_turns<R: Runner>(
     // reaches an end.
     market::laws::floated_companies_in_order();
     operating::laws::company_operates();
-    let mut table = Table::lay_out(alloc, history)?;
-    while let Some(company) = next_company(&table.history) {
-        table = take_turn(alloc, table, sheets, round, company, runner)?;
+    let mut game = GameAndBoard::lay_out(alloc, history)?;
+    while let Some(company) = next_company(&game.history) {
+        game = take_turn(alloc, game, sheets, round, company, runner)?;
     }
-    Ok(table.history)
+    Ok(game.history)
 }
 
 /// Plays the turn of a company, with a board that has the first of the tiles and tokens.
 fn take_turn<R: Runner>(
     alloc: Global,
-    table: Table,
+    game: GameAndBoard,
     sheets: &Sheets,
     round: Round,
     company: Company,
     runner: &mut R,
-) -> Result<Table, PlayFault>
-    requires floated { is_floated table.history.events company ≡ true }
-    requires laid { IsLaidOut table }
-    requires seats { table.history.seats ≡ length (players_of sheets.now) }
+) -> Result<GameAndBoard, PlayFault>
+    requires floated { is_floated game.history.events company ≡ true }
+    requires laid { IsLaidOut game }
+    requires seats { game.history.seats ≡ length (players_of sheets.now) }
     ensures turn { IfOk result (λ next.
-        IsCompanyTurn sheets.now round company table.history next.history) }
+        IsCompanyTurn sheets.now round company game.history next.history) }
     ensures calls { Makes R.earns runner.old
-        (CompanyCalls sheets.now round company table.history (game_on result)) runner.new }
-    ensures seats { IfOk result (λ next. next.history.seats ≡ table.history.seats) }
+        (CompanyCalls sheets.now round company game.history (game_on result)) runner.new }
+    ensures seats { IfOk result (λ next. next.history.seats ≡ game.history.seats) }
     ensures laid { IfOk result IsLaidOut }
     ensures refuses { IfErr result (λ fault. IsRefused fault → R.may_refuse ≡ true) }
 {
-    match play_on(alloc, table, sheets, round, company, runner) {
-        Ok(table) => Ok(table),
+    match play_on(alloc, game, sheets, round, company, runner) {
+        Ok(game) => Ok(game),
         Err(fault) => Err(PlayFault::in_turn(fault, round, company)),
     }
 }

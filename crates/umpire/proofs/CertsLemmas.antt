@@ -12,7 +12,7 @@ use Rattle.certificate.specs.declared.group.Group.{Group}
 use Rattle.legal_runs.specs.declared.runner.RunnerFault.{RunnerFault}
 use Rattle.operating.specs.Calls.{AreMade, Call}
 use Rattle.order_grammar.specs.declared.order.Order.TheVariants.{Certs}
-use Rattle.operating.specs.Answered.{AreAnswered}
+use Rattle.operating.specs.Calls.{AreAnswered}
 use Rattle.report.specs.Report.{refusal_line}
 use Rattle.rounds.specs.Steps.{started}
 use Rattle.rounds.specs.StepsCall.{StepsCall}

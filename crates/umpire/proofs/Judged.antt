@@ -6,8 +6,7 @@ use Rattle.certificate.specs.Checked.{AnswersBy, AnswersByNext}
 use Rattle.certificate.specs.declared.group.Group.{Group}
 use Rattle.legal_runs.specs.declared.runner.RunnerFault.{RunnerFault}
 use Rattle.legal_runs.specs.declared.runner.RunnerFault.TheVariants as runner
-use Rattle.operating.specs.Answered.{AreAnswered}
-use Rattle.operating.specs.Calls.{AreCutShort, AreMade, Call, unanswered}
+use Rattle.operating.specs.Calls.{AreAnswered, AreCutShort, AreMade, Call, unanswered}
 use Rattle.rounds.specs.Faults.{fault_in_turn}
 use Rattle.rounds.specs.GameCalls.{ArePrefix, GameCalls, RefusedCallsAreAPrefix, SomeCalls}
 use Rattle.rounds.specs.Play.{Played}

@@ -1,7 +1,7 @@
 use Rattle.std.proofs.Common.{◌∙◌}
 use Rattle.desk_base.proofs.BestRuns.{greatest_in_game, holds_in_game}
-use Rattle.operating.specs.Best.{trains_now}
 use Rattle.operating.specs.MapState.{map_state_now}
+use Rattle.operating.specs.RunBest.{trains_now}
 use Rattle.desk_base.proofs.map_state.best_at.Goals as goal
 
 pub returns-clause-holds : goal.returns-clause-holds

@@ -1,9 +1,9 @@
 use Rattle.std.proofs.Common.{[], ◌∙◌}
 use Rattle.std.proofs.lemmas.Int.{to_z-of_z}
 use mir.Syntax.{w64}
-use Rattle.operating.proofs.BestLemmas.{same_count}
+use Rattle.operating.proofs.RunBestLemmas.{same_count}
 use Rattle.purchases.proofs.Folding.{fold_goes_on}
-use Rattle.operating.specs.Best.{with_those_held}
+use Rattle.operating.specs.RunBest.{with_those_held}
 use Rattle.desk_base.proofs.map_state.trains_of.Goals as goal
 use Rattle.tables.specs.Train.{kinds}
 

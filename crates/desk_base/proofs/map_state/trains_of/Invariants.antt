@@ -1,6 +1,6 @@
 use Rattle.std.proofs.Common.{◌≡◌, [], take}
 use Rattle.std.specs.List.{fold}
-use Rattle.operating.specs.Best.{with_those_held}
+use Rattle.operating.specs.RunBest.{with_those_held}
 use Rattle.desk_base.proofs.map_state.trains_of.Given as goal
 use Rattle.tables.specs.Train.{kinds}
 

@@ -1,7 +1,7 @@
 use Rattle.std.proofs.Common.{◌≡◌, ℕ, false, Some, subst}
 use Rattle.moves.proofs.BidLemmas.{lists_not_bid}
 use Rattle.order_grammar.specs.declared.order.Order.TheVariants.{Bid}
-use Rattle.privates.specs.Judgement.{judgement_of}
+use Rattle.privates.specs.Turn.{judgement_of}
 use Rattle.moves.proofs.bid_list.push_bid.Goals as goal
 
 pub returns-in-Some : goal.returns-in-Some

@@ -1,7 +1,7 @@
 use Rattle.std.proofs.Common.{◌≡◌, List, Result}
 use Rattle.totals.specs.LookBack.{Game}
 use Rattle.operating.specs.Calls.{Makes}
-use Rattle.operating.specs.Table.{IsLaidOut}
+use Rattle.operating.specs.GameAndBoard.{IsLaidOut}
 use Rattle.rounds.proofs.Idle.{idle_of}
 use Rattle.rounds.specs.GameCalls.{TurnsCall}
 use Rattle.rounds.specs.OperatingRound.{TakeTurns}
@@ -14,14 +14,14 @@ use Rattle.rounds.proofs.operating_round.take_turns.Given as goal
 abbrev pub invariant-loop-company : goal.invariant-loop-company
 invariant-loop-company g l = record {
   companies : List Company;
-  turns : TakeTurns l.sheets l.round companies l.fn.history l.table.history;
+  turns : TakeTurns l.sheets l.round companies l.fn.history l.game.history;
   calls : (outcome : Result Game PlayFault) (after : _)
-      → Makes g.R.Runner.earns l.runner (TurnsCall l.sheets l.round l.table.history outcome) after →
+      → Makes g.R.Runner.earns l.runner (TurnsCall l.sheets l.round l.game.history outcome) after →
       Makes g.R.Runner.earns l.fn.runner (TurnsCall l.sheets l.round l.fn.history outcome) after;
-  seats : l.table.history.seats ≡ l.fn.history.seats;
-  laid : IsLaidOut l.table;
+  seats : l.game.history.seats ≡ l.fn.history.seats;
+  laid : IsLaidOut l.game;
 }
 
 -- each turn leaves fewer companies that have not operated
 abbrev pub decreases-loop-company : goal.decreases-loop-company
-decreases-loop-company g l = idle_of l.table.history.events
+decreases-loop-company g l = idle_of l.game.history.events
