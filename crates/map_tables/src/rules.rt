@@ -1,7 +1,10 @@
 ghost use Rattle.std.specs.Prelude.{◌≡◌};
 ghost use Rattle.map_tables.specs.RuleCodes.{code_of_lay_rule, code_of_run_rule, code_of_token_rule};
+ghost use Rattle.map_tables.specs.RuleCodes.{sentence_of_lay_rule, sentence_of_run_rule, sentence_of_token_rule};
+ghost use Rattle.tables.specs.RuleTexts.{ListsEachRule};
 
 use std::fmt::{self, Display, Formatter, Write};
+use tables::{Printed, RuleRow, rule_rows};
 use thiserror::Error;
 
 /// A rule that the lay of a tile may break. `sentence` returns what each asks.
@@ -29,48 +32,53 @@ pub enum LayRule {
     CashTooSmall,
 }
 
+/// The rules of lays, in the order in which they are checked.
+static LAY_RULES: [RuleRow<LayRule>; 10] = rule_rows! { LayRule
+    StepUsed: "L1", "the lay of the turn is used, or its step is past",
+    GreyOrRed: "L2", "the hex is grey or red",
+    NoneLeft: "L3", "no such tile is left",
+    ColourClosed: "L4", "the colour has not come yet",
+    WrongTile: "L5",
+        "the tile is not of the hex's next colour or kind; or SWAP stands where there are not \
+        two stops",
+    TrackLost: "L6", "track that the hex has would be lost",
+    BadSide: "L7",
+        "track would lead off the map, over a closed border, or to a grey or red hex that has \
+        none there",
+    Blocked: "L8", "a player owns the private of that hex",
+    NotReached: "L9", "the company reaches neither the tile's track nor a stop of the hex",
+    CashTooSmall: "L10", "it costs more than the company's cash",
+};
+
 impl LayRule {
+    /// Returns the table of all these: each with its code and its sentence.
+    pub fn rows() -> &'static [RuleRow<LayRule>]
+        ensures { ListsEachRule code_of_lay_rule result.now }
+    {
+        &LAY_RULES
+    }
+
     /// Returns the code that a report prints.
     pub fn code(self) -> &'static str
         ensures { result.now ≡ code_of_lay_rule self }
     {
-        match self {
-            LayRule::StepUsed => "L1",
-            LayRule::GreyOrRed => "L2",
-            LayRule::NoneLeft => "L3",
-            LayRule::ColourClosed => "L4",
-            LayRule::WrongTile => "L5",
-            LayRule::TrackLost => "L6",
-            LayRule::BadSide => "L7",
-            LayRule::Blocked => "L8",
-            LayRule::NotReached => "L9",
-            LayRule::CashTooSmall => "L10",
-        }
+        LAY_RULES[self as usize].code
     }
 
     /// Returns what is wrong, in a player's words. The desk and the tables of the docs print no
     /// other.
-    pub fn sentence(self) -> &'static str {
-        match self {
-            LayRule::StepUsed => "the lay of the turn is used, or its step is past",
-            LayRule::GreyOrRed => "the hex is grey or red",
-            LayRule::NoneLeft => "no such tile is left",
-            LayRule::ColourClosed => "the colour has not come yet",
-            LayRule::WrongTile => {
-                "the tile is not of the hex's next colour or kind; or SWAP stands where there \
-                    are not two stops"
-            }
-            LayRule::TrackLost => "track that the hex has would be lost",
-            LayRule::BadSide => {
-                "track would lead off the map, over a closed border, or to a grey or red hex \
-                    that has none there"
-            }
-            LayRule::Blocked => "a player owns the private of that hex",
-            LayRule::NotReached => {
-                "the company reaches neither the tile's track nor a stop of the hex"
-            }
-            LayRule::CashTooSmall => "it costs more than the company's cash",
-        }
+    pub fn sentence(self) -> &'static str
+        ensures { result.now ≡ sentence_of_lay_rule self }
+    {
+        LAY_RULES[self as usize].sentence
+    }
+}
+
+impl Printed for LayRule {
+    ghost code_of = { code_of_lay_rule };
+
+    fn printed(self) -> &'static str {
+        self.code()
     }
 }
 
@@ -98,37 +106,47 @@ pub enum TokenRule {
     CashTooSmall,
 }
 
+/// The rules of tokens, in the order in which they are checked.
+static TOKEN_RULES: [RuleRow<TokenRule>; 6] = rule_rows! { TokenRule
+    StepUsed: "K1", "the step of the token is past",
+    NoTokenLeft: "K2", "the company has no token left",
+    NoFreeSlot: "K3",
+        "it is at no stop of a city, or no slot is free; one that is kept for a home counts as \
+        taken",
+    InHexAlready: "K4", "the company has a token in the hex",
+    NotReached: "K5", "the company does not reach the stop",
+    CashTooSmall: "K6", "it costs more than the company's cash: 40 the second, 100 each later one",
+};
+
 impl TokenRule {
+    /// Returns the table of all these: each with its code and its sentence.
+    pub fn rows() -> &'static [RuleRow<TokenRule>]
+        ensures { ListsEachRule code_of_token_rule result.now }
+    {
+        &TOKEN_RULES
+    }
+
     /// Returns the code that a report prints.
     pub fn code(self) -> &'static str
         ensures { result.now ≡ code_of_token_rule self }
     {
-        match self {
-            TokenRule::StepUsed => "K1",
-            TokenRule::NoTokenLeft => "K2",
-            TokenRule::NoFreeSlot => "K3",
-            TokenRule::InHexAlready => "K4",
-            TokenRule::NotReached => "K5",
-            TokenRule::CashTooSmall => "K6",
-        }
+        TOKEN_RULES[self as usize].code
     }
 
     /// Returns what is wrong, in a player's words. The desk and the tables of the docs print no
     /// other.
-    pub fn sentence(self) -> &'static str {
-        match self {
-            TokenRule::StepUsed => "the step of the token is past",
-            TokenRule::NoTokenLeft => "the company has no token left",
-            TokenRule::NoFreeSlot => {
-                "it is at no stop of a city, or no slot is free; one that is kept for a home \
-                    counts as taken"
-            }
-            TokenRule::InHexAlready => "the company has a token in the hex",
-            TokenRule::NotReached => "the company does not reach the stop",
-            TokenRule::CashTooSmall => {
-                "it costs more than the company's cash: 40 the second, 100 each later one"
-            }
-        }
+    pub fn sentence(self) -> &'static str
+        ensures { result.now ≡ sentence_of_token_rule self }
+    {
+        TOKEN_RULES[self as usize].sentence
+    }
+}
+
+impl Printed for TokenRule {
+    ghost code_of = { code_of_token_rule };
+
+    fn printed(self) -> &'static str {
+        self.code()
     }
 }
 
@@ -163,43 +181,50 @@ pub enum RunRule {
     RedInside,
 }
 
+/// The rules of runs, in the order in which they are checked.
+static RUN_RULES: [RuleRow<RunRule>; 9] = rule_rows! { RunRule
+    StepUsed: "R1", "the step of the runs is past",
+    NoTrain: "R2",
+        "no train of the kind is left that has not run; of RUN BEST: the company has no train, \
+        or one has run",
+    NoTrack: "R3", "there is no such track, or an end is no stop",
+    WrongNumber: "R4", "it visits under two stops, or more than the train may",
+    StopTwice: "R5", "it visits a stop twice",
+    BorderTwice: "R6", "it crosses a border that it or another run of the turn has crossed",
+    PassesFull: "R7", "it passes a city that is full of other companies' tokens",
+    NoToken: "R8", "it visits no token of the company",
+    RedInside: "R9", "it passes a red area",
+};
+
 impl RunRule {
+    /// Returns the table of all these: each with its code and its sentence.
+    pub fn rows() -> &'static [RuleRow<RunRule>]
+        ensures { ListsEachRule code_of_run_rule result.now }
+    {
+        &RUN_RULES
+    }
+
     /// Returns the code that a report prints.
     pub fn code(self) -> &'static str
         ensures { result.now ≡ code_of_run_rule self }
     {
-        match self {
-            RunRule::StepUsed => "R1",
-            RunRule::NoTrain => "R2",
-            RunRule::NoTrack => "R3",
-            RunRule::WrongNumber => "R4",
-            RunRule::StopTwice => "R5",
-            RunRule::BorderTwice => "R6",
-            RunRule::PassesFull => "R7",
-            RunRule::NoToken => "R8",
-            RunRule::RedInside => "R9",
-        }
+        RUN_RULES[self as usize].code
     }
 
     /// Returns what is wrong, in a player's words. The desk and the tables of the docs print no
     /// other.
-    pub fn sentence(self) -> &'static str {
-        match self {
-            RunRule::StepUsed => "the step of the runs is past",
-            RunRule::NoTrain => {
-                "no train of the kind is left that has not run; of RUN BEST: the company has \
-                    no train, or one has run"
-            }
-            RunRule::NoTrack => "there is no such track, or an end is no stop",
-            RunRule::WrongNumber => "it visits under two stops, or more than the train may",
-            RunRule::StopTwice => "it visits a stop twice",
-            RunRule::BorderTwice => {
-                "it crosses a border that it or another run of the turn has crossed"
-            }
-            RunRule::PassesFull => "it passes a city that is full of other companies' tokens",
-            RunRule::NoToken => "it visits no token of the company",
-            RunRule::RedInside => "it passes a red area",
-        }
+    pub fn sentence(self) -> &'static str
+        ensures { result.now ≡ sentence_of_run_rule self }
+    {
+        RUN_RULES[self as usize].sentence
+    }
+}
+
+impl Printed for RunRule {
+    ghost code_of = { code_of_run_rule };
+
+    fn printed(self) -> &'static str {
+        self.code()
     }
 }
 

@@ -4,5 +4,6 @@ pub mod Round
 pub mod Steps
 pub mod Turns
 pub mod Rules
+pub mod RuleTexts
 pub mod Train
 pub mod Chart

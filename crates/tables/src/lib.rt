@@ -23,6 +23,7 @@ pub use chart::{par_square, price, square, zone};
 pub use rolling_stock::{Kind, Trains, limit, rounds_in_set, rusts, train};
 pub use roster::{Company, Private, face, revenue, token_price, tokens};
 pub use round::{NUMBER_MOST, OPERATING_MOST, Round};
+pub use rule_table::{Printed, RuleRow, rule_with_code};
 pub use seat::{
     Amount, Money, PLAYERS_LEAST, PLAYERS_MOST, Seat, bank_start, certificate_limit, start_money,
 };

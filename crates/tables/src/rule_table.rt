@@ -1,3 +1,6 @@
+ghost use Rattle.std.specs.Prelude.{◌≡◌, ℕ, All, List, MatchOption};
+ghost use Rattle.tables.specs.RuleTexts.{HasCode, HasNotCode, ListsEachRule};
+
 /// Returns the first rule of a table that is broken, or `None` if each is kept.
 ///
 /// A table names the enum of its rules, and then each rule with the test that says whether it is
@@ -20,4 +23,65 @@ macro_rules! rules {
             $crate::rules!($family $($later)*)
         }
     };
+}
+
+/// A row of the table of all rules of a family: the rule, the code that a report prints, and what
+/// is wrong where the rule is broken, in a player's words.
+#[derive(Clone, Copy, Debug)]
+pub struct RuleRow<R> {
+    /// The rule.
+    pub rule: R,
+    /// Its code, in upper case.
+    pub code: &'static str,
+    /// Its sentence. The desk and the tables of the docs print no other.
+    pub sentence: &'static str,
+}
+
+/// Returns the rows of a family's table: each rule with its code and its sentence.
+///
+/// ```text
+/// rule_rows! { PayRule
+///     NothingToPay: "D1", "the company has paid or withheld",
+/// }
+/// ```
+#[macro_export]
+macro_rules! rule_rows {
+    ($family:ident $($rule:ident: $code:expr, $sentence:expr,)*) => {
+        [$($crate::RuleRow { rule: $family::$rule, code: $code, sentence: $sentence },)*]
+    };
+}
+
+/// What a report prints by a code.
+pub trait Printed: Copy {
+    /// The code.
+    ghost code_of: { Self → List ℕ };
+
+    /// Returns the code.
+    fn printed(self) -> &'static str
+        ensures { result.now ≡ code_of self };
+}
+
+/// Returns the rule with a code, in letters of either case, by the table of its family. The result
+/// is `None` if no rule of the family has that code.
+pub fn rule_with_code<R: Printed>(rows: &[RuleRow<R>], code: &str) -> Option<R>
+    requires { ListsEachRule R.code_of rows.now }
+    ensures { MatchOption result
+        ((rule : R) → HasNotCode code.now (R.code_of rule))
+        (λ rule. HasCode code.now (R.code_of rule)) }
+{
+    rule_among(rows, code)
+}
+
+/// Returns the rule of the first row with this code, in letters of either case.
+fn rule_among<R: Printed>(rows: &[RuleRow<R>], code: &str) -> Option<R>
+    ensures { MatchOption result
+        (All (λ row. HasNotCode code.now (R.code_of row.rule)) rows.now)
+        (λ rule. HasCode code.now (R.code_of rule)) }
+{
+    for row in rows {
+        if row.rule.printed().eq_ignore_ascii_case(code) {
+            return Some(row.rule);
+        }
+    }
+    None
 }
