@@ -20,11 +20,15 @@ mod seat;
 mod squares;
 
 pub use chart::{par_square, price, square, zone};
-pub use rolling_stock::{Kind, Trains, limit, rounds_in_set, rusts, train};
-pub use roster::{Company, Private, face, revenue, token_price, tokens};
+pub use rolling_stock::{KINDS, Kind, PerKind, Trains, limit, rounds_in_set, rusts, train};
+pub use roster::{
+    COMPANIES, Company, PRIVATES, PerCompany, PerPrivate, Private, face, revenue, token_price,
+    tokens,
+};
 pub use round::{NUMBER_MOST, OPERATING_MOST, Round};
 pub use rule_table::{Printed, RuleRow, rule_with_code};
 pub use seat::{
-    Amount, Money, PLAYERS_LEAST, PLAYERS_MOST, Seat, bank_start, certificate_limit, start_money,
+    Amount, Money, PLAYERS_LEAST, PLAYERS_MOST, PerSeat, Seat, bank_start, certificate_limit,
+    start_money,
 };
 pub use squares::{Square, Zone};

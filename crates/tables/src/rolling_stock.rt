@@ -4,6 +4,13 @@ ghost use Rattle.tables.specs.Train.{trains_of};
 
 use crate::seat::Amount;
 
+/// How many kinds of trains there are.
+pub const KINDS: usize = 6;
+
+/// A value for each kind of train, in the order in which they come: that of a kind is at its
+/// `place`.
+pub type PerKind<T> = [T; KINDS];
+
 /// A kind of train. It is also the phase that the first train of the kind begins. A game begins in
 /// the phase of the first kind.
 #[derive(Clone, Copy, Debug, PartialEq, Eq, Default)]
@@ -29,7 +36,7 @@ pub struct Trains {
 
 impl Kind {
     /// The six kinds, least first.
-    pub const ALL: [Kind; 6] = [
+    pub const ALL: PerKind<Kind> = [
         Kind::Two,
         Kind::Three,
         Kind::Four,

@@ -4,6 +4,18 @@ ghost use Rattle.tables.specs.Roster.{revenue_of, token_price_of, token_supply_o
 
 use crate::seat::Amount;
 
+/// How many companies there are.
+pub const COMPANIES: usize = 8;
+
+/// How many privates there are.
+pub const PRIVATES: usize = 6;
+
+/// A value for each company, in roster order: that of a company is at its `place`.
+pub type PerCompany<T> = [T; COMPANIES];
+
+/// A value for each private, in roster order: that of a private is at its `place`.
+pub type PerPrivate<T> = [T; PRIVATES];
+
 /// A share company, in roster order. The default is the first of them.
 #[derive(Clone, Copy, Debug, PartialEq, Eq, Default)]
 pub enum Company {
@@ -28,7 +40,7 @@ pub enum Company {
 
 impl Company {
     /// The eight companies, in roster order.
-    pub const ALL: [Company; 8] = [
+    pub const ALL: PerCompany<Company> = [
         Company::Pennsylvania,
         Company::NewYorkCentral,
         Company::CanadianPacific,
@@ -92,7 +104,7 @@ pub enum Private {
 
 impl Private {
     /// The six privates, in roster order.
-    pub const ALL: [Private; 6] = [
+    pub const ALL: PerPrivate<Private> = [
         Private::SchuylkillValley,
         Private::ChamplainStLawrence,
         Private::DelawareHudson,

@@ -48,6 +48,9 @@ pub const PLAYERS_LEAST: usize = 3;
 /// The most players of a game.
 pub const PLAYERS_MOST: usize = 6;
 
+/// A value for each seat that a table may have: that of a seat is at its number.
+pub type PerSeat<T> = [T; PLAYERS_MOST];
+
 /// Returns the money that each player begins with, in dollars, paid by the bank. It is 800, 600,
 /// 480 or 400 for 3, 4, 5 or 6 players. It is 0 for any other number, with which nobody plays.
 pub fn start_money(players: usize) -> Amount
