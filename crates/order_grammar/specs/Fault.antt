@@ -1,17 +1,36 @@
--- The code of each fault.
-use Rattle.std.specs.Prelude.{ℕ, List, codes}
+-- The code and the sentence of each fault.
+use Rattle.std.specs.Prelude.{ℕ, List, ◌++◌, codes}
 use Rattle.order_grammar.specs.declared.fault.Fault.{Fault}
 use Rattle.order_grammar.specs.declared.fault.Fault.TheVariants.{TooLong, StrayByte, UnknownWord, WrongWords}
 use Rattle.order_grammar.specs.declared.fault.Fault.TheVariants.{NumberTooLarge, OutOfPlace, UnknownPlayer}
 use Rattle.order_grammar.specs.declared.fault.Fault.TheVariants.{PastLastLine}
+use Rattle.tables.specs.RuleTexts.{RuleText, rule_text}
+
+-- the text of a fault
+abbrev pub text_of : Fault → RuleText
+text_of TooLong = rule_text (codes "G1") (codes "the line has over 1,024 bytes, its comment counted")
+text_of StrayByte =
+    rule_text (codes "G2")
+    (codes "a byte before its comment is no printable ASCII: a tab, a hard space, an accent")
+text_of UnknownWord =
+    rule_text (codes "G3")
+    (codes "no order begins with its first word; in a file of version 1 none begins with IF")
+text_of WrongWords =
+    rule_text (codes "G4")
+    (codes "the words after the first are those of no form; behind IF: those of no condition, or what "
+    ++ codes "follows the condition is no order")
+text_of NumberTooLarge = rule_text (codes "G5") (codes "a number is over 99,999")
+text_of OutOfPlace =
+    rule_text (codes "G6")
+    (codes "the order has no place where it stands, with a condition or without, or the line stands in "
+    ++ codes "no sheet")
+text_of UnknownPlayer = rule_text (codes "G7") (codes "the SHEET line names nobody who plays")
+text_of PastLastLine = rule_text (codes "G8") (codes "the line is past the 512th of its sheet")
 
 -- the code that a report prints
 abbrev pub code_of : Fault → List ℕ
-code_of TooLong = codes "G1"
-code_of StrayByte = codes "G2"
-code_of UnknownWord = codes "G3"
-code_of WrongWords = codes "G4"
-code_of NumberTooLarge = codes "G5"
-code_of OutOfPlace = codes "G6"
-code_of UnknownPlayer = codes "G7"
-code_of PastLastLine = codes "G8"
+code_of fault = (text_of fault).code
+
+-- what is wrong, in a player's words
+abbrev pub sentence_of : Fault → List ℕ
+sentence_of fault = (text_of fault).sentence

@@ -1,7 +1,9 @@
 ghost use Rattle.std.specs.Prelude.{◌≡◌};
-ghost use Rattle.order_grammar.specs.Fault.{code_of};
+ghost use Rattle.order_grammar.specs.Fault.{code_of, sentence_of};
+ghost use Rattle.tables.specs.RuleTexts.{ListsEachRule};
 
 use std::fmt::{self, Display, Formatter, Write};
+use tables::{Printed, RuleRow, rule_rows};
 use thiserror::Error;
 
 /// Why a line is not obeyed in any game: the first of these that applies. `sentence` returns what
@@ -26,48 +28,53 @@ pub enum Fault {
     PastLastLine,
 }
 
+/// The faults of a line, in the order in which they apply.
+static FAULTS: [RuleRow<Fault>; Fault::PastLastLine as usize + 1] = rule_rows! { Fault
+    TooLong: "G1", "the line has over 1,024 bytes, its comment counted",
+    StrayByte: "G2",
+        "a byte before its comment is no printable ASCII: a tab, a hard space, an accent",
+    UnknownWord: "G3",
+        "no order begins with its first word; in a file of version 1 none begins with IF",
+    WrongWords: "G4",
+        "the words after the first are those of no form; behind IF: those of no condition, or \
+        what follows the condition is no order",
+    NumberTooLarge: "G5", "a number is over 99,999",
+    OutOfPlace: "G6",
+        "the order has no place where it stands, with a condition or without, or the line stands \
+        in no sheet",
+    UnknownPlayer: "G7", "the SHEET line names nobody who plays",
+    PastLastLine: "G8", "the line is past the 512th of its sheet",
+};
+
 impl Fault {
+    /// Returns the table of all these: each with its code and its sentence.
+    pub fn rows() -> &'static [RuleRow<Fault>]
+        ensures { ListsEachRule code_of result.now }
+    {
+        &FAULTS
+    }
+
     /// Returns the code that a report prints.
     pub fn code(self) -> &'static str
         ensures { result.now ≡ code_of self }
     {
-        match self {
-            Fault::TooLong => "G1",
-            Fault::StrayByte => "G2",
-            Fault::UnknownWord => "G3",
-            Fault::WrongWords => "G4",
-            Fault::NumberTooLarge => "G5",
-            Fault::OutOfPlace => "G6",
-            Fault::UnknownPlayer => "G7",
-            Fault::PastLastLine => "G8",
-        }
+        FAULTS[self as usize].code
     }
 
     /// Returns what is wrong, in a player's words. The desk and the tables of the docs print no
     /// other.
-    pub fn sentence(self) -> &'static str {
-        match self {
-            Fault::TooLong => "the line has over 1,024 bytes, its comment counted",
-            Fault::StrayByte => {
-                "a byte before its comment is no printable ASCII: a tab, a hard space, an \
-                    accent"
-            }
-            Fault::UnknownWord => {
-                "no order begins with its first word; in a file of version 1 none begins with \
-                    IF"
-            }
-            Fault::WrongWords => {
-                "the words after the first are those of no form; behind IF: those of no \
-                    condition, or what follows the condition is no order"
-            }
-            Fault::NumberTooLarge => "a number is over 99,999",
-            Fault::OutOfPlace => {
-                "the order has no place where it stands, with a condition or without, or the \
-                    line stands in no sheet"
-            }
-            Fault::UnknownPlayer => "the SHEET line names nobody who plays",
-            Fault::PastLastLine => "the line is past the 512th of its sheet",
-        }
+    pub fn sentence(self) -> &'static str
+        ensures { result.now ≡ sentence_of self }
+    {
+        FAULTS[self as usize].sentence
+    }
+}
+
+impl Printed for Fault {
+    ghost code_of = { code_of };
+
+    fn printed(self) -> &'static str {
+        self.code()
     }
 }
 
