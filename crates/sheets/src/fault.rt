@@ -1,9 +1,11 @@
 ghost use Rattle.std.specs.Prelude.{◌≡◌};
-ghost use Rattle.sheets.specs.File.{code_of_fault};
+ghost use Rattle.sheets.specs.File.{code_of_fault, sentence_of_fault};
 ghost use Rattle.sheets.specs.declared.fault.FileFault.TheVariants.{Memory};
+ghost use Rattle.tables.specs.RuleTexts.{ListsEachRule};
 
 use std::alloc::{AllocError, AllocFailed};
 use std::fmt::{self, Display, Formatter, Write};
+use tables::{Printed, RuleRow, rule_rows};
 use thiserror::Error;
 
 /// Why a file has no sheets. It is refused as a whole, by the first of F3, F1, F2, F4 that applies.
@@ -22,33 +24,45 @@ pub enum FileFault {
     Memory,
 }
 
+/// The faults of a file, in the order of their codes.
+static FILE_FAULTS: [RuleRow<FileFault>; FileFault::Memory as usize + 1] = rule_rows! { FileFault
+    Header: "F1", "the first line that is not blank is neither `GAME 1830 1` nor `GAME 1830 2`",
+    Players: "F2", "the next line does not name three to six different players",
+    TooLong: "F3", "the file has over 67,108,864 bytes",
+    TooManySheets: "F4", "the file has over 65,536 good SHEET lines",
+    Memory: "F5", "allocation failed",
+};
+
 impl FileFault {
+    /// Returns the table of all these: each with its code and its sentence.
+    pub fn rows() -> &'static [RuleRow<FileFault>]
+        ensures { ListsEachRule code_of_fault result.now }
+    {
+        &FILE_FAULTS
+    }
+
     /// Returns the code of the fault. The report of a refused file prints it; no report prints that
     /// of a failed allocation.
     pub fn code(self) -> &'static str
         ensures { result.now ≡ code_of_fault self }
     {
-        match self {
-            FileFault::Header => "F1",
-            FileFault::Players => "F2",
-            FileFault::TooLong => "F3",
-            FileFault::TooManySheets => "F4",
-            FileFault::Memory => "F5",
-        }
+        FILE_FAULTS[self as usize].code
     }
 
     /// Returns what is wrong, in a player's words. The desk and the tables of the docs print no
     /// other.
-    pub fn sentence(self) -> &'static str {
-        match self {
-            FileFault::Header => {
-                "the first line that is not blank is neither `GAME 1830 1` nor `GAME 1830 2`"
-            }
-            FileFault::Players => "the next line does not name three to six different players",
-            FileFault::TooLong => "the file has over 67,108,864 bytes",
-            FileFault::TooManySheets => "the file has over 65,536 good SHEET lines",
-            FileFault::Memory => "allocation failed",
-        }
+    pub fn sentence(self) -> &'static str
+        ensures { result.now ≡ sentence_of_fault self }
+    {
+        FILE_FAULTS[self as usize].sentence
+    }
+}
+
+impl Printed for FileFault {
+    ghost code_of = { code_of_fault };
+
+    fn printed(self) -> &'static str {
+        self.code()
     }
 }
 
