@@ -10,7 +10,8 @@ use Rattle.certs.specs.Sale.{is_first_stock, is_not_held, is_over_five, kept_aft
 use Rattle.certs.specs.Sale.{must_stay, one_has, sale_judgement, sale_rules}
 use Rattle.certs.specs.SaleAct.{MaySell}
 use Rattle.certs.specs.declared.deal.Sale.{Sale}
-use Rattle.events.specs.Event.{IsQuiet, code_of_stock_rule}
+use Rattle.events.specs.Event.{IsQuiet}
+use Rattle.events.specs.RuleCodes.{code_of_stock_rule}
 use Rattle.events.specs.declared.event.Event.{Event}
 use Rattle.events.specs.declared.event.Shareholder.TheVariants.{BankPool, Seat as OfSeat}
 use Rattle.events.specs.declared.ruling.StockRule.{StockRule}

@@ -4,7 +4,7 @@
 -- train, and begin a phase or a round. It may rule a line of a seat, obey an order, and say that
 -- the bank is broken or that a president is bankrupt. Every fact about a game looks back over one
 -- of them.
-use Rattle.std.specs.Prelude.{◌≡◌, ℕ, Bool, true, false, List, codes, Option, Some, None, if◌then◌else◌, is_some}
+use Rattle.std.specs.Prelude.{◌≡◌, ℕ, Bool, true, false, List, Option, Some, None, if◌then◌else◌, is_some}
 use Rattle.order_grammar.specs.declared.order.Order.{Order}
 use Rattle.order_grammar.specs.declared.order.Order.TheVariants as order
 use Rattle.order_grammar.specs.declared.order.ShareSource.{ShareSource}
@@ -33,21 +33,8 @@ use Rattle.events.specs.declared.event.TrainPlace.TheVariants as train_place
 use Rattle.events.specs.declared.event.TrainSeller.{TrainSeller}
 use Rattle.events.specs.declared.event.TrainSeller.TheVariants as seller
 use Rattle.events.specs.declared.event.Transfer.{Transfer}
-use Rattle.events.specs.declared.ruling.OpeningRule.{OpeningRule}
-use Rattle.events.specs.declared.ruling.OpeningRule.TheVariants as opening
-use Rattle.events.specs.declared.ruling.PayRule.{PayRule}
-use Rattle.events.specs.declared.ruling.PayRule.TheVariants as pay_rule
-use Rattle.events.specs.declared.ruling.PrivateRule.{PrivateRule}
-use Rattle.events.specs.declared.ruling.PrivateRule.TheVariants as private_rule
-use Rattle.events.specs.declared.ruling.Refusal.{Refusal}
-use Rattle.events.specs.declared.ruling.Refusal.TheVariants as refusal
 use Rattle.events.specs.declared.ruling.Ruling.{Ruling}
 use Rattle.events.specs.declared.ruling.Ruling.TheVariants.{Obeyed}
-use Rattle.events.specs.declared.ruling.StockRule.{StockRule}
-use Rattle.events.specs.declared.ruling.StockRule.TheVariants as stock
-use Rattle.events.specs.declared.ruling.TrainRule.{TrainRule}
-use Rattle.events.specs.declared.ruling.TrainRule.TheVariants as train_rule
-use Rattle.map_tables.specs.RuleCodes.{code_of_lay_rule, code_of_run_rule, code_of_token_rule}
 use Rattle.map_tables.specs.declared.lay.Lay.{Lay}
 use Rattle.map_tables.specs.declared.place.Place.{Place}
 use Rattle.tables.specs.Chart.{par_square_of}
@@ -324,64 +311,3 @@ pub record IsQuiet (event : Event) : Type 0 where
   pub train : train_moved event ≡ None
   pub tile : tile_laid event ≡ None
   pub token : token_placed event ≡ None
-
--- the code of a rule of the opening
-abbrev pub code_of_opening_rule : OpeningRule → List ℕ
-code_of_opening_rule opening.NotOfOpening = codes "A1"
-code_of_opening_rule opening.Sold = codes "A2"
-code_of_opening_rule opening.NotCheapest = codes "A3"
-code_of_opening_rule opening.BidTooLow = codes "A4"
-code_of_opening_rule opening.CashTooSmall = codes "A5"
-code_of_opening_rule opening.TurnUsed = codes "A6"
-code_of_opening_rule opening.BidForCheapest = codes "A7"
-
--- the code of a rule of stock rounds
-abbrev pub code_of_stock_rule : StockRule → List ℕ
-code_of_stock_rule stock.NotOfStock = codes "S1"
-code_of_stock_rule stock.SaleInFirstRound = codes "S2"
-code_of_stock_rule stock.NotHeld = codes "S3"
-code_of_stock_rule stock.PoolFull = codes "S4"
-code_of_stock_rule stock.PresidentMustStay = codes "S5"
-code_of_stock_rule stock.SoldInRound = codes "S6"
-code_of_stock_rule stock.NoneThere = codes "S7"
-code_of_stock_rule stock.NoParValue = codes "S8"
-code_of_stock_rule stock.WrongStart = codes "S9"
-code_of_stock_rule stock.CashTooSmall = codes "S10"
-code_of_stock_rule stock.CertificateLimit = codes "S11"
-code_of_stock_rule stock.OverSixShares = codes "S12"
-code_of_stock_rule stock.BoughtBefore = codes "S13"
-code_of_stock_rule stock.NoExchange = codes "S14"
-
--- the code of a rule of dividends
-abbrev pub code_of_pay_rule : PayRule → List ℕ
-code_of_pay_rule pay_rule.NothingToPay = codes "D1"
-
--- the code of a rule of trains
-abbrev pub code_of_train_rule : TrainRule → List ℕ
-code_of_train_rule train_rule.NotOnSale = codes "T1"
-code_of_train_rule train_rule.TrainLimit = codes "T2"
-code_of_train_rule train_rule.CashTooSmall = codes "T3"
-code_of_train_rule train_rule.NoConsent = codes "T4"
-code_of_train_rule train_rule.NotSellers = codes "T5"
-code_of_train_rule train_rule.NoTradeIn = codes "T6"
-code_of_train_rule train_rule.NoDiscard = codes "T7"
-
--- the code of a rule of privates that companies buy
-abbrev pub code_of_private_rule : PrivateRule → List ℕ
-code_of_private_rule private_rule.TooEarly = codes "P1"
-code_of_private_rule private_rule.WrongPrice = codes "P2"
-code_of_private_rule private_rule.NoConsent = codes "P3"
-code_of_private_rule private_rule.NeverSold = codes "P4"
-code_of_private_rule private_rule.CashTooSmall = codes "P5"
-
--- the code of a rule of play
-abbrev pub code_of_refusal : Refusal → List ℕ
-code_of_refusal (refusal.Opening rule) = code_of_opening_rule rule
-code_of_refusal (refusal.Stock rule) = code_of_stock_rule rule
-code_of_refusal (refusal.Lay rule) = code_of_lay_rule rule
-code_of_refusal (refusal.Token rule) = code_of_token_rule rule
-code_of_refusal (refusal.Run rule) = code_of_run_rule rule
-code_of_refusal (refusal.Pay rule) = code_of_pay_rule rule
-code_of_refusal (refusal.Train rule) = code_of_train_rule rule
-code_of_refusal (refusal.Private rule) = code_of_private_rule rule
-code_of_refusal refusal.Condition = codes "I1"

@@ -4,5 +4,6 @@ pub mod PackedRun
 pub mod Packed
 pub mod RulingText
 pub mod Event
+pub mod RuleCodes
 pub mod Orders
 pub mod Offers

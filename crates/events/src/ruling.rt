@@ -1,10 +1,14 @@
-ghost use Rattle.std.specs.Prelude.{◌≡◌};
-ghost use Rattle.events.specs.Event.{code_of_opening_rule, code_of_pay_rule, code_of_private_rule, code_of_refusal};
-ghost use Rattle.events.specs.Event.{code_of_stock_rule, code_of_train_rule};
+ghost use Rattle.std.specs.Prelude.{◌≡◌, MatchOption};
+ghost use Rattle.events.specs.RuleCodes.{code_of_opening_rule, code_of_pay_rule, code_of_private_rule, code_of_refusal};
+ghost use Rattle.events.specs.RuleCodes.{code_of_stock_rule, code_of_train_rule, sentence_of_opening_rule};
+ghost use Rattle.events.specs.RuleCodes.{sentence_of_pay_rule, sentence_of_private_rule, sentence_of_refusal};
+ghost use Rattle.events.specs.RuleCodes.{sentence_of_stock_rule, sentence_of_train_rule};
+ghost use Rattle.tables.specs.RuleTexts.{HasCode, HasNotCode, ListsEachRule};
 
 use map_tables::{LayRule, RunRule, TokenRule};
 use order_grammar::{Condition, Fault, Order};
 use std::fmt::{self, Display, Formatter, Write};
+use tables::{Printed, RuleRow, rule_rows, rule_with_code};
 use thiserror::Error;
 
 /// Which rule of play an order breaks first, by the family of the rule.
@@ -50,7 +54,9 @@ impl Refusal {
 
     /// Returns what is wrong, in a player's words. The desk and the tables of the docs print no
     /// other.
-    pub fn sentence(self) -> &'static str {
+    pub fn sentence(self) -> &'static str
+        ensures { result.now ≡ sentence_of_refusal self }
+    {
         match self {
             Refusal::Opening(rule) => rule.sentence(),
             Refusal::Stock(rule) => rule.sentence(),
@@ -65,6 +71,42 @@ impl Refusal {
                     as the round begins"
             }
         }
+    }
+
+    /// Returns the rule of play with a code, in letters of either case; `None` if no rule has it.
+    pub fn with_code(code: &str) -> Option<Refusal>
+        ensures { MatchOption result
+            ((rule : Refusal) → HasNotCode code.now (code_of_refusal rule))
+            (λ rule. HasCode code.now (code_of_refusal rule)) }
+    {
+        if code.eq_ignore_ascii_case(Refusal::Condition.code()) {
+            return Some(Refusal::Condition);
+        }
+        if let Some(rule) = rule_with_code(OpeningRule::rows(), code) {
+            return Some(Refusal::Opening(rule));
+        }
+        if let Some(rule) = rule_with_code(StockRule::rows(), code) {
+            return Some(Refusal::Stock(rule));
+        }
+        if let Some(rule) = rule_with_code(LayRule::rows(), code) {
+            return Some(Refusal::Lay(rule));
+        }
+        if let Some(rule) = rule_with_code(TokenRule::rows(), code) {
+            return Some(Refusal::Token(rule));
+        }
+        if let Some(rule) = rule_with_code(RunRule::rows(), code) {
+            return Some(Refusal::Run(rule));
+        }
+        if let Some(rule) = rule_with_code(PayRule::rows(), code) {
+            return Some(Refusal::Pay(rule));
+        }
+        if let Some(rule) = rule_with_code(TrainRule::rows(), code) {
+            return Some(Refusal::Train(rule));
+        }
+        if let Some(rule) = rule_with_code(PrivateRule::rows(), code) {
+            return Some(Refusal::Private(rule));
+        }
+        None
     }
 }
 
@@ -87,41 +129,49 @@ pub enum OpeningRule {
     BidForCheapest,
 }
 
+/// The rules of the opening, in the order of their codes.
+static OPENING_RULES: [RuleRow<OpeningRule>; OpeningRule::BidForCheapest as usize + 1] =
+    rule_rows! { OpeningRule
+    NotOfOpening: "A1",
+        "the line neither buys a private nor bids on one; or a standing PAR is not for BO, or \
+        names no par value",
+    Sold: "A2", "the private is sold",
+    NotCheapest: "A3", "it buys a private that is not the cheapest unsold",
+    BidTooLow: "A4", "it bids under 5 above the face value, or under 5 above a bid that stands",
+    CashTooSmall: "A5", "it costs more than your cash less your bids on other privates",
+    TurnUsed: "A6", "you have bought or bid in this turn",
+    BidForCheapest: "A7", "it bids on the cheapest private",
+};
+
 impl OpeningRule {
+    /// Returns the table of all these: each with its code and its sentence.
+    pub fn rows() -> &'static [RuleRow<OpeningRule>]
+        ensures { ListsEachRule code_of_opening_rule result.now }
+    {
+        &OPENING_RULES
+    }
+
     /// Returns the code that a report prints.
     pub fn code(self) -> &'static str
         ensures { result.now ≡ code_of_opening_rule self }
     {
-        match self {
-            OpeningRule::NotOfOpening => "A1",
-            OpeningRule::Sold => "A2",
-            OpeningRule::NotCheapest => "A3",
-            OpeningRule::BidTooLow => "A4",
-            OpeningRule::CashTooSmall => "A5",
-            OpeningRule::TurnUsed => "A6",
-            OpeningRule::BidForCheapest => "A7",
-        }
+        OPENING_RULES[self as usize].code
     }
 
     /// Returns what is wrong, in a player's words. The desk and the tables of the docs print no
     /// other.
-    pub fn sentence(self) -> &'static str {
-        match self {
-            OpeningRule::NotOfOpening => {
-                "the line neither buys a private nor bids on one; or a standing PAR is not for \
-                    BO, or names no par value"
-            }
-            OpeningRule::Sold => "the private is sold",
-            OpeningRule::NotCheapest => "it buys a private that is not the cheapest unsold",
-            OpeningRule::BidTooLow => {
-                "it bids under 5 above the face value, or under 5 above a bid that stands"
-            }
-            OpeningRule::CashTooSmall => {
-                "it costs more than your cash less your bids on other privates"
-            }
-            OpeningRule::TurnUsed => "you have bought or bid in this turn",
-            OpeningRule::BidForCheapest => "it bids on the cheapest private",
-        }
+    pub fn sentence(self) -> &'static str
+        ensures { result.now ≡ sentence_of_opening_rule self }
+    {
+        OPENING_RULES[self as usize].sentence
+    }
+}
+
+impl Printed for OpeningRule {
+    ghost code_of = { code_of_opening_rule };
+
+    fn printed(self) -> &'static str {
+        self.code()
     }
 }
 
@@ -165,63 +215,58 @@ pub enum StockRule {
     NoExchange,
 }
 
+/// The rules of stock rounds, in the order of their codes.
+static STOCK_RULES: [RuleRow<StockRule>; StockRule::NoExchange as usize + 1] =
+    rule_rows! { StockRule
+    NotOfStock: "S1",
+        "the line is none of PAR, BUY of a share, SELL and EXCHANGE; or the RAISE is not needed",
+    SaleInFirstRound: "S2", "it sells in SR1",
+    NotHeld: "S3", "it sells nothing, or more than you hold",
+    PoolFull: "S4", "it would bring the pool over five shares of the company",
+    PresidentMustStay: "S5",
+        "you preside, would keep under two shares, and nobody else has two to take the \
+        president's certificate; or a RAISE would move the presidency of the company that \
+        operates",
+    SoldInRound: "S6", "you have sold shares of the company in this round",
+    NoneThere: "S7", "no share is where you buy",
+    NoParValue: "S8", "it names no par value",
+    WrongStart: "S9", "it starts a company that is started, or buys or sells of one that is not",
+    CashTooSmall: "S10", "it costs more than your cash",
+    CertificateLimit: "S11", "you hold as many certificates as you may, and this one counts",
+    OverSixShares: "S12", "you would hold over six shares, outside the orange and the brown zone",
+    BoughtBefore: "S13", "you have bought in this turn",
+    NoExchange: "S14", "you do not own MH, or no share of NYC is left, or you have six",
+};
+
 impl StockRule {
+    /// Returns the table of all these: each with its code and its sentence.
+    pub fn rows() -> &'static [RuleRow<StockRule>]
+        ensures { ListsEachRule code_of_stock_rule result.now }
+    {
+        &STOCK_RULES
+    }
+
     /// Returns the code that a report prints.
     pub fn code(self) -> &'static str
         ensures { result.now ≡ code_of_stock_rule self }
     {
-        match self {
-            StockRule::NotOfStock => "S1",
-            StockRule::SaleInFirstRound => "S2",
-            StockRule::NotHeld => "S3",
-            StockRule::PoolFull => "S4",
-            StockRule::PresidentMustStay => "S5",
-            StockRule::SoldInRound => "S6",
-            StockRule::NoneThere => "S7",
-            StockRule::NoParValue => "S8",
-            StockRule::WrongStart => "S9",
-            StockRule::CashTooSmall => "S10",
-            StockRule::CertificateLimit => "S11",
-            StockRule::OverSixShares => "S12",
-            StockRule::BoughtBefore => "S13",
-            StockRule::NoExchange => "S14",
-        }
+        STOCK_RULES[self as usize].code
     }
 
     /// Returns what is wrong, in a player's words. The desk and the tables of the docs print no
     /// other.
-    pub fn sentence(self) -> &'static str {
-        match self {
-            StockRule::NotOfStock => {
-                "the line is none of PAR, BUY of a share, SELL and EXCHANGE; or the RAISE is \
-                    not needed"
-            }
-            StockRule::SaleInFirstRound => "it sells in SR1",
-            StockRule::NotHeld => "it sells nothing, or more than you hold",
-            StockRule::PoolFull => "it would bring the pool over five shares of the company",
-            StockRule::PresidentMustStay => {
-                "you preside, would keep under two shares, and nobody else has two to take the \
-                    president's certificate; or a RAISE would move the presidency of the \
-                    company that operates"
-            }
-            StockRule::SoldInRound => "you have sold shares of the company in this round",
-            StockRule::NoneThere => "no share is where you buy",
-            StockRule::NoParValue => "it names no par value",
-            StockRule::WrongStart => {
-                "it starts a company that is started, or buys or sells of one that is not"
-            }
-            StockRule::CashTooSmall => "it costs more than your cash",
-            StockRule::CertificateLimit => {
-                "you hold as many certificates as you may, and this one counts"
-            }
-            StockRule::OverSixShares => {
-                "you would hold over six shares, outside the orange and the brown zone"
-            }
-            StockRule::BoughtBefore => "you have bought in this turn",
-            StockRule::NoExchange => {
-                "you do not own MH, or no share of NYC is left, or you have six"
-            }
-        }
+    pub fn sentence(self) -> &'static str
+        ensures { result.now ≡ sentence_of_stock_rule self }
+    {
+        STOCK_RULES[self as usize].sentence
+    }
+}
+
+impl Printed for StockRule {
+    ghost code_of = { code_of_stock_rule };
+
+    fn printed(self) -> &'static str {
+        self.code()
     }
 }
 
@@ -239,24 +284,41 @@ pub enum PayRule {
     NothingToPay,
 }
 
+/// The rules of dividends, in the order of their codes.
+static PAY_RULES: [RuleRow<PayRule>; PayRule::NothingToPay as usize + 1] = rule_rows! { PayRule
+    NothingToPay: "D1",
+        "the company has paid or withheld; or PAY stands where it has earned nothing",
+};
+
 impl PayRule {
+    /// Returns the table of all these: each with its code and its sentence.
+    pub fn rows() -> &'static [RuleRow<PayRule>]
+        ensures { ListsEachRule code_of_pay_rule result.now }
+    {
+        &PAY_RULES
+    }
+
     /// Returns the code that a report prints.
     pub fn code(self) -> &'static str
         ensures { result.now ≡ code_of_pay_rule self }
     {
-        match self {
-            PayRule::NothingToPay => "D1",
-        }
+        PAY_RULES[self as usize].code
     }
 
     /// Returns what is wrong, in a player's words. The desk and the tables of the docs print no
     /// other.
-    pub fn sentence(self) -> &'static str {
-        match self {
-            PayRule::NothingToPay => {
-                "the company has paid or withheld; or PAY stands where it has earned nothing"
-            }
-        }
+    pub fn sentence(self) -> &'static str
+        ensures { result.now ≡ sentence_of_pay_rule self }
+    {
+        PAY_RULES[self as usize].sentence
+    }
+}
+
+impl Printed for PayRule {
+    ghost code_of = { code_of_pay_rule };
+
+    fn printed(self) -> &'static str {
+        self.code()
     }
 }
 
@@ -279,43 +341,51 @@ pub enum TrainRule {
     NoDiscard,
 }
 
+/// The rules of trains, in the order of their codes.
+static TRAIN_RULES: [RuleRow<TrainRule>; TrainRule::NoDiscard as usize + 1] = rule_rows! { TrainRule
+    NotOnSale: "T1", "the bank or the pool does not sell such a train now",
+    TrainLimit: "T2", "the company has as many trains as it may",
+    CashTooSmall: "T3", "it costs more than the company's cash",
+    NoConsent: "T4",
+        "who sells has not consented to exactly this sale in this round, or the price is 0; or \
+        an OFFER is at 0, or not of the seller's president",
+    NotSellers: "T5", "the seller has no such train, or is the buyer",
+    NoTradeIn: "T6",
+        "the train to be traded in is not the company's, or no 4, 5 or 6, or not for a D",
+    NoDiscard: "T7",
+        "DISCARD of a company over which you did not preside as the round began, or of a train \
+        that it had not",
+};
+
 impl TrainRule {
+    /// Returns the table of all these: each with its code and its sentence.
+    pub fn rows() -> &'static [RuleRow<TrainRule>]
+        ensures { ListsEachRule code_of_train_rule result.now }
+    {
+        &TRAIN_RULES
+    }
+
     /// Returns the code that a report prints.
     pub fn code(self) -> &'static str
         ensures { result.now ≡ code_of_train_rule self }
     {
-        match self {
-            TrainRule::NotOnSale => "T1",
-            TrainRule::TrainLimit => "T2",
-            TrainRule::CashTooSmall => "T3",
-            TrainRule::NoConsent => "T4",
-            TrainRule::NotSellers => "T5",
-            TrainRule::NoTradeIn => "T6",
-            TrainRule::NoDiscard => "T7",
-        }
+        TRAIN_RULES[self as usize].code
     }
 
     /// Returns what is wrong, in a player's words. The desk and the tables of the docs print no
     /// other.
-    pub fn sentence(self) -> &'static str {
-        match self {
-            TrainRule::NotOnSale => "the bank or the pool does not sell such a train now",
-            TrainRule::TrainLimit => "the company has as many trains as it may",
-            TrainRule::CashTooSmall => "it costs more than the company's cash",
-            TrainRule::NoConsent => {
-                "who sells has not consented to exactly this sale in this round, or the price \
-                    is 0; or an OFFER is at 0, or not of the seller's president"
-            }
-            TrainRule::NotSellers => "the seller has no such train, or is the buyer",
-            TrainRule::NoTradeIn => {
-                "the train to be traded in is not the company's, or no 4, 5 or 6, or not for a \
-                    D"
-            }
-            TrainRule::NoDiscard => {
-                "DISCARD of a company over which you did not preside as the round began, or of \
-                    a train that it had not"
-            }
-        }
+    pub fn sentence(self) -> &'static str
+        ensures { result.now ≡ sentence_of_train_rule self }
+    {
+        TRAIN_RULES[self as usize].sentence
+    }
+}
+
+impl Printed for TrainRule {
+    ghost code_of = { code_of_train_rule };
+
+    fn printed(self) -> &'static str {
+        self.code()
     }
 }
 
@@ -334,33 +404,47 @@ pub enum PrivateRule {
     CashTooSmall,
 }
 
+/// The rules of privates that companies buy, in the order of their codes.
+static PRIVATE_RULES: [RuleRow<PrivateRule>; PrivateRule::CashTooSmall as usize + 1] =
+    rule_rows! { PrivateRule
+    TooEarly: "P1", "it comes before phase 3",
+    WrongPrice: "P2", "the price is under half the face value or over twice that",
+    NoConsent: "P3",
+        "no player owns it, or its owner has not consented to exactly this sale in this round; \
+        or an OFFER is not of its owner",
+    NeverSold: "P4", "it is BOP",
+    CashTooSmall: "P5", "it costs more than the company's cash",
+};
+
 impl PrivateRule {
+    /// Returns the table of all these: each with its code and its sentence.
+    pub fn rows() -> &'static [RuleRow<PrivateRule>]
+        ensures { ListsEachRule code_of_private_rule result.now }
+    {
+        &PRIVATE_RULES
+    }
+
     /// Returns the code that a report prints.
     pub fn code(self) -> &'static str
         ensures { result.now ≡ code_of_private_rule self }
     {
-        match self {
-            PrivateRule::TooEarly => "P1",
-            PrivateRule::WrongPrice => "P2",
-            PrivateRule::NoConsent => "P3",
-            PrivateRule::NeverSold => "P4",
-            PrivateRule::CashTooSmall => "P5",
-        }
+        PRIVATE_RULES[self as usize].code
     }
 
     /// Returns what is wrong, in a player's words. The desk and the tables of the docs print no
     /// other.
-    pub fn sentence(self) -> &'static str {
-        match self {
-            PrivateRule::TooEarly => "it comes before phase 3",
-            PrivateRule::WrongPrice => "the price is under half the face value or over twice that",
-            PrivateRule::NoConsent => {
-                "no player owns it, or its owner has not consented to exactly this sale in \
-                    this round; or an OFFER is not of its owner"
-            }
-            PrivateRule::NeverSold => "it is BOP",
-            PrivateRule::CashTooSmall => "it costs more than the company's cash",
-        }
+    pub fn sentence(self) -> &'static str
+        ensures { result.now ≡ sentence_of_private_rule self }
+    {
+        PRIVATE_RULES[self as usize].sentence
+    }
+}
+
+impl Printed for PrivateRule {
+    ghost code_of = { code_of_private_rule };
+
+    fn printed(self) -> &'static str {
+        self.code()
     }
 }
 

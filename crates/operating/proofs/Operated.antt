@@ -3,7 +3,8 @@ use Rattle.std.proofs.Common.{◌≡◌, ℕ, ◌==◌, Bool, true, false, not, 
 use Rattle.std.proofs.Common.{Some, None, is_some, refl, sym}
 use Rattle.std.proofs.Common.{ap, subst, ◌∙◌}
 use Rattle.std.specs.Option.{option_flatten, option_map, option_or}
-use Rattle.events.specs.Event.{code_of_pay_rule, operated_by, round_begun_by}
+use Rattle.events.specs.Event.{operated_by, round_begun_by}
+use Rattle.events.specs.RuleCodes.{code_of_pay_rule}
 use Rattle.events.specs.declared.event.Event.{Event}
 use Rattle.events.specs.declared.event.Event.TheVariants as event
 use Rattle.events.specs.declared.ruling.PayRule.TheVariants.{NothingToPay}

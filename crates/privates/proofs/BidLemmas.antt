@@ -5,7 +5,8 @@ use Rattle.std.proofs.Common.{if◌then◌else◌, List, [], ◌∷◌, ◌++◌
 use Rattle.std.proofs.lemmas.Bool.Decides.{nat_tests}
 use Rattle.std.proofs.lemmas.List.Folds.{list_any-append}
 use Rattle.std.specs.Option.{option_flatten, option_or}
-use Rattle.events.specs.Event.{IsQuiet, bidding_of, code_of_opening_rule}
+use Rattle.events.specs.Event.{IsQuiet, bidding_of}
+use Rattle.events.specs.RuleCodes.{code_of_opening_rule}
 use Rattle.events.specs.declared.event.Bidding.{Bidding}
 use Rattle.events.specs.declared.event.Bidding.TheVariants.{Made, Ended}
 use Rattle.events.specs.declared.event.Event.{Event}

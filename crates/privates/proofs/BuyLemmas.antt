@@ -1,6 +1,6 @@
 -- A purchase that breaks no rule can be done.
 use Rattle.std.proofs.Common.{◌≡◌, ℕ, Bool, List, None}
-use Rattle.events.specs.Event.{code_of_opening_rule}
+use Rattle.events.specs.RuleCodes.{code_of_opening_rule}
 use Rattle.events.specs.declared.event.Event.{Event}
 use Rattle.events.specs.declared.ruling.OpeningRule.TheVariants.{Sold, CashTooSmall}
 use Rattle.privates.proofs.BankLemmas.{within}

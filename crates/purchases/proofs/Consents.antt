@@ -1,7 +1,7 @@
 -- Who sells has agreed, by the rules that are kept.
 use Rattle.std.proofs.Common.{◌≡◌, ℕ, ◌<◌, ◌==◌, Bool, true, false, not, Option, Some, None, refl, arith}
 use Rattle.std.proofs.lemmas.Bool.Decides.{nat_tests}
-use Rattle.events.specs.Event.{code_of_private_rule, code_of_train_rule}
+use Rattle.events.specs.RuleCodes.{code_of_private_rule, code_of_train_rule}
 use Rattle.events.specs.declared.event.Holder.{Holder}
 use Rattle.events.specs.declared.event.Holder.TheVariants as holder
 use Rattle.events.specs.declared.ruling.PrivateRule.TheVariants as private_rule

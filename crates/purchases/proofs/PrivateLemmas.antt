@@ -5,7 +5,8 @@ use Rattle.std.proofs.Common.{◌∷◌, ◌++◌, Option, Some, None, is_some, 
 use Rattle.std.proofs.Common.{arith}
 use Rattle.std.proofs.lemmas.Bool.Decides.{nat_tests}
 use Rattle.std.specs.Option.{option_flatten, option_map}
-use Rattle.events.specs.Event.{code_of_private_rule, obeyed_of, ownership_of, party_of_company, phase_set}
+use Rattle.events.specs.Event.{obeyed_of, ownership_of, party_of_company, phase_set}
+use Rattle.events.specs.RuleCodes.{code_of_private_rule}
 use Rattle.events.specs.Offers.{offered_in}
 use Rattle.events.specs.Orders.{said_by}
 use Rattle.events.specs.declared.event.Event.{Event}

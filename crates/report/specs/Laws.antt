@@ -3,7 +3,7 @@
 -- The report is its parts, one after the other, also as they are written while the game is played.
 use Rattle.std.specs.Prelude.{◌≡◌, ℕ, List, [], ◌∷◌, ◌++◌, codes, decimal, None, Ok, ⊤}
 use Rattle.std.specs.List.{AllByRecursion, flat_map}
-use Rattle.events.specs.Event.{code_of_refusal}
+use Rattle.events.specs.RuleCodes.{code_of_refusal}
 use Rattle.events.specs.declared.event.Event.{Event}
 use Rattle.events.specs.declared.event.Event.TheVariants.{Ruled}
 use Rattle.events.specs.declared.ruling.Refusal.{Refusal}

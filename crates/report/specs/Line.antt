@@ -1,7 +1,7 @@
 -- An event as a line of the report: its words, separated by single spaces, and its LF.
 use Rattle.std.specs.Prelude.{ℕ, Bool, if◌then◌else◌, List, [], ◌∷◌, ◌++◌, Option, Some, None, map, codes, decimal}
 use Rattle.std.specs.Prelude.{unwrap_or, slice_get, ⊤}
-use Rattle.events.specs.Event.{code_of_refusal}
+use Rattle.events.specs.RuleCodes.{code_of_refusal}
 use Rattle.events.specs.RulingText.{order_text}
 use Rattle.events.specs.declared.event.Event.{Event}
 use Rattle.events.specs.declared.event.Event.TheVariants.{Round, Ruled, Passes, Left, Sold, Bids, Price, Revenue, Given}

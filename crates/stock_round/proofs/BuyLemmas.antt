@@ -6,7 +6,8 @@ use Rattle.std.specs.Int.Signed.{lt_z}
 use Rattle.certs.proofs.SaleAllowed.{holds, same_start}
 use Rattle.certs.specs.Purchase.{is_sold_out_there, purchase_judgement, share_price_of, share_purchase_rules}
 use Rattle.certs.specs.declared.deal.Purchase.TheVariants as purchase
-use Rattle.events.specs.Event.{code_of_stock_rule, place_of_source}
+use Rattle.events.specs.Event.{place_of_source}
+use Rattle.events.specs.RuleCodes.{code_of_stock_rule}
 use Rattle.events.specs.declared.event.Event.{Event}
 use Rattle.events.specs.declared.event.Event.TheVariants as event
 use Rattle.events.specs.declared.ruling.StockRule.TheVariants.{NoneThere, WrongStart, CashTooSmall}
