@@ -15,7 +15,7 @@ use board_state::same_stop;
 use history::{History, Holder, Owners, Party};
 use map_tables::{Place, Stop, home, joined_stop};
 use std::alloc::{AllocError, Global};
-use tables::{Company, Private};
+use tables::{Company, PerPrivate, Private};
 
 /// Returns the board as a company's turn begins: with the tiles and tokens of now, and with its
 /// home token. Fails only if allocation fails.
@@ -96,7 +96,7 @@ fn asker_now(history: &History, company: Company) -> Asker
 }
 
 /// Returns which privates a company owns, by their places in the roster.
-fn of_company(owners: &Owners, company: Company) -> [bool; 6]
+fn of_company(owners: &Owners, company: Company) -> PerPrivate<bool>
     ensures { result
         ≡ map (λ private. is_companys company (owner_in owners.now private)) privates }
 {
@@ -111,7 +111,7 @@ fn of_company(owners: &Owners, company: Company) -> [bool; 6]
 }
 
 /// Returns which privates players own, by their places in the roster.
-fn of_players(owners: &Owners) -> [bool; 6]
+fn of_players(owners: &Owners) -> PerPrivate<bool>
     ensures { result ≡ map (λ private. is_players (owner_in owners.now private)) privates }
 {
     [

@@ -7,7 +7,7 @@ ghost use Rattle.tables.specs.Roster.{privates};
 use crate::progress::Progress;
 use board::Asker;
 use history::{History, Holder, Owners, Party};
-use tables::{Company, Private};
+use tables::{Company, PerPrivate, Private};
 
 /// Returns a company as the rules of the board see it, with its turn as far as it has come.
 pub(crate) fn asker(history: &History, company: Company, progress: Progress) -> Asker
@@ -26,7 +26,7 @@ pub(crate) fn asker(history: &History, company: Company, progress: Progress) -> 
 }
 
 /// Returns which privates a company owns, by their places in the roster.
-fn of_company(owners: &Owners, company: Company) -> [bool; 6]
+fn of_company(owners: &Owners, company: Company) -> PerPrivate<bool>
     ensures { result
         ≡ map (λ private. is_companys company (owner_in owners.now private)) privates }
 {
@@ -41,7 +41,7 @@ fn of_company(owners: &Owners, company: Company) -> [bool; 6]
 }
 
 /// Returns which privates players own, by their places in the roster.
-fn of_players(owners: &Owners) -> [bool; 6]
+fn of_players(owners: &Owners) -> PerPrivate<bool>
     ensures { result ≡ map (λ private. is_players (owner_in owners.now private)) privates }
 {
     [

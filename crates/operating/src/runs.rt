@@ -3,7 +3,7 @@ ghost use Rattle.std.specs.Prelude.{◌≡◌};
 use history::TrainCount;
 use legal_runs::Used;
 use std::marker::Model;
-use tables::{Amount, Kind};
+use tables::{Amount, KINDS, Kind, PerKind};
 
 /// What a train did.
 #[derive(Clone, Copy, Debug)]
@@ -20,7 +20,7 @@ pub(crate) struct CompletedRun {
 #[derive(Clone, Copy, Debug)]
 pub(crate) struct Runs {
     /// How many of each kind have run, by the place of the kind.
-    trains: [TrainCount; 6],
+    trains: PerKind<TrainCount>,
     /// The borders that they have crossed.
     pub(crate) borders: Used,
     /// What they have earned, in dollars: at most 160 for each border that is used, or otherwise
@@ -60,7 +60,7 @@ impl Runs {
         ensures { result ≡ no_runs }
     {
         Runs {
-            trains: [0; 6],
+            trains: [0; KINDS],
             borders: Used::new(),
             revenue: 0,
         }

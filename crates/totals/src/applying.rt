@@ -19,7 +19,10 @@ use crate::aspect::Topic;
 use crate::bids::apply_bid_on;
 use crate::topics::ParOrdered;
 use events::{Bid, Bidding, Event, Shareholder};
-use tables::{Amount, Company, PLAYERS_MOST, Private, Seat, Square};
+use tables::{
+    Amount, COMPANIES, Company, PLAYERS_MOST, PRIVATES, PerCompany, PerPrivate, PerSeat, Private,
+    Seat, Square,
+};
 
 /// Applies what an event says of a thing, if it speaks of it.
 pub(crate) fn apply<W: Drop>(said: &mut Option<W>, word: Option<W>)
@@ -31,7 +34,7 @@ pub(crate) fn apply<W: Drop>(said: &mut Option<W>, word: Option<W>)
 }
 
 /// Applies the par value that an event sets, in a table by the places of the companies.
-pub(crate) fn apply_par(pars: &mut [Option<Amount>; 8], event: &Event)
+pub(crate) fn apply_par(pars: &mut PerCompany<Option<Amount>>, event: &Event)
     ensures { (company : Company) → at_company pars.new company
         ≡ option_or (par_said company (par_set event.now)) (at_company pars.old company) }
 {
@@ -41,7 +44,7 @@ pub(crate) fn apply_par(pars: &mut [Option<Amount>; 8], event: &Event)
 }
 
 /// Applies the square that an event sets.
-pub(crate) fn apply_square(squares: &mut [Option<Square>; 8], event: &Event)
+pub(crate) fn apply_square(squares: &mut PerCompany<Option<Square>>, event: &Event)
     ensures { (company : Company) → at_company squares.new company
         ≡ option_or (square_said company (square_set event.now)) (at_company squares.old company) }
 {
@@ -51,7 +54,7 @@ pub(crate) fn apply_square(squares: &mut [Option<Square>; 8], event: &Event)
 }
 
 /// Applies the president whom an event names.
-pub(crate) fn apply_president(presidents: &mut [Option<Seat>; 8], event: &Event)
+pub(crate) fn apply_president(presidents: &mut PerCompany<Option<Seat>>, event: &Event)
     ensures { (company : Company) → at_company presidents.new company
         ≡ option_or (president_said company (office_of event.now))
         (at_company presidents.old company) }
@@ -62,7 +65,7 @@ pub(crate) fn apply_president(presidents: &mut [Option<Seat>; 8], event: &Event)
 }
 
 /// Applies the company that floats by an event.
-pub(crate) fn apply_float(floats: &mut [Option<Company>; 8], event: &Event)
+pub(crate) fn apply_float(floats: &mut PerCompany<Option<Company>>, event: &Event)
     ensures { (company : Company) → at_company floats.new company
         ≡ option_or (float_said company (floated_by event.now)) (at_company floats.old company) }
 {
@@ -72,7 +75,7 @@ pub(crate) fn apply_float(floats: &mut [Option<Company>; 8], event: &Event)
 }
 
 /// Applies what is said of bids, in a table by the places of the privates and the seats.
-pub(crate) fn apply_bids(bids: &mut [[Option<Amount>; PLAYERS_MOST]; 6], bidding: Option<Bidding>)
+pub(crate) fn apply_bids(bids: &mut PerPrivate<PerSeat<Option<Amount>>>, bidding: Option<Bidding>)
     ensures { (private : Private) (number : ℕ) → number < 6 → bid_in bids.new private number
         ≡ unwrap_or (bid_said private (seat_at number) bidding) (bid_in bids.old private number) }
 {
@@ -85,7 +88,10 @@ pub(crate) fn apply_bids(bids: &mut [[Option<Amount>; PLAYERS_MOST]; 6], bidding
 }
 
 /// Applies a bid that is made, in a table of the greatest bids by the places of the privates.
-pub(crate) fn apply_greatest_bid(greatest: &mut [Option<Amount>; 6], bidding: Option<Bidding>)
+pub(crate) fn apply_greatest_bid(
+    greatest: &mut PerPrivate<Option<Amount>>,
+    bidding: Option<Bidding>,
+)
     ensures { (private : Private) → at_private greatest.new private
         ≡ greater_bid (bid_made private bidding) (at_private greatest.old private) }
 {
@@ -124,7 +130,7 @@ pub(crate) fn apply_bankrupt(bankrupt: &mut bool, event: &Event)
 }
 
 /// Applies the place in the list of an event that sets the square of a company.
-pub(crate) fn apply_arrival(arrivals: &mut [Option<usize>; 8], place: usize, event: &Event)
+pub(crate) fn apply_arrival(arrivals: &mut PerCompany<Option<usize>>, place: usize, event: &Event)
     ensures { (company : Company) → at_company arrivals.new company
         ≡ option_or (here_if (square_said company (square_set event.now)) place)
         (at_company arrivals.old company) }
@@ -135,7 +141,7 @@ pub(crate) fn apply_arrival(arrivals: &mut [Option<usize>; 8], place: usize, eve
 }
 
 /// Applies the token that an event places, in a table of how many each company has placed.
-pub(crate) fn apply_token(tokens: &mut [usize; 8], event: &Event)
+pub(crate) fn apply_token(tokens: &mut PerCompany<usize>, event: &Event)
     ensures { (company : Company) → count_at tokens.old (place_of_company company) < 2 ^ 63 →
         count_at tokens.new (place_of_company company)
         ≡ count_at tokens.old (place_of_company company)
@@ -149,13 +155,13 @@ pub(crate) fn apply_token(tokens: &mut [usize; 8], event: &Event)
 
 /// Applies whose turn of an operating round an event says it is; one that begins a round clears the
 /// table.
-pub(crate) fn apply_turn(operated: &mut [bool; 8], event: &Event)
+pub(crate) fn apply_turn(operated: &mut PerCompany<bool>, event: &Event)
     ensures { (company : Company) → flag_of operated.new company
         ≡ flag_then event.now (is_some (turn_said company (operated_by event.now)))
         (flag_of operated.old company) }
 {
     if event.round().is_some() {
-        *operated = [false; 8];
+        *operated = [false; COMPANIES];
         return;
     }
     if let Some(company) = event.operated() {
@@ -164,14 +170,14 @@ pub(crate) fn apply_turn(operated: &mut [bool; 8], event: &Event)
 }
 
 /// Returns a table that names no sale.
-pub(crate) fn no_sales() -> [[bool; PLAYERS_MOST]; 8]
+pub(crate) fn no_sales() -> PerCompany<PerSeat<bool>>
     ensures { (company : Company) (seat : Seat) → sale_in result company seat ≡ false }
 {
-    [[false; PLAYERS_MOST]; 8]
+    [[false; PLAYERS_MOST]; COMPANIES]
 }
 
 /// Applies which shares a seat sells by an event; one that begins a round clears the table.
-pub(crate) fn apply_sale(sales: &mut [[bool; PLAYERS_MOST]; 8], event: &Event)
+pub(crate) fn apply_sale(sales: &mut PerCompany<PerSeat<bool>>, event: &Event)
     ensures { (company : Company) (seat : Seat) → seat.0 < 6 → sale_in sales.new company seat
         ≡ flag_then event.now (is_some (sale_said company seat (transfer_of event.now)))
         (sale_in sales.old company seat) }
@@ -190,7 +196,7 @@ pub(crate) fn apply_sale(sales: &mut [[bool; PLAYERS_MOST]; 8], event: &Event)
 }
 
 /// Applies that shares of a company went from a seat to the bank pool, if they did.
-fn apply_sale_of(sales: &mut [bool; PLAYERS_MOST], from: Shareholder, to: Shareholder)
+fn apply_sale_of(sales: &mut PerSeat<bool>, from: Shareholder, to: Shareholder)
     ensures { (seat : Seat) → seat.0 < 6 → slice_index_or sales.new seat.0 false
         ≡ (slice_index_or sales.old seat.0 false
         || (same_shareholder from (OfSeat seat) && same_shareholder to BankPool)) }
@@ -204,7 +210,7 @@ fn apply_sale_of(sales: &mut [bool; PLAYERS_MOST], from: Shareholder, to: Shareh
 }
 
 /// Returns a table in which no line was ruled.
-pub(crate) fn no_rulings() -> [usize; PLAYERS_MOST]
+pub(crate) fn no_rulings() -> PerSeat<usize>
     ensures { (entry : ℕ) → count_at result entry ≡ 0 }
 {
     [0; PLAYERS_MOST]
@@ -212,7 +218,7 @@ pub(crate) fn no_rulings() -> [usize; PLAYERS_MOST]
 
 /// Applies the seat whose line an event rules, in a table of how many lines of each seat were
 /// ruled; an event that begins a round clears the table.
-pub(crate) fn apply_ruling(rulings: &mut [usize; PLAYERS_MOST], event: &Event)
+pub(crate) fn apply_ruling(rulings: &mut PerSeat<usize>, event: &Event)
     ensures { (seat : Seat) → seat.0 < 6 → count_at rulings.old seat.0 < 2 ^ 63 →
         count_at rulings.new seat.0 ≡ rulings_then seat (count_at rulings.old seat.0) event.now }
 {
@@ -229,11 +235,11 @@ pub(crate) fn apply_ruling(rulings: &mut [usize; PLAYERS_MOST], event: &Event)
 }
 
 /// Returns a table that names no limit.
-pub(crate) fn no_limits() -> [[Option<Amount>; PLAYERS_MOST]; 6]
+pub(crate) fn no_limits() -> PerPrivate<PerSeat<Option<Amount>>>
     ensures { (private : Private) (number : ℕ) → number < 6 →
         bid_in result private number ≡ None }
 {
-    [[None; PLAYERS_MOST]; 6]
+    [[None; PLAYERS_MOST]; PRIVATES]
 }
 
 /// Returns the limit of a seat in an auction of a private, by the line that an event rules, as a
@@ -256,7 +262,7 @@ fn limit_in_event(event: &Event) -> Option<Bidding>
 
 /// Applies the limit of a seat in an auction of a private by an event, in a table like that of
 /// bids; one that begins a round clears the table.
-pub(crate) fn apply_limit(limits: &mut [[Option<Amount>; PLAYERS_MOST]; 6], event: &Event)
+pub(crate) fn apply_limit(limits: &mut PerPrivate<PerSeat<Option<Amount>>>, event: &Event)
     ensures { (private : Private) (seat : Seat) → seat.0 < 6 → bid_in limits.new private seat.0
         ≡ unwrap_or (in_round (λ e. said_by seat (limit_in private) (obeyed_of e)) event.now)
         (bid_in limits.old private seat.0) }
@@ -269,7 +275,7 @@ pub(crate) fn apply_limit(limits: &mut [[Option<Amount>; PLAYERS_MOST]; 6], even
 }
 
 /// Applies the par value of BO that a seat orders by an event, in a table by the seats.
-pub(crate) fn apply_par_order(orders: &mut [Option<Amount>; PLAYERS_MOST], event: &Event)
+pub(crate) fn apply_par_order(orders: &mut PerSeat<Option<Amount>>, event: &Event)
     ensures { (seat : Seat) → seat.0 < 6 → slice_index_or orders.new seat.0 None
         ≡ option_or (said_by seat par_of_baltimore_in (obeyed_of event.now))
         (slice_index_or orders.old seat.0 None) }

@@ -11,7 +11,20 @@ ghost use Rattle.totals.specs.Shares.{brought_to, taken_from};
 ghost use Rattle.totals.specs.Trains.{any_comes, any_goes, one_if, train_comes, train_goes};
 
 use events::{Event, Holder, Party, Shareholder, TrainPlace};
-use tables::{Amount, Company, Kind, Money};
+use tables::{Amount, COMPANIES, Company, KINDS, Kind, Money, PLAYERS_MOST};
+
+/// How many entries a table of cash has: the bank, the companies, and the seats.
+pub(crate) const PARTIES: usize = 1 + COMPANIES + PLAYERS_MOST;
+
+/// How many entries a table of shares has: for each company the initial offering, the bank pool,
+/// and the seats.
+pub(crate) const SHARE_PLACES: usize = COMPANIES * (2 + PLAYERS_MOST);
+
+/// How many places of trains there are: the bank, the bank pool, the companies, and out of play.
+pub(crate) const TRAIN_PLACES: usize = 2 + COMPANIES + 1;
+
+/// How many entries a table of trains has: for each place the kinds, and two that stay empty.
+pub(crate) const TRAIN_ENTRIES: usize = TRAIN_PLACES * (KINDS + 2);
 
 /// Returns a balance with a change, which is a sum of money or minus one.
 fn changed(balance: Money, change: Money) -> Money
@@ -62,7 +75,7 @@ pub(crate) fn entry_of_party(party: Party) -> usize
 }
 
 /// Applies the payment that an event makes.
-pub(crate) fn apply_payment(balances: &mut [Money; 15], event: &Event)
+pub(crate) fn apply_payment(balances: &mut [Money; PARTIES], event: &Event)
     ensures moved { (party : Party) → HasEntry party → IsModerate (cash_balance balances.old party)
         →
         cash_balance balances.new party
@@ -91,7 +104,7 @@ pub(crate) fn entry_of_shares(company: Company, place: Shareholder) -> usize
 }
 
 /// Applies the shares that an event moves.
-pub(crate) fn apply_transfer(balances: &mut [Money; 64], event: &Event)
+pub(crate) fn apply_transfer(balances: &mut [Money; SHARE_PLACES], event: &Event)
     ensures moved { (company : Company) (place : Shareholder) → HasShares place →
         IsModerate (shares_balance balances.old company place)
         → shares_balance balances.new company place
@@ -133,7 +146,7 @@ pub(crate) fn entry_of_train(place: TrainPlace, kind: Kind) -> usize
 }
 
 /// Applies the train that an event moves.
-pub(crate) fn apply_train(balances: &mut [Money; 88], event: &Event)
+pub(crate) fn apply_train(balances: &mut [Money; TRAIN_ENTRIES], event: &Event)
     ensures { (place : TrainPlace) (kind : Kind) → IsModerate
         (train_balance balances.old place kind) →
         train_balance balances.new place kind
@@ -149,7 +162,7 @@ pub(crate) fn apply_train(balances: &mut [Money; 88], event: &Event)
 }
 
 /// Applies the train that an event moves, in a table of how many trains a place has.
-pub(crate) fn apply_train_owner(balances: &mut [Money; 11], event: &Event)
+pub(crate) fn apply_train_owner(balances: &mut [Money; TRAIN_PLACES], event: &Event)
     ensures { (owner : Option Company) → IsModerate (train_count_balance balances.old owner) →
         train_count_balance balances.new owner
         ≡ (train_count_balance balances.old owner

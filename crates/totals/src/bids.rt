@@ -10,7 +10,7 @@ use crate::look_back::GameView;
 use crate::topics::{BidOn, LimitOn, ParOrdered};
 use arrayvec::ArrayVec;
 use events::{Bid, Bidding, Holder, Party};
-use tables::{Amount, Money, PLAYERS_MOST, Private, Seat};
+use tables::{Amount, Money, PLAYERS_MOST, PerSeat, Private, Seat};
 
 impl GameView<'_> {
     /// Returns a seat's standing bid on a private, in dollars.
@@ -48,7 +48,7 @@ impl GameView<'_> {
     }
 
     /// Returns the standing bid of each of six seats on a private.
-    fn standing_by_seat(&self, private: Private) -> [Option<Amount>; PLAYERS_MOST]
+    fn standing_by_seat(&self, private: Private) -> PerSeat<Option<Amount>>
         ensures { AreStanding self.now.events.now private result }
     {
         match self.totals() {
@@ -137,7 +137,7 @@ impl GameView<'_> {
 
 /// Applies what is said of the bids on a private in a table of the seats' standing bids.
 pub(crate) fn apply_bid_on(
-    standing: &mut [Option<Amount>; PLAYERS_MOST],
+    standing: &mut PerSeat<Option<Amount>>,
     private: Private,
     bidding: Option<Bidding>,
 )

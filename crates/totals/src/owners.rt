@@ -6,13 +6,13 @@ ghost use Rattle.tables.specs.declared.roster.Private.TheVariants.{SchuylkillVal
 ghost use Rattle.totals.specs.LookBack.{cheapest_in, is_sold_in, owner_in, owner_said};
 
 use events::{Event, Holder};
-use tables::Private;
+use tables::{PRIVATES, PerPrivate, Private};
 
 /// What was last said of the owner of each private, by one look over a list of events.
 #[derive(Clone, Copy, Debug)]
 pub struct Owners {
     /// By the private's place in the roster; `None` if it is unsold.
-    pub(crate) said: [Option<Option<Holder>>; 6],
+    pub(crate) said: PerPrivate<Option<Option<Holder>>>,
 }
 
 impl Owners {
@@ -21,7 +21,9 @@ impl Owners {
         ensures word { (private : Private) → word_in result private ≡ None }
         ensures cheapest { cheapest_in result ≡ Some SchuylkillValley }
     {
-        Owners { said: [None; 6] }
+        Owners {
+            said: [None; PRIVATES],
+        }
     }
 
     /// Applies what an event says of the owner of a private, if it speaks of one.

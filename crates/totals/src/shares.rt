@@ -10,7 +10,7 @@ use crate::balances::entry_of_shares;
 use crate::look_back::GameView;
 use crate::topics::{SaleBy, Shares};
 use events::Shareholder;
-use tables::{Amount, Company, Money, PLAYERS_MOST, Seat, Square};
+use tables::{Amount, COMPANIES, Company, Money, PLAYERS_MOST, PerCompany, Seat, Square};
 
 /// A number of shares of a company: what came in minus what went out, from 0 to 10 in a sound game.
 pub type ShareCount = i128;
@@ -88,13 +88,13 @@ impl GameView<'_> {
     }
 
     /// Returns the square of each company's token, by the places of the companies.
-    pub fn squares(&self) -> [Option<Square>; 8]
+    pub fn squares(&self) -> PerCompany<Option<Square>>
         ensures { (company : Company) →
             at_company result company ≡ square_of self.now.events.now company }
     {
         match self.totals() {
             Some(totals) => totals.squares,
-            None => [None; 8],
+            None => [None; COMPANIES],
         }
     }
 
@@ -120,13 +120,13 @@ impl GameView<'_> {
     }
 
     /// Returns the president of each company, by the places of the companies.
-    pub fn presidents(&self) -> [Option<Seat>; 8]
+    pub fn presidents(&self) -> PerCompany<Option<Seat>>
         ensures { (company : Company) →
             at_company result company ≡ president_of self.now.events.now company }
     {
         match self.totals() {
             Some(totals) => totals.presidents,
-            None => [None; 8],
+            None => [None; COMPANIES],
         }
     }
 }

@@ -9,11 +9,17 @@ use crate::applying::{
     apply_greatest_bid, apply_limit, apply_par, apply_par_order, apply_president, apply_ruling,
     apply_sale, apply_square, apply_token, apply_turn, no_limits,
 };
-use crate::balances::{apply_payment, apply_train, apply_train_owner, apply_transfer};
+use crate::balances::{
+    PARTIES, SHARE_PLACES, TRAIN_ENTRIES, TRAIN_PLACES, apply_payment, apply_train,
+    apply_train_owner, apply_transfer,
+};
 use crate::owners::Owners;
 use crate::shares::ShareCount;
 use events::Event;
-use tables::{Amount, Company, Kind, Money, PLAYERS_MOST, Round, Seat, Square};
+use tables::{
+    Amount, COMPANIES, Company, Kind, Money, PLAYERS_MOST, PRIVATES, PerCompany, PerPrivate,
+    PerSeat, Round, Seat, Square,
+};
 
 /// What a list of events says: what was last said of each thing, `None` if nothing was. Tables are
 /// by the places of the privates and the companies in the roster, and by the numbers of seats.
@@ -25,29 +31,29 @@ pub struct Totals {
     /// How many events there are.
     event_count: usize,
     pub(crate) owners: Owners,
-    pub(crate) bids: [[Option<Amount>; PLAYERS_MOST]; 6],
-    pub(crate) greatest_bids: [Option<Amount>; 6],
+    pub(crate) bids: PerPrivate<PerSeat<Option<Amount>>>,
+    pub(crate) greatest_bids: PerPrivate<Option<Amount>>,
     pub(crate) sv_price: Option<Amount>,
     pub(crate) actor: Option<Seat>,
     pub(crate) round: Option<Round>,
     pub(crate) phase: Option<Kind>,
     pub(crate) broken: bool,
     pub(crate) bankrupt: bool,
-    pub(crate) pars: [Option<Amount>; 8],
-    pub(crate) squares: [Option<Square>; 8],
-    pub(crate) presidents: [Option<Seat>; 8],
-    pub(crate) arrivals: [Option<usize>; 8],
-    pub(crate) floats: [Option<Company>; 8],
-    pub(crate) cash: [Money; 15],
-    pub(crate) shares: [ShareCount; 64],
-    pub(crate) trains: [Money; 88],
-    pub(crate) train_owners: [Money; 11],
-    pub(crate) tokens: [usize; 8],
-    pub(crate) operated: [bool; 8],
-    pub(crate) sales: [[bool; PLAYERS_MOST]; 8],
-    pub(crate) rulings: [usize; PLAYERS_MOST],
-    pub(crate) limits: [[Option<Amount>; PLAYERS_MOST]; 6],
-    pub(crate) par_orders: [Option<Amount>; PLAYERS_MOST],
+    pub(crate) pars: PerCompany<Option<Amount>>,
+    pub(crate) squares: PerCompany<Option<Square>>,
+    pub(crate) presidents: PerCompany<Option<Seat>>,
+    pub(crate) arrivals: PerCompany<Option<usize>>,
+    pub(crate) floats: PerCompany<Option<Company>>,
+    pub(crate) cash: [Money; PARTIES],
+    pub(crate) shares: [ShareCount; SHARE_PLACES],
+    pub(crate) trains: [Money; TRAIN_ENTRIES],
+    pub(crate) train_owners: [Money; TRAIN_PLACES],
+    pub(crate) tokens: PerCompany<usize>,
+    pub(crate) operated: PerCompany<bool>,
+    pub(crate) sales: PerCompany<PerSeat<bool>>,
+    pub(crate) rulings: PerSeat<usize>,
+    pub(crate) limits: PerPrivate<PerSeat<Option<Amount>>>,
+    pub(crate) par_orders: PerSeat<Option<Amount>>,
 }
 
 // A walk holds them by value.
@@ -61,26 +67,26 @@ impl Totals {
         Totals {
             event_count: 0,
             owners: Owners::unsold(),
-            bids: [[None; PLAYERS_MOST]; 6],
-            greatest_bids: [None; 6],
+            bids: [[None; PLAYERS_MOST]; PRIVATES],
+            greatest_bids: [None; PRIVATES],
             sv_price: None,
             actor: None,
             round: None,
             phase: None,
             broken: false,
             bankrupt: false,
-            pars: [None; 8],
-            squares: [None; 8],
-            presidents: [None; 8],
-            arrivals: [None; 8],
-            floats: [None; 8],
-            cash: [0; 15],
-            shares: [0; 64],
-            trains: [0; 88],
-            train_owners: [0; 11],
-            tokens: [0; 8],
-            operated: [false; 8],
-            sales: [[false; PLAYERS_MOST]; 8],
+            pars: [None; COMPANIES],
+            squares: [None; COMPANIES],
+            presidents: [None; COMPANIES],
+            arrivals: [None; COMPANIES],
+            floats: [None; COMPANIES],
+            cash: [0; PARTIES],
+            shares: [0; SHARE_PLACES],
+            trains: [0; TRAIN_ENTRIES],
+            train_owners: [0; TRAIN_PLACES],
+            tokens: [0; COMPANIES],
+            operated: [false; COMPANIES],
+            sales: [[false; PLAYERS_MOST]; COMPANIES],
             rulings: [0; PLAYERS_MOST],
             limits: no_limits(),
             par_orders: [None; PLAYERS_MOST],

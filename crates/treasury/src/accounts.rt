@@ -20,15 +20,15 @@ ghost use Rattle.treasury.specs.Accounts.{
 };
 
 use history::{GameView, History, Holder, Party};
-use tables::{Company, Money, PLAYERS_MOST, Seat};
+use tables::{COMPANIES, Company, Money, PLAYERS_MOST, PerCompany, PerSeat, Seat};
 use thiserror::Error;
 
 /// What each party of a game has.
 #[derive(Clone, Copy, Debug)]
 pub struct Accounts {
     bank: Money,
-    seats: [Money; PLAYERS_MOST],
-    companies: [Money; 8],
+    seats: PerSeat<Money>,
+    companies: PerCompany<Money>,
 }
 
 /// A payment was refused: a player or a company has less than the sum.
@@ -137,7 +137,7 @@ impl Accounts {
 }
 
 /// Returns what each seat has, by its number.
-fn cash_of_seats(now: &GameView) -> [Money; PLAYERS_MOST]
+fn cash_of_seats(now: &GameView) -> PerSeat<Money>
     ensures cash { AreOfSeats now.now.seats now.now.events.now result }
     ensures moderate { AreModerateForSeats result }
 {
@@ -149,11 +149,11 @@ fn cash_of_seats(now: &GameView) -> [Money; PLAYERS_MOST]
 }
 
 /// Returns what each company has, by its place in the roster.
-fn cash_of_companies(now: &GameView) -> [Money; 8]
+fn cash_of_companies(now: &GameView) -> PerCompany<Money>
     ensures cash { AreOfCompanies now.now.seats now.now.events.now result }
     ensures moderate { AreModerateForCompanies result }
 {
-    let mut cash = [0; 8];
+    let mut cash = [0; COMPANIES];
     for (place, company) in Company::ALL.iter().enumerate() {
         cash[place] = now.cash(Party::of_company(*company));
     }
