@@ -4,3 +4,4 @@ pub mod ComingLemmas
 pub mod Laid
 pub mod Refusals
 pub mod SetLemmas
+mod ReasonLemmas

@@ -1,36 +1,20 @@
 //! What a code means: its rule in words, what to do about it, and the small game that shows it.
-ghost use Rattle.std.specs.Prelude.{All, MatchOption};
+ghost use Rattle.std.specs.Prelude.{MatchOption};
 ghost use Rattle.std.specs.Str.{trim};
-ghost use Rattle.desk_base.specs.Reason.{IsItsCode, IsNotItsCode, reasons};
+ghost use Rattle.desk_base.specs.Reason.{HasItsCode, NoneHasCode};
 
 use crate::advice::advice_on;
-use crate::reason::{REASONS, Reason};
+use crate::reason::Reason;
 use crate::text::Piece::{Column, Words};
 use crate::text::fill;
 use std::alloc::{AllocError, Global};
 
 /// Returns the reason with a code, in letters of either case and between spaces; `None` if no
-/// reason has that code.
+/// report prints that code.
 pub fn explain(word: &str) -> Option<Reason>
-    ensures { MatchOption result
-        (All (λ reason. IsNotItsCode (trim word.now) reason) reasons)
-        (IsItsCode (trim word.now)) }
+    ensures { MatchOption result (NoneHasCode (trim word.now)) (HasItsCode (trim word.now)) }
 {
-    reason_among(&REASONS, word.trim())
-}
-
-/// Returns the first of some reasons with this code, in either case.
-fn reason_among(reasons: &[Reason], code: &str) -> Option<Reason>
-    ensures { MatchOption result
-        (All (λ reason. IsNotItsCode code.now reason) reasons.now)
-        (IsItsCode code.now) }
-{
-    for reason in reasons {
-        if reason.code().eq_ignore_ascii_case(code) {
-            return Some(*reason);
-        }
-    }
-    None
+    Reason::with_code(word.trim())
 }
 
 /// Returns the entry of a reason, in three lines: its code and rule, what to do about it, and the
@@ -54,7 +38,7 @@ pub fn reason_text(alloc: Global, reason: Reason) -> Result<Vec<u8>, AllocError>
 /// Returns the entries of all reasons, with an empty line between two.
 pub fn all_reasons_text(alloc: Global) -> Result<Vec<u8>, AllocError> {
     let mut text = Vec::new(alloc);
-    for reason in &REASONS {
+    for reason in &Reason::all(alloc)? {
         if !text.is_empty() {
             fill(&mut text, "\n", &[])?;
         }
@@ -66,7 +50,7 @@ pub fn all_reasons_text(alloc: Global) -> Result<Vec<u8>, AllocError> {
 /// Returns all codes with their rules, a line each.
 pub fn list_text(alloc: Global) -> Result<Vec<u8>, AllocError> {
     let mut text = Vec::new(alloc);
-    for reason in &REASONS {
+    for reason in &Reason::all(alloc)? {
         let (code, rule) = (Words(reason.code()), Words(reason.sentence()));
         fill(&mut text, "%%%\n", &[code, Column(5), rule])?;
     }

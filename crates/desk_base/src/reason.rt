@@ -1,12 +1,15 @@
 //! Why a file or a line is refused: each reason that a report names by a code.
 
-ghost use Rattle.std.specs.Prelude.{◌≡◌};
-ghost use Rattle.desk_base.specs.Reason.{code_of_reason};
+ghost use Rattle.std.specs.Prelude.{◌≡◌, ◌≢◌, MatchOption};
+ghost use Rattle.desk_base.specs.Reason.{HasFaultsCode, HasItsCode, NoFaultHasCode, NoneHasCode};
+ghost use Rattle.desk_base.specs.Reason.{code_of_reason, sentence_of_reason};
 
 use history::{OpeningRule, PayRule, PrivateRule, Refusal, StockRule, TrainRule};
 use map_tables::{LayRule, RunRule, TokenRule};
 use order_grammar::Fault;
 use sheets::FileFault;
+use std::alloc::{AllocError, Global};
+use tables::rule_with_code;
 
 /// Why a file or a line is refused.
 #[derive(Clone, Copy)]
@@ -32,87 +35,85 @@ impl Reason {
     }
 
     /// Returns what is wrong, in a player's words.
-    pub fn sentence(self) -> &'static str {
+    pub fn sentence(self) -> &'static str
+        ensures { result.now ≡ sentence_of_reason self }
+    {
         match self {
             Reason::File(fault) => fault.sentence(),
             Reason::Line(fault) => fault.sentence(),
             Reason::Order(rule) => rule.sentence(),
         }
     }
+
+    /// Returns the reason with a code, in letters of either case; `None` if no report prints that
+    /// code.
+    #[tactic(auto, using(crate::proofs::ReasonLemmas::none_has))]
+    pub(crate) fn with_code(code: &str) -> Option<Reason>
+        ensures { MatchOption result (NoneHasCode code.now) (HasItsCode code.now) }
+    {
+        if let Some(fault) = file_fault_with_code(code) {
+            return Some(Reason::File(fault));
+        }
+        if let Some(fault) = rule_with_code(Fault::rows(), code) {
+            return Some(Reason::Line(fault));
+        }
+        Some(Reason::Order(Refusal::with_code(code)?))
+    }
+
+    /// Returns all reasons that reports print, in the order of the table of codes. Fails if
+    /// allocation fails.
+    pub(crate) fn all(alloc: Global) -> Result<Vec<Reason>, AllocError> {
+        let mut reasons = Vec::new(alloc);
+        for row in FileFault::rows() {
+            if row.rule != FileFault::Memory {
+                reasons.push(Reason::File(row.rule))?;
+            }
+        }
+        for row in Fault::rows() {
+            reasons.push(Reason::Line(row.rule))?;
+        }
+        push_refusals(&mut reasons)?;
+        Ok(reasons)
+    }
 }
 
-/// All reasons that a report names, in the order of the table of codes.
-pub(crate) static REASONS: [Reason; 72] = [
-    Reason::File(FileFault::Header),
-    Reason::File(FileFault::Players),
-    Reason::File(FileFault::TooLong),
-    Reason::File(FileFault::TooManySheets),
-    Reason::Line(Fault::TooLong),
-    Reason::Line(Fault::StrayByte),
-    Reason::Line(Fault::UnknownWord),
-    Reason::Line(Fault::WrongWords),
-    Reason::Line(Fault::NumberTooLarge),
-    Reason::Line(Fault::OutOfPlace),
-    Reason::Line(Fault::UnknownPlayer),
-    Reason::Line(Fault::PastLastLine),
-    Reason::Order(Refusal::Condition),
-    Reason::Order(Refusal::Opening(OpeningRule::NotOfOpening)),
-    Reason::Order(Refusal::Opening(OpeningRule::Sold)),
-    Reason::Order(Refusal::Opening(OpeningRule::NotCheapest)),
-    Reason::Order(Refusal::Opening(OpeningRule::BidTooLow)),
-    Reason::Order(Refusal::Opening(OpeningRule::CashTooSmall)),
-    Reason::Order(Refusal::Opening(OpeningRule::TurnUsed)),
-    Reason::Order(Refusal::Opening(OpeningRule::BidForCheapest)),
-    Reason::Order(Refusal::Stock(StockRule::NotOfStock)),
-    Reason::Order(Refusal::Stock(StockRule::SaleInFirstRound)),
-    Reason::Order(Refusal::Stock(StockRule::NotHeld)),
-    Reason::Order(Refusal::Stock(StockRule::PoolFull)),
-    Reason::Order(Refusal::Stock(StockRule::PresidentMustStay)),
-    Reason::Order(Refusal::Stock(StockRule::SoldInRound)),
-    Reason::Order(Refusal::Stock(StockRule::NoneThere)),
-    Reason::Order(Refusal::Stock(StockRule::NoParValue)),
-    Reason::Order(Refusal::Stock(StockRule::WrongStart)),
-    Reason::Order(Refusal::Stock(StockRule::CashTooSmall)),
-    Reason::Order(Refusal::Stock(StockRule::CertificateLimit)),
-    Reason::Order(Refusal::Stock(StockRule::OverSixShares)),
-    Reason::Order(Refusal::Stock(StockRule::BoughtBefore)),
-    Reason::Order(Refusal::Stock(StockRule::NoExchange)),
-    Reason::Order(Refusal::Lay(LayRule::StepUsed)),
-    Reason::Order(Refusal::Lay(LayRule::GreyOrRed)),
-    Reason::Order(Refusal::Lay(LayRule::NoneLeft)),
-    Reason::Order(Refusal::Lay(LayRule::ColourClosed)),
-    Reason::Order(Refusal::Lay(LayRule::WrongTile)),
-    Reason::Order(Refusal::Lay(LayRule::TrackLost)),
-    Reason::Order(Refusal::Lay(LayRule::BadSide)),
-    Reason::Order(Refusal::Lay(LayRule::Blocked)),
-    Reason::Order(Refusal::Lay(LayRule::NotReached)),
-    Reason::Order(Refusal::Lay(LayRule::CashTooSmall)),
-    Reason::Order(Refusal::Token(TokenRule::StepUsed)),
-    Reason::Order(Refusal::Token(TokenRule::NoTokenLeft)),
-    Reason::Order(Refusal::Token(TokenRule::NoFreeSlot)),
-    Reason::Order(Refusal::Token(TokenRule::InHexAlready)),
-    Reason::Order(Refusal::Token(TokenRule::NotReached)),
-    Reason::Order(Refusal::Token(TokenRule::CashTooSmall)),
-    Reason::Order(Refusal::Run(RunRule::StepUsed)),
-    Reason::Order(Refusal::Run(RunRule::NoTrain)),
-    Reason::Order(Refusal::Run(RunRule::NoTrack)),
-    Reason::Order(Refusal::Run(RunRule::WrongNumber)),
-    Reason::Order(Refusal::Run(RunRule::StopTwice)),
-    Reason::Order(Refusal::Run(RunRule::BorderTwice)),
-    Reason::Order(Refusal::Run(RunRule::PassesFull)),
-    Reason::Order(Refusal::Run(RunRule::NoToken)),
-    Reason::Order(Refusal::Run(RunRule::RedInside)),
-    Reason::Order(Refusal::Pay(PayRule::NothingToPay)),
-    Reason::Order(Refusal::Train(TrainRule::NotOnSale)),
-    Reason::Order(Refusal::Train(TrainRule::TrainLimit)),
-    Reason::Order(Refusal::Train(TrainRule::CashTooSmall)),
-    Reason::Order(Refusal::Train(TrainRule::NoConsent)),
-    Reason::Order(Refusal::Train(TrainRule::NotSellers)),
-    Reason::Order(Refusal::Train(TrainRule::NoTradeIn)),
-    Reason::Order(Refusal::Train(TrainRule::NoDiscard)),
-    Reason::Order(Refusal::Private(PrivateRule::TooEarly)),
-    Reason::Order(Refusal::Private(PrivateRule::WrongPrice)),
-    Reason::Order(Refusal::Private(PrivateRule::NoConsent)),
-    Reason::Order(Refusal::Private(PrivateRule::NeverSold)),
-    Reason::Order(Refusal::Private(PrivateRule::CashTooSmall)),
-];
+/// Adds each rule of play that an order may break.
+fn push_refusals(reasons: &mut Vec<Reason>) -> Result<(), AllocError> {
+    reasons.push(Reason::Order(Refusal::Condition))?;
+    for row in OpeningRule::rows() {
+        reasons.push(Reason::Order(Refusal::Opening(row.rule)))?;
+    }
+    for row in StockRule::rows() {
+        reasons.push(Reason::Order(Refusal::Stock(row.rule)))?;
+    }
+    for row in LayRule::rows() {
+        reasons.push(Reason::Order(Refusal::Lay(row.rule)))?;
+    }
+    for row in TokenRule::rows() {
+        reasons.push(Reason::Order(Refusal::Token(row.rule)))?;
+    }
+    for row in RunRule::rows() {
+        reasons.push(Reason::Order(Refusal::Run(row.rule)))?;
+    }
+    for row in PayRule::rows() {
+        reasons.push(Reason::Order(Refusal::Pay(row.rule)))?;
+    }
+    for row in TrainRule::rows() {
+        reasons.push(Reason::Order(Refusal::Train(row.rule)))?;
+    }
+    for row in PrivateRule::rows() {
+        reasons.push(Reason::Order(Refusal::Private(row.rule)))?;
+    }
+    Ok(())
+}
+
+/// Returns the fault of a file with a code that reports print, in letters of either case.
+#[tactic(auto, using(crate::proofs::ReasonLemmas::memory_alone))]
+fn file_fault_with_code(code: &str) -> Option<FileFault>
+    ensures { MatchOption result (NoFaultHasCode code.now) (HasFaultsCode code.now) }
+{
+    match rule_with_code(FileFault::rows(), code)? {
+        FileFault::Memory => None,
+        fault => Some(fault),
+    }
+}
