@@ -33,7 +33,7 @@ pub enum LayRule {
 }
 
 /// The rules of lays, in the order in which they are checked.
-static LAY_RULES: [RuleRow<LayRule>; 10] = rule_rows! { LayRule
+static LAY_RULES: [RuleRow<LayRule>; LayRule::CashTooSmall as usize + 1] = rule_rows! { LayRule
     StepUsed: "L1", "the lay of the turn is used, or its step is past",
     GreyOrRed: "L2", "the hex is grey or red",
     NoneLeft: "L3", "no such tile is left",
@@ -107,7 +107,8 @@ pub enum TokenRule {
 }
 
 /// The rules of tokens, in the order in which they are checked.
-static TOKEN_RULES: [RuleRow<TokenRule>; 6] = rule_rows! { TokenRule
+static TOKEN_RULES: [RuleRow<TokenRule>; TokenRule::CashTooSmall as usize + 1] =
+    rule_rows! { TokenRule
     StepUsed: "K1", "the step of the token is past",
     NoTokenLeft: "K2", "the company has no token left",
     NoFreeSlot: "K3",
@@ -182,7 +183,7 @@ pub enum RunRule {
 }
 
 /// The rules of runs, in the order in which they are checked.
-static RUN_RULES: [RuleRow<RunRule>; 9] = rule_rows! { RunRule
+static RUN_RULES: [RuleRow<RunRule>; RunRule::RedInside as usize + 1] = rule_rows! { RunRule
     StepUsed: "R1", "the step of the runs is past",
     NoTrain: "R2",
         "no train of the kind is left that has not run; of RUN BEST: the company has no train, \
