@@ -2,6 +2,7 @@
 ghost use Rattle.std.specs.Prelude.{◌≡◌, map};
 ghost use Rattle.totals.specs.LookBack.{owner_in};
 ghost use Rattle.operating.specs.BoardAsker.{asker_of, is_companys, is_players};
+ghost use Rattle.operating.specs.Progress.{at_start};
 ghost use Rattle.tables.specs.Roster.{privates};
 
 use crate::progress::Progress;
@@ -23,6 +24,13 @@ pub(crate) fn asker(history: &History, company: Company, progress: Progress) -> 
         own_privates: of_company(&owners, company),
         player_privates: of_players(&owners),
     }
+}
+
+/// Returns a company as the rules of the board see it, by the list as it is, with a turn that begins.
+pub fn asker_now(history: &History, company: Company) -> Asker
+    ensures { result ≡ asker_of history.now company at_start }
+{
+    asker(history, company, Progress::start())
 }
 
 /// Returns which privates a company owns, by their places in the roster.

@@ -29,7 +29,7 @@ pub(crate) fn place_home(history: &mut History, company: Company) -> Result<(), 
 }
 
 /// Returns whether a token of a company lies at its home.
-fn has_home_token(history: &History, company: Company) -> bool
+pub fn has_home_token(history: &History, company: Company) -> bool
     ensures { result ≡ has_home_token history.now.events company }
 {
     has_token(history.tokens(), home(company), company)

@@ -47,5 +47,7 @@ mod train_laws;
 mod turn;
 mod turn_end;
 
+pub use board_asker::asker_now;
 pub use game_and_board::GameAndBoard;
+pub use home_token::has_home_token;
 pub use turn::{play_company, play_on};
