@@ -1,9 +1,7 @@
--- The families of keywords and of orders of few bytes, by which the code takes them.
+-- The families of keywords, by which the code takes them.
 use Rattle.std.specs.Prelude.{⊤}
 use Rattle.order_grammar.specs.declared.keyword.Keyword.{Keyword}
 use Rattle.order_grammar.specs.declared.keyword.Keyword.TheVariants as keyword
-use Rattle.order_grammar.specs.declared.short.ShortOrder.{ShortOrder}
-use Rattle.order_grammar.specs.declared.short.ShortOrder.TheVariants as short
 
 -- a line of the file or a head of its sheets begins with it
 abbrev pub IsOfFile : Keyword → Type 0
@@ -43,13 +41,3 @@ IsOfCertificate keyword.Certs = ⊤
 IsOfCertificate keyword.Cert = ⊤
 IsOfCertificate keyword.Marks = ⊤
 IsOfCertificate other = ⊥
-
--- an order of few bytes that names a number of dollars or of shares
-abbrev pub HasAmount : ShortOrder → Type 0
-HasAmount (short.Bid private amount) = ⊤
-HasAmount (short.Limit private amount) = ⊤
-HasAmount (short.Par company price) = ⊤
-HasAmount (short.Sell company shares) = ⊤
-HasAmount (short.BuyOwnedPrivate private price) = ⊤
-HasAmount (short.Raise company shares) = ⊤
-HasAmount other = ⊥

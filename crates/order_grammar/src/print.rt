@@ -1,17 +1,17 @@
-ghost use Rattle.std.specs.Prelude.{◌≡◌, ◌++◌, ◌∷◌, false, IfOk, List, OnErr, OnOk};
+ghost use Rattle.std.specs.Prelude.{◌≡◌, ◌++◌, ◌∷◌, [], IfOk, List, OnErr, OnOk};
 ghost use Rattle.std.specs.Option.{option_copied};
 ghost use Rattle.map_tables.specs.Text.{text_of_place};
 ghost use Rattle.map_tables.specs.declared.place.Place.{Place as MapPlace};
 ghost use Rattle.order_grammar.specs.Condition.{condition_values};
-ghost use Rattle.order_grammar.specs.Family.{HasAmount};
 ghost use Rattle.order_grammar.specs.Keyword.{text_of_keyword};
 ghost use Rattle.order_grammar.specs.Print.{AddsPrefix, condition_text, conditional_spelling, joined, places_line};
 ghost use Rattle.order_grammar.specs.Print.{places_text, spaced, spelling_of, text_of_round, text_of_value};
 ghost use Rattle.order_grammar.specs.Print.{values_text, words_text};
-ghost use Rattle.order_grammar.specs.Short.{has_short_form, order_in_short};
+ghost use Rattle.order_grammar.specs.Short.{order_in_short};
 ghost use Rattle.order_grammar.specs.declared.keyword.Keyword.TheVariants.{If, Players};
 ghost use Rattle.order_grammar.specs.declared.order.Order.TheVariants.{BuyTrain, Lay as LayOrder, Offer as OfferOrder};
 ghost use Rattle.order_grammar.specs.declared.order.Order.TheVariants.{Run};
+ghost use Rattle.order_grammar.specs.declared.order.Value.TheVariants.{Number};
 
 use crate::condition::Condition;
 use crate::keyword::Keyword;
@@ -100,18 +100,6 @@ pub fn print_order(text: &mut Vec<u8>, order: &Order) -> Result<(), AllocError>
     ensures ok { OnOk result (text.new.items ≡ text.old.items ++ spelling_of order.now) }
     ensures err { OnErr result (AddsPrefix text.old.items text.new.items (spelling_of order.now)) }
 {
-    match ShortOrder::of(order) {
-        Some(short) => print_short_order(text, short),
-        None => print_long_order(text, order),
-    }
-}
-
-/// Adds the spelling of an order without a short form.
-fn print_long_order(text: &mut Vec<u8>, order: &Order) -> Result<(), AllocError>
-    requires { has_short_form order.now ≡ false }
-    ensures ok { OnOk result (text.new.items ≡ text.old.items ++ spelling_of order.now) }
-    ensures err { OnErr result (AddsPrefix text.old.items text.new.items (spelling_of order.now)) }
-{
     match order {
         Order::Blank => Ok(()),
         Order::Game { game, version } => {
@@ -124,10 +112,49 @@ fn print_long_order(text: &mut Vec<u8>, order: &Order) -> Result<(), AllocError>
             print_words(text, Keyword::Sheet, &head)
         }
         Order::Turn => print_words(text, Keyword::Turn, &[]),
+        Order::BuyPrivate(private) => {
+            print_words(text, Keyword::Buy, &[Value::Private(*private)])
+        }
+        Order::Bid { private, amount } => {
+            print_amount(text, Keyword::Bid, Value::Private(*private), *amount)
+        }
+        Order::Limit { private, amount } => {
+            print_amount(text, Keyword::Limit, Value::Private(*private), *amount)
+        }
+        Order::Par { company, price } => {
+            print_amount(text, Keyword::Par, Value::Company(*company), *price)
+        }
+        Order::BuyShare { company, from } => {
+            let shares = [Value::Company(*company), Value::Word(from.keyword())];
+            print_words(text, Keyword::Buy, &shares)
+        }
+        Order::Sell { company, shares } => {
+            print_amount(text, Keyword::Sell, Value::Company(*company), *shares)
+        }
+        Order::ExchangeMohawk => {
+            print_words(text, Keyword::Exchange, &[Value::Word(Keyword::Mohawk)])
+        }
         Order::Company(company) => {
             print_words(text, Keyword::Company, &[Value::Company(*company)])
         }
+        Order::Lay(lay) => print_lay(text, *lay),
+        Order::Token(place) => print_words(text, Keyword::Token, &[Value::Place(*place)]),
         Order::Run { kind, run } => print_of_places(text, Keyword::Run, *kind, run.as_slice()),
+        Order::RunBest => print_words(text, Keyword::Run, &[Value::Word(Keyword::Best)]),
+        Order::Pay => print_words(text, Keyword::Pay, &[]),
+        Order::Withhold => print_words(text, Keyword::Withhold, &[]),
+        Order::BuyTrain { kind, from } => print_purchase(text, *kind, *from),
+        Order::Discard { company, kind } => {
+            let train = [Value::Company(*company), Value::Kind(*kind)];
+            print_words(text, Keyword::Discard, &train)
+        }
+        Order::BuyOwnedPrivate { private, price } => {
+            print_amount(text, Keyword::Private, Value::Private(*private), *price)
+        }
+        Order::Raise { company, shares } => {
+            print_amount(text, Keyword::Raise, Value::Company(*company), *shares)
+        }
+        Order::Offer(offer) => print_offer(text, *offer),
         Order::Certs => print_words(text, Keyword::Certs, &[Value::Word(Keyword::One)]),
         Order::Cert {
             round,
@@ -143,7 +170,6 @@ fn print_long_order(text: &mut Vec<u8>, order: &Order) -> Result<(), AllocError>
         }
         Order::Claim { kind, run } => print_of_places(text, Keyword::Claim, *kind, run.as_slice()),
         Order::Marks => print_words(text, Keyword::Marks, &[Value::HexDigits]),
-        _ => unreachable!(),
     }
 }
 
@@ -191,56 +217,21 @@ pub fn print_short_order(text: &mut Vec<u8>, order: ShortOrder) -> Result<(), Al
     ensures err { OnErr result (AddsPrefix text.old.items text.new.items
         (spelling_of (order_in_short order))) }
 {
-    match order {
-        ShortOrder::BuyPrivate(private) => {
-            print_words(text, Keyword::Buy, &[Value::Private(private)])
-        }
-        ShortOrder::BuyShare { company, from } => {
-            let shares = [Value::Company(company), Value::Word(from.keyword())];
-            print_words(text, Keyword::Buy, &shares)
-        }
-        ShortOrder::ExchangeMohawk => {
-            print_words(text, Keyword::Exchange, &[Value::Word(Keyword::Mohawk)])
-        }
-        ShortOrder::Lay(lay) => print_lay(text, lay),
-        ShortOrder::Token(place) => print_words(text, Keyword::Token, &[Value::Place(place)]),
-        ShortOrder::RunBest => print_words(text, Keyword::Run, &[Value::Word(Keyword::Best)]),
-        ShortOrder::Pay => print_words(text, Keyword::Pay, &[]),
-        ShortOrder::Withhold => print_words(text, Keyword::Withhold, &[]),
-        ShortOrder::BuyTrain { kind, from } => print_purchase(text, kind, from),
-        ShortOrder::Discard { company, kind } => {
-            let train = [Value::Company(company), Value::Kind(kind)];
-            print_words(text, Keyword::Discard, &train)
-        }
-        ShortOrder::Offer(offer) => print_offer(text, offer),
-        ShortOrder::Bid { .. }
-        | ShortOrder::Limit { .. }
-        | ShortOrder::Par { .. }
-        | ShortOrder::Sell { .. }
-        | ShortOrder::BuyOwnedPrivate { .. }
-        | ShortOrder::Raise { .. } => print_amount(text, order),
-    }
+    print_order(text, &order.order())
 }
 
-/// Adds the spelling of an order that names a number of dollars or of shares.
-fn print_amount(text: &mut Vec<u8>, order: ShortOrder) -> Result<(), AllocError>
-    requires { HasAmount order }
+/// Adds the order that names one thing and a number of dollars or of shares.
+fn print_amount(
+    text: &mut Vec<u8>,
+    keyword: Keyword,
+    of: Value,
+    amount: u32,
+) -> Result<(), AllocError>
     ensures ok { OnOk result (text.new.items
-        ≡ text.old.items ++ spelling_of (order_in_short order)) }
+        ≡ text.old.items ++ words_text keyword (of ∷ Number amount ∷ [])) }
     ensures err { OnErr result (AddsPrefix text.old.items text.new.items
-        (spelling_of (order_in_short order))) }
+        (words_text keyword (of ∷ Number amount ∷ []))) }
 {
-    let (keyword, of, amount) = match order {
-        ShortOrder::Bid { private, amount } => (Keyword::Bid, Value::Private(private), amount),
-        ShortOrder::Limit { private, amount } => (Keyword::Limit, Value::Private(private), amount),
-        ShortOrder::Par { company, price } => (Keyword::Par, Value::Company(company), price),
-        ShortOrder::Sell { company, shares } => (Keyword::Sell, Value::Company(company), shares),
-        ShortOrder::BuyOwnedPrivate { private, price } => {
-            (Keyword::Private, Value::Private(private), price)
-        }
-        ShortOrder::Raise { company, shares } => (Keyword::Raise, Value::Company(company), shares),
-        _ => unreachable!(),
-    };
     print_words(text, keyword, &[of, Value::Number(amount)])
 }
 

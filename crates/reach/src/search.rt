@@ -116,41 +116,18 @@ fn follow<K: Keeper>(step: Step, marks: &mut Marks, keeper: &mut K) -> Result<()
     Ok(())
 }
 
-/// Follows a link from its first end, if that lies at a spot.
-fn follow_on<K: Keeper>(
-    link: Link,
+/// Follows a step, if it enters its link at a spot.
+fn follow_at<K: Keeper>(
+    step: Step,
     at: Spot,
     marks: &mut Marks,
     keeper: &mut K,
 ) -> Result<(), K::Fault>
-    requires { link.hex ≡ at.hex }
-    ensures { OnOk result (IsFollowed (record { link = link; turned = false }) at
+    requires { step.link.hex ≡ at.hex }
+    ensures { OnOk result (IsFollowed step at
         marks.old.marks marks.old.waiting.items (K.keeps keeper.old)
         marks.new.marks marks.new.waiting.items (K.keeps keeper.new)) }
 {
-    let step = Step {
-        link,
-        turned: false,
-    };
-    if is_entered(step, at) {
-        follow(step, marks, keeper)?;
-    }
-    Ok(())
-}
-
-/// Follows a link from its second end, if that lies at a spot.
-fn follow_back<K: Keeper>(
-    link: Link,
-    at: Spot,
-    marks: &mut Marks,
-    keeper: &mut K,
-) -> Result<(), K::Fault>
-    requires { link.hex ≡ at.hex }
-    ensures { OnOk result (IsFollowed (record { link = link; turned = true }) at
-        marks.old.marks marks.old.waiting.items (K.keeps keeper.old)
-        marks.new.marks marks.new.waiting.items (K.keeps keeper.new)) }
-{
-    let step = Step { link, turned: true };
     if is_entered(step, at) {
         follow(step, marks, keeper)?;
     }
@@ -175,8 +152,13 @@ fn follow_both<N: Network, K: Keeper>(
         marks.old.marks marks.old.waiting.items (K.keeps keeper.old)
         marks.new.marks marks.new.waiting.items (K.keeps keeper.new)) }
 {
-    follow_on(link, at, marks, keeper)?;
-    follow_back(link, at, marks, keeper)?;
+    let forward = Step {
+        link,
+        turned: false,
+    };
+    let back = Step { link, turned: true };
+    follow_at(forward, at, marks, keeper)?;
+    follow_at(back, at, marks, keeper)?;
     Ok(())
 }
 

@@ -27,9 +27,9 @@ returns g c =
     let position = g.N.Network.position c.args.network.now in
     let company = c.args.company in
     let forward = spreads_followed position company c.requires.lawful (taking c.args.link false) c.requires.track
-    c.args.at _ _ _ _ _ _ c.requires.may c.in_ok-follow_on.ensures in
+    c.args.at _ _ _ _ _ _ c.requires.may c.in_ok-follow_at.ensures in
     let may = can_still position company _ _ forward.kept c.args.at c.requires.may in
     spreads_on position company _ _ _ _ _ _ _ _ _ _ _ _ forward
     (spreads_followed position company c.requires.lawful (taking c.args.link true) c.requires.track c.args.at _ _ _ _
-    _ _ may c.in_ok-follow_back.ensures)
+    _ _ may c.in_ok-follow_at-2.ensures)
     (directions c.args.link c.args.at)
