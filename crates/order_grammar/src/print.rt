@@ -112,49 +112,54 @@ pub fn print_order(text: &mut Vec<u8>, order: &Order) -> Result<(), AllocError>
             print_words(text, Keyword::Sheet, &head)
         }
         Order::Turn => print_words(text, Keyword::Turn, &[]),
-        Order::BuyPrivate(private) => {
-            print_words(text, Keyword::Buy, &[Value::Private(*private)])
-        }
+        Order::BuyPrivate(private) => print_short_order(text, ShortOrder::BuyPrivate(*private)),
         Order::Bid { private, amount } => {
-            print_amount(text, Keyword::Bid, Value::Private(*private), *amount)
+            let (private, amount) = (*private, *amount);
+            print_short_order(text, ShortOrder::Bid { private, amount })
         }
         Order::Limit { private, amount } => {
-            print_amount(text, Keyword::Limit, Value::Private(*private), *amount)
+            let (private, amount) = (*private, *amount);
+            print_short_order(text, ShortOrder::Limit { private, amount })
         }
         Order::Par { company, price } => {
-            print_amount(text, Keyword::Par, Value::Company(*company), *price)
+            let (company, price) = (*company, *price);
+            print_short_order(text, ShortOrder::Par { company, price })
         }
         Order::BuyShare { company, from } => {
-            let shares = [Value::Company(*company), Value::Word(from.keyword())];
-            print_words(text, Keyword::Buy, &shares)
+            let (company, from) = (*company, *from);
+            print_short_order(text, ShortOrder::BuyShare { company, from })
         }
         Order::Sell { company, shares } => {
-            print_amount(text, Keyword::Sell, Value::Company(*company), *shares)
+            let (company, shares) = (*company, *shares);
+            print_short_order(text, ShortOrder::Sell { company, shares })
         }
-        Order::ExchangeMohawk => {
-            print_words(text, Keyword::Exchange, &[Value::Word(Keyword::Mohawk)])
-        }
+        Order::ExchangeMohawk => print_short_order(text, ShortOrder::ExchangeMohawk),
         Order::Company(company) => {
             print_words(text, Keyword::Company, &[Value::Company(*company)])
         }
-        Order::Lay(lay) => print_lay(text, *lay),
-        Order::Token(place) => print_words(text, Keyword::Token, &[Value::Place(*place)]),
+        Order::Lay(lay) => print_short_order(text, ShortOrder::Lay(*lay)),
+        Order::Token(place) => print_short_order(text, ShortOrder::Token(*place)),
         Order::Run { kind, run } => print_of_places(text, Keyword::Run, *kind, run.as_slice()),
-        Order::RunBest => print_words(text, Keyword::Run, &[Value::Word(Keyword::Best)]),
-        Order::Pay => print_words(text, Keyword::Pay, &[]),
-        Order::Withhold => print_words(text, Keyword::Withhold, &[]),
-        Order::BuyTrain { kind, from } => print_purchase(text, *kind, *from),
+        Order::RunBest => print_short_order(text, ShortOrder::RunBest),
+        Order::Pay => print_short_order(text, ShortOrder::Pay),
+        Order::Withhold => print_short_order(text, ShortOrder::Withhold),
+        Order::BuyTrain { kind, from } => {
+            let (kind, from) = (*kind, *from);
+            print_short_order(text, ShortOrder::BuyTrain { kind, from })
+        }
         Order::Discard { company, kind } => {
-            let train = [Value::Company(*company), Value::Kind(*kind)];
-            print_words(text, Keyword::Discard, &train)
+            let (company, kind) = (*company, *kind);
+            print_short_order(text, ShortOrder::Discard { company, kind })
         }
         Order::BuyOwnedPrivate { private, price } => {
-            print_amount(text, Keyword::Private, Value::Private(*private), *price)
+            let (private, price) = (*private, *price);
+            print_short_order(text, ShortOrder::BuyOwnedPrivate { private, price })
         }
         Order::Raise { company, shares } => {
-            print_amount(text, Keyword::Raise, Value::Company(*company), *shares)
+            let (company, shares) = (*company, *shares);
+            print_short_order(text, ShortOrder::Raise { company, shares })
         }
-        Order::Offer(offer) => print_offer(text, *offer),
+        Order::Offer(offer) => print_short_order(text, ShortOrder::Offer(*offer)),
         Order::Certs => print_words(text, Keyword::Certs, &[Value::Word(Keyword::One)]),
         Order::Cert {
             round,
@@ -217,7 +222,47 @@ pub fn print_short_order(text: &mut Vec<u8>, order: ShortOrder) -> Result<(), Al
     ensures err { OnErr result (AddsPrefix text.old.items text.new.items
         (spelling_of (order_in_short order))) }
 {
-    print_order(text, &order.order())
+    match order {
+        ShortOrder::BuyPrivate(private) => {
+            print_words(text, Keyword::Buy, &[Value::Private(private)])
+        }
+        ShortOrder::Bid { private, amount } => {
+            print_amount(text, Keyword::Bid, Value::Private(private), amount)
+        }
+        ShortOrder::Limit { private, amount } => {
+            print_amount(text, Keyword::Limit, Value::Private(private), amount)
+        }
+        ShortOrder::Par { company, price } => {
+            print_amount(text, Keyword::Par, Value::Company(company), price)
+        }
+        ShortOrder::BuyShare { company, from } => {
+            let shares = [Value::Company(company), Value::Word(from.keyword())];
+            print_words(text, Keyword::Buy, &shares)
+        }
+        ShortOrder::Sell { company, shares } => {
+            print_amount(text, Keyword::Sell, Value::Company(company), shares)
+        }
+        ShortOrder::ExchangeMohawk => {
+            print_words(text, Keyword::Exchange, &[Value::Word(Keyword::Mohawk)])
+        }
+        ShortOrder::Lay(lay) => print_lay(text, lay),
+        ShortOrder::Token(place) => print_words(text, Keyword::Token, &[Value::Place(place)]),
+        ShortOrder::RunBest => print_words(text, Keyword::Run, &[Value::Word(Keyword::Best)]),
+        ShortOrder::Pay => print_words(text, Keyword::Pay, &[]),
+        ShortOrder::Withhold => print_words(text, Keyword::Withhold, &[]),
+        ShortOrder::BuyTrain { kind, from } => print_purchase(text, kind, from),
+        ShortOrder::Discard { company, kind } => {
+            let train = [Value::Company(company), Value::Kind(kind)];
+            print_words(text, Keyword::Discard, &train)
+        }
+        ShortOrder::BuyOwnedPrivate { private, price } => {
+            print_amount(text, Keyword::Private, Value::Private(private), price)
+        }
+        ShortOrder::Raise { company, shares } => {
+            print_amount(text, Keyword::Raise, Value::Company(company), shares)
+        }
+        ShortOrder::Offer(offer) => print_offer(text, offer),
+    }
 }
 
 /// Adds the order that names one thing and a number of dollars or of shares.
