@@ -1,7 +1,6 @@
 -- A bid, a sale, a revenue or a new price of SV keeps a list sound.
-use Rattle.std.proofs.Common.{◌≡◌, ℕ, ◌<◌, inl, inr, Bool, true, false, if◌then◌else◌, [], ◌∷◌, ◌++◌, Option}
+use Rattle.std.proofs.Common.{◌==◌, ◌≤◌, ◌≡◌, ℕ, ◌<◌, inl, inr, Bool, true, false, if◌then◌else◌, [], ◌∷◌, ◌++◌, Option}
 use Rattle.std.proofs.Common.{Some, None, is_some, is_none, ◌&&◌, pos, ◌≤ℤ◌, ◌-ℤ◌, List, refl, sym, subst, ap, ◌∙◌, arith}
-use Rattle.std.proofs.lemmas.Bool.{cases_eq}
 use Rattle.std.proofs.lemmas.Int.{ints}
 use Rattle.std.specs.Option.{option_flatten}
 use Rattle.events.specs.Event.{ownership_of, party_at}
@@ -9,9 +8,10 @@ use Rattle.events.specs.declared.event.Event.{Event}
 use Rattle.events.specs.declared.event.Event.TheVariants.{Bids, Sold, Price, Revenue}
 use Rattle.events.specs.declared.event.Holder.{Holder}
 use Rattle.events.specs.declared.event.Holder.TheVariants as holder
-use Rattle.totals.proofs.Choices.{chosen, passed_over, truth}
+use Rattle.totals.proofs.Choices.{truth}
 use Rattle.totals.proofs.Privates.{same_private_is}
 use Rattle.history.proofs.BidWords.{bid_silent, bids_after_sale, differ_after_bid, elsewhere_kept, sale_silent}
+use Rattle.history.proofs.BidWords.{same_seat_is}
 use Rattle.history.proofs.BidWords.{seated_after_bid, small_after_bid, tied_by_bid, untied_by_sale}
 use Rattle.totals.proofs.EventAtEnd.{cash_of_at_end, cash_of_before, is_sold_before, last_said_at_end}
 use Rattle.totals.proofs.EventAtEnd.{last_said_before, sv_price_of_at_end}
@@ -25,10 +25,24 @@ use Rattle.history.specs.Laws.{BidKeepsSound, PriceKeepsSound, RevenueKeepsSound
 use Rattle.totals.specs.LookBack.{Game, cash_of, is_closed, is_sold, owner_of, owner_said, sv_price_of, with_event}
 use Rattle.history.specs.Sound.{IsSvPrice, SeatsAreSolvent}
 use Rattle.tables.specs.Roster.{same_private}
-use Rattle.tables.specs.Seat.{seat_at}
 use Rattle.tables.specs.declared.roster.Private.{Private}
 use Rattle.tables.specs.declared.roster.Private.TheVariants.{SchuylkillValley, MohawkHudson}
 use Rattle.tables.specs.declared.seat.Seat.{Seat}
+
+-- a sum of a seat, or otherwise no more than was tied, is free of the other bids
+free_by : (game : Game) (private : Private) (seat by : Seat) (sum rest : ℕ)
+    → pos sum ≤ℤ (cash_of game.seats game.events (party_at seat) -ℤ pos
+    (bids_elsewhere_of game.events seat private)) → SeatsAreSolvent game → rest ≤ tied_on game.events by private
+    → pos (if seat.0 == by.0 then sum else rest) ≤ℤ (cash_of game.seats game.events (party_at by) -ℤ pos
+    (bids_elsewhere_of game.events by private))
+free_by game private seat by sum rest affordable solvent low =
+    elim (truth (seat.0 == by.0)) [
+      | inl same ↦ rw same (subst (λ (one : Seat). pos sum ≤ℤ (cash_of game.seats game.events (party_at one) -ℤ pos
+          (bids_elsewhere_of game.events one private))) (same_seat_is seat by same) affordable)
+      | inr apart ↦
+          let before = solvent by in
+          rw apart (omega (arith, ints, bids_split game.events by private))
+    ]
 
 -- after a bid each seat still has what its bids tie
 solvent_after_bid : (game : Game) (private : Private) (seat : Seat) (amount : ℕ)
@@ -36,22 +50,12 @@ solvent_after_bid : (game : Game) (private : Private) (seat : Seat) (amount : �
     (bids_elsewhere_of game.events seat private)) → SeatsAreSolvent game
     → SeatsAreSolvent (with_event game (Bids private seat amount))
 solvent_after_bid game private seat amount affordable solvent by =
-    let cash = cash_of_before game.seats game.events (Bids private seat amount) (party_at by) refl in
-    let split_after = bids_split (game.events ++ Bids private seat amount ∷ []) by private in
-    let split_before = bids_split game.events by private in
-    let elsewhere = elsewhere_kept game.events (Bids private seat amount) by private
-    (bid_silent private seat amount by) in
-    let tied = tied_by_bid game.events private seat amount by in
-    let before = solvent by in
-    elim (cases_eq seat.0 by.0) [
-      | inl same ↦
-          let here : pos amount ≤ℤ (cash_of game.seats game.events (party_at by) -ℤ pos
-          (bids_elsewhere_of game.events by private)) = subst
-          (λ (one : Seat). pos amount ≤ℤ (cash_of game.seats game.events (party_at one) -ℤ pos
-          (bids_elsewhere_of game.events one private))) (ap seat_at same) affordable in
-          omega (arith, ints, chosen seat.0 by.0 amount (tied_on game.events by private) same)
-      | inr apart ↦ omega (arith, ints, passed_over seat.0 by.0 amount (tied_on game.events by private) apart)
-    ]
+    let bid = Bids private seat amount in
+    let cash = cash_of_before game.seats game.events bid (party_at by) refl in
+    let split = bids_split (game.events ++ bid ∷ []) by private in
+    let elsewhere = elsewhere_kept game.events bid by private (bid_silent private seat amount by) in
+    let free = free_by game private seat by amount (tied_on game.events by private) affordable solvent (omega arith) in
+    omega (arith, ints, tied_by_bid game.events private seat amount by)
 
 -- a bid of a seat that has its sum free of other bids
 pub bid_sound : BidKeepsSound
@@ -74,22 +78,12 @@ solvent_after_sale : (game : Game) (private : Private) (seat : Seat) (price : �
     (bids_elsewhere_of game.events seat private)) → SeatsAreSolvent game
     → SeatsAreSolvent (with_event game (Sold private seat price))
 solvent_after_sale game private seat price affordable solvent by =
-    let cash = cash_of_at_end game.seats game.events (Sold private seat price) (party_at by) in
-    let split_after = bids_split (game.events ++ Sold private seat price ∷ []) by private in
-    let split_before = bids_split game.events by private in
-    let elsewhere = elsewhere_kept game.events (Sold private seat price) by private
-    (sale_silent private seat price by) in
-    let untied = untied_by_sale game.events private seat price by in
-    let before = solvent by in
-    elim (cases_eq seat.0 by.0) [
-      | inl same ↦
-          let here : pos price ≤ℤ (cash_of game.seats game.events (party_at by) -ℤ pos
-          (bids_elsewhere_of game.events by private)) = subst
-          (λ (one : Seat). pos price ≤ℤ (cash_of game.seats game.events (party_at one) -ℤ pos
-          (bids_elsewhere_of game.events one private))) (ap seat_at same) affordable in
-          omega (arith, ints, chosen seat.0 by.0 price 0 same)
-      | inr apart ↦ omega (arith, ints, passed_over seat.0 by.0 price 0 apart)
-    ]
+    let sale = Sold private seat price in
+    let cash = cash_of_at_end game.seats game.events sale (party_at by) in
+    let split = bids_split (game.events ++ sale ∷ []) by private in
+    let elsewhere = elsewhere_kept game.events sale by private (sale_silent private seat price by) in
+    let free = free_by game private seat by price 0 affordable solvent (omega arith) in
+    omega (arith, ints, untied_by_sale game.events private seat price by)
 
 -- a private that is closed stays so where one that is not gets an owner
 pub stays_closed : (events : List Event) (event : Event) (owned private : Private) (owner : Holder)

@@ -1,7 +1,7 @@
 -- A sale of shares keeps a list sound, and so do a presidency that passes, a float and a token that
 -- moves.
 use Rattle.std.proofs.Common.{◌≡◌, ℕ, ◌<◌, ◌==◌, inl, inr, Bool, false, if◌then◌else◌, List, [], ◌∷◌, ◌++◌, Option}
-use Rattle.std.proofs.Common.{Some, None, is_some, unwrap_or, ℤ, pos, ◌≤ℤ◌, refl, sym, subst, ap, ◌∙◌, arith}
+use Rattle.std.proofs.Common.{Some, None, is_some, unwrap_or, pos, ◌≤ℤ◌, refl, sym, subst, ap, ◌∙◌, arith}
 use Rattle.std.proofs.lemmas.Int.{ints}
 use Rattle.std.specs.Option.{option_or}
 use Rattle.events.specs.Event.{floated_by, square_set}
@@ -104,7 +104,7 @@ module _ (game : Game) (company : Company) (seat : Seat) (shares price : ℕ) wh
         | inl same ↦ subst (λ (one : Company). president_of game.events one ≡ Some president
             → pos 2 ≤ℤ shares_of sold.events one (OfSeat president)) (same_company_is company other same)
             (stays president) presides
-        | inr apart ↦ subst (λ (held : ℤ). pos 2 ≤ℤ held) (sym (others_held other president apart)) two
+        | inr apart ↦ rw (others_held other president apart) two
       ])
 
   -- or where the presidency passes to a seat with two
@@ -118,7 +118,7 @@ module _ (game : Game) (company : Company) (seat : Seat) (shares price : ℕ) wh
         subst (λ (one : Company). pos 2 ≤ℤ shares_of sold.events one (OfSeat president))
             (same_company_is company other same) two,
       )) (λ apart. still_led game.events sold.events other (pars_then other) (presidents_then other)
-      (λ by _ two. subst (λ (held : ℤ). pos 2 ≤ℤ held) (sym (others_held other by apart)) two) before)
+      (λ by _ two. rw (others_held other by apart) two) before)
 
 -- a sale after which the president keeps two
 pub block_sound : BlockKeepsSound

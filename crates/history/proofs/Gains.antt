@@ -1,14 +1,18 @@
 -- Shares that an event moves, where it says nothing of privates: they are held as before, and
 -- enough are left in each initial offering, if there were. Where they come from the bank, each
 -- president has at least as many as before.
-use Rattle.std.proofs.Common.{◌≡◌, ℕ, ◌+◌, List, Some, None, pos, ◌≤ℤ◌, refl, arith}
+use Rattle.std.proofs.Common.{◌≡◌, ℕ, ◌+◌, inl, inr, Bool, if◌then◌else◌, List, Some, None, pos}
+use Rattle.std.proofs.Common.{◌≤ℤ◌, refl, subst, ap, arith}
 use Rattle.std.proofs.lemmas.Int.{ints}
 use Rattle.events.specs.Event.{floated_by, office_of, ownership_of, par_set, place_of_source, square_set, transfer_of}
 use Rattle.events.specs.declared.event.Event.{Event}
 use Rattle.events.specs.declared.event.Shareholder.{Shareholder}
 use Rattle.events.specs.declared.event.Shareholder.TheVariants.{InitialOffering, BankPool, Seat as OfSeat}
 use Rattle.events.specs.declared.event.Transfer.{Transfer}
+use Rattle.totals.proofs.Choices.{nothing_there, same_company_is, truth}
 use Rattle.totals.proofs.EventAtEnd.{par_of_before, president_of_before}
+use Rattle.totals.specs.Shares.{same_shareholder}
+use Rattle.tables.specs.Roster.{same_company}
 use Rattle.history.proofs.Soundness.{IsNearlySound, StayLed, closed_kept, floated_kept, least_after, led_kept}
 use Rattle.history.proofs.Soundness.{still_led, unplaced_before}
 use Rattle.history.proofs.ShareCount.{IsAtTable, held_after, moved, part, shares_after, ten_after}
@@ -49,6 +53,27 @@ EnoughAreLeft events transfer =
     (company : Company) → square_of events company ≡ None
     → pos (least_offered events company + part transfer.from InitialOffering (moved company transfer)) ≤ℤ
     shares_of events company InitialOffering
+
+-- so it is where enough are left of the one whose shares move
+pub left_after : (events : List Event) (transfer : Transfer)
+    → (square_of events transfer.company ≡ None → pos (least_offered events transfer.company + part transfer.from
+    InitialOffering transfer.shares) ≤ℤ shares_of events transfer.company InitialOffering) → AreOffered events
+    → EnoughAreLeft events transfer
+left_after events transfer many offered company unplaced =
+    elim (truth (same_company transfer.company company)) [
+      | inl same ↦
+          let its : moved company transfer ≡ transfer.shares =
+          ap (λ (is : Bool). if is then transfer.shares else 0) same in
+          rw its (subst (λ (one : Company). square_of events one ≡ None
+          → pos (least_offered events one + part transfer.from InitialOffering transfer.shares) ≤ℤ shares_of events
+          one InitialOffering) (same_company_is transfer.company company same) many unplaced)
+      | inr apart ↦
+          let its : moved company transfer ≡ 0 = ap (λ (is : Bool). if is then transfer.shares else 0) apart in
+          let none : part transfer.from InitialOffering 0 ≡ 0 =
+          nothing_there (same_shareholder transfer.from InitialOffering) in
+          let enough = offered company unplaced in
+          rw (its, none) (omega (arith, ints))
+    ]
 
 module _ (game : Game) (event : Event) (transfer : Transfer) (moves : transfer_of event ≡ Some transfer) where
   -- so as many are offered

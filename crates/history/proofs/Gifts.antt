@@ -1,23 +1,19 @@
 -- A gift of shares keeps a list sound; so does CA's sale with its gift.
-use Rattle.std.proofs.Common.{◌≡◌, ℕ, ◌+◌, inl, inr, Bool, true, if◌then◌else◌, List, None, is_some, pos, ◌≤ℤ◌}
-use Rattle.std.proofs.Common.{refl, subst, ap, arith}
+use Rattle.std.proofs.Common.{◌≡◌, ℕ, Bool, true, if◌then◌else◌, is_some, pos, ◌≤ℤ◌}
+use Rattle.std.proofs.Common.{refl, ap, arith}
 use Rattle.std.proofs.lemmas.Int.{ints}
 use Rattle.events.specs.Event.{ownership_of}
-use Rattle.events.specs.declared.event.Event.{Event}
 use Rattle.events.specs.declared.event.Event.TheVariants.{Given, Sold}
 use Rattle.events.specs.declared.event.Shareholder.TheVariants.{InitialOffering, Seat as OfSeat}
 use Rattle.events.specs.declared.event.Transfer.{Transfer}
-use Rattle.totals.proofs.Choices.{same_company_is, truth}
 use Rattle.history.proofs.Acts.{sale_sound}
 use Rattle.totals.proofs.EventAtEnd.{last_said_at_end, shares_of_before}
-use Rattle.history.proofs.Gains.{EnoughAreLeft, gain_leads, move_shows}
+use Rattle.history.proofs.Gains.{gain_leads, left_after, move_shows}
 use Rattle.history.proofs.Soundness.{nearly_sound_of, sound_after}
-use Rattle.history.proofs.ShareCount.{moved}
 use Rattle.history.specs.Laws.{CaIsSoldWithItsGift, GiftKeepsSound}
 use Rattle.totals.specs.LookBack.{is_sold, owner_said, with_event}
-use Rattle.totals.specs.Shares.{shares_of, square_of}
-use Rattle.history.specs.Sound.{AreOffered, least_offered}
-use Rattle.tables.specs.Roster.{same_company}
+use Rattle.totals.specs.Shares.{shares_of}
+use Rattle.history.specs.Sound.{least_offered}
 use Rattle.tables.specs.declared.roster.Company.{Company}
 use Rattle.tables.specs.declared.roster.Company.TheVariants.{Pennsylvania}
 use Rattle.tables.specs.declared.roster.Private.TheVariants.{CamdenAmboy}
@@ -27,33 +23,13 @@ use Rattle.tables.specs.declared.seat.Seat.{Seat}
 abbrev pub gift : Company → Seat → ℕ → Transfer
 gift company seat shares = record { company = company; from = InitialOffering; to = OfSeat seat; shares = shares }
 
--- enough are left of each company, where there are enough of the one
-left_after_gift : (events : List Event) (given : Company) (seat : Seat) (shares : ℕ)
-    → (square_of events given ≡ None → pos (least_offered events given + shares) ≤ℤ shares_of events given
-    InitialOffering) → AreOffered events → EnoughAreLeft events (gift given seat shares)
-left_after_gift events given seat shares many offered company unplaced =
-    elim (truth (same_company given company)) [
-      | inl same ↦
-          let its : moved company (gift given seat shares) ≡ shares =
-          ap (λ (is : Bool). if is then shares else 0) same in
-          let enough : pos (least_offered events company + shares) ≤ℤ shares_of events company InitialOffering =
-          subst (λ (one : Company). square_of events one ≡ None
-          → pos (least_offered events one + shares) ≤ℤ shares_of events one InitialOffering)
-          (same_company_is given company same) many unplaced in
-          omega (arith, ints)
-      | inr apart ↦
-          let its : moved company (gift given seat shares) ≡ 0 = ap (λ (is : Bool). if is then shares else 0) apart in
-          let enough = offered company unplaced in
-          omega (arith, ints)
-    ]
-
 -- a gift to a seat at the table
 pub given_sound : GiftKeepsSound
 given_sound game company seat shares seated many more sound =
     let shares_given = gift company seat shares in
     sound_after game (Given company seat shares)
     (move_shows game (Given company seat shares) shares_given refl refl tt seated many
-    (left_after_gift game.events company seat shares more sound.offered) (nearly_sound_of game sound))
+    (left_after game.events shares_given more sound.offered) (nearly_sound_of game sound))
     (gain_leads game (Given company seat shares) shares_given refl tt refl refl refl refl sound) sound
 
 -- CA's sale, with the share of PRR

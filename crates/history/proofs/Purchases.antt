@@ -1,37 +1,35 @@
 -- A purchase of shares keeps a list sound; so do the start of a company by a purchase, and MH's
 -- exchange.
-use Rattle.std.proofs.Common.{◌≡◌, ℕ, ◌≤◌, ◌<◌, inl, inr, Bool, true, if◌then◌else◌, ◌&&◌, List, [], ◌∷◌, ◌++◌, Option}
-use Rattle.std.proofs.Common.{Some, None, is_some, is_none, ℤ, pos, ◌≤ℤ◌, refl, sym, subst, ap, ◌∙◌, arith}
+use Rattle.std.proofs.Common.{◌≡◌, ℕ, ◌≤◌, ◌<◌, Bool, true, if◌then◌else◌, ◌&&◌, List, [], ◌∷◌, ◌++◌, Option}
+use Rattle.std.proofs.Common.{Some, None, is_some, is_none, pos, ◌≤ℤ◌, refl, sym, ap, ◌∙◌, arith}
 use Rattle.std.proofs.lemmas.Int.{ints}
 use Rattle.std.specs.Option.{option_flatten}
-use Rattle.events.specs.Event.{ownership_of, place_of_source}
+use Rattle.events.specs.Event.{ownership_of, party_at, place_of_source}
 use Rattle.events.specs.declared.event.Event.{Event}
 use Rattle.events.specs.declared.event.Event.TheVariants.{Bought, Exchanged, Par}
 use Rattle.events.specs.declared.event.Holder.{Holder}
 use Rattle.events.specs.declared.event.Shareholder.TheVariants.{InitialOffering, Seat as OfSeat}
 use Rattle.events.specs.declared.event.Transfer.{Transfer}
-use Rattle.totals.proofs.Choices.{same_company_is, truth}
-use Rattle.totals.proofs.EventAtEnd.{last_said_at_end}
-use Rattle.history.proofs.Gains.{EnoughAreLeft, bank_at_table, gain_leads, move_shows, source_of_bank}
+use Rattle.totals.proofs.EventAtEnd.{bids_of_before, cash_of_before, last_said_at_end}
+use Rattle.history.proofs.Gains.{EnoughAreLeft, bank_at_table, gain_leads, left_after, move_shows}
+use Rattle.history.proofs.Gains.{source_of_bank}
 use Rattle.history.proofs.Payments.{can_afford}
 use Rattle.history.proofs.PrivateActs.{not_closed}
-use Rattle.history.proofs.Soundness.{IsNearlySound, Shows, free_cash_before, least_after, nearly_sound_of, paying}
+use Rattle.history.proofs.Soundness.{IsNearlySound, Shows, least_after, nearly_sound_of, paying}
 use Rattle.history.proofs.Soundness.{sound_after, unplaced_before}
 use Rattle.history.proofs.Starts.{start_sound_by}
 use Rattle.history.proofs.ShareCount.{held_after, moved, part, shares_after, ten_after}
 use Rattle.totals.specs.Bids.{free_cash_of}
 use Rattle.history.specs.Laws.{ExchangeKeepsSound, PurchaseKeepsSound, StartByPurchaseKeepsSound}
 use Rattle.totals.specs.LookBack.{Game, is_closed, last_said, owner_of, owner_said, with_event}
-use Rattle.totals.specs.Shares.{shares_of, square_of}
-use Rattle.history.specs.Sound.{AreOffered, least_offered}
+use Rattle.totals.specs.Shares.{shares_of}
+use Rattle.history.specs.Sound.{least_offered}
 use Rattle.order_grammar.specs.declared.order.ShareSource.{ShareSource}
 use Rattle.order_grammar.specs.declared.order.ShareSource.TheVariants as source
-use Rattle.tables.specs.Roster.{same_company}
 use Rattle.tables.specs.declared.roster.Company.{Company}
 use Rattle.tables.specs.declared.roster.Company.TheVariants.{NewYorkCentral}
 use Rattle.tables.specs.declared.roster.Private.TheVariants.{MohawkHudson}
 use Rattle.tables.specs.declared.seat.Seat.{Seat}
-use Rattle.tables.specs.declared.squares.Square.{Square}
 
 -- the shares of a purchase
 abbrev purchase : Company → Seat → ℕ → ShareSource → Transfer
@@ -47,23 +45,6 @@ purchase company seat shares from = record {
 part_of_none : (from : ShareSource) (shares : ℕ) → shares ≡ 0 → part (place_of_source from) InitialOffering shares ≡ 0
 part_of_none source.InitialOffering shares none = none
 part_of_none source.BankPool shares none = refl
-
--- of a company without a square nothing is bought
-left_after_purchase : (events : List Event) (company : Company) (seat : Seat) (shares : ℕ) (from : ShareSource)
-    (square : Square) → square_of events company ≡ Some square → AreOffered events
-    → EnoughAreLeft events (purchase company seat shares from)
-left_after_purchase events company seat shares from square started offered other unplaced =
-    elim (truth (same_company company other)) [
-      | inl same ↦
-          let has : Some square ≡ None = sym started ∙ ap (square_of events) (same_company_is company other same)
-          ∙ unplaced in
-          absurd (cc)
-      | inr apart ↦
-          let its : moved other (purchase company seat shares from) ≡ 0 =
-          ap (λ (is : Bool). if is then shares else 0) apart in
-          let enough = offered other unplaced in
-          omega (arith, ints, part_of_none from (moved other (purchase company seat shares from)) its)
-    ]
 
 -- what a purchase has to show by a seat at the table that has the price free of its bids
 purchase_shows : (game : Game) (company : Company) (seat : Seat) (shares : ℕ) (from : ShareSource) (price : ℕ)
@@ -81,7 +62,8 @@ pub purchase_sound : PurchaseKeepsSound
 purchase_sound game company seat shares from price square started seated many affordable sound =
     sound_after game (Bought company seat shares from price)
     (purchase_shows game company seat shares from price seated affordable many
-    (left_after_purchase game.events company seat shares from square started sound.offered) (nearly_sound_of game sound))
+    (left_after game.events (purchase company seat shares from)
+    (λ unplaced. absurd (let has : Some square ≡ None = sym started ∙ unplaced in cc)) sound.offered) (nearly_sound_of game sound))
     (gain_leads game (Bought company seat shares from price) (purchase company seat shares from) refl
     (source_of_bank from) refl refl refl refl sound) sound
 
@@ -89,9 +71,9 @@ purchase_sound game company seat shares from price square started seated many af
 pub start_by_purchase_sound : StartByPurchaseKeepsSound
 start_by_purchase_sound game company seat price cost is_par unplaced seated affordable =
     let par = with_event game (Par company price) in
+    let cash = cash_of_before game.seats game.events (Par company price) (party_at seat) refl in
     let free : pos cost ≤ℤ free_cash_of par.seats par.events seat =
-    subst (λ (cash : ℤ). pos cost ≤ℤ cash) (sym (free_cash_before game (Par company price) seat refl refl))
-    affordable in
+    omega (arith, ints, cash, bids_of_before game.events (Par company price) seat refl) in
     start_sound_by game company seat price (Bought company seat 2 source.InitialOffering cost) refl refl refl refl
     refl refl (purchase_shows par company seat 2 source.InitialOffering cost seated free) is_par unplaced
 

@@ -1,7 +1,7 @@
 -- What keeps a list sound. An event keeps each fact of whose aspects it says nothing; the other
 -- facts it has to show.
 use Rattle.std.proofs.Common.{◌≡◌, ℕ, ◌≤◌, Bool, true, false, if◌then◌else◌, ◌&&◌, List, [], ◌∷◌, ◌++◌, Option, Some}
-use Rattle.std.proofs.Common.{None, is_none, is_some, pos, ◌≤ℤ◌, ◌-ℤ◌, ◌+ℤ◌, ℤ, refl, sym, subst, ap, ◌∙◌, arith, inl}
+use Rattle.std.proofs.Common.{None, is_none, is_some, pos, ◌≤ℤ◌, refl, sym, subst, ap, ◌∙◌, arith, inl}
 use Rattle.std.proofs.lemmas.Int.{ints}
 use Rattle.std.specs.Option.{option_or}
 use Rattle.events.specs.Event.{bidding_of, floated_by, office_of, ownership_of, par_set, party_at, party_of_company}
@@ -11,22 +11,19 @@ use Rattle.events.specs.declared.event.Shareholder.TheVariants.{InitialOffering,
 use Rattle.totals.proofs.Choices.{both}
 use Rattle.totals.proofs.InOrder.{lays_before, tokens_before}
 use Rattle.history.proofs.Rolling.{no_trains, trains_kept}
-use Rattle.totals.proofs.EventAtEnd.{bid_of_before, bids_of_before, cash_of_at_end, cash_of_before, is_closed_before}
+use Rattle.totals.proofs.EventAtEnd.{bid_of_before, bids_of_before, cash_of_at_end, is_closed_before}
 use Rattle.totals.proofs.EventAtEnd.{is_floated_before, last_said_at_end, par_of_before, president_of_before}
 use Rattle.totals.proofs.EventAtEnd.{shares_of_before, square_of_before, sv_price_of_before}
 use Rattle.totals.specs.Bids.{bid_of, bids_of, free_cash_of}
 use Rattle.totals.specs.LookBack.{Game, cash_of, is_closed, is_sold, last_said, owner_said, paid_by, sv_price_of}
 use Rattle.totals.specs.LookBack.{with_event}
 use Rattle.history.specs.Money.{AreWithin, IsWithin}
-use Rattle.totals.specs.Operating.{lays_of, tokens_of}
 use Rattle.totals.specs.Shares.{held_by, par_of, president_of, shares_of, square_of, square_said}
 use Rattle.totals.specs.Trains.{TrainsAreHeld}
 use Rattle.history.specs.Sound.{AreLed, AreOffered, AreTenInAll, BiddersAreSeated, BidsAreSmall, BidsDiffer}
 use Rattle.history.specs.Sound.{CompaniesAreSolvent, FloatedAreLed, IsGivenAway, IsLed, IsSound, IsSvPrice, LiesFit}
 use Rattle.history.specs.Sound.{SeatsAreSolvent, SharesAreHeld, least_offered}
 use Rattle.map_tables.proofs.NothingFits.{nothing_fits}
-use Rattle.map_tables.specs.Fit.{AreFitWithHomes}
-use Rattle.map_tables.specs.declared.lay.Lay.{Lay}
 use Rattle.tables.specs.Seat.{all_seats}
 use Rattle.tables.specs.declared.roster.Company.{Company}
 use Rattle.tables.specs.declared.roster.Company.TheVariants.{Pennsylvania, NewYorkCentral}
@@ -86,9 +83,7 @@ held_by_before : (events : List Event) (event : Event) (company : Company) (seat
     → transfer_of event ≡ None → held_by (events ++ event ∷ []) company seats ≡ held_by events company seats
 held_by_before events event company [] none = refl
 held_by_before events event company (seat ∷ others) none =
-    ap (λ one. one +ℤ held_by (events ++ event ∷ []) company others)
-    (shares_of_before events event company (OfSeat seat) none)
-    ∙ ap (λ rest. shares_of events company (OfSeat seat) +ℤ rest) (held_by_before events event company others none)
+    rw (shares_of_before events event company (OfSeat seat) none, held_by_before events event company others none) refl
 
 -- an event that pays within the table leaves payments within it
 within_after : (seats : ℕ) (events : List Event) (event : Event) → IsWithin seats (payment_of event)
@@ -100,19 +95,14 @@ module _ (game : Game) (event : Event) where
   abbrev pub after : Game
   after = with_event game event
 
-  -- without a payment or a word on bids each seat keeps its free cash
-  pub free_cash_before : (seat : Seat) → payment_of event ≡ None → bidding_of event ≡ None
-      → free_cash_of game.seats after.events seat ≡ free_cash_of game.seats game.events seat
-  free_cash_before seat no_payment no_bid =
-      ap (λ cash. cash -ℤ pos (bids_of after.events seat))
-      (cash_of_before game.seats game.events event (party_at seat) no_payment)
-      ∙ ap (λ bids. cash_of game.seats game.events (party_at seat) -ℤ pos bids)
-      (bids_of_before game.events event seat no_bid)
-
-  -- and is solvent as before
-  solvent_kept : payment_of event ≡ None → bidding_of event ≡ None → SeatsAreSolvent game → SeatsAreSolvent after
-  solvent_kept no_payment no_bid solvent seat =
-      subst (λ (cash : ℤ). pos 0 ≤ℤ cash) (sym (free_cash_before seat no_payment no_bid)) (solvent seat)
+  -- where nothing is said of bids, a seat is solvent that has what it pays free of them
+  seats_after : bidding_of event ≡ None
+      → ((seat : Seat) → pos (paid_by (party_at seat) (payment_of event)) ≤ℤ free_cash_of game.seats game.events seat)
+      → SeatsAreSolvent after
+  seats_after no_bid can seat =
+      let enough = can seat in
+      let cash = cash_of_at_end game.seats game.events event (party_at seat) in
+      omega (arith, ints, cash, bids_of_before game.events event seat no_bid)
 
   -- a company is solvent that has what it pays
   pub companies_after :
@@ -122,27 +112,14 @@ module _ (game : Game) (event : Event) where
       let enough = can company in
       omega (arith, ints, cash_of_at_end game.seats game.events event (party_of_company company))
 
-  -- without a payment each is as before
-  companies_kept : payment_of event ≡ None → CompaniesAreSolvent game → CompaniesAreSolvent after
-  companies_kept none solvent company =
-      subst (λ (cash : ℤ). pos 0 ≤ℤ cash)
-      (sym (cash_of_before game.seats game.events event (party_of_company company) none)) (solvent company)
-
   -- where each has what it pays and nothing is said of bids, nobody is left owing
   pub paying : {Others : Type 0} → bidding_of event ≡ None
       → ((seat : Seat) → pos (paid_by (party_at seat) (payment_of event)) ≤ℤ free_cash_of game.seats game.events seat)
       → ((company : Company) → pos (paid_by (party_of_company company) (payment_of event)) ≤ℤ cash_of game.seats
       game.events (party_of_company company)) → IsWithin game.seats (payment_of event) → Others
       → SeatsAreSolvent after × (CompaniesAreSolvent after × (IsWithin game.seats (payment_of event) × Others))
-  paying no_bid seats companies within others = (
-    λ seat. let enough = seats seat in omega (
-      arith,
-      ints,
-      cash_of_at_end game.seats game.events event (party_at seat),
-      bids_of_before game.events event seat no_bid,
-    ),
-    (companies_after companies, (within, others)),
-  )
+  paying no_bid seats companies within others =
+      (seats_after no_bid seats, (companies_after companies, (within, others)))
 
   -- without a word on bids they stand as before
   bids_kept : bidding_of event ≡ None → BidsStand game → BidsStand after
@@ -156,7 +133,7 @@ module _ (game : Game) (event : Event) where
 
   -- without a new price SV keeps its own
   price_kept : sv_price_set event ≡ None → IsSvPrice (sv_price_of game.events) → IsSvPrice (sv_price_of after.events)
-  price_kept none price = subst IsSvPrice (sym (sv_price_of_before game.events event none)) price
+  price_kept none price = rw (sv_price_of_before game.events event none) price
 
   -- and stays given away
   pub given_kept : sv_price_set event ≡ None → IsGivenAway game.events → IsGivenAway after.events
@@ -165,19 +142,16 @@ module _ (game : Game) (event : Event) where
 
   -- without moving shares they are held as before
   held_kept : transfer_of event ≡ None → SharesAreHeld game.events → SharesAreHeld after.events
-  held_kept none held company place =
-      subst (λ (shares : ℤ). pos 0 ≤ℤ shares) (sym (shares_of_before game.events event company place none))
-      (held company place)
+  held_kept none held company place = rw (shares_of_before game.events event company place none) (held company place)
 
   -- and are ten in all
   pub ten_kept : transfer_of event ≡ None → AreTenInAll game → AreTenInAll after
   ten_kept none ten company =
-      ap (λ offered. (offered +ℤ shares_of after.events company BankPool) +ℤ held_by after.events company
-      (all_seats game.seats)) (shares_of_before game.events event company InitialOffering none)
-      ∙ ap (λ pool. (shares_of game.events company InitialOffering +ℤ pool) +ℤ held_by after.events company
-      (all_seats game.seats)) (shares_of_before game.events event company BankPool none)
-      ∙ ap (λ held. (shares_of game.events company InitialOffering +ℤ shares_of game.events company BankPool) +ℤ
-      held) (held_by_before game.events event company (all_seats game.seats) none) ∙ ten company
+      rw (
+        shares_of_before game.events event company InitialOffering none,
+        shares_of_before game.events event company BankPool none,
+        held_by_before game.events event company (all_seats game.seats) none,
+      ) (ten company)
 
   -- a company without a square had none
   pub unplaced_before : (company : Company) → square_of after.events company ≡ None
@@ -218,9 +192,7 @@ module _ (game : Game) (event : Event) where
   fit_kept : tile_laid event ≡ None → token_placed event ≡ None → LiesFit game.events → LiesFit after.events
   unfolding LiesFit
   fit_kept no_tile no_token fit =
-      subst (λ (lays : List Lay). AreFitWithHomes lays (tokens_of after.events))
-      (sym (lays_before game.events event no_tile)) (subst (AreFitWithHomes (lays_of game.events))
-      (sym (tokens_before game.events event no_token)) fit)
+      rw (lays_before game.events event no_tile, tokens_before game.events event no_token) fit
 
   -- without a par value, an office or shares companies are led as before
   is_led_kept : par_set event ≡ None → office_of event ≡ None → transfer_of event ≡ None
@@ -228,8 +200,7 @@ module _ (game : Game) (event : Event) where
   is_led_kept no_par no_office no_transfer company =
       still_led game.events after.events company (par_of_before game.events event company no_par)
       (president_of_before game.events event company no_office)
-      (λ seat _ two. subst (λ (shares : ℤ). pos 2 ≤ℤ shares)
-      (sym (shares_of_before game.events event company (OfSeat seat) no_transfer)) two)
+      (λ seat _ two. rw (shares_of_before game.events event company (OfSeat seat) no_transfer) two)
 
   -- so is each with a square, where none is set
   pub led_kept : StayLed game.events after.events → square_set event ≡ None → AreLed game.events
@@ -335,8 +306,8 @@ pub nearly_sound_after : (game : Game) (event : Event) → Shows game event → 
     → IsNearlySound (with_event game event)
 nearly_sound_after game event shows before =
     let solvent = shown _ (λ silent. let words = nones (payment_of event) (bidding_of event) silent in
-    solvent_kept game event words.0 words.1 before.solvent) shows in
-    let companies = shown _ (λ silent. companies_kept game event (none (payment_of event) silent) before.companies)
+    seats_after game event words.1 (rw words.0 before.solvent)) shows in
+    let companies = shown _ (λ silent. companies_after game event (rw (none (payment_of event) silent) before.companies))
     solvent.1 in
     let within = shown _ (λ silent. subst (IsWithin game.seats) (sym (none (payment_of event) silent)) tt) companies.1 in
     let bids = shown _ (λ silent. bids_kept game event (none (bidding_of event) silent) before.bids) within.1 in

@@ -1,8 +1,8 @@
 -- The start of a company keeps a list sound, whether its president's two shares are given or
 -- bought.
 use Rattle.std.proofs.Common.{◌≡◌, ℕ, ◌≤◌, ◌==◌, inl, inr, Bool, true, false, if◌then◌else◌, List, [], ◌∷◌, ◌++◌, Some}
-use Rattle.std.proofs.Common.{None, pos, ◌≤ℤ◌, ℤ, refl, sym, subst, ap, ◌∙◌, arith}
-use Rattle.std.proofs.lemmas.Bool.Decides.{nat_tests}
+use Rattle.std.proofs.Common.{None, pos, ◌≤ℤ◌, refl, sym, ap, ◌∙◌, arith}
+use Rattle.std.proofs.lemmas.Bool.Decides.{Decides-eqb, nat_tests}
 use Rattle.std.proofs.lemmas.Int.{ints}
 use Rattle.std.specs.Option.{option_or}
 use Rattle.events.specs.Event.{floated_by, is_par_value, office_of, par_set, placed, square_set}
@@ -13,7 +13,7 @@ use Rattle.events.specs.declared.event.Shareholder.TheVariants.{InitialOffering,
 use Rattle.totals.proofs.Choices.{new_word, old_word, something, truth}
 use Rattle.totals.proofs.EventAtEnd.{is_floated_before, last_said_at_end, par_of_before, president_of_before}
 use Rattle.totals.proofs.EventAtEnd.{shares_of_before, square_of_before}
-use Rattle.history.proofs.Gains.{EnoughAreLeft, move_shows, stay_led_gaining}
+use Rattle.history.proofs.Gains.{EnoughAreLeft, left_after, move_shows, stay_led_gaining}
 use Rattle.history.proofs.Gifts.{gift}
 use Rattle.history.proofs.Soundness.{IsNearlySound, Shows, given_kept, nearly_sound_after}
 use Rattle.history.proofs.Soundness.{nearly_sound_of, sound_of, still_led}
@@ -24,7 +24,7 @@ use Rattle.totals.specs.Shares.{is_floated, par_of, par_said, president_of, pres
 use Rattle.totals.specs.Shares.{square_said}
 use Rattle.history.specs.Sound.{IsLed, IsSound, least_offered}
 use Rattle.tables.specs.Chart.{par_square_of}
-use Rattle.tables.specs.Roster.{same_company}
+use Rattle.tables.specs.Roster.{place_of_company, same_company}
 use Rattle.tables.specs.declared.roster.Company.{Company}
 use Rattle.tables.specs.declared.roster.Company.TheVariants.{Pennsylvania, NewYorkCentral}
 use Rattle.tables.specs.declared.roster.Private.TheVariants.{CamdenAmboy, MohawkHudson}
@@ -67,8 +67,7 @@ pub is_led_passed : (events : List Event) (company : Company) (new : Seat) (othe
 is_led_passed events company new other here led =
     let held : (seat : Seat) → pos 2 ≤ℤ shares_of events other (OfSeat seat)
     → pos 2 ≤ℤ shares_of (events ++ President company new ∷ []) other (OfSeat seat) =
-    λ seat two. subst (λ (shares : ℤ). pos 2 ≤ℤ shares)
-    (sym (shares_of_before events (President company new) other (OfSeat seat) refl)) two in
+    λ seat two. rw (shares_of_before events (President company new) other (OfSeat seat) refl) two in
     let par = par_of_before events (President company new) other refl in
     elim (truth (same_company company other)) [
       | inl same ↦
@@ -97,6 +96,10 @@ pub least_eight : (events : List Event) (company : Company) → 8 ≤ least_offe
 least_eight events Pennsylvania = eight_or_nine (is_sold events CamdenAmboy)
 least_eight events NewYorkCentral = eight_or_nine (is_closed events MohawkHudson)
 least_eight events other = omega arith
+
+-- a company is itself
+company_itself : (company : Company) → same_company company company ≡ true
+company_itself company = (Decides-eqb (place_of_company company) (place_of_company company)).1 refl
 
 -- a seat is itself
 itself : (n a : ℕ) → (if n == n then a else 0) ≡ a
@@ -160,8 +163,7 @@ module _ (game : Game) (started : Company) (seat : Seat) (price : ℕ) (event : 
       (still_led game.events first.events company (par_after game.events started price company
       ∙ old_word (same_company started company) price (par_of game.events company) apart)
       (president_of_before game.events (Par started price) company refl)
-      (λ by _ two. subst (λ (held : ℤ). pos 2 ≤ℤ held)
-      (sym (shares_of_before game.events (Par started price) company (OfSeat by) refl)) two) (led apart)))
+      (λ by _ two. rw (shares_of_before game.events (Par started price) company (OfSeat by) refl) two) (led apart)))
 
   -- it had eight shares to give
   many_offered : square_of game.events started ≡ None → IsSound game
@@ -178,18 +180,13 @@ module _ (game : Game) (started : Company) (seat : Seat) (price : ℕ) (event : 
   -- a company without a square is another, which keeps its shares
   enough_left : (square : Square) → par_square_of price ≡ Some square → IsNearlySound first
       → EnoughAreLeft first.events (gift started seat 2)
-  enough_left square par before company unplaced =
-      elim (truth (same_company started company)) [
-        | inl same ↦
-            let has : Some square ≡ None = sym (new_word (same_company started company) square
-            (square_of game.events company) same) ∙ sym (square_after game.events started price square company par)
-            ∙ unplaced in
-            absurd (cc)
-        | inr apart ↦
-            let none : moved company (gift started seat 2) ≡ 0 = ap (λ (same : Bool). if same then 2 else 0) apart in
-            let offered = before.offered company unplaced in
-            omega (arith, ints)
-      ]
+  enough_left square par before =
+      left_after first.events (gift started seat 2) (λ unplaced.
+      let none : option_or (if same_company started started then Some square else None) (square_of game.events started)
+      ≡ None = sym (square_after game.events started price square started par) ∙ unplaced in
+      let has : Some square ≡ None = sym (new_word _ square (square_of game.events started)
+      (company_itself started)) ∙ none in
+      absurd (cc)) before.offered
 
   -- so the list is sound, where the event shows what it has to
   pub start_sound_by : (pos 2 ≤ℤ shares_of first.events started InitialOffering
