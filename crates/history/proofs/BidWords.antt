@@ -10,6 +10,8 @@ use Rattle.totals.proofs.Choices.{both}
 use Rattle.totals.proofs.EventAtEnd.{bid_of_at_end, now_said_before}
 use Rattle.totals.proofs.Privates.{private_itself, same_private_is}
 use Rattle.totals.specs.Bids.{bid_of, bid_said, bids_elsewhere_of, tied_on}
+use Rattle.totals.specs.LookBack.{Game, with_event}
+use Rattle.history.proofs.Soundness.{BidsStand}
 use Rattle.history.specs.Sound.{BiddersAreSeated, BidsAreSmall, BidsDiffer}
 use Rattle.tables.specs.Roster.{place_of_private, privates, same_private}
 use Rattle.tables.specs.Seat.{seat_at}
@@ -145,25 +147,15 @@ seated_after_bid seats events private seat amount under seated on by said is =
       | inr old ↦ seated on by said old.1
     ]
 
--- bids differ after a sale
-pub differ_after_sale : (events : List Event) (private : Private) (seat : Seat) (price : ℕ) → BidsDiffer events
-    → BidsDiffer (events ++ Sold private seat price ∷ [])
-differ_after_sale events private seat price differ on a b said of_a of_b =
-    differ on a b said (sale_cases (same_private private on) (bid_of events on a) said
-    (sym (bid_of_at_end events (Sold private seat price) on a) ∙ of_a))
-    (sale_cases (same_private private on) (bid_of events on b) said
-    (sym (bid_of_at_end events (Sold private seat price) on b) ∙ of_b))
-
--- and are small
-pub small_after_sale : (events : List Event) (private : Private) (seat : Seat) (price : ℕ) → BidsAreSmall events
-    → BidsAreSmall (events ++ Sold private seat price ∷ [])
-small_after_sale events private seat price small on by said is =
-    small on by said (sale_cases (same_private private on) (bid_of events on by) said
-    (sym (bid_of_at_end events (Sold private seat price) on by) ∙ is))
-
--- and are of seats at the table
-pub seated_after_sale : (seats : ℕ) (events : List Event) (private : Private) (seat : Seat) (price : ℕ)
-    → BiddersAreSeated seats events → BiddersAreSeated seats (events ++ Sold private seat price ∷ [])
-seated_after_sale seats events private seat price seated on by said is =
-    seated on by said (sale_cases (same_private private on) (bid_of events on by) said
-    (sym (bid_of_at_end events (Sold private seat price) on by) ∙ is))
+-- after a sale bids stand as before on the other privates
+pub bids_after_sale : (game : Game) (private : Private) (seat : Seat) (price : ℕ) → BidsStand game
+    → BidsStand (with_event game (Sold private seat price))
+bids_after_sale game private seat price bids =
+    let was : (on : Private) (by : Seat) (said : ℕ)
+    → bid_of (game.events ++ Sold private seat price ∷ []) on by ≡ Some said → bid_of game.events on by ≡ Some said =
+    λ on by said is. sale_cases (same_private private on) (bid_of game.events on by) said
+    (sym (bid_of_at_end game.events (Sold private seat price) on by) ∙ is) in (
+      λ on a b said of_a of_b. bids.0 on a b said (was on a said of_a) (was on b said of_b),
+      λ on by said is. bids.1 on by said (was on by said is),
+      λ on by said is. bids.2 on by said (was on by said is),
+    )

@@ -1,6 +1,10 @@
 -- The first private in roster order that is unsold costs least of those that are.
 use Rattle.std.proofs.Common.{◌≡◌, ℕ, ◌≤◌, ◌⊎◌, Bool, true, false, cond, List, [], ◌∷◌, ◌++◌, Option, Some, subst}
-use Rattle.std.proofs.Common.{arith}
+use Rattle.std.proofs.Common.{arith, nat_le, refl}
+use Rattle.std.proofs.lemmas.Bool.{and_parts}
+use Rattle.std.proofs.lemmas.Bool.Decides.{nat_tests}
+use Rattle.std.specs.List.{list_all}
+use Rattle.tables.specs.Roster.{face_of}
 use Rattle.events.specs.declared.event.Event.{Event}
 use Rattle.history.specs.Laws.{AreAsked, FirstIsCheapest}
 use Rattle.totals.specs.LookBack.{Game, is_sold, sv_price_of, first_unsold, cheapest_of}
@@ -36,31 +40,32 @@ module _ (events : List Event) (price : Private → ℕ) where
       this_or_later (is_sold events private) private first (first_unsold (is_sold events) (prefix ++ other ∷ rest))
       (price other) is low.0 (first_before prefix other rest first unsold low.1)
 
--- SV costs no more than its face
-sv_low : (game : Game) → IsSound game → sv_price_of game.events ≤ 20
-sv_low game sound = let price : (sv_price_of game.events ≡ 20) ⊎ (sv_price_of game.events ≡ 15)
-    ⊎ (sv_price_of game.events ≡ 10) ⊎ (sv_price_of game.events ≡ 5) ⊎ (sv_price_of game.events ≡ 0) =
-    sound.price in omega arith
-
--- the prices of the roster
 module _ (game : Game) (price : Private → ℕ) (sound : IsSound game) (asked : AreAsked game price) where
-  sv : price SchuylkillValley ≤ 20
-  sv = omega (arith, asked.of_sv, sv_low game sound)
+  -- no private costs more than its face
+  low : (private : Private) → price private ≤ face_of private
+  low SchuylkillValley =
+      let five : (sv_price_of game.events ≡ 20) ⊎ (sv_price_of game.events ≡ 15) ⊎ (sv_price_of game.events ≡ 10)
+      ⊎ (sv_price_of game.events ≡ 5) ⊎ (sv_price_of game.events ≡ 0) = sound.price in
+      omega (arith, asked.of_sv)
+  low other = omega (arith, asked.of_others other (λ same. cc))
 
-  cs : price ChamplainStLawrence ≡ 40
-  cs = asked.of_others ChamplainStLawrence (λ same. cc)
+  -- so each of these costs no more than one that is not SV, if its face is no greater
+  all_low : (other : Private) (some : List Private) → price other ≡ face_of other
+      → list_all (λ private. nat_le (face_of private) (face_of other)) some ≡ true
+      → AllAtMost game.events price (price other) some
+  all_low other [] full none = tt
+  all_low other (private ∷ some) full each =
+      let parts = and_parts (nat_le (face_of private) (face_of other)) _ each in
+      let face : face_of private ≤ face_of other = grind (arith, nat_tests) in
+      (omega (arith, low private), all_low other some full parts.1)
 
-  dh : price DelawareHudson ≡ 70
-  dh = asked.of_others DelawareHudson (λ same. cc)
-
-  mh : price MohawkHudson ≡ 110
-  mh = asked.of_others MohawkHudson (λ same. cc)
-
-  ca : price CamdenAmboy ≡ 160
-  ca = asked.of_others CamdenAmboy (λ same. cc)
-
-  bop : price BaltimoreOhio ≡ 220
-  bop = asked.of_others BaltimoreOhio (λ same. cc)
+  -- so does the first that is unsold of some that begin with those
+  low_before : (prefix : List Private) (other : Private) (rest : List Private) (first : Private)
+      → price other ≡ face_of other → list_all (λ private. nat_le (face_of private) (face_of other)) prefix ≡ true
+      → is_sold game.events other ≡ false → first_unsold (is_sold game.events) (prefix ++ other ∷ rest) ≡ Some first
+      → price first ≤ price other
+  low_before prefix other rest first full none unsold is =
+      first_before game.events price prefix other rest first unsold (all_low other prefix full none) is
 
   -- by the place of the other private
   by_place : (first other : Private) → cheapest_of game.events ≡ Some first → is_sold game.events other ≡ false
@@ -68,32 +73,22 @@ module _ (game : Game) (price : Private → ℕ) (sound : IsSound game) (asked :
   by_place first SchuylkillValley is unsold = first_before game.events price [] SchuylkillValley
       (ChamplainStLawrence ∷ DelawareHudson ∷ MohawkHudson ∷ CamdenAmboy ∷ BaltimoreOhio ∷ []) first unsold tt is
   by_place first ChamplainStLawrence is unsold =
-      first_before game.events price (SchuylkillValley ∷ []) ChamplainStLawrence
-      (DelawareHudson ∷ MohawkHudson ∷ CamdenAmboy ∷ BaltimoreOhio ∷ []) first unsold (omega (arith, sv, cs), tt) is
-  by_place first DelawareHudson is unsold = first_before game.events price
-      (SchuylkillValley ∷ ChamplainStLawrence ∷ []) DelawareHudson (MohawkHudson ∷ CamdenAmboy ∷ BaltimoreOhio ∷ [])
-      first unsold (omega (arith, sv, dh), (omega (arith, cs, dh), tt)) is
-  by_place first MohawkHudson is unsold = first_before game.events price
-      (SchuylkillValley ∷ ChamplainStLawrence ∷ DelawareHudson ∷ []) MohawkHudson (CamdenAmboy ∷ BaltimoreOhio ∷ [])
-      first unsold (omega (arith, sv, mh), (omega (arith, cs, mh), (omega (arith, dh, mh), tt))) is
-  by_place first CamdenAmboy is unsold = first_before game.events price
-      (SchuylkillValley ∷ ChamplainStLawrence ∷ DelawareHudson ∷ MohawkHudson ∷ []) CamdenAmboy (BaltimoreOhio ∷ [])
-      first unsold (
-        omega (arith, sv, ca),
-        (
-          omega (arith, cs, ca),
-          (omega (arith, dh, ca), (omega (arith, mh, ca), tt)),
-        ),
-      ) is
-  by_place first BaltimoreOhio is unsold = first_before game.events price
-      (SchuylkillValley ∷ ChamplainStLawrence ∷ DelawareHudson ∷ MohawkHudson ∷ CamdenAmboy ∷ []) BaltimoreOhio []
-      first unsold (
-        omega (arith, sv, bop),
-        (
-          omega (arith, cs, bop),
-          (omega (arith, dh, bop), (omega (arith, mh, bop), (omega (arith, ca, bop), tt))),
-        ),
-      ) is
+      low_before (SchuylkillValley ∷ []) ChamplainStLawrence
+      (DelawareHudson ∷ MohawkHudson ∷ CamdenAmboy ∷ BaltimoreOhio ∷ []) first
+      (asked.of_others ChamplainStLawrence (λ same. cc)) refl unsold is
+  by_place first DelawareHudson is unsold =
+      low_before (SchuylkillValley ∷ ChamplainStLawrence ∷ []) DelawareHudson
+      (MohawkHudson ∷ CamdenAmboy ∷ BaltimoreOhio ∷ []) first (asked.of_others DelawareHudson (λ same. cc)) refl
+      unsold is
+  by_place first MohawkHudson is unsold =
+      low_before (SchuylkillValley ∷ ChamplainStLawrence ∷ DelawareHudson ∷ []) MohawkHudson
+      (CamdenAmboy ∷ BaltimoreOhio ∷ []) first (asked.of_others MohawkHudson (λ same. cc)) refl unsold is
+  by_place first CamdenAmboy is unsold =
+      low_before (SchuylkillValley ∷ ChamplainStLawrence ∷ DelawareHudson ∷ MohawkHudson ∷ []) CamdenAmboy
+      (BaltimoreOhio ∷ []) first (asked.of_others CamdenAmboy (λ same. cc)) refl unsold is
+  by_place first BaltimoreOhio is unsold =
+      low_before (SchuylkillValley ∷ ChamplainStLawrence ∷ DelawareHudson ∷ MohawkHudson ∷ CamdenAmboy ∷ [])
+      BaltimoreOhio [] first (asked.of_others BaltimoreOhio (λ same. cc)) refl unsold is
 
 -- the law of the cheapest private
 pub first_is_cheapest_law : FirstIsCheapest

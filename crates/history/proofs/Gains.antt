@@ -1,24 +1,24 @@
--- Shares that come from the bank to a seat, by an event that says nothing else, except perhaps of
--- money. Each president has at least as many as before, and enough are left in each initial
--- offering, if there were.
-use Rattle.std.proofs.Common.{◌≡◌, ℕ, ◌+◌, List, [], ◌∷◌, ◌++◌, Some, None, pos, ◌≤ℤ◌, refl, sym, ◌∙◌, arith}
+-- Shares that an event moves, where it says nothing of privates: they are held as before, and
+-- enough are left in each initial offering, if there were. Where they come from the bank, each
+-- president has at least as many as before.
+use Rattle.std.proofs.Common.{◌≡◌, ℕ, ◌+◌, inl, inr, Bool, if◌then◌else◌, List, Some, None, pos}
+use Rattle.std.proofs.Common.{◌≤ℤ◌, refl, subst, ap, arith}
 use Rattle.std.proofs.lemmas.Int.{ints}
-use Rattle.events.specs.Event.{bidding_of, floated_by, office_of, ownership_of, par_set, payment_of, place_of_source}
-use Rattle.events.specs.Event.{square_set, sv_price_set, tile_laid, token_placed, train_moved, transfer_of}
+use Rattle.events.specs.Event.{floated_by, office_of, ownership_of, par_set, place_of_source, square_set, transfer_of}
 use Rattle.events.specs.declared.event.Event.{Event}
 use Rattle.events.specs.declared.event.Shareholder.{Shareholder}
 use Rattle.events.specs.declared.event.Shareholder.TheVariants.{InitialOffering, BankPool, Seat as OfSeat}
 use Rattle.events.specs.declared.event.Transfer.{Transfer}
-use Rattle.history.proofs.Rolling.{trains_kept}
-use Rattle.totals.proofs.EventAtEnd.{is_floated_before, par_of_before, president_of_before, square_of_before}
-use Rattle.history.proofs.Soundness.{differ_kept, fit_kept, given_kept, least_offered_before, price_kept, seated_kept}
-use Rattle.history.proofs.Soundness.{small_kept, within_after}
+use Rattle.totals.proofs.Choices.{nothing_there, same_company_is, truth}
+use Rattle.totals.proofs.EventAtEnd.{par_of_before, president_of_before}
+use Rattle.totals.specs.Shares.{same_shareholder}
+use Rattle.tables.specs.Roster.{same_company}
+use Rattle.history.proofs.Soundness.{IsNearlySound, StayLed, closed_kept, floated_kept, least_after, led_kept}
+use Rattle.history.proofs.Soundness.{still_led, unplaced_before}
 use Rattle.history.proofs.ShareCount.{IsAtTable, held_after, moved, part, shares_after, ten_after}
 use Rattle.totals.specs.LookBack.{Game, with_event}
-use Rattle.history.specs.Money.{IsWithin}
 use Rattle.totals.specs.Shares.{shares_of, square_of}
-use Rattle.history.specs.Sound.{AreLed, AreOffered, CompaniesAreSolvent, FloatedAreLed, IsLed, IsSound, SeatsAreSolvent}
-use Rattle.history.specs.Sound.{least_offered}
+use Rattle.history.specs.Sound.{AreLed, AreOffered, AreTenInAll, FloatedAreLed, IsSound, SharesAreHeld, least_offered}
 use Rattle.order_grammar.specs.declared.order.ShareSource.{ShareSource}
 use Rattle.order_grammar.specs.declared.order.ShareSource.TheVariants as source
 use Rattle.tables.specs.declared.roster.Company.{Company}
@@ -47,92 +47,6 @@ bank_at_table seats InitialOffering bank = tt
 bank_at_table seats BankPool bank = tt
 bank_at_table seats (OfSeat seat) bank = absurd bank
 
--- an event moves these shares from the bank to a seat, and says nothing else, except perhaps of
--- money, which it moves within the table
-pub record Gains (seats : ℕ) (event : Event) (transfer : Transfer) : Type 0 where
-  pub moves : transfer_of event ≡ Some transfer
-  pub from_bank : IsOfBank transfer.from
-  pub to_table : IsAtTable seats transfer.to
-  pub no_owner : ownership_of event ≡ None
-  pub no_bid : bidding_of event ≡ None
-  pub no_par : par_set event ≡ None
-  pub no_square : square_set event ≡ None
-  pub no_office : office_of event ≡ None
-  pub no_float : floated_by event ≡ None
-  pub no_price : sv_price_set event ≡ None
-  pub no_train : train_moved event ≡ None
-  pub no_tile : tile_laid event ≡ None
-  pub no_token : token_placed event ≡ None
-  pub pays : IsWithin seats (payment_of event)
-
--- so does one that has none of the other aspects
-pub only_gains : (seats : ℕ) (event : Event) (transfer : Transfer) → transfer_of event ≡ Some transfer
-    → IsOfBank transfer.from → IsAtTable seats transfer.to → ownership_of event ≡ None → bidding_of event ≡ None
-    → par_set event ≡ None → square_set event ≡ None → office_of event ≡ None → floated_by event ≡ None
-    → sv_price_set event ≡ None → train_moved event ≡ None → tile_laid event ≡ None → token_placed event ≡ None
-    → IsWithin seats (payment_of event) → Gains seats event transfer
-only_gains seats event transfer moves from_bank to_table owner bid par square office float price train tile token pays =
-    record {
-      moves = moves;
-      from_bank = from_bank;
-      to_table = to_table;
-      no_owner = owner;
-      no_bid = bid;
-      no_par = par;
-      no_square = square;
-      no_office = office;
-      no_float = float;
-      no_price = price;
-      no_train = train;
-      no_tile = tile;
-      no_token = token;
-      pays = pays;
-    }
-
--- no seat has fewer shares
-pub seat_gains : (events : List Event) (event : Event) (transfer : Transfer) (company : Company) (seat : Seat)
-    → transfer_of event ≡ Some transfer → IsOfBank transfer.from
-    → shares_of events company (OfSeat seat) ≤ℤ shares_of (events ++ event ∷ []) company (OfSeat seat)
-seat_gains events event transfer company seat moves bank =
-    omega (
-      arith,
-      ints,
-      shares_after events event transfer company (OfSeat seat) moves,
-      none_with_seat transfer.from
-          seat (moved company transfer) bank,
-    )
-
--- a company is led as before
-pub is_led_gained : (events : List Event) (event : Event) (transfer : Transfer) (company : Company)
-    → transfer_of event ≡ Some transfer → IsOfBank transfer.from → par_set event ≡ None → office_of event ≡ None
-    → IsLed events company → IsLed (events ++ event ∷ []) company
-is_led_gained events event transfer company moves bank no_par no_office before =
-    let two = before.holds_two in
-    record {
-      par = before.par;
-      has_par = par_of_before events event company no_par ∙ before.has_par;
-      is_par = before.is_par;
-      president = before.president;
-      has_president = president_of_before events event company no_office ∙ before.has_president;
-      holds_two = omega (arith, ints, seat_gains events event transfer company before.president moves bank);
-    }
-
--- so is each with a square
-pub led_gained : (events : List Event) (event : Event) (transfer : Transfer) → transfer_of event ≡ Some transfer
-    → IsOfBank transfer.from → par_set event ≡ None → square_set event ≡ None → office_of event ≡ None → AreLed events
-    → AreLed (events ++ event ∷ [])
-led_gained events event transfer moves bank no_par no_square no_office led company square placed =
-    is_led_gained events event transfer company moves bank no_par no_office
-    (led company square (sym (square_of_before events event company no_square) ∙ placed))
-
--- and each that has floated
-pub floated_gained : (events : List Event) (event : Event) (transfer : Transfer) → transfer_of event ≡ Some transfer
-    → IsOfBank transfer.from → par_set event ≡ None → floated_by event ≡ None → office_of event ≡ None
-    → FloatedAreLed events → FloatedAreLed (events ++ event ∷ [])
-floated_gained events event transfer moves bank no_par no_float no_office led company floated =
-    is_led_gained events event transfer company moves bank no_par no_office
-    (led company (sym (is_floated_before events event company no_float) ∙ floated))
-
 -- of a company without a square enough are left
 abbrev pub EnoughAreLeft : List Event → Transfer → Type 0
 EnoughAreLeft events transfer =
@@ -140,44 +54,67 @@ EnoughAreLeft events transfer =
     → pos (least_offered events company + part transfer.from InitialOffering (moved company transfer)) ≤ℤ
     shares_of events company InitialOffering
 
--- so as many are offered
-pub offered_gained : (events : List Event) (event : Event) (transfer : Transfer) → transfer_of event ≡ Some transfer
-    → ownership_of event ≡ None → square_set event ≡ None → EnoughAreLeft events transfer
-    → AreOffered (events ++ event ∷ [])
-offered_gained events event transfer moves no_owner no_square enough company unplaced =
-    let left = enough company (sym (square_of_before events event company no_square) ∙ unplaced) in
-    omega (
-      arith,
-      ints,
-      shares_after events event transfer company InitialOffering moves,
-      least_offered_before events
-          event company no_owner,
-    )
+-- so it is where enough are left of the one whose shares move
+pub left_after : (events : List Event) (transfer : Transfer)
+    → (square_of events transfer.company ≡ None → pos (least_offered events transfer.company + part transfer.from
+    InitialOffering transfer.shares) ≤ℤ shares_of events transfer.company InitialOffering) → AreOffered events
+    → EnoughAreLeft events transfer
+left_after events transfer many offered company unplaced =
+    elim (truth (same_company transfer.company company)) [
+      | inl same ↦
+          let its : moved company transfer ≡ transfer.shares =
+          ap (λ (is : Bool). if is then transfer.shares else 0) same in
+          rw its (subst (λ (one : Company). square_of events one ≡ None
+          → pos (least_offered events one + part transfer.from InitialOffering transfer.shares) ≤ℤ shares_of events
+          one InitialOffering) (same_company_is transfer.company company same) many unplaced)
+      | inr apart ↦
+          let its : moved company transfer ≡ 0 = ap (λ (is : Bool). if is then transfer.shares else 0) apart in
+          let none : part transfer.from InitialOffering 0 ≡ 0 =
+          nothing_there (same_shareholder transfer.from InitialOffering) in
+          let enough = offered company unplaced in
+          rw (its, none) (omega (arith, ints))
+    ]
 
--- such an event keeps a list sound, where the bank has this many, enough are left and nobody is
--- left owing
-pub gain_sound : (game : Game) (event : Event) (transfer : Transfer) → Gains game.seats event transfer
-    → pos transfer.shares ≤ℤ shares_of game.events transfer.company transfer.from → EnoughAreLeft game.events transfer
-    → SeatsAreSolvent (with_event game event) → CompaniesAreSolvent (with_event game event) → IsSound game
-    → IsSound (with_event game event)
-gain_sound game event transfer gains many enough solvent companies sound =
-    record {
-      solvent = solvent;
-      companies = companies;
-      bids_differ = differ_kept game.events event gains.no_bid sound.bids_differ;
-      bids_small = small_kept game.events event gains.no_bid sound.bids_small;
-      seated = seated_kept game.seats game.events event gains.no_bid sound.seated;
-      price = price_kept game.events event gains.no_price sound.price;
-      given = given_kept game.events event gains.no_price gains.no_owner sound.given;
-      held = held_after game.events event transfer gains.moves many sound.held;
-      ten = ten_after game event transfer gains.moves (bank_at_table game.seats transfer.from gains.from_bank)
-          gains.to_table sound.ten;
-      offered = offered_gained game.events event transfer gains.moves gains.no_owner gains.no_square enough;
-      led = led_gained game.events event transfer gains.moves gains.from_bank gains.no_par gains.no_square
-          gains.no_office sound.led;
-      floated = floated_gained game.events event transfer gains.moves gains.from_bank gains.no_par gains.no_float
-          gains.no_office sound.floated;
-      within = within_after game.seats game.events event gains.pays sound.within;
-      trains = trains_kept game.events event gains.no_train sound.trains;
-      fit = fit_kept game.events event gains.no_tile gains.no_token sound.fit;
-    }
+module _ (game : Game) (event : Event) (transfer : Transfer) (moves : transfer_of event ≡ Some transfer) where
+  -- so as many are offered
+  offered_moved : ownership_of event ≡ None → EnoughAreLeft game.events transfer
+      → AreOffered (with_event game event).events
+  offered_moved no_owner enough company unplaced =
+      let left = enough company (unplaced_before game event company unplaced) in
+      omega (
+        arith,
+        ints,
+        shares_after game.events event transfer company InitialOffering moves,
+        least_after game event (closed_kept game event no_owner) company,
+      )
+
+  -- what an event has to show that moves shares at the table, as many as there are
+  pub move_shows : ownership_of event ≡ None → IsAtTable game.seats transfer.from → IsAtTable game.seats transfer.to
+      → pos transfer.shares ≤ℤ shares_of game.events transfer.company transfer.from
+      → EnoughAreLeft game.events transfer → IsNearlySound game
+      → SharesAreHeld (with_event game event).events × (AreTenInAll (with_event game event)
+      × (AreOffered (with_event game event).events × Unit {0}))
+  move_shows no_owner from to many enough before = (
+    held_after game.events event transfer moves many before.held,
+    (ten_after game event transfer moves from to before.ten, (offered_moved no_owner enough, tt)),
+  )
+
+  -- a company is led as before where they come from the bank
+  pub stay_led_gaining : IsOfBank transfer.from → par_set event ≡ None → office_of event ≡ None
+      → StayLed game.events (with_event game event).events
+  stay_led_gaining bank no_par no_office company =
+      still_led game.events (with_event game event).events company (par_of_before game.events event company no_par)
+      (president_of_before game.events event company no_office) (λ seat _ two. omega (
+        arith,
+        ints,
+        shares_after game.events event transfer company (OfSeat seat) moves,
+        none_with_seat transfer.from seat (moved company transfer) bank,
+      ))
+
+  -- so are all
+  pub gain_leads : IsOfBank transfer.from → par_set event ≡ None → office_of event ≡ None → square_set event ≡ None
+      → floated_by event ≡ None → IsSound game
+      → AreLed (with_event game event).events × (FloatedAreLed (with_event game event).events × Unit {0})
+  gain_leads bank no_par no_office no_square no_float sound =
+      let stay = stay_led_gaining bank no_par no_office in
+      (led_kept game event stay no_square sound.led, (floated_kept game event stay no_float sound.floated, tt))

@@ -1,66 +1,36 @@
 -- A gift of shares keeps a list sound; so does CA's sale with its gift.
-use Rattle.std.proofs.Common.{◌≡◌, ℕ, ◌+◌, ◌<◌, inl, inr, Bool, true, if◌then◌else◌, List, None, is_some, ℤ, pos, ◌≤ℤ◌}
-use Rattle.std.proofs.Common.{refl, sym, subst, ap, arith}
+use Rattle.std.proofs.Common.{◌≡◌, ℕ, Bool, true, if◌then◌else◌, is_some, pos, ◌≤ℤ◌}
+use Rattle.std.proofs.Common.{refl, ap, arith}
 use Rattle.std.proofs.lemmas.Int.{ints}
 use Rattle.events.specs.Event.{ownership_of}
-use Rattle.events.specs.declared.event.Event.{Event}
 use Rattle.events.specs.declared.event.Event.TheVariants.{Given, Sold}
 use Rattle.events.specs.declared.event.Shareholder.TheVariants.{InitialOffering, Seat as OfSeat}
 use Rattle.events.specs.declared.event.Transfer.{Transfer}
-use Rattle.totals.proofs.Choices.{same_company_is, truth}
 use Rattle.history.proofs.Acts.{sale_sound}
 use Rattle.totals.proofs.EventAtEnd.{last_said_at_end, shares_of_before}
-use Rattle.history.proofs.Gains.{EnoughAreLeft, Gains, gain_sound, only_gains}
-use Rattle.history.proofs.Soundness.{companies_kept, solvent_kept}
-use Rattle.history.proofs.ShareCount.{moved}
+use Rattle.history.proofs.Gains.{gain_leads, left_after, move_shows}
+use Rattle.history.proofs.Soundness.{nearly_sound_of, sound_after}
 use Rattle.history.specs.Laws.{CaIsSoldWithItsGift, GiftKeepsSound}
 use Rattle.totals.specs.LookBack.{is_sold, owner_said, with_event}
-use Rattle.totals.specs.Shares.{shares_of, square_of}
-use Rattle.history.specs.Sound.{AreOffered, least_offered}
-use Rattle.tables.specs.Roster.{same_company}
+use Rattle.totals.specs.Shares.{shares_of}
+use Rattle.history.specs.Sound.{least_offered}
 use Rattle.tables.specs.declared.roster.Company.{Company}
 use Rattle.tables.specs.declared.roster.Company.TheVariants.{Pennsylvania}
 use Rattle.tables.specs.declared.roster.Private.TheVariants.{CamdenAmboy}
 use Rattle.tables.specs.declared.seat.Seat.{Seat}
 
 -- the shares of a gift
-abbrev gift : Company → Seat → ℕ → Transfer
+abbrev pub gift : Company → Seat → ℕ → Transfer
 gift company seat shares = record { company = company; from = InitialOffering; to = OfSeat seat; shares = shares }
-
--- a gift says nothing else
-gift_gains : (seats : ℕ) (company : Company) (seat : Seat) (shares : ℕ) → seat.0 < seats
-    → Gains seats (Given company seat shares) (gift company seat shares)
-gift_gains seats company seat shares seated =
-    only_gains _ _ _ refl tt seated refl refl refl refl refl refl refl refl refl refl tt
-
--- enough are left of each company, where there are enough of the one
-left_after_gift : (events : List Event) (given : Company) (seat : Seat) (shares : ℕ)
-    → (square_of events given ≡ None → pos (least_offered events given + shares) ≤ℤ shares_of events given
-    InitialOffering) → AreOffered events → EnoughAreLeft events (gift given seat shares)
-left_after_gift events given seat shares many offered company unplaced =
-    elim (truth (same_company given company)) [
-      | inl same ↦
-          let its : moved company (gift given seat shares) ≡ shares =
-          ap (λ (is : Bool). if is then shares else 0) same in
-          let enough : pos (least_offered events company + shares) ≤ℤ shares_of events company InitialOffering =
-          subst (λ (one : Company). square_of events one ≡ None
-          → pos (least_offered events one + shares) ≤ℤ shares_of events one InitialOffering)
-          (same_company_is given company same) many unplaced in
-          omega (arith, ints)
-      | inr apart ↦
-          let its : moved company (gift given seat shares) ≡ 0 = ap (λ (is : Bool). if is then shares else 0) apart in
-          let enough = offered company unplaced in
-          omega (arith, ints)
-    ]
 
 -- a gift to a seat at the table
 pub given_sound : GiftKeepsSound
 given_sound game company seat shares seated many more sound =
-    gain_sound game (Given company seat shares) (gift company seat shares)
-    (gift_gains game.seats company seat shares seated) many
-    (left_after_gift game.events company seat shares more sound.offered)
-    (solvent_kept game (Given company seat shares) refl refl sound.solvent)
-    (companies_kept game (Given company seat shares) refl sound.companies) sound
+    let shares_given = gift company seat shares in
+    sound_after game (Given company seat shares)
+    (move_shows game (Given company seat shares) shares_given refl refl tt seated many
+    (left_after game.events shares_given more sound.offered) (nearly_sound_of game sound))
+    (gain_leads game (Given company seat shares) shares_given refl tt refl refl refl refl sound) sound
 
 -- CA's sale, with the share of PRR
 pub ca_sound : CaIsSoldWithItsGift
@@ -73,12 +43,6 @@ ca_sound game seat price unsold unplaced seated affordable sound =
     let nine : least_offered game.events Pennsylvania ≡ 9 = ap (λ (now : Bool). if now then 8 else 9) unsold in
     let offered : pos (least_offered game.events Pennsylvania) ≤ℤ shares_of game.events Pennsylvania InitialOffering =
     sound.offered Pennsylvania unplaced in
-    let same : shares_of mid.events Pennsylvania InitialOffering
-    ≡ shares_of game.events Pennsylvania InitialOffering =
-    shares_of_before game.events (Sold CamdenAmboy seat price) Pennsylvania InitialOffering refl in
-    let many : pos 9 ≤ℤ shares_of mid.events Pennsylvania InitialOffering =
-    subst (λ (shares : ℤ). pos 9 ≤ℤ shares) (sym same)
-    (subst (λ (least : ℕ). pos least ≤ℤ shares_of game.events Pennsylvania InitialOffering) nine offered) in
-    given_sound mid Pennsylvania seat 1 seated (omega (arith, ints))
-    (λ _. subst (λ (least : ℕ). pos (least + 1) ≤ℤ shares_of mid.events Pennsylvania InitialOffering) (sym eight)
-    many) (sale_sound game CamdenAmboy seat price unsold seated affordable sound)
+    let same = shares_of_before game.events (Sold CamdenAmboy seat price) Pennsylvania InitialOffering refl in
+    given_sound mid Pennsylvania seat 1 seated (omega (arith, ints)) (λ _. omega (arith, ints))
+    (sale_sound game CamdenAmboy seat price unsold seated affordable sound)

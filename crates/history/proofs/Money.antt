@@ -1,26 +1,25 @@
 -- A payment takes from one party what it adds to another, so that all money stays what it was at
 -- first.
-use Rattle.std.proofs.Common.{◌≡◌, ◌≢◌, ℕ, zero, suc, ◌+◌, ◌*◌, ◌-◌, ◌≤◌, ◌<◌, inl, inr, if◌then◌else◌, List, [], ◌∷◌}
+use Rattle.std.proofs.Common.{◌≡◌, ◌≢◌, ℕ, ◌+◌, ◌*◌, ◌-◌, ◌==◌, inl, inr, if◌then◌else◌, List, [], ◌∷◌}
 use Rattle.std.proofs.Common.{◌++◌, map, Option, Some, None, pos, ◌-ℤ◌, ◌+ℤ◌, refl, sym, subst, ap, ◌∙◌, arith}
 use Rattle.std.proofs.lemmas.Bool.{cases_eq}
 use Rattle.std.proofs.lemmas.Bool.Decides.{nat_tests}
 use Rattle.std.proofs.lemmas.Int.{ints}
 use Rattle.std.proofs.lemmas.List.Sums.{sum_by-cons}
-use Rattle.std.specs.List.{range_with_len}
 use Rattle.events.specs.Event.{party_at, party_of_company, payment_of}
 use Rattle.events.specs.declared.event.Event.{Event}
 use Rattle.events.specs.declared.event.Holder.TheVariants as holder
 use Rattle.events.specs.declared.event.Party.{Party}
 use Rattle.events.specs.declared.event.Party.TheVariants as party
 use Rattle.events.specs.declared.event.Payment.{Payment}
-use Rattle.totals.proofs.Choices.{chosen, passed_over}
 use Rattle.totals.specs.LookBack.{cash_of, paid_by, paid_to, same_party}
+use Rattle.events.specs.declared.event.Shareholder.TheVariants.{Seat as OfSeat}
+use Rattle.history.proofs.ShareCount.{parts, with_seats}
 use Rattle.history.specs.Money.{AllMoneyStays, IsParty, IsWithin, cash_together, parties}
 use Rattle.tables.specs.Roster.{bank_start_of, companies, start_money_of}
-use Rattle.tables.specs.Seat.{all_seats, seat_at}
+use Rattle.tables.specs.Seat.{all_seats}
 use Rattle.tables.specs.declared.roster.Company.{Company}
-use Rattle.tables.specs.declared.roster.Company.TheVariants.{Pennsylvania, NewYorkCentral, CanadianPacific}
-use Rattle.tables.specs.declared.roster.Company.TheVariants.{BaltimoreOhio, ChesapeakeOhio, Erie, NewHaven, BostonMaine}
+use Rattle.tables.specs.declared.roster.Company.TheVariants.{Pennsylvania}
 use Rattle.tables.specs.declared.seat.Seat.{Seat}
 
 -- what of a sum, all with one party, is with some parties
@@ -45,40 +44,18 @@ no_seat_of_company : (company : Company) (sum : ℕ) (seats : List Seat)
 no_seat_of_company company sum [] = refl
 no_seat_of_company company sum (seat ∷ others) = omega (arith, no_seat_of_company company sum others)
 
--- what a seat has is with no later one
-no_later_seat : (seat : Seat) (sum from count : ℕ) → seat.0 < from
-    → sum_with (party_at seat) sum (map party_at (map seat_at (range_with_len from count))) ≡ 0
-no_later_seat seat sum from zero before = refl
-no_later_seat seat sum from (suc count) before =
-    let apart : seat.0 ≢ from = omega arith in
-    omega (arith, passed_over seat.0 from sum 0 apart, no_later_seat seat sum (from + 1) count (omega arith))
-
--- it is with the seats among whom the one is
-with_its_seat : (seat : Seat) (sum from count : ℕ) → from ≤ seat.0 → seat.0 < from + count
-    → sum_with (party_at seat) sum (map party_at (map seat_at (range_with_len from count))) ≡ sum
-with_its_seat seat sum from zero low high = absurd (omega arith)
-with_its_seat seat sum from (suc count) low high =
-    elim (cases_eq seat.0 from) [
-      | inl same ↦ omega (arith, chosen seat.0 from sum 0 same, no_later_seat seat sum (from + 1) count (omega arith))
-      | inr apart ↦ omega (
-        arith,
-        passed_over seat.0 from sum 0 apart,
-        with_its_seat seat sum (from + 1) count
-            (omega arith) (omega arith),
-      )
-    ]
+-- what a seat has is with the seats as shares of it are
+seats_as_parts : (seat : Seat) (sum : ℕ) (seats : List Seat)
+    → sum_with (party_at seat) sum (map party_at seats) ≡ parts (OfSeat seat) sum seats
+seats_as_parts seat sum [] = refl
+seats_as_parts seat sum (one ∷ others) =
+    ap (λ rest. (if seat.0 == one.0 then sum else 0) + rest) (seats_as_parts seat sum others)
 
 -- what a company has is with the companies
 with_its_company : (company : Company) (sum : ℕ)
     → sum_with (party_of_company company) sum (map party_of_company companies) ≡ sum
 with_its_company Pennsylvania sum = omega arith
-with_its_company NewYorkCentral sum = omega arith
-with_its_company CanadianPacific sum = omega arith
-with_its_company BaltimoreOhio sum = omega arith
-with_its_company ChesapeakeOhio sum = omega arith
-with_its_company Erie sum = omega arith
-with_its_company NewHaven sum = omega arith
-with_its_company BostonMaine sum = omega arith
+with_its_company other sum = omega arith
 
 -- a sum with a party of the game is with its parties
 with_parties : (seats : ℕ) (at : Party) (sum : ℕ) → IsParty seats at → sum_with at sum (parties seats) ≡ sum
@@ -92,7 +69,8 @@ with_parties seats (party.Holder (holder.Seat seat)) sum is =
     omega (
       arith,
       sum_with_both (party_at seat) sum (map party_at (all_seats seats)) (map party_of_company companies),
-      with_its_seat seat sum 0 seats (omega arith) (omega arith),
+      seats_as_parts seat sum (all_seats seats),
+      with_seats seat sum 0 seats (omega arith) (omega arith),
     )
 with_parties seats (party.Holder (holder.Company company)) sum is =
     omega (

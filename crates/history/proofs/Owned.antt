@@ -1,6 +1,6 @@
 -- A private's owner has paid for it, so that it is a party of the game where all payments go
 -- between parties.
-use Rattle.std.proofs.Common.{◌≡◌, ◌<◌, ◌⊎◌, inl, inr, List, [], ◌∷◌, ℕ, Bool, true, false, if◌then◌else◌, Option, Some}
+use Rattle.std.proofs.Common.{◌≡◌, ◌⊎◌, inl, inr, List, [], ◌∷◌, ℕ, Bool, true, false, if◌then◌else◌, Option, Some}
 use Rattle.std.proofs.Common.{None, subst, ap}
 use Rattle.std.specs.Option.{option_flatten, option_or}
 use Rattle.events.specs.Event.{ownership_of, payment_of}
@@ -13,46 +13,34 @@ use Rattle.history.specs.Laws.{OwnersAreParties}
 use Rattle.totals.specs.LookBack.{last_said, owner_said}
 use Rattle.history.specs.Money.{AreWithin, IsParty, IsWithin}
 use Rattle.tables.specs.Roster.{same_private}
-use Rattle.tables.specs.declared.roster.Company.{Company}
 use Rattle.tables.specs.declared.roster.Private.{Private}
 use Rattle.tables.specs.declared.roster.Private.TheVariants.{MohawkHudson}
-use Rattle.tables.specs.declared.seat.Seat.{Seat}
 
--- a private sold to a seat at the table is owned by a party
-sold_within : (same : Bool) (seats : ℕ) (seat : Seat) (owner : Holder) → seat.0 < seats
-    → ◌≡◌ {A = Option (Option Holder)} (if same then Some (Some (holder.Seat seat)) else None) (Some (Some owner))
-    → IsParty seats (party.Holder owner)
-sold_within true seats seat owner seated names =
-    let is : holder.Seat seat ≡ owner = cc in
-    subst (λ (one : Holder). IsParty seats (party.Holder one)) is seated
-sold_within false seats seat owner seated names = absurd (cc)
+-- an owner, if there is one, is a party
+abbrev IsOwnedWithin : ℕ → Option Holder → Type 0
+IsOwnedWithin seats None = Unit {0}
+IsOwnedWithin seats (Some owner) = IsParty seats (party.Holder owner)
 
--- one that a company bought is owned by a party
-bought_within : (same : Bool) (seats : ℕ) (company : Company) (owner : Holder) →
-    ◌≡◌ {A = Option (Option Holder)} (if same then Some (Some (holder.Company company)) else None) (Some (Some owner)) →
-    IsParty seats (party.Holder owner)
-bought_within true seats company owner names =
-    let is : holder.Company company ≡ owner = cc in
-    subst (λ (one : Holder). IsParty seats (party.Holder one)) is tt
-bought_within false seats company owner names = absurd (cc)
+-- so is the one that an event names, where this one is
+owner_named : (same : Bool) (seats : ℕ) (said : Option Holder) (owner : Holder)
+    → ◌≡◌ {A = Option (Option Holder)} (if same then Some said else None) (Some (Some owner))
+    → IsOwnedWithin seats said → IsParty seats (party.Holder owner)
+owner_named true seats said owner names within =
+    let is : said ≡ Some owner = cc in
+    subst (IsOwnedWithin seats) is within
+owner_named false seats said owner names within = absurd (cc)
 
--- an event that says that nobody owns a private names no owner
-none_named : (same : Bool) (owner : Holder) → ◌≡◌ {A = Option (Option Holder)} (if same then Some None else None)
-    (Some (Some owner)) → ⊥
-none_named true owner names = absurd (cc)
-none_named false owner names = absurd (cc)
-
--- the owner that an event names is a party where the event pays between parties
+-- as it is where the event pays between parties
 named_is_party : (seats : ℕ) (event : Event) (private : Private) (owner : Holder) → IsWithin seats (payment_of event)
     → owner_said private (ownership_of event) ≡ Some (Some owner) → IsParty seats (party.Holder owner)
 named_is_party seats (Sold sold seat price) private owner pays names =
-    sold_within (same_private sold private) seats seat owner pays.0 names
+    owner_named (same_private sold private) seats (Some (holder.Seat seat)) owner names pays.0
 named_is_party seats (Exchanged seat from) private owner pays names =
-    absurd (none_named (same_private MohawkHudson private) owner names)
+    owner_named (same_private MohawkHudson private) seats None owner names tt
 named_is_party seats (Closed closed) private owner pays names =
-    absurd (none_named (same_private closed private) owner names)
+    owner_named (same_private closed private) seats None owner names tt
 named_is_party seats (PrivateBought bought company seller price) private owner pays names =
-    bought_within (same_private bought private) seats company owner names
+    owner_named (same_private bought private) seats (Some (holder.Company company)) owner names tt
 named_is_party seats other private owner pays names = absurd (cc)
 
 -- the last word is the later one, or the earlier

@@ -28,11 +28,7 @@ kind_at place =
 -- is the kind
 kind_at_place : (kind : Kind) → kind_at (place_of_kind kind) ≡ kind
 kind_at_place Two = refl
-kind_at_place Three = refl
-kind_at_place Four = refl
-kind_at_place Five = refl
-kind_at_place Six = refl
-kind_at_place Diesel = refl
+kind_at_place other = refl
 
 -- kinds of one place are the same
 pub same_kind_is : (a b : Kind) → same_kind a b ≡ true → a ≡ b
@@ -42,21 +38,10 @@ same_kind_is a b same =
 -- places that are the same
 pub same_train_place_is : (a b : TrainPlace) → same_train_place a b ≡ true → a ≡ b
 same_train_place_is place.Bank place.Bank same = refl
-same_train_place_is place.Bank place.BankPool same = absurd cc
-same_train_place_is place.Bank (place.Company b) same = absurd cc
-same_train_place_is place.Bank place.OutOfPlay same = absurd cc
-same_train_place_is place.BankPool place.Bank same = absurd cc
 same_train_place_is place.BankPool place.BankPool same = refl
-same_train_place_is place.BankPool (place.Company b) same = absurd cc
-same_train_place_is place.BankPool place.OutOfPlay same = absurd cc
-same_train_place_is (place.Company a) place.Bank same = absurd cc
-same_train_place_is (place.Company a) place.BankPool same = absurd cc
 same_train_place_is (place.Company a) (place.Company b) same = ap place.Company (same_company_is a b same)
-same_train_place_is (place.Company a) place.OutOfPlay same = absurd cc
-same_train_place_is place.OutOfPlay place.Bank same = absurd cc
-same_train_place_is place.OutOfPlay place.BankPool same = absurd cc
-same_train_place_is place.OutOfPlay (place.Company b) same = absurd cc
 same_train_place_is place.OutOfPlay place.OutOfPlay same = refl
+same_train_place_is a b same = absurd cc
 
 -- how many the bank has sold, once one more event is at the end
 pub sold_at_end : (events : List Event) (event : Event) (kind : Kind)

@@ -24,21 +24,16 @@ use Rattle.tables.specs.declared.seat.Seat.{Seat}
 -- places that are the same
 same_shareholder_is : (a b : Shareholder) → same_shareholder a b ≡ true → a ≡ b
 same_shareholder_is InitialOffering InitialOffering same = refl
-same_shareholder_is InitialOffering BankPool same = absurd cc
-same_shareholder_is InitialOffering (OfSeat b) same = absurd cc
-same_shareholder_is BankPool InitialOffering same = absurd cc
 same_shareholder_is BankPool BankPool same = refl
-same_shareholder_is BankPool (OfSeat b) same = absurd cc
-same_shareholder_is (OfSeat a) InitialOffering same = absurd cc
-same_shareholder_is (OfSeat a) BankPool same = absurd cc
 same_shareholder_is (OfSeat a) (OfSeat b) same = ap (λ number. OfSeat (seat_at number)) ((Decides-eqb a.0 b.0).0 same)
+same_shareholder_is a b same = absurd cc
 
 -- what of this many shares, all at one place, lies at a place
 abbrev pub part : Shareholder → Shareholder → ℕ → ℕ
 part at place shares = if same_shareholder at place then shares else 0
 
 -- and with some seats
-abbrev parts : Shareholder → ℕ → List Seat → ℕ
+abbrev pub parts : Shareholder → ℕ → List Seat → ℕ
 parts at shares [] = 0
 parts at shares (seat ∷ others) = part at (OfSeat seat) shares + parts at shares others
 
@@ -106,7 +101,7 @@ none_later seat shares from (suc count) before =
     omega (arith, passed_over seat.0 from shares 0 apart, none_later seat shares (from + 1) count (omega arith))
 
 -- it is with the seats among whom the one is
-with_seats : (seat : Seat) (shares from count : ℕ) → from ≤ seat.0 → seat.0 < from + count
+pub with_seats : (seat : Seat) (shares from count : ℕ) → from ≤ seat.0 → seat.0 < from + count
     → parts (OfSeat seat) shares (map seat_at (range_with_len from count)) ≡ shares
 with_seats seat shares from zero low high = absurd (omega arith)
 with_seats seat shares from (suc count) low high =

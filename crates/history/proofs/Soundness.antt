@@ -1,216 +1,374 @@
--- What keeps a list sound: an event without the aspects of a fact keeps that fact.
-use Rattle.std.proofs.Common.{◌≡◌, ℕ, ◌≤◌, List, [], ◌∷◌, ◌++◌, None, pos, ◌≤ℤ◌, ◌-ℤ◌, ◌+ℤ◌, ℤ, refl, sym, subst, ap}
-use Rattle.std.proofs.Common.{◌∙◌, arith, if◌then◌else◌, inl}
+-- What keeps a list sound. An event keeps each fact of whose aspects it says nothing; the other
+-- facts it has to show.
+use Rattle.std.proofs.Common.{◌≡◌, ℕ, ◌≤◌, Bool, true, false, if◌then◌else◌, ◌&&◌, List, [], ◌∷◌, ◌++◌, Option, Some}
+use Rattle.std.proofs.Common.{None, is_none, is_some, pos, ◌≤ℤ◌, refl, sym, subst, ap, ◌∙◌, arith, inl}
 use Rattle.std.proofs.lemmas.Int.{ints}
-use Rattle.events.specs.Event.{IsQuiet, bidding_of, floated_by, office_of, ownership_of, par_set, party_at, payment_of}
-use Rattle.events.specs.Event.{square_set, sv_price_set, tile_laid, token_placed, train_moved, transfer_of}
+use Rattle.std.specs.Option.{option_or}
+use Rattle.events.specs.Event.{bidding_of, floated_by, office_of, ownership_of, par_set, party_at, party_of_company}
+use Rattle.events.specs.Event.{payment_of, square_set, sv_price_set, tile_laid, token_placed, train_moved, transfer_of}
 use Rattle.events.specs.declared.event.Event.{Event}
-use Rattle.events.specs.declared.event.Holder.TheVariants as holder
-use Rattle.events.specs.declared.event.Party.TheVariants as party
 use Rattle.events.specs.declared.event.Shareholder.TheVariants.{InitialOffering, BankPool, Seat as OfSeat}
+use Rattle.totals.proofs.Choices.{both}
 use Rattle.totals.proofs.InOrder.{lays_before, tokens_before}
-use Rattle.history.proofs.Rolling.{no_trains}
-use Rattle.totals.proofs.EventAtEnd.{bid_of_before, bids_of_before, cash_of_before, is_closed_before, is_floated_before}
-use Rattle.totals.proofs.EventAtEnd.{is_sold_before, par_of_before, president_of_before, shares_of_before}
-use Rattle.totals.proofs.EventAtEnd.{square_of_before, sv_price_of_before}
-use Rattle.totals.specs.Bids.{bids_of, free_cash_of}
-use Rattle.totals.specs.LookBack.{Game, cash_of, sv_price_of, with_event}
+use Rattle.history.proofs.Rolling.{no_trains, trains_kept}
+use Rattle.totals.proofs.EventAtEnd.{bid_of_before, bids_of_before, cash_of_at_end, is_closed_before}
+use Rattle.totals.proofs.EventAtEnd.{is_floated_before, last_said_at_end, par_of_before, president_of_before}
+use Rattle.totals.proofs.EventAtEnd.{shares_of_before, square_of_before, sv_price_of_before}
+use Rattle.totals.specs.Bids.{bid_of, bids_of, free_cash_of}
+use Rattle.totals.specs.LookBack.{Game, cash_of, is_closed, is_sold, last_said, owner_said, paid_by, sv_price_of}
+use Rattle.totals.specs.LookBack.{with_event}
 use Rattle.history.specs.Money.{AreWithin, IsWithin}
-use Rattle.totals.specs.Operating.{lays_of, tokens_of}
-use Rattle.totals.specs.Shares.{held_by, shares_of}
+use Rattle.totals.specs.Shares.{held_by, par_of, president_of, shares_of, square_of, square_said}
+use Rattle.totals.specs.Trains.{TrainsAreHeld}
 use Rattle.history.specs.Sound.{AreLed, AreOffered, AreTenInAll, BiddersAreSeated, BidsAreSmall, BidsDiffer}
 use Rattle.history.specs.Sound.{CompaniesAreSolvent, FloatedAreLed, IsGivenAway, IsLed, IsSound, IsSvPrice, LiesFit}
 use Rattle.history.specs.Sound.{SeatsAreSolvent, SharesAreHeld, least_offered}
 use Rattle.map_tables.proofs.NothingFits.{nothing_fits}
-use Rattle.map_tables.specs.Fit.{AreFitWithHomes}
-use Rattle.map_tables.specs.declared.lay.Lay.{Lay}
 use Rattle.tables.specs.Seat.{all_seats}
 use Rattle.tables.specs.declared.roster.Company.{Company}
-use Rattle.tables.specs.declared.roster.Company.TheVariants.{Pennsylvania, NewYorkCentral, CanadianPacific}
-use Rattle.tables.specs.declared.roster.Company.TheVariants.{BaltimoreOhio, ChesapeakeOhio, Erie, NewHaven, BostonMaine}
+use Rattle.tables.specs.declared.roster.Company.TheVariants.{Pennsylvania, NewYorkCentral}
+use Rattle.tables.specs.declared.roster.Private.{Private}
 use Rattle.tables.specs.declared.roster.Private.TheVariants.{SchuylkillValley, MohawkHudson, CamdenAmboy}
 use Rattle.tables.specs.declared.seat.Seat.{Seat}
 
--- without a payment or a word on bids each seat keeps its free cash
-pub free_cash_before : (seats : ℕ) (events : List Event) (event : Event) (seat : Seat) → payment_of event ≡ None
-    → bidding_of event ≡ None → free_cash_of seats (events ++ event ∷ []) seat ≡ free_cash_of seats events seat
-free_cash_before seats events event seat no_payment no_bid =
-    ap (λ cash. cash -ℤ pos (bids_of (events ++ event ∷ []) seat))
-    (cash_of_before seats events event (party_at seat) no_payment)
-    ∙ ap (λ bids. cash_of seats events (party_at seat) -ℤ pos bids) (bids_of_before events event seat no_bid)
+-- a later word on a private leaves it sold
+stays_said : {A : Type 0} (later earlier : Option A) → is_some earlier ≡ true → is_some (option_or later earlier) ≡ true
+stays_said None earlier said = said
+stays_said (Some word) earlier said = refl
 
--- and each is solvent as before
-pub solvent_kept : (game : Game) (event : Event) → payment_of event ≡ None → bidding_of event ≡ None
-    → SeatsAreSolvent game → SeatsAreSolvent (with_event game event)
-solvent_kept game event no_payment no_bid solvent =
-    λ seat. subst (λ (cash : ℤ). pos 0 ≤ℤ cash) (sym
-    (free_cash_before game.seats game.events event seat no_payment no_bid)) (solvent seat)
+-- a private that was sold is sold
+pub stays_sold : (events : List Event) (event : Event) (private : Private) → is_sold events private ≡ true
+    → is_sold (events ++ event ∷ []) private ≡ true
+stays_sold events event private sold =
+    ap is_some (last_said_at_end (λ e. owner_said private (ownership_of e)) events event)
+    ∙ stays_said (owner_said private (ownership_of event))
+    (last_said (λ e. owner_said private (ownership_of e)) events) sold
 
--- without a payment each company is solvent as before
-pub companies_kept : (game : Game) (event : Event) → payment_of event ≡ None → CompaniesAreSolvent game
-    → CompaniesAreSolvent (with_event game event)
-companies_kept game event none solvent =
-    λ company. subst (λ (cash : ℤ). pos 0 ≤ℤ cash)
-    (sym (cash_of_before game.seats game.events event (party.Holder (holder.Company company)) none))
-    (solvent company)
+-- fewer shares are to stay where something is so that was not
+fewer : (before after : Bool) → (before ≡ true → after ≡ true) → (if after then 8 else 9) ≤ (if before then 8 else 9)
+fewer true after stays = subst (λ (now : Bool). (if now then 8 else 9) ≤ 8) (sym (stays refl)) (omega arith)
+fewer false true stays = omega arith
+fewer false false stays = omega arith
 
--- without a word on bids they differ as before
-pub differ_kept : (events : List Event) (event : Event) → bidding_of event ≡ None → BidsDiffer events
-    → BidsDiffer (events ++ event ∷ [])
-differ_kept events event none differ =
-    λ private a b amount of_a of_b. differ private a b amount (sym (bid_of_before events event private a none) ∙ of_a)
-    (sym (bid_of_before events event private b none) ∙ of_b)
+-- nothing was said where nothing is
+none_earlier : {A : Type 0} (later earlier : Option A) → option_or later earlier ≡ None → earlier ≡ None
+none_earlier None earlier none = none
+none_earlier (Some word) earlier none = absurd (cc)
 
--- and are small as before
-pub small_kept : (events : List Event) (event : Event) → bidding_of event ≡ None → BidsAreSmall events
-    → BidsAreSmall (events ++ event ∷ [])
-small_kept events event none small =
-    λ private seat amount bid. small private seat amount (sym (bid_of_before events event private seat none) ∙ bid)
+-- a company is led as before, where it has its par value still, and its president two shares
+pub still_led : (before after : List Event) (company : Company) → par_of after company ≡ par_of before company
+    → president_of after company ≡ president_of before company
+    → ((seat : Seat) → president_of before company ≡ Some seat → pos 2 ≤ℤ shares_of before company (OfSeat seat)
+    → pos 2 ≤ℤ shares_of after company (OfSeat seat)) → IsLed before company → IsLed after company
+still_led before after company par president two led =
+    record {
+      par = led.par;
+      has_par = par ∙ led.has_par;
+      is_par = led.is_par;
+      president = led.president;
+      has_president = president ∙ led.has_president;
+      holds_two = two led.president led.has_president led.holds_two;
+    }
 
--- and are of seats at the table as before
-pub seated_kept : (seats : ℕ) (events : List Event) (event : Event) → bidding_of event ≡ None
-    → BiddersAreSeated seats events → BiddersAreSeated seats (events ++ event ∷ [])
-seated_kept seats events event none seated =
-    λ private seat amount bid. seated private seat amount (sym (bid_of_before events event private seat none) ∙ bid)
+-- each company that was led is led
+abbrev pub StayLed : List Event → List Event → Type 0
+StayLed before after = (company : Company) → IsLed before company → IsLed after company
 
--- without a new price SV keeps its own
-pub price_kept : (events : List Event) (event : Event) → sv_price_set event ≡ None → IsSvPrice (sv_price_of events)
-    → IsSvPrice (sv_price_of (events ++ event ∷ []))
-price_kept events event none price = subst IsSvPrice (sym (sv_price_of_before events event none)) price
+-- standing bids differ, are small, and are of seats at the table
+abbrev pub BidsStand : Game → Type 0
+BidsStand game = BidsDiffer game.events × BidsAreSmall game.events × BiddersAreSeated game.seats game.events
 
--- without a new price, and without a word on a private, SV stays given away
-pub given_kept : (events : List Event) (event : Event) → sv_price_set event ≡ None → ownership_of event ≡ None
-    → IsGivenAway events → IsGivenAway (events ++ event ∷ [])
-given_kept events event no_price no_owner given =
-    λ zero. is_sold_before events event SchuylkillValley no_owner
-    ∙ given (sym (sv_price_of_before events event no_price) ∙ zero)
-
--- without moving shares they are held as before
-pub held_kept : (events : List Event) (event : Event) → transfer_of event ≡ None → SharesAreHeld events
-    → SharesAreHeld (events ++ event ∷ [])
-held_kept events event none held =
-    λ company place. subst (λ (shares : ℤ). pos 0 ≤ℤ shares) (sym (shares_of_before events event company place none))
-    (held company place)
-
--- the seats hold as many together
+-- without moving shares the seats hold as many together
 held_by_before : (events : List Event) (event : Event) (company : Company) (seats : List Seat)
     → transfer_of event ≡ None → held_by (events ++ event ∷ []) company seats ≡ held_by events company seats
 held_by_before events event company [] none = refl
 held_by_before events event company (seat ∷ others) none =
-    ap (λ one. one +ℤ held_by (events ++ event ∷ []) company others)
-    (shares_of_before events event company (OfSeat seat) none)
-    ∙ ap (λ rest. shares_of events company (OfSeat seat) +ℤ rest) (held_by_before events event company others none)
-
--- and they are ten in all
-pub ten_kept : (game : Game) (event : Event) → transfer_of event ≡ None → AreTenInAll game
-    → AreTenInAll (with_event game event)
-ten_kept game event none ten =
-    λ company. ap (λ offered. (offered +ℤ shares_of (game.events ++ event ∷ []) company BankPool) +ℤ held_by
-    (game.events ++ event ∷ []) company (all_seats game.seats))
-    (shares_of_before game.events event company InitialOffering none)
-    ∙ ap (λ pool. (shares_of game.events company InitialOffering +ℤ pool) +ℤ held_by (game.events ++ event ∷ [])
-    company (all_seats game.seats)) (shares_of_before game.events event company BankPool none)
-    ∙ ap (λ held. (shares_of game.events company InitialOffering +ℤ shares_of game.events company BankPool) +ℤ
-    held) (held_by_before game.events event company (all_seats game.seats) none) ∙ ten company
-
--- without a word on a private as many shares are to stay in an initial offering
-pub least_offered_before : (events : List Event) (event : Event) (company : Company) → ownership_of event ≡ None
-    → least_offered (events ++ event ∷ []) company ≡ least_offered events company
-least_offered_before events event Pennsylvania none =
-    ap (λ sold. if sold then 8 else 9) (is_sold_before events event CamdenAmboy none)
-least_offered_before events event NewYorkCentral none =
-    ap (λ closed. if closed then 8 else 9) (is_closed_before events event MohawkHudson none)
-least_offered_before events event CanadianPacific none = refl
-least_offered_before events event BaltimoreOhio none = refl
-least_offered_before events event ChesapeakeOhio none = refl
-least_offered_before events event Erie none = refl
-least_offered_before events event NewHaven none = refl
-least_offered_before events event BostonMaine none = refl
-
--- without a word on a private, a square or shares, as many are offered
-pub offered_kept : (events : List Event) (event : Event) → ownership_of event ≡ None → square_set event ≡ None
-    → transfer_of event ≡ None → AreOffered events → AreOffered (events ++ event ∷ [])
-offered_kept events event no_owner no_square no_transfer offered =
-    λ company unplaced. subst (λ (least : ℕ). pos least ≤ℤ shares_of (events ++ event ∷ []) company InitialOffering)
-    (sym (least_offered_before events event company no_owner))
-    (subst (λ (shares : ℤ). pos (least_offered events company) ≤ℤ shares)
-    (sym (shares_of_before events event company InitialOffering no_transfer))
-    (offered company (sym (square_of_before events event company no_square) ∙ unplaced)))
-
--- a company is led as before
-pub is_led_kept : (events : List Event) (event : Event) (company : Company) → par_set event ≡ None
-    → office_of event ≡ None → transfer_of event ≡ None → IsLed events company → IsLed (events ++ event ∷ []) company
-is_led_kept events event company no_par no_office no_transfer before =
-    record {
-      par = before.par;
-      has_par = par_of_before events event company no_par ∙ before.has_par;
-      is_par = before.is_par;
-      president = before.president;
-      has_president = president_of_before events event company no_office ∙ before.has_president;
-      holds_two = subst (λ (shares : ℤ). pos 2 ≤ℤ shares)
-          (sym (shares_of_before events event company (OfSeat before.president) no_transfer)) before.holds_two;
-    }
-
--- without a par value, a square, an office or shares, companies with a square are led as before
-pub led_kept : (events : List Event) (event : Event) → par_set event ≡ None → square_set event ≡ None
-    → office_of event ≡ None → transfer_of event ≡ None → AreLed events → AreLed (events ++ event ∷ [])
-led_kept events event no_par no_square no_office no_transfer led =
-    λ company square placed. is_led_kept events event company no_par no_office no_transfer
-    (led company square (sym (square_of_before events event company no_square) ∙ placed))
-
--- without a par value, a float, an office or shares, companies that have floated are led as before
-pub floated_kept : (events : List Event) (event : Event) → par_set event ≡ None → floated_by event ≡ None
-    → office_of event ≡ None → transfer_of event ≡ None → FloatedAreLed events → FloatedAreLed (events ++ event ∷ [])
-floated_kept events event no_par no_float no_office no_transfer led =
-    λ company floated. is_led_kept events event company no_par no_office no_transfer
-    (led company (sym (is_floated_before events event company no_float) ∙ floated))
+    rw (shares_of_before events event company (OfSeat seat) none, held_by_before events event company others none) refl
 
 -- an event that pays within the table leaves payments within it
-pub within_after : (seats : ℕ) (events : List Event) (event : Event) → IsWithin seats (payment_of event)
+within_after : (seats : ℕ) (events : List Event) (event : Event) → IsWithin seats (payment_of event)
     → AreWithin seats events → AreWithin seats (events ++ event ∷ [])
 within_after seats [] event pays within = (pays, tt)
 within_after seats (first ∷ events) event pays within = (within.0, within_after seats events event pays within.1)
 
--- without a payment they are within it as before
-pub within_kept : (seats : ℕ) (events : List Event) (event : Event) → payment_of event ≡ None → AreWithin seats events
-    → AreWithin seats (events ++ event ∷ [])
-within_kept seats events event none within = within_after seats events event (subst (IsWithin seats) (sym none) tt)
-    within
+module _ (game : Game) (event : Event) where
+  abbrev pub after : Game
+  after = with_event game event
 
--- without a tile or a token the map state fits as before
-pub fit_kept : (events : List Event) (event : Event) → tile_laid event ≡ None → token_placed event ≡ None
-    → LiesFit events → LiesFit (events ++ event ∷ [])
-unfolding LiesFit
-fit_kept events event no_tile no_token fit =
-    subst (λ (lays : List Lay). AreFitWithHomes lays (tokens_of (events ++ event ∷ [])))
-    (sym (lays_before events event no_tile)) (subst (AreFitWithHomes (lays_of events))
-    (sym (tokens_before events event no_token)) fit)
+  -- where nothing is said of bids, a seat is solvent that has what it pays free of them
+  seats_after : bidding_of event ≡ None
+      → ((seat : Seat) → pos (paid_by (party_at seat) (payment_of event)) ≤ℤ free_cash_of game.seats game.events seat)
+      → SeatsAreSolvent after
+  seats_after no_bid can seat =
+      let enough = can seat in
+      let cash = cash_of_at_end game.seats game.events event (party_at seat) in
+      omega (arith, ints, cash, bids_of_before game.events event seat no_bid)
+
+  -- a company is solvent that has what it pays
+  pub companies_after :
+      ((company : Company) → pos (paid_by (party_of_company company) (payment_of event)) ≤ℤ cash_of game.seats
+      game.events (party_of_company company)) → CompaniesAreSolvent after
+  companies_after can company =
+      let enough = can company in
+      omega (arith, ints, cash_of_at_end game.seats game.events event (party_of_company company))
+
+  -- where each has what it pays and nothing is said of bids, nobody is left owing
+  pub paying : {Others : Type 0} → bidding_of event ≡ None
+      → ((seat : Seat) → pos (paid_by (party_at seat) (payment_of event)) ≤ℤ free_cash_of game.seats game.events seat)
+      → ((company : Company) → pos (paid_by (party_of_company company) (payment_of event)) ≤ℤ cash_of game.seats
+      game.events (party_of_company company)) → IsWithin game.seats (payment_of event) → Others
+      → SeatsAreSolvent after × (CompaniesAreSolvent after × (IsWithin game.seats (payment_of event) × Others))
+  paying no_bid seats companies within others =
+      (seats_after no_bid seats, (companies_after companies, (within, others)))
+
+  -- without a word on bids they stand as before
+  bids_kept : bidding_of event ≡ None → BidsStand game → BidsStand after
+  bids_kept none bids =
+      let same : (private : Private) (seat : Seat) → bid_of game.events private seat ≡ bid_of after.events private seat =
+      λ private seat. sym (bid_of_before game.events event private seat none) in (
+        λ private a b amount of_a of_b. bids.0 private a b amount (same private a ∙ of_a) (same private b ∙ of_b),
+        λ private seat amount bid. bids.1 private seat amount (same private seat ∙ bid),
+        λ private seat amount bid. bids.2 private seat amount (same private seat ∙ bid),
+      )
+
+  -- without a new price SV keeps its own
+  price_kept : sv_price_set event ≡ None → IsSvPrice (sv_price_of game.events) → IsSvPrice (sv_price_of after.events)
+  price_kept none price = rw (sv_price_of_before game.events event none) price
+
+  -- and stays given away
+  pub given_kept : sv_price_set event ≡ None → IsGivenAway game.events → IsGivenAway after.events
+  given_kept none given zero =
+      stays_sold game.events event SchuylkillValley (given (sym (sv_price_of_before game.events event none) ∙ zero))
+
+  -- without moving shares they are held as before
+  held_kept : transfer_of event ≡ None → SharesAreHeld game.events → SharesAreHeld after.events
+  held_kept none held company place = rw (shares_of_before game.events event company place none) (held company place)
+
+  -- and are ten in all
+  pub ten_kept : transfer_of event ≡ None → AreTenInAll game → AreTenInAll after
+  ten_kept none ten company =
+      rw (
+        shares_of_before game.events event company InitialOffering none,
+        shares_of_before game.events event company BankPool none,
+        held_by_before game.events event company (all_seats game.seats) none,
+      ) (ten company)
+
+  -- a company without a square had none
+  pub unplaced_before : (company : Company) → square_of after.events company ≡ None
+      → square_of game.events company ≡ None
+  unplaced_before company unplaced =
+      none_earlier (square_said company (square_set event)) (square_of game.events company)
+      (sym (last_said_at_end (λ e. square_said company (square_set e)) game.events event) ∙ unplaced)
+
+  -- where MH stays closed no more shares are to stay in an initial offering
+  pub least_after : (is_closed game.events MohawkHudson ≡ true → is_closed after.events MohawkHudson ≡ true)
+      → (company : Company) → least_offered after.events company ≤ least_offered game.events company
+  least_after closed Pennsylvania =
+      fewer (is_sold game.events CamdenAmboy) (is_sold after.events CamdenAmboy)
+      (stays_sold game.events event CamdenAmboy)
+  least_after closed NewYorkCentral =
+      fewer (is_closed game.events MohawkHudson) (is_closed after.events MohawkHudson) closed
+  least_after closed other = omega arith
+
+  -- as it does without a word on a private
+  pub closed_kept : ownership_of event ≡ None → is_closed game.events MohawkHudson ≡ true
+      → is_closed after.events MohawkHudson ≡ true
+  closed_kept none closed = is_closed_before game.events event MohawkHudson none ∙ closed
+
+  -- so as many are offered, if none move
+  pub offered_after : transfer_of event ≡ None
+      → (is_closed game.events MohawkHudson ≡ true → is_closed after.events MohawkHudson ≡ true)
+      → AreOffered game.events → AreOffered after.events
+  offered_after none closed offered company unplaced =
+      let before = offered company (unplaced_before company unplaced) in
+      omega (
+        arith,
+        ints,
+        least_after closed company,
+        shares_of_before game.events event company InitialOffering none,
+      )
+
+  -- without a tile or a token the map state fits as before
+  fit_kept : tile_laid event ≡ None → token_placed event ≡ None → LiesFit game.events → LiesFit after.events
+  unfolding LiesFit
+  fit_kept no_tile no_token fit =
+      rw (lays_before game.events event no_tile, tokens_before game.events event no_token) fit
+
+  -- without a par value, an office or shares companies are led as before
+  is_led_kept : par_set event ≡ None → office_of event ≡ None → transfer_of event ≡ None
+      → StayLed game.events after.events
+  is_led_kept no_par no_office no_transfer company =
+      still_led game.events after.events company (par_of_before game.events event company no_par)
+      (president_of_before game.events event company no_office)
+      (λ seat _ two. rw (shares_of_before game.events event company (OfSeat seat) no_transfer) two)
+
+  -- so is each with a square, where none is set
+  pub led_kept : StayLed game.events after.events → square_set event ≡ None → AreLed game.events
+      → AreLed after.events
+  led_kept stay none led company square placed =
+      stay company (led company square (sym (square_of_before game.events event company none) ∙ placed))
+
+  -- and each that has floated, where none floats
+  pub floated_kept : StayLed game.events after.events → floated_by event ≡ None → FloatedAreLed game.events
+      → FloatedAreLed after.events
+  floated_kept stay none led company floated =
+      stay company (led company (sym (is_floated_before game.events event company none) ∙ floated))
+
+-- sound, except perhaps for SV's gift and for who leads the companies
+pub record IsNearlySound (game : Game) : Type 0 where
+  pub solvent : SeatsAreSolvent game
+  pub companies : CompaniesAreSolvent game
+  pub within : AreWithin game.seats game.events
+  pub bids : BidsStand game
+  pub price : IsSvPrice (sv_price_of game.events)
+  pub trains : TrainsAreHeld game.events
+  pub fit : LiesFit game.events
+  pub held : SharesAreHeld game.events
+  pub ten : AreTenInAll game
+  pub offered : AreOffered game.events
+
+-- a list is sound where SV is given away too, and companies are led
+pub sound_of : (game : Game) → IsNearlySound game → IsGivenAway game.events → AreLed game.events
+    → FloatedAreLed game.events → IsSound game
+sound_of game nearly given led floated =
+    record {
+      solvent = nearly.solvent;
+      companies = nearly.companies;
+      bids_differ = nearly.bids.0;
+      bids_small = nearly.bids.1;
+      seated = nearly.bids.2;
+      price = nearly.price;
+      given = given;
+      held = nearly.held;
+      ten = nearly.ten;
+      offered = nearly.offered;
+      led = led;
+      floated = floated;
+      within = nearly.within;
+      trains = nearly.trains;
+      fit = nearly.fit;
+    }
+
+-- a sound list is nearly
+pub nearly_sound_of : (game : Game) → IsSound game → IsNearlySound game
+nearly_sound_of game sound =
+    record {
+      solvent = sound.solvent;
+      companies = sound.companies;
+      within = sound.within;
+      bids = (sound.bids_differ, sound.bids_small, sound.seated);
+      price = sound.price;
+      trains = sound.trains;
+      fit = sound.fit;
+      held = sound.held;
+      ten = sound.ten;
+      offered = sound.offered;
+    }
+
+-- a fact that has to be shown, unless it is kept, and then others
+abbrev pub Unless : Bool → Type 0 → Type 0 → Type 0
+Unless true Fact Others = Others
+Unless false Fact Others = Fact × Others
+
+-- the fact, shown or kept, and the others
+shown : {Fact Others : Type 0} (kept : Bool) → (kept ≡ true → Fact) → Unless kept Fact Others → Fact × Others
+shown true keep others = (keep refl, others)
+shown false keep both = both
+
+-- a word that is not there
+none : {A : Type 0} (word : Option A) → is_none word ≡ true → word ≡ None
+none None silent = refl
+none (Some word) silent = absurd cc
+
+-- and another
+nones : {A B : Type 0} (word : Option A) (other : Option B) → (is_none word && is_none other) ≡ true
+    → (word ≡ None) × (other ≡ None)
+nones None other silent = (refl, none other silent)
+nones (Some word) other silent = absurd cc
+
+-- what an event has to show to keep a list nearly sound
+abbrev pub Shows : Game → Event → Type 0
+Shows game event =
+    Unless (is_none (payment_of event) && is_none (bidding_of event)) (SeatsAreSolvent (with_event game event))
+    (Unless (is_none (payment_of event)) (CompaniesAreSolvent (with_event game event))
+    (Unless (is_none (payment_of event)) (IsWithin game.seats (payment_of event))
+    (Unless (is_none (bidding_of event)) (BidsStand (with_event game event))
+    (Unless (is_none (sv_price_set event)) (IsSvPrice (sv_price_of (game.events ++ event ∷ [])))
+    (Unless (is_none (train_moved event)) (TrainsAreHeld (game.events ++ event ∷ []))
+    (Unless (is_none (tile_laid event) && is_none (token_placed event)) (LiesFit (game.events ++ event ∷ []))
+    (Unless (is_none (transfer_of event)) (SharesAreHeld (game.events ++ event ∷ []))
+    (Unless (is_none (transfer_of event)) (AreTenInAll (with_event game event))
+    (Unless (is_none (transfer_of event) && is_none (ownership_of event)) (AreOffered (game.events ++ event ∷ []))
+    (Unit {0}))))))))))
+
+-- which is enough
+pub nearly_sound_after : (game : Game) (event : Event) → Shows game event → IsNearlySound game
+    → IsNearlySound (with_event game event)
+nearly_sound_after game event shows before =
+    let solvent = shown _ (λ silent. let words = nones (payment_of event) (bidding_of event) silent in
+    seats_after game event words.1 (rw words.0 before.solvent)) shows in
+    let companies = shown _ (λ silent. companies_after game event (rw (none (payment_of event) silent) before.companies))
+    solvent.1 in
+    let within = shown _ (λ silent. subst (IsWithin game.seats) (sym (none (payment_of event) silent)) tt) companies.1 in
+    let bids = shown _ (λ silent. bids_kept game event (none (bidding_of event) silent) before.bids) within.1 in
+    let price = shown _ (λ silent. price_kept game event (none (sv_price_set event) silent) before.price) bids.1 in
+    let trains = shown _ (λ silent. trains_kept game.events event (none (train_moved event) silent) before.trains)
+    price.1 in
+    let fit = shown _ (λ silent. let words = nones (tile_laid event) (token_placed event) silent in
+    fit_kept game event words.0 words.1 before.fit) trains.1 in
+    let held = shown _ (λ silent. held_kept game event (none (transfer_of event) silent) before.held) fit.1 in
+    let ten = shown _ (λ silent. ten_kept game event (none (transfer_of event) silent) before.ten) held.1 in
+    let offered = shown _ (λ silent. let words = nones (transfer_of event) (ownership_of event) silent in
+    offered_after game event words.0 (closed_kept game event words.1) before.offered) ten.1 in
+    record {
+      solvent = solvent.0;
+      companies = companies.0;
+      within = within_after game.seats game.events event within.0 before.within;
+      bids = bids.0;
+      price = price.0;
+      trains = trains.0;
+      fit = fit.0;
+      held = held.0;
+      ten = ten.0;
+      offered = offered.0;
+    }
+
+-- an event says nothing of what leads a company
+abbrev pub leaves_leaders : Event → Bool
+leaves_leaders event = is_none (par_set event) && (is_none (office_of event) && is_none (transfer_of event))
+
+-- so companies stay led
+pub stay_led : (game : Game) (event : Event) → leaves_leaders event ≡ true
+    → StayLed game.events (with_event game event).events
+stay_led game event silent =
+    let par = both (is_none (par_set event)) _ silent in
+    let words = nones (office_of event) (transfer_of event) par.1 in
+    is_led_kept game event (none (par_set event) par.0) words.0 words.1
+
+-- what an event has to show besides
+abbrev pub ShowsMore : Game → Event → Type 0
+ShowsMore game event =
+    Unless (is_none (sv_price_set event)) (IsGivenAway (game.events ++ event ∷ []))
+    (Unless (leaves_leaders event && is_none (square_set event)) (AreLed (game.events ++ event ∷ []))
+    (Unless (leaves_leaders event && is_none (floated_by event)) (FloatedAreLed (game.events ++ event ∷ []))
+    (Unit {0})))
+
+-- to keep a list sound
+pub sound_after : (game : Game) (event : Event) → Shows game event → ShowsMore game event → IsSound game
+    → IsSound (with_event game event)
+sound_after game event shows more sound =
+    let given = shown _ (λ silent. given_kept game event (none (sv_price_set event) silent) sound.given) more in
+    let led = shown _ (λ silent. let words = both (leaves_leaders event) _ silent in
+    led_kept game event (stay_led game event words.0) (none (square_set event) words.1) sound.led) given.1 in
+    let floated = shown _ (λ silent. let words = both (leaves_leaders event) _ silent in
+    floated_kept game event (stay_led game event words.0) (none (floated_by event) words.1) sound.floated) led.1 in
+    sound_of (with_event game event) (nearly_sound_after game event shows (nearly_sound_of game sound)) given.0 led.0
+    floated.0
 
 -- nothing that was laid fits
 none_fit : LiesFit []
 unfolding LiesFit
 none_fit = nothing_fits
-
--- an event without any of the aspects is quiet
-pub no_word : (event : Event) → payment_of event ≡ None → ownership_of event ≡ None → bidding_of event ≡ None
-    → transfer_of event ≡ None → par_set event ≡ None → square_set event ≡ None → office_of event ≡ None
-    → floated_by event ≡ None → sv_price_set event ≡ None → train_moved event ≡ None → tile_laid event ≡ None
-    → token_placed event ≡ None → IsQuiet event
-no_word event payment ownership bidding transfer par square office float sv_price train tile token =
-    record {
-      payment = payment;
-      ownership = ownership;
-      bidding = bidding;
-      transfer = transfer;
-      par = par;
-      square = square;
-      office = office;
-      float = float;
-      sv_price = sv_price;
-      train = train;
-      tile = tile;
-      token = token;
-    }
 
 -- at first nobody bids
 no_bids : (seat : Seat) → bids_of [] seat ≡ 0
@@ -225,12 +383,7 @@ holds_none company (seat ∷ others) = omega (arith, ints, holds_none company ot
 least_low : (company : Company) → least_offered [] company ≤ 9
 least_low Pennsylvania = omega arith
 least_low NewYorkCentral = omega arith
-least_low CanadianPacific = omega arith
-least_low BaltimoreOhio = omega arith
-least_low ChesapeakeOhio = omega arith
-least_low Erie = omega arith
-least_low NewHaven = omega arith
-least_low BostonMaine = omega arith
+least_low other = omega arith
 
 -- a game in which nothing has happened is sound
 pub start_sound : (seats : ℕ) → IsSound (record { seats = seats; events = [] })

@@ -29,6 +29,7 @@ pub fn cash_moves()
 
 /// States that the bank, the seats at the table and the companies have 12,000 together, as long as
 /// money goes only between them.
+#[tactic(auto, using(crate::proofs::Money::money_stays))]
 pub fn all_money_stays()
     ensures { AllMoneyStays }
 {}
@@ -53,29 +54,34 @@ pub fn quiet_says_the_same()
 {}
 
 /// States that a quiet event keeps a list sound.
+#[tactic(auto, using(crate::proofs::NearlySound::quiet_sound))]
 pub fn quiet_keeps_sound()
     ensures { QuietKeepsSound }
 {}
 
 /// States that a bid that differs from those of other seats on the private keeps a list sound, if
 /// the seat has its sum free of its other bids.
+#[tactic(auto, using(crate::proofs::Acts::bid_sound))]
 pub fn bid_keeps_sound()
     ensures { BidKeepsSound }
 {}
 
 /// States that a sale of an unsold private to a seat at the table keeps a list sound, if the seat
 /// has the price free of its other bids.
+#[tactic(auto, using(crate::proofs::Acts::sale_sound))]
 pub fn sale_keeps_sound()
     ensures { SaleKeepsSound }
 {}
 
 /// States that a revenue to the owner of a private keeps a list sound.
+#[tactic(auto, using(crate::proofs::Acts::revenue_sound))]
 pub fn revenue_keeps_sound()
     ensures { RevenueKeepsSound }
 {}
 
 /// States that a price that SV may have keeps a list sound, and so does 0 with the gift of SV to a
 /// seat at the table.
+#[tactic(auto, using(crate::proofs::Acts::price_sound, crate::proofs::Acts::gift_sound))]
 pub fn price_keeps_sound()
     ensures price { PriceKeepsSound }
     ensures gift { SvIsGivenAway }
@@ -83,6 +89,7 @@ pub fn price_keeps_sound()
 
 /// States that a gift of shares to a seat at the table keeps a list sound, if enough of them are
 /// left. So does the sale of CA with its share of PRR.
+#[tactic(auto, using(crate::proofs::Gifts::given_sound, crate::proofs::Gifts::ca_sound))]
 pub fn gift_keeps_sound()
     ensures gift { GiftKeepsSound }
     ensures ca { CaIsSoldWithItsGift }
@@ -90,6 +97,7 @@ pub fn gift_keeps_sound()
 
 /// States that the start of a company by a seat at the table keeps a list sound, whether its
 /// president's two shares are a gift or bought.
+#[tactic(auto, using(crate::proofs::Starts::started_sound, crate::proofs::Purchases::start_by_purchase_sound))]
 pub fn start_keeps_sound()
     ensures gift { StartKeepsSound }
     ensures purchase { StartByPurchaseKeepsSound }
@@ -103,11 +111,13 @@ pub fn purchase_keeps_sound()
 
 /// States that the exchange of MH for a share of NYC keeps a list sound, if its owner is at the
 /// table and there is such a share.
+#[tactic(auto, using(crate::proofs::Purchases::exchange_sound))]
 pub fn exchange_keeps_sound()
     ensures { ExchangeKeepsSound }
 {}
 
 /// States that a presidency that passes to a seat with no fewer shares keeps a list sound.
+#[tactic(auto, using(crate::proofs::Blocks::succession_sound))]
 pub fn succession_keeps_sound()
     ensures { SuccessionKeepsSound }
 {}
@@ -120,6 +130,7 @@ pub fn block_keeps_sound()
 {}
 
 /// States that a float keeps a list sound, if at most four shares are left in the initial offering.
+#[tactic(auto, using(crate::proofs::Blocks::float_sound))]
 pub fn float_keeps_sound()
     ensures { FloatKeepsSound }
 {}
@@ -130,23 +141,27 @@ pub fn move_keeps_sound()
 {}
 
 /// States that a lay that a company can pay for keeps a list sound, if the map state fits with it.
+#[tactic(auto, using(crate::proofs::Payments::lay_sound))]
 pub fn lay_keeps_sound()
     ensures { LayKeepsSound }
 {}
 
 /// States that a token with which the map state fits keeps a list sound: that of a home, and one
 /// that a company can pay for.
+#[tactic(auto, using(crate::proofs::Payments::home_sound, crate::proofs::Payments::token_sound))]
 pub fn token_keeps_sound()
     ensures home { HomeKeepsSound }
     ensures token { TokenKeepsSound }
 {}
 
 /// States that a company that withholds what it earned keeps a list sound.
+#[tactic(auto, using(crate::proofs::Payments::withholding_sound))]
 pub fn withholding_keeps_sound()
     ensures { WithholdingKeepsSound }
 {}
 
 /// States that a run keeps a list sound, and so does a dividend of the bank to a party of the game.
+#[tactic(auto, using(crate::proofs::TrainActs::run_sound, crate::proofs::TrainActs::dividend_sound))]
 pub fn dividend_keeps_sound()
     ensures run { RunKeepsSound }
     ensures dividend { DividendKeepsSound }
@@ -154,6 +169,7 @@ pub fn dividend_keeps_sound()
 
 /// States that the purchase of a train that is there keeps a list sound, if the company can pay for
 /// it. So does a train of the company that is traded in.
+#[tactic(auto, using(crate::proofs::TrainActs::train_purchase_sound, crate::proofs::TrainActs::trade_sound))]
 pub fn train_purchase_keeps_sound()
     ensures purchase { TrainPurchaseKeepsSound }
     ensures trade { TradeKeepsSound }
@@ -161,6 +177,7 @@ pub fn train_purchase_keeps_sound()
 
 /// States that what a new phase brings keeps a list sound: that it begins, that trains rust, that
 /// privates close, and that companies discard trains.
+#[tactic(auto, using(crate::proofs::TrainActs::phase_sound, crate::proofs::TrainActs::rusting_sound, crate::proofs::TrainActs::closing_sound, crate::proofs::TrainActs::discard_sound))]
 pub fn phase_keeps_sound()
     ensures phase { PhaseKeepsSound }
     ensures rusting { RustingKeepsSound }
@@ -170,12 +187,14 @@ pub fn phase_keeps_sound()
 
 /// States that the purchase of a private from the seat that owns it keeps a list sound, if the
 /// company can pay for it.
+#[tactic(auto, using(crate::proofs::PrivateActs::private_sound))]
 pub fn private_keeps_sound()
     ensures { PrivateKeepsSound }
 {}
 
 /// States that a forced purchase keeps a list sound: that it is due, and that the president is
 /// bankrupt. So does what the president pays of it, if they have the sum free of their bids.
+#[tactic(auto, using(crate::proofs::ForcedActs::forcing_sound, crate::proofs::ForcedActs::aid_sound, crate::proofs::ForcedActs::bankruptcy_sound))]
 pub fn forcing_keeps_sound()
     ensures due { ForcingKeepsSound }
     ensures aid { AidKeepsSound }
@@ -184,6 +203,7 @@ pub fn forcing_keeps_sound()
 
 /// States that a tile that is laid is the last of those laid, and a token that is placed is the
 /// last of those placed.
+#[tactic(auto, using(totals::proofs::InOrder::lays_grow, totals::proofs::InOrder::tokens_grow))]
 pub fn map_state_grows()
     ensures lays { LaysGrow }
     ensures tokens { TokensGrow }
@@ -191,12 +211,14 @@ pub fn map_state_grows()
 
 /// States that a line of a seat's sheet that is ruled is one more in the round, and that a round
 /// begins the count again.
+#[tactic(auto, using(totals::proofs::InOrder::rulings_at_end))]
 pub fn rulings_are_counted()
     ensures { RulingsAreCounted }
 {}
 
 /// States that companies with squares have come there by different events, so that one came
 /// earlier. An event at the end by which a company reaches a square is later than all before it.
+#[tactic(auto, using(crate::proofs::Arrivals::arrivals_differ_law, crate::proofs::Arrivals::arrival_at_end))]
 pub fn arrivals_differ()
     ensures differ { ArrivalsDiffer }
     ensures last { ArrivalIsLast }
@@ -204,6 +226,7 @@ pub fn arrivals_differ()
 
 /// States that in a sound game the private that `GameView::cheapest_unsold` returns is a cheapest
 /// unsold one, at the bank's prices.
+#[tactic(auto, using(crate::proofs::Cheapest::first_is_cheapest_law))]
 pub fn first_is_cheapest()
     ensures { FirstIsCheapest }
 {}

@@ -31,14 +31,6 @@ module _ {A : Type 0} (make : A → Step → A) (position : Position) where
       ∙ ap (λ stop. option_and_then (λ at. travelled make position at made places)
       (option_map (λ n. spot_at place.hex (AtStop n)) stop)) (sym is)
 
-  -- nothing, where the first place has no stop
-  pub not_begun : (places : List Place) (d : Place) (made : A) → 2 ≤ length places → (get_or places 0 d).stop ≡ None
-      → made_along make position made places ≡ None
-  not_begun [] d made least is = absurd (omega arith)
-  not_begun (place ∷ places) d made least is =
-      ap (λ stop. option_and_then (λ at. travelled make position at made places)
-      (option_map (λ n. spot_at place.hex (AtStop n)) stop)) is
-
   -- the place at an index comes next
   next_place : (at : Spot) (made : A) (places : List Place) (i : ℕ) (d : Place) → i < length places
       → travelled make position at made (drop i places)

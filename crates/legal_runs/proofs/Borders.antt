@@ -23,12 +23,10 @@ data Numbered (hex next : Hex) (side : Side) : Type 0 where
 
 numbered : (hex next : Hex) (side : Side) → neighbour_of hex side ≡ Some next → Numbered hex next side
 unfolding border_of
-numbered hex next SouthWest is = near (omega arith) refl
-numbered hex next West is = near (omega arith) refl
-numbered hex next NorthWest is = near (omega arith) refl
 numbered hex next NorthEast is = far (omega arith) (ap (border_beyond 0) is)
 numbered hex next East is = far (omega arith) (ap (border_beyond 1) is)
 numbered hex next SouthEast is = far (omega arith) (ap (border_beyond 2) is)
+numbered hex next other is = near (omega arith) refl
 
 -- a number has a hex and one of three sides
 hex_half : (a b x y : ℕ) → 3 * a + x ≡ 3 * b + y → x < 3 → y < 3 → a ≡ b

@@ -73,11 +73,7 @@ still_apart kind other (run ∷ runs) apart =
 -- the kind at a place
 kind_at : (kind : Kind) → get_or kinds (place_of_kind kind) Two ≡ kind
 kind_at Two = refl
-kind_at Three = refl
-kind_at Four = refl
-kind_at Five = refl
-kind_at Six = refl
-kind_at Diesel = refl
+kind_at other = refl
 
 pub kind_is : (a b : Kind) → same_kind a b ≡ true → a ≡ b
 kind_is a b same =

@@ -103,41 +103,12 @@ beside_is hex other SouthEast is = place_found (row_of hex + 1) (column_of hex +
 side_is : (a b : Side) (row column : ℕ) → 0 < row → row_beside a row ≡ row_beside b row
     → column_beside a column ≡ column_beside b column → a ≡ b
 side_is SouthWest SouthWest row column low r c = refl
-side_is SouthWest West row column low r c = absurd (omega arith)
-side_is SouthWest NorthWest row column low r c = absurd (omega arith)
-side_is SouthWest NorthEast row column low r c = absurd (omega arith)
-side_is SouthWest East row column low r c = absurd (omega arith)
-side_is SouthWest SouthEast row column low r c = absurd (omega arith)
-side_is West SouthWest row column low r c = absurd (omega arith)
 side_is West West row column low r c = refl
-side_is West NorthWest row column low r c = absurd (omega arith)
-side_is West NorthEast row column low r c = absurd (omega arith)
-side_is West East row column low r c = absurd (omega arith)
-side_is West SouthEast row column low r c = absurd (omega arith)
-side_is NorthWest SouthWest row column low r c = absurd (omega arith)
-side_is NorthWest West row column low r c = absurd (omega arith)
 side_is NorthWest NorthWest row column low r c = refl
-side_is NorthWest NorthEast row column low r c = absurd (omega arith)
-side_is NorthWest East row column low r c = absurd (omega arith)
-side_is NorthWest SouthEast row column low r c = absurd (omega arith)
-side_is NorthEast SouthWest row column low r c = absurd (omega arith)
-side_is NorthEast West row column low r c = absurd (omega arith)
-side_is NorthEast NorthWest row column low r c = absurd (omega arith)
 side_is NorthEast NorthEast row column low r c = refl
-side_is NorthEast East row column low r c = absurd (omega arith)
-side_is NorthEast SouthEast row column low r c = absurd (omega arith)
-side_is East SouthWest row column low r c = absurd (omega arith)
-side_is East West row column low r c = absurd (omega arith)
-side_is East NorthWest row column low r c = absurd (omega arith)
-side_is East NorthEast row column low r c = absurd (omega arith)
 side_is East East row column low r c = refl
-side_is East SouthEast row column low r c = absurd (omega arith)
-side_is SouthEast SouthWest row column low r c = absurd (omega arith)
-side_is SouthEast West row column low r c = absurd (omega arith)
-side_is SouthEast NorthWest row column low r c = absurd (omega arith)
-side_is SouthEast NorthEast row column low r c = absurd (omega arith)
-side_is SouthEast East row column low r c = absurd (omega arith)
 side_is SouthEast SouthEast row column low r c = refl
+side_is one another row column low r c = absurd (omega arith)
 
 -- a hex lies at one side of another
 row_low : (hex : Hex) → 0 < row_of hex
