@@ -267,8 +267,7 @@ fn follow<N: Network, D: Decider>(
     ensures used { used.new ≡ used.old }
     ensures seen { seen.new ≡ seen.old }
 {
-    let links = network.links(at.hex);
-    for link in links.as_slice() {
+    for link in tree.links.at(at.hex) {
         if !take(network, tree, *link, at, begun, used, seen, decider) {
             return false;
         }

@@ -304,11 +304,11 @@ follow-loop-link-init g t c = (
       let at = c.args.at in
       let node : Node = node_at tree c.args.begun.now assigned steps in
       let test : Step → Bool = may_take (reached_in tree) node at.end in
-      let items : List Link = c.as_slice-link-items.result.now in
+      let items : List Link = c.at-link-items.result.now in
       let all : List Node = with_steps test node (steps_at position at.hex at.end) in
       subst (λ (l : List Link). LeavesOver g.D.Decider.decides position tree c.args.decider.now all c.args.decider.now
       (with_steps test node (for_each (steps_by at.end) l)))
-      (sym (c.as_slice-link-items.ensures.value ∙ c.links-links.ensures))
+      (sym (c.at-link-items.ensures position at_node.tree_is.links))
       (none_ahead g.D.Decider.decides position tree c.args.decider.now all),
 )
 
@@ -323,9 +323,9 @@ follow-returns-then-not-take-clause-walks g t c = λ assigned steps stops at_nod
     let at = c.args.at in
     let node : Node = node_at tree c.args.begun.now assigned steps in
     let test : Step → Bool = may_take (reached_in tree) node at.end in
-    let items : List Link = c.as_slice-link-items.result.now in
+    let items : List Link = c.at-link-items.result.now in
     let all : List Node = with_steps test node (steps_at position at.hex at.end) in
-    let is : items ≡ links_of position at.hex = c.as_slice-link-items.ensures.value ∙ c.links-links.ensures in
+    let is : items ≡ links_of position at.hex = c.at-link-items.ensures position at_node.tree_is.links in
     let link : Link = get_or items c.loop-link.link-index default_link in
     let among : IsAmong link (links_of position at.hex) =
     subst (λ (l : List Link). IsAmong link l) is (among_at items c.loop-link.link-index default_link c.loop-link-test.true) in
@@ -354,9 +354,9 @@ follow-loop-link-preserved g t c = (
       let at = c.args.at in
       let node : Node = node_at tree c.args.begun.now assigned steps in
       let test : Step → Bool = may_take (reached_in tree) node at.end in
-      let items : List Link = c.as_slice-link-items.result.now in
+      let items : List Link = c.at-link-items.result.now in
       let all : List Node = with_steps test node (steps_at position at.hex at.end) in
-      let is : items ≡ links_of position at.hex = c.as_slice-link-items.ensures.value ∙ c.links-links.ensures in
+      let is : items ≡ links_of position at.hex = c.at-link-items.ensures position at_node.tree_is.links in
       let link : Link = get_or items c.loop-link.link-index default_link in
       let among : IsAmong link (links_of position at.hex) =
       subst (λ (l : List Link). IsAmong link l) is (among_at items c.loop-link.link-index default_link c.loop-link-test.true) in
@@ -377,7 +377,7 @@ follow-returns-clause-walks g t c = λ assigned steps stops at_node continues.
     let at = c.args.at in
     let node : Node = node_at tree c.args.begun.now assigned steps in
     let test : Step → Bool = may_take (reached_in tree) node at.end in
-    let items : List Link = c.as_slice-link-items.result.now in
+    let items : List Link = c.at-link-items.result.now in
     let all : List Node = with_steps test node (steps_at position at.hex at.end) in
     things_over g.D.Decider.decides position tree (steps_by at.end) test node items c.args.decider.now
     c.loop-link.decider all c.loop-link.link-index c.loop-link-test.false
