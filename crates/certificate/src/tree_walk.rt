@@ -102,6 +102,9 @@ fn ask<D: Decider>(tree: &Tree, begun: &Begun, seen: &StopMarks, decider: &mut D
         let amount = capped (bound position (reached_in tree.now) node) in
         D.decides decider.old amount false result decider.new }
 {
+    if decider.splits() {
+        return Decision::Split;
+    }
     let still = tree.may_earn(begun.left, seen) as u64;
     let bound = begun
         .value
