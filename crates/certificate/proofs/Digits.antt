@@ -242,3 +242,18 @@ print_more text more digit bits later most counter whole left some gained is res
       ap (λ (l : List Bool). drop (4 * (most - (counter + 1))) l) rest
           ∙ (sym (drop_split (4 * (most - (counter + 1))) bits) ∙ (ap (λ (n : ℕ). drop n bits) (sym count) ∙ before.1)),
     )
+
+-- the first of the bits in hand, of which there are some, is the first of all
+pub first_in_hand : (count number : ℕ) (rest old : List Bool) → 0 < count → bits_of count number ++ rest ≡ old
+    → get_or (bits_of count number) 0 false ≡ get_or old 0 false
+first_in_hand zero number rest old some is = absurd (omega arith)
+first_in_hand (suc count) number rest old some is = ap (λ (b : List Bool). get_or b 0 false) is
+
+-- the first of the bits after the bytes is the first of all, if none is in hand and there are no bytes
+pub first_behind : (left opened : ℕ) (bytes : List ℕ) (count last : ℕ) (old : List Bool) → left ≡ 0
+    → length bytes ≡ 0 → bits_of left opened ++ (bits_of_bytes bytes ++ bits_of count last) ≡ old
+    → get_or (bits_of count last) 0 false ≡ get_or old 0 false
+first_behind left opened [] count last old none is before =
+    ap (λ (b : List Bool). get_or b 0 false)
+    (ap (λ (n : ℕ). bits_of n opened ++ bits_of count last) (sym none) ∙ before)
+first_behind left opened (byte ∷ bytes) count last old none is before = absurd (omega arith)

@@ -16,4 +16,5 @@ pub mod Walking
 pub mod OnRun
 pub mod Places
 pub mod Going
+pub mod HexLinks
 pub mod Read

@@ -5,6 +5,7 @@ pub mod HoldingLaws
 pub mod Digits
 pub mod Example
 pub mod Ranking
+pub mod HexLinks
 pub mod Walked
 pub mod Walking
 pub mod Read

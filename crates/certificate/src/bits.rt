@@ -1,6 +1,6 @@
-ghost use Rattle.std.specs.Prelude.{◌≡◌, ◌↔◌, ◌*◌, ◌+◌, true, Err, OnOk, OnErr, IfErr, IfOk, IsTrue, MatchOption, []};
+ghost use Rattle.std.specs.Prelude.{◌≡◌, ◌↔◌, ◌*◌, ◌+◌, ◌≤◌, true, Err, OnOk, OnErr, IfErr, IfOk, IsTrue, MatchOption, []};
 ghost use Rattle.std.specs.Prelude.{◌∷◌, ◌++◌, take, drop, get_or, false};
-ghost use Rattle.certificate.specs.Digits.{bits_of_digits, digits_of, has_other};
+ghost use Rattle.certificate.specs.Digits.{bits_of, bits_of_digits, digits_of, has_other};
 ghost use Rattle.certificate.specs.declared.hex.HexFault.TheVariants.{Digit};
 
 use crate::hex::{HexFault, bit_number, bits_of_digit, digit_of, has_other};
@@ -109,6 +109,14 @@ impl Bits {
     }
 }
 
+/// Returns the first of this many bits, the lowest ones of a byte; false if there are none.
+fn first_bit(count: u8, byte: u8) -> bool
+    requires { count ≤ 8 }
+    ensures { result ≡ get_or (bits_of count byte) 0 false }
+{
+    count > 0 && (byte >> (count - 1)) % 2 == 1
+}
+
 /// Reads bits one after the other. In a contract it is the list of the bits that are left.
 #[derive(Drop)]
 pub struct BitReader<'a> {
@@ -157,6 +165,19 @@ impl<'a> BitReader<'a> {
         }
         self.left -= 1;
         Some((self.open >> self.left) % 2 == 1)
+    }
+
+    /// Returns whether the next bit is 1; false if none is left.
+    pub(crate) fn is_one(&self) -> bool
+        ensures { result ≡ get_or self.now 0 false }
+    {
+        if self.left > 0 {
+            return first_bit(self.left, self.open);
+        }
+        match self.bytes.split_first() {
+            Some((first, _)) => first_bit(8, *first),
+            None => first_bit(self.count, self.last),
+        }
     }
 
     /// Returns whether no bit is left.

@@ -1,6 +1,7 @@
 //! What decides at the nodes of the choice tree.
-ghost use Rattle.std.specs.Prelude.{ℕ, Bool};
+ghost use Rattle.std.specs.Prelude.{◌≡◌, ℕ, Bool, true, false};
 ghost use Rattle.certificate.specs.declared.decider.Decision.{Decision};
+ghost use Rattle.certificate.specs.declared.decider.Decision.TheVariants.{Split};
 
 /// What is decided at a node of the choice tree.
 #[derive(Clone, Copy, Debug, PartialEq, Eq)]
@@ -23,4 +24,11 @@ pub(crate) trait Decider {
     /// greater than any amount is the greatest amount.
     fn decide(&mut self, bound: u64, is_leaf: bool) -> Decision
         ensures { decides self.old bound is_leaf result self.new };
+
+    /// Returns whether it splits a node that is no leaf, whatever the node's bound. Otherwise
+    /// nothing is decided yet.
+    fn splits(&mut self) -> bool
+        ensures split { result ≡ true → (bound : ℕ) →
+            decides self.old bound false Split self.new }
+        ensures open { result ≡ false → self.new ≡ self.old };
 }

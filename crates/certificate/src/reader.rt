@@ -1,5 +1,5 @@
 //! A decider that reads marks.
-ghost use Rattle.std.specs.Prelude.{◌≡◌, Bool, List, MatchOption, [], ◌∷◌, drop};
+ghost use Rattle.std.specs.Prelude.{◌≡◌, Bool, List, MatchOption, [], ◌∷◌, drop, get_or, false};
 ghost use Rattle.certificate.specs.Read.{IsRead};
 
 use crate::bits::BitReader;
@@ -15,6 +15,10 @@ pub(crate) trait Marks {
     fn next_mark(&mut self) -> Option<bool>
         ensures { MatchOption result ((left self.old ≡ []) × (left self.new ≡ []))
             (λ mark. left self.old ≡ mark ∷ left self.new) };
+
+    /// Returns whether the next mark is 1; false if none is left.
+    fn is_one(&self) -> bool
+        ensures { result ≡ get_or (left self.now) 0 false };
 }
 
 impl Marks for BitReader<'_> {
@@ -22,6 +26,10 @@ impl Marks for BitReader<'_> {
 
     fn next_mark(&mut self) -> Option<bool> {
         self.read()
+    }
+
+    fn is_one(&self) -> bool {
+        BitReader::is_one(self)
     }
 }
 
@@ -38,6 +46,13 @@ impl Marks for SliceMarks<'_> {
         let (first, later) = self.marks.split_first()?;
         self.marks = later;
         Some(*first)
+    }
+
+    fn is_one(&self) -> bool {
+        match self.marks.first() {
+            Some(first) => *first,
+            None => false,
+        }
     }
 }
 
@@ -72,5 +87,13 @@ impl<M: Marks + Drop> Decider for Reader<M> {
                 }
             }
         }
+    }
+
+    fn splits(&mut self) -> bool {
+        if !self.marks.is_one() {
+            return false;
+        }
+        let _one = self.marks.next_mark();
+        true
     }
 }

@@ -1,5 +1,5 @@
-//! What stays the same in a walk over a choice tree: the company, what it reaches, and its trains
-//! in their order, D, 6 and so on to 2.
+//! What stays the same in a walk over a choice tree: the company, what it reaches, the links of the
+//! hexes, and its trains in their order, D, 6 and so on to 2.
 ghost use Rattle.std.specs.Prelude.{◌≡◌, List, Option, [], count_by, length};
 ghost use Rattle.map_tables.specs.declared.place.Stop.{Stop};
 ghost use Rattle.reach.specs.Position.{Position};
@@ -11,6 +11,7 @@ ghost use Rattle.certificate.specs.Tree.{greatest_first, may_earn, new_values};
 ghost use Rattle.certificate.specs.Walked.{capped};
 ghost use Rattle.certificate.specs.Walking.{AreVisited, IsTree, earned_from, kind_from, reached_in, trains_of_tree};
 
+use crate::hex_links::HexLinks;
 use crate::ranking::Ranking;
 use map_tables::Stop;
 use reach::{Network, ReachedStops, StopMarks, reached_stops};
@@ -34,6 +35,7 @@ pub(crate) struct Tree {
     pub(crate) company: Company,
     pub(crate) reached: ReachedStops,
     pub(crate) ranking: Ranking,
+    pub(crate) links: HexLinks,
     pub(crate) groups: [Group; KINDS],
     /// How many trains there are.
     pub(crate) count: usize,
@@ -62,6 +64,7 @@ impl Tree {
             company,
             reached,
             ranking,
+            links: HexLinks::of(network),
             groups,
             count: number_of(trains),
         }

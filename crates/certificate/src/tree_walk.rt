@@ -1,11 +1,12 @@
 //! The walk over the choice tree of a company's trains. It is at a node, and changes its marks in
 //! place: it marks a border or a stop, goes on, and removes the mark again.
 ghost use Rattle.std.specs.Prelude.{◌≡◌, ◌+◌, ◌-◌, ◌*◌, ◌<◌, ◌≤◌, ◌∷◌, [], ◌++◌, ◌||◌, ◌==◌, List, Bool, Option, None};
-ghost use Rattle.std.specs.Prelude.{Some, false, length, drop, option_map, not, nat_lt};
+ghost use Rattle.std.specs.Prelude.{Some, false, get_or, length, drop, option_map, not, nat_lt};
 ghost use Rattle.std.specs.List.{list_any};
 ghost use Rattle.map_tables.specs.Place.{joined_stop_of};
 ghost use Rattle.map_tables.specs.declared.place.Stop.{Stop};
 ghost use Rattle.reach.specs.Position.{IsAmong, Position, is_red, links_of, value_of};
+ghost use Rattle.reach.specs.Reached.{stop_order};
 ghost use Rattle.reach.specs.Walk.{across, entered_at, left_at, stop_of};
 ghost use Rattle.reach.specs.declared.walk.Step.{Step};
 ghost use Rattle.legal_runs.specs.Fault.{has_token, is_full};
@@ -102,6 +103,9 @@ fn ask<D: Decider>(tree: &Tree, begun: &Begun, seen: &StopMarks, decider: &mut D
         let amount = capped (bound position (reached_in tree.now) node) in
         D.decides decider.old amount false result decider.new }
 {
+    if decider.splits() {
+        return Decision::Split;
+    }
     let still = tree.may_earn(begun.left, seen) as u64;
     let bound = begun
         .value
@@ -267,8 +271,7 @@ fn follow<N: Network, D: Decider>(
     ensures used { used.new ≡ used.old }
     ensures seen { seen.new ≡ seen.old }
 {
-    let links = network.links(at.hex);
-    for link in links.as_slice() {
+    for link in tree.links.at(at.hex) {
         if !take(network, tree, *link, at, begun, used, seen, decider) {
             return false;
         }
@@ -317,6 +320,31 @@ fn take<N: Network, D: Decider>(
     if seen.has(stop) {
         return true;
     }
+    arrive(network, tree, stop, begun, used, seen, decider)
+}
+
+/// Walks over the node at which the run has gone on to a stop, which it has not visited.
+#[cycle(walk)]
+fn arrive<N: Network, D: Decider>(
+    network: &N,
+    tree: &Tree,
+    stop: Stop,
+    begun: &Begun,
+    used: &mut Used,
+    seen: &mut StopMarks,
+    decider: &mut D,
+) -> bool
+    ensures walks { (assigned : List TrainRun) (steps : List Step) (stops : List Stop) →
+        (step : Step) →
+        IsOnRun (N.position network.now) tree.now begun.now used.old seen.old assigned steps stops →
+        Continues steps stops step → stop_of (left_at step) ≡ Some stop →
+        let node = node_at tree.now begun.now assigned steps in
+        let nodes = with_step node step ∷ [] in
+        WalksOver D.decides (N.position network.now) tree.now
+        decider.old nodes result decider.new }
+    ensures used { used.new ≡ used.old }
+    ensures seen { get_or seen.old (stop_order stop) false ≡ false → seen.new ≡ seen.old }
+{
     let here = begun.visiting(network, tree.company, stop);
     seen.mark(stop);
     let whole = at_stop(network, tree, stop, &here, used, seen, decider);

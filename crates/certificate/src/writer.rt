@@ -33,4 +33,8 @@ impl Decider for Writer {
             Decision::Cut
         }
     }
+
+    fn splits(&mut self) -> bool {
+        false
+    }
 }

@@ -304,11 +304,11 @@ follow-loop-link-init g t c = (
       let at = c.args.at in
       let node : Node = node_at tree c.args.begun.now assigned steps in
       let test : Step → Bool = may_take (reached_in tree) node at.end in
-      let items : List Link = c.as_slice-link-items.result.now in
+      let items : List Link = c.at-link-items.result.now in
       let all : List Node = with_steps test node (steps_at position at.hex at.end) in
       subst (λ (l : List Link). LeavesOver g.D.Decider.decides position tree c.args.decider.now all c.args.decider.now
       (with_steps test node (for_each (steps_by at.end) l)))
-      (sym (c.as_slice-link-items.ensures.value ∙ c.links-links.ensures))
+      (sym (c.at-link-items.ensures position at_node.tree_is.links))
       (none_ahead g.D.Decider.decides position tree c.args.decider.now all),
 )
 
@@ -323,9 +323,9 @@ follow-returns-then-not-take-clause-walks g t c = λ assigned steps stops at_nod
     let at = c.args.at in
     let node : Node = node_at tree c.args.begun.now assigned steps in
     let test : Step → Bool = may_take (reached_in tree) node at.end in
-    let items : List Link = c.as_slice-link-items.result.now in
+    let items : List Link = c.at-link-items.result.now in
     let all : List Node = with_steps test node (steps_at position at.hex at.end) in
-    let is : items ≡ links_of position at.hex = c.as_slice-link-items.ensures.value ∙ c.links-links.ensures in
+    let is : items ≡ links_of position at.hex = c.at-link-items.ensures position at_node.tree_is.links in
     let link : Link = get_or items c.loop-link.link-index default_link in
     let among : IsAmong link (links_of position at.hex) =
     subst (λ (l : List Link). IsAmong link l) is (among_at items c.loop-link.link-index default_link c.loop-link-test.true) in
@@ -354,9 +354,9 @@ follow-loop-link-preserved g t c = (
       let at = c.args.at in
       let node : Node = node_at tree c.args.begun.now assigned steps in
       let test : Step → Bool = may_take (reached_in tree) node at.end in
-      let items : List Link = c.as_slice-link-items.result.now in
+      let items : List Link = c.at-link-items.result.now in
       let all : List Node = with_steps test node (steps_at position at.hex at.end) in
-      let is : items ≡ links_of position at.hex = c.as_slice-link-items.ensures.value ∙ c.links-links.ensures in
+      let is : items ≡ links_of position at.hex = c.at-link-items.ensures position at_node.tree_is.links in
       let link : Link = get_or items c.loop-link.link-index default_link in
       let among : IsAmong link (links_of position at.hex) =
       subst (λ (l : List Link). IsAmong link l) is (among_at items c.loop-link.link-index default_link c.loop-link-test.true) in
@@ -377,7 +377,7 @@ follow-returns-clause-walks g t c = λ assigned steps stops at_node continues.
     let at = c.args.at in
     let node : Node = node_at tree c.args.begun.now assigned steps in
     let test : Step → Bool = may_take (reached_in tree) node at.end in
-    let items : List Link = c.as_slice-link-items.result.now in
+    let items : List Link = c.at-link-items.result.now in
     let all : List Node = with_steps test node (steps_at position at.hex at.end) in
     things_over g.D.Decider.decides position tree (steps_by at.end) test node items c.args.decider.now
     c.loop-link.decider all c.loop-link.link-index c.loop-link-test.false
@@ -492,8 +492,8 @@ take-returns-then-has-clause-walks g t c = λ assigned steps stops at_node among
     (sym one ∙ ap (λ (b : Bool). node_if b made) (tests
     ∙ seen_false (has_stop stop (reached_in tree)) (has_stop stop (visited steps)) (seen ∙ c.if-has.true)))
 
-pub take-at_stop-whole-requires : goal.take-at_stop-whole-requires
-take-at_stop-whole-requires g t c = λ lifetimes within. (omega (arith, ap end_rank c.in-Side.is), (search rules, search rules))
+pub take-arrive-requires : goal.take-arrive-requires
+take-arrive-requires g t c = λ lifetimes within. (omega (arith, ap end_rank c.in-Side.is), (search rules, search rules))
 
 pub take-returns-clause-walks : goal.take-returns-clause-walks
 take-returns-clause-walks g t c = λ assigned steps stops at_node among continues.
@@ -518,13 +518,29 @@ take-returns-clause-walks g t c = λ assigned steps stops at_node among continue
     takes_stop (reached_in tree) node at.end side step stop c.in-Side.is left in
     let seen : has_stop stop (visited steps) ≡ c.has.result =
     ap (has_stop stop) ((continues step enters).same side from) ∙ (sym (at_node.seen.1 stop) ∙ sym c.has.ensures) in
-    let here = c.visiting-here.result in
-    let begun = c.args.begun.now in
     let passes : test step ≡ true = tests ∙ and_true (has_stop stop (reached_in tree)) (has_stop stop (visited steps))
     (sym reaches ∙ c.if-not-reaches.false) (seen ∙ c.if-has.false) in
+    let walk = c.arrive.ensures.walks assigned steps stops step at_node (continues step enters) left in
+    subst (λ (l : List Node). WalksOver g.D.Decider.decides position tree c.args.decider.now l c.arrive.result
+    c.arrive.new.decider) (ap (λ (b : Bool). node_if b made) (sym passes) ∙ one) walk
+
+pub take-returns-clause-seen : goal.take-returns-clause-seen
+take-returns-clause-seen g t c = c.arrive.ensures.seen (sym c.has.ensures ∙ c.if-has.false)
+
+pub arrive-at_stop-whole-requires : goal.arrive-at_stop-whole-requires
+arrive-at_stop-whole-requires g t c = λ lifetimes within. (omega arith, (search rules, search rules))
+
+pub arrive-returns-clause-walks : goal.arrive-returns-clause-walks
+arrive-returns-clause-walks g t c = λ assigned steps stops step at_node continues left.
+    let position = g.N.Network.position c.args.network.now in
+    let tree = c.args.tree.now in
+    let stop = c.args.stop in
+    let here = c.visiting-here.result in
+    let begun = c.args.begun.now in
+    let made : Node = with_step (node_at tree begun assigned steps) step in
     let low : stop_order stop < length c.args.seen.now = omega (arith, order_low stop, at_node.seen.0) in
     let there = on_run_at_stop position tree begun c.args.used.now c.args.seen.now assigned steps stops at_node step
-    stop here (continues step enters) left low
+    stop here continues left low
     c.visiting-here.ensures.train c.visiting-here.ensures.next c.visiting-here.ensures.later c.visiting-here.ensures.value
     c.visiting-here.ensures.left c.visiting-here.ensures.own in
     let marked : IsOnRun position tree here c.args.used.now c.mark.new.self assigned (step ∷ steps)
@@ -532,17 +548,17 @@ take-returns-clause-walks g t c = λ assigned steps stops at_node among continue
     same_state position tree here c.args.used.now (set c.args.seen.now (stop_order stop) true) c.args.used.now
     c.mark.new.self assigned (step ∷ steps) (visited (step ∷ steps)) refl c.mark.ensures there in
     let two = two_stops position tree begun c.args.used.now c.args.seen.now assigned steps stops at_node step stop
-    (continues step enters) left in
+    continues left in
     let walk = c.at_stop-whole.ensures.walks assigned steps step marked two left in
     let same : node_at tree here assigned (step ∷ steps) ≡ made =
     same_node tree here begun assigned (step ∷ steps) c.visiting-here.ensures.train c.visiting-here.ensures.next in
     subst (λ (l : List Node). WalksOver g.D.Decider.decides position tree c.args.decider.now l c.at_stop-whole.result
-    c.at_stop-whole.new.decider) (ap (λ (n : Node). n ∷ []) same ∙ (ap (λ (b : Bool). node_if b made) (sym passes) ∙ one)) walk
+    c.at_stop-whole.new.decider) (ap (λ (n : Node). n ∷ []) same) walk
 
-pub take-returns-clause-seen : goal.take-returns-clause-seen
-take-returns-clause-seen g t c = let stop : Stop = c.in-Some-stop.stop in
+pub arrive-returns-clause-seen : goal.arrive-returns-clause-seen
+arrive-returns-clause-seen g t c = λ unseen. let stop : Stop = c.args.stop in
     c.unmark.ensures ∙ (ap (λ (m : List Bool). set m (stop_order stop) false) (c.at_stop-whole.ensures.seen ∙ c.mark.ensures)
-    ∙ mark_undone c.args.seen.now (stop_order stop) (sym c.has.ensures ∙ c.if-has.false))
+    ∙ mark_undone c.args.seen.now (stop_order stop) unseen)
 
 pub cross-border_to-number-requires : goal.cross-border_to-number-requires
 cross-border_to-number-requires g t c =

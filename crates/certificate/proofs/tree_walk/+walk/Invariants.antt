@@ -27,6 +27,9 @@ decreases-follow g l = 100 * count_by not l.used.now + end_rank l.at.end + 14
 abbrev pub decreases-take : goal.decreases-take
 decreases-take g l = 100 * count_by not l.used.now + end_rank l.at.end + 13
 
+abbrev pub decreases-arrive : goal.decreases-arrive
+decreases-arrive g l = 100 * count_by not l.used.now + 21
+
 abbrev pub decreases-cross : goal.decreases-cross
 decreases-cross g l = 100 * count_by not l.used.now + 12
 

@@ -27,5 +27,7 @@ returns g c = λ position crossed assigned steps at_node.
     ∙ bound_is begun.value c.may_earn-still.result begun.later (revenue_of position assigned) (worth position stops)
     amount (may_all_earn position (reached_in tree) (drop begun.next (trains_of_tree tree))) at_node.value still
     at_node.later) in
-    subst (λ (n : ℕ). g.D.Decider.decides c.args.decider.now n false c.decide.result c.decide.new.self) is
-    c.decide.ensures
+    subst (λ s. g.D.Decider.decides s (capped (bound position (reached_in tree) (node_at tree begun assigned steps)))
+    false c.decide.result c.decide.new.self) (c.splits.ensures.«open» c.if-splits.false)
+    (subst (λ (n : ℕ). g.D.Decider.decides c.splits.new.self n false c.decide.result c.decide.new.self) is
+    c.decide.ensures)

@@ -61,6 +61,7 @@ returns-clause-tree g c =
       count = c.number_of.ensures ∙ sym size;
       fits = omega (arith, size, c.number_of.ensures, c.number_of.type_inv);
       ranking = ranked;
+      links = c.of.ensures;
     }
 
 pub returns-clause-trains : goal.returns-clause-trains

@@ -1,0 +1,34 @@
+-- A table of the links of all hexes, filled hex by hex.
+use Rattle.std.proofs.Common.{◌≡◌, ℕ, ◌+◌, ◌<◌, List, [], ◌∷◌, ◌++◌, length, get_or, map, take, refl, ap, sym, ◌∙◌, arith}
+use Rattle.std.proofs.lemmas.List.{get_or-map, map-append, take_more}
+use Rattle.map_tables.specs.Hex.{hexes, index_of}
+use Rattle.map_tables.specs.declared.hex.Hex.{Hex}
+use Rattle.map_tables.specs.declared.hex.Hex.TheVariants.{A9}
+use Rattle.map_tables.specs.declared.track.Link.{Link}
+use Rattle.reach.specs.Position.{Position, links_of}
+use Rattle.reach.proofs.Hexes.{index_low}
+use Rattle.map_tables.proofs.HexTables.{hex_at_index}
+
+pub hexes_are_93 : length hexes ≡ 93
+unfolding hexes
+hexes_are_93 = refl
+
+-- one more entry is that of one more key
+pub more_entries : {X Y Z : Type 0} (f : X → Z) (g : Y → Z) (xs : List X) (x : X) (ys : List Y) (n : ℕ) (d : Y)
+    → n < length ys → map f xs ≡ map g (take n ys) → f x ≡ g (get_or ys n d)
+    → map f (xs ++ x ∷ []) ≡ map g (take (n + 1) ys)
+more_entries f g xs x ys n d below before is =
+    map-append f xs (x ∷ [])
+    ∙ (ap (λ l. l ++ f x ∷ []) before ∙ (ap (λ y. map g (take n ys) ++ y ∷ []) is
+    ∙ (sym (map-append g (take n ys) (get_or ys n d ∷ [])) ∙ ap (map g) (sym (take_more ys n d below)))))
+
+-- the entry of a hex has its links
+pub entry_of : {X : Type 0} (f : X → List Link) (table : List X) (position : Position) (hex : Hex) (d : X)
+    → map f table ≡ map (links_of position) hexes → length table ≡ 93
+    → f (get_or table (index_of hex) d) ≡ links_of position hex
+entry_of f table position hex d are whole =
+    let low : index_of hex < length table = omega (arith, index_low hex, whole) in
+    let here : index_of hex < length hexes = omega (arith, index_low hex, hexes_are_93) in
+    sym (get_or-map f table (index_of hex) d [] low)
+    ∙ (ap (λ (l : List (List Link)). get_or l (index_of hex) []) are
+    ∙ (get_or-map (links_of position) hexes (index_of hex) A9 [] here ∙ ap (links_of position) (hex_at_index hex)))
