@@ -27,3 +27,4 @@ pub mod Along
 pub mod Likened
 pub mod Homes
 pub mod Lasting
+pub mod Sooner

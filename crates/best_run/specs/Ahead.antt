@@ -188,3 +188,7 @@ IsLeast worth left on back least = (place : ℕ) × (place < worth.levels) × (a
 -- all ways on from a run earn at most this much
 abbrev pub EndsAtMost : Task → Assigned → PartialRun → ℕ → Type 0
 EndsAtMost task assigned run most = LeadsToAtMost task (partial assigned run) most
+
+-- a run may go on from where it is, and all ways on from it earn at most this much
+abbrev pub IsInVain : Task → Assigned → PartialRun → ℕ → Type 0
+IsInVain task assigned run most = (ends_in (node_at task run.head) ≡ false) × EndsAtMost task assigned run most

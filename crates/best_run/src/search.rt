@@ -1,4 +1,5 @@
 ghost use Rattle.std.specs.Prelude.{◌≡◌, ◌+◌, ◌<◌, ◌≤◌, true, false, IsTrue, length};
+ghost use Rattle.best_run.specs.Ahead.{IsInVain};
 ghost use Rattle.best_run.specs.Extend.{MayExtend};
 ghost use Rattle.best_run.specs.Room.{HasRoom};
 ghost use Rattle.search_task.specs.Fit.{IsFit, SegmentFits};
@@ -147,6 +148,32 @@ fn begin_runs(task: &Task, assigned: &Assigned, bounds: &[Amount], best: &mut Fo
     }
 }
 
+/// Returns whether a run of the last train that has begun at a token can earn no more than what has
+/// been found. It may be false even if that holds, and is false for an earlier train.
+fn is_in_vain(
+    task: &Task,
+    assigned: &Assigned,
+    run: &PartialRun,
+    bounds: &[Amount],
+    best: Amount,
+) -> bool
+    requires fit { IsFit task.now }
+    requires ready { AreReady task.now }
+    requires bounds { AreBounds task.now bounds.now }
+    requires next { assigned.now.next < length task.now.trains.items }
+    requires head { run.now.head < 744 }
+    requires at_stop { stop_in (node_at task.now run.now.head) ≡ true }
+    requires home { run.now.home < 744 }
+    requires begun { stop_in (node_at task.now run.now.home) ≡ true }
+    requires room { assigned.now.total + run.now.value ≤ 44720 }
+    ensures { IsTrue result → IsInVain task.now assigned.now run.now best }
+{
+    if assigned.next + 1 != task.trains.len() || task.spots[run.head].ends {
+        return false;
+    }
+    stops_ahead(task, assigned, run, bounds, best).is_none()
+}
+
 /// Tries all runs of the next train that begin at a token of the company. The tokens before that
 /// one are given.
 #[cycle(explore)]
@@ -172,6 +199,9 @@ fn begin_at(
     assigned.marks_all_borders();
     let from = &task.departures[stop];
     let begun = begun(task, assigned, stop, 0, before);
+    if is_in_vain(task, assigned, &begun, bounds, best.amount) {
+        return;
+    }
     for index in 0..from.legs.len() {
         let leg = &from.legs[index];
         let run = begun.by(leg.first);

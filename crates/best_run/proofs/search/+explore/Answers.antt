@@ -8,6 +8,7 @@ use Rattle.best_run.specs.declared.state.Assigned.{Assigned}
 use Rattle.best_run.specs.declared.state.PartialRun.{PartialRun}
 use Rattle.search_task.specs.declared.task.Task.{Task}
 use Rattle.best_run.specs.declared.move_path.Mark.TheVariants.{Pass, Turn, Finish}
+use Rattle.best_run.specs.Ahead.{IsInVain}
 use Rattle.best_run.specs.MovePath.{go_along}
 use Rattle.best_run.specs.Moves.{Explores, Takes, begun, begun_by, between, can_take, passed, with_run_finished}
 use Rattle.best_run.specs.Moves.{partial, turned_back}
@@ -25,6 +26,7 @@ use Rattle.best_run.proofs.Homes.{TriesHomes, home_before, home_first, home_last
 use Rattle.best_run.proofs.Kept.{explores_dominated, explores_kept}
 use Rattle.best_run.proofs.Places.{less_by, one_at_side, one_low, one_of, room_by, take_free}
 use Rattle.search_task.proofs.Places.{node_is, value_low}
+use Rattle.best_run.proofs.Sooner.{begin_in_vain}
 use Rattle.best_run.proofs.Traced.{explores_bounded, explores_from, takes_from, traces_both}
 use Rattle.best_run.proofs.Tried.{begin_none, explores_between, explores_on, explores_partial, leads_pass, leads_finish}
 use Rattle.best_run.proofs.Tried.{over_better, over_no_better, tries_on}
@@ -65,6 +67,29 @@ begin_at-loop-index-preserved t c =
     (subst (λ (r : PartialRun). Takes task assigned r leg.segment c.loop-index.best c.take.new.best)
     (c.by-run.ensures ∙ ap (λ (r : PartialRun). begun_by r leg.first) c.begun-begun.ensures) c.take.ensures)
     c.trace_steps.ensures)
+
+pub begin_at-is_in_vain-requires : goal.begin_at-is_in_vain-requires
+begin_at-is_in_vain-requires t c =
+    let value = value_low c.args.task.now c.requires.fit c.args.stop in
+    rw c.begun-begun.ensures (
+    record {
+      fit = c.requires.fit;
+      ready = c.requires.ready;
+      bounds = c.requires.bounds;
+      next = c.requires.next;
+      head = c.requires.stop;
+      at_stop = c.requires.begins;
+      home = c.requires.stop;
+      begun = c.requires.begins;
+      room = omega (arith, value);
+    }
+    )
+
+pub begin_at-returns-then-is_in_vain : goal.begin_at-returns-then-is_in_vain
+begin_at-returns-then-is_in_vain t c =
+    begin_in_vain c.args.task.now c.args.assigned.now c.args.stop c.args.best.now
+    (subst (λ (r : PartialRun). IsInVain c.args.task.now c.args.assigned.now r c.args.best.now.amount)
+    c.begun-begun.ensures (c.is_in_vain.ensures c.if-is_in_vain.true))
 
 pub begin_at-returns : goal.begin_at-returns
 begin_at-returns t c =
