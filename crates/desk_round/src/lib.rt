@@ -3,12 +3,15 @@
 //! an order file, and returns text. No call reads or writes a stream.
 //!
 //! Reading order: `played`, `round_part` (`round`), `told` (the game of a file), `sheet_line` (the lines of
-//! the sheets), `why` (the rule that a line broke), `figures` (the figures that it compared),
-//! `sought` (the cause), `track` and `ways` (where track breaks or leads), `ran` (`runs`), `groups`
+//! the sheets), `why` (the rule that a line broke), `figures` (the figures that it compared), `done`
+//! (how far a company's turn had come), `cause` (which cause of several it was), `sought` (all that
+//! is known of the case), `track` and `ways` (where track breaks or leads), `ran` (`runs`), `groups`
 //! (whose turn an event belongs to), `wrapped`, `bulletin_text` (`bulletin`).
 #![tactic(auto)]
 
 mod bulletin_text;
+mod cause;
+mod done;
 mod figures;
 mod groups;
 mod played;

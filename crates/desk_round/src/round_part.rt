@@ -126,7 +126,7 @@ fn push_with_rules(
                 view: &view,
                 round,
                 seat: *seat,
-                company: None,
+                place: None,
             };
             push_why(alloc, out, ruled, *line, ruling)?;
         }
