@@ -2,6 +2,7 @@
 -- itself looks at, in the order in which it looks.
 use Rattle.std.specs.Prelude.{ℕ, ◌==◌, List, Option, Some, None, if◌then◌else◌}
 use Rattle.certs.specs.Sale.{none_is_left}
+use Rattle.certs.specs.declared.deal.Sale.{Sale}
 use Rattle.desk_base.specs.declared.cause.Cause.{Cause}
 use Rattle.desk_base.specs.declared.cause.Cause.TheVariants as cause
 use Rattle.desk_round.specs.Done.{last_done}
@@ -22,9 +23,7 @@ use Rattle.order_grammar.specs.declared.order.Order.{Order}
 use Rattle.order_grammar.specs.declared.order.Order.TheVariants as order
 use Rattle.order_grammar.specs.declared.order.TrainSource.TheVariants as source
 use Rattle.purchases.specs.Discard.{has_train}
-use Rattle.purchases.specs.Train.{has_trains}
-pub use Rattle.purchases.specs.Train.{may_be_traded}
-use Rattle.tables.specs.Train.{same_kind}
+use Rattle.purchases.specs.Train.{has_trains, may_be_traded}
 use Rattle.tables.specs.declared.rolling_stock.Kind.{Kind}
 use Rattle.tables.specs.declared.rolling_stock.Kind.TheVariants.{Diesel}
 use Rattle.tables.specs.declared.roster.Company.{Company}
@@ -32,11 +31,15 @@ use Rattle.tables.specs.declared.round.Round.{Round}
 use Rattle.tables.specs.declared.round.Round.TheVariants as round
 use Rattle.tables.specs.declared.seat.Seat.{Seat}
 
--- of a line that has no place where it stands in a sheet for this round
+-- of a line that has no place above the first head of a sheet for this round
+abbrev pub cause_above : Round → Cause
+cause_above (round.Opening number) = cause.AboveTurnOfOpening
+cause_above (round.Stock set) = cause.AboveTurnOfStock
+cause_above (round.Operating set number) = cause.AboveCompany
+
+-- of a line that has no place where it stands
 abbrev pub cause_out_of_place : Round → LinePlace → Cause
-cause_out_of_place (round.Opening number) place.Standing = cause.AboveTurnOfOpening
-cause_out_of_place (round.Stock set) place.Standing = cause.AboveTurnOfStock
-cause_out_of_place (round.Operating set number) place.Standing = cause.AboveCompany
+cause_out_of_place its place.Standing = cause_above its
 cause_out_of_place its place.Turn = cause.InTurn
 cause_out_of_place its (place.Orders company) = cause.InOrders
 
@@ -49,10 +52,8 @@ cause_of_lay (Some done.Pay) = cause.PaidOrWithheld
 
 -- of a PAY or a WITHHOLD: its step is past, or nothing is earned
 abbrev pub cause_of_pay : Option Done → Cause
-cause_of_pay None = cause.NothingEarned
-cause_of_pay (Some done.Token) = cause.NothingEarned
-cause_of_pay (Some done.Run) = cause.NothingEarned
 cause_of_pay (Some done.Pay) = cause.PaidOrWithheld
+cause_of_pay other = cause.NothingEarned
 
 -- of a RUN of a train of a kind, and of a RUN BEST: there is no such train, or it has run
 abbrev pub cause_of_run : List Event → Company → Order → Cause
@@ -70,7 +71,7 @@ price_named (order.BuyTrain kind (source.Company seller price)) = Some price
 price_named (order.Offer (offer.Train kind seller buyer price)) = Some price
 price_named other = None
 
--- of a sale at a price to which nobody consents at any price that is 0
+-- of a sale without consent: a price of 0, to which nobody consents
 abbrev pub cause_of_price : ℕ → Option Cause
 cause_of_price price = if price == 0 then Some cause.PriceIsZero else None
 
@@ -81,27 +82,25 @@ cause_of_price_if (Some price) = cause_of_price price
 
 -- of a train of a kind for which another is traded in
 abbrev pub cause_of_trade : Kind → Kind → Cause
-cause_of_trade kind trade_in =
-    if same_kind kind Diesel
-    then (if may_be_traded trade_in then cause.NoSuchTrain else cause.NeverTraded)
-    else cause.NotForDiesel
+cause_of_trade Diesel trade_in = if may_be_traded trade_in then cause.NoSuchTrain else cause.NeverTraded
+cause_of_trade other trade_in = cause.NotForDiesel
 
 -- of an order with a trade-in
 abbrev pub cause_of_trade_in : Order → Option Cause
 cause_of_trade_in (order.BuyTrain kind (source.Trade trade_in)) = Some (cause_of_trade kind trade_in)
 cause_of_trade_in other = None
 
--- of a sale of this many shares by a president who must stay
-abbrev pub cause_of_sale : ℕ → List Event → Seat → Company → ℕ → Cause
-cause_of_sale seats events seat company shares =
-    if none_is_left seats events seat (record { company = company; shares = shares })
-    then cause.NobodyElse
-    else cause.PresidencyMoves
+-- of a sale by a president who must stay: nobody else has two shares, or a presidency would move
+abbrev pub cause_of_sale : ℕ → List Event → Seat → Sale → Cause
+cause_of_sale seats events seat sale =
+    if none_is_left seats events seat sale then cause.NobodyElse else cause.PresidencyMoves
 
 -- of an order to sell
 abbrev pub cause_of_stay : ℕ → List Event → Seat → Order → Option Cause
-cause_of_stay seats events seat (order.Sell company shares) = Some (cause_of_sale seats events seat company shares)
-cause_of_stay seats events seat (order.Raise company shares) = Some (cause_of_sale seats events seat company shares)
+cause_of_stay seats events seat (order.Sell company shares) =
+    Some (cause_of_sale seats events seat (record { company = company; shares = shares }))
+cause_of_stay seats events seat (order.Raise company shares) =
+    Some (cause_of_sale seats events seat (record { company = company; shares = shares }))
 cause_of_stay seats events seat other = None
 
 -- of a rule that refused an order in a turn: the turn has no such order

@@ -1,10 +1,13 @@
 //! Which cause of a rule it was that refused a line, of a rule with several.
-ghost use Rattle.std.specs.Prelude.{◌≡◌, ◌-ℤ◌, ◌≤ℤ◌, ◌^◌, pos};
+ghost use Rattle.std.specs.Prelude.{◌≡◌};
 ghost use Rattle.certs.specs.Sale.{another_has, kept_after, none_is_left};
-ghost use Rattle.desk_round.specs.Cause.{cause_in_orders, cause_in_turn, cause_of, cause_out_of_place};
+ghost use Rattle.desk_round.specs.Cause.{cause_above, cause_in_orders, cause_in_turn, cause_of};
 ghost use Rattle.desk_round.specs.Cause.{cause_of_lay, cause_of_pay, cause_of_price, cause_of_raise};
-ghost use Rattle.desk_round.specs.Cause.{cause_of_run, cause_of_stay, cause_of_trade, cause_of_trade_in};
-ghost use Rattle.desk_round.specs.Cause.{may_be_traded, price_named};
+ghost use Rattle.desk_round.specs.Cause.{cause_of_run, cause_of_sale, cause_of_stay, cause_of_trade};
+ghost use Rattle.desk_round.specs.Cause.{cause_of_trade_in, cause_out_of_place, cause_there};
+ghost use Rattle.desk_round.specs.Cause.{price_named};
+ghost use Rattle.purchases.specs.Discard.{has_train};
+ghost use Rattle.purchases.specs.Train.{may_be_traded};
 
 use crate::done::{Done, last_done};
 use crate::sheet_line::LinePlace;
@@ -24,12 +27,21 @@ const PRESIDENT_SHARES: ShareCount = 2;
 pub(crate) fn cause_out_of_place(round: Round, place: LinePlace) -> Cause
     ensures { result ≡ cause_out_of_place round place }
 {
-    match (place, round) {
-        (LinePlace::Standing, Round::Opening(_)) => Cause::AboveTurnOfOpening,
-        (LinePlace::Standing, Round::Stock(_)) => Cause::AboveTurnOfStock,
-        (LinePlace::Standing, Round::Operating { .. }) => Cause::AboveCompany,
-        (LinePlace::Turn, _) => Cause::InTurn,
-        (LinePlace::Orders(_), _) => Cause::InOrders,
+    match place {
+        LinePlace::Standing => cause_above(round),
+        LinePlace::Turn => Cause::InTurn,
+        LinePlace::Orders(_) => Cause::InOrders,
+    }
+}
+
+/// Returns why a line has no place above the first head of a sheet for a round.
+fn cause_above(round: Round) -> Cause
+    ensures { result ≡ cause_above round }
+{
+    match round {
+        Round::Opening(_) => Cause::AboveTurnOfOpening,
+        Round::Stock(_) => Cause::AboveTurnOfStock,
+        Round::Operating { .. } => Cause::AboveCompany,
     }
 }
 
@@ -45,12 +57,22 @@ pub(crate) fn cause_of(
     ensures { result
         ≡ cause_of view.now.seats view.now.events.now seat place order.now rule }
 {
-    match (rule, place) {
-        (Refusal::Train(TrainRule::NoConsent), _) => cause_of_price(price_named(order)?),
-        (Refusal::Stock(StockRule::PresidentMustStay), _) => cause_of_stay(view, seat, order),
-        (_, LinePlace::Standing) => None,
-        (_, LinePlace::Turn) => cause_in_turn(rule),
-        (_, LinePlace::Orders(company)) => cause_in_orders(view, company, order, rule),
+    match rule {
+        Refusal::Train(TrainRule::NoConsent) => cause_of_price(price_named(order)?),
+        Refusal::Stock(StockRule::PresidentMustStay) => cause_of_stay(view, seat, order),
+        _ => cause_there(view, place, order, rule),
+    }
+}
+
+/// Returns the cause for which a rule refused an order, of a rule whose cause depends on where the
+/// order stands.
+fn cause_there(view: &GameView, place: LinePlace, order: &Order, rule: Refusal) -> Option<Cause>
+    ensures { result ≡ cause_there view.now.events.now place order.now rule }
+{
+    match place {
+        LinePlace::Standing => None,
+        LinePlace::Turn => cause_in_turn(rule),
+        LinePlace::Orders(company) => cause_in_orders(view, company, order, rule),
     }
 }
 
@@ -66,12 +88,7 @@ fn cause_in_turn(rule: Refusal) -> Option<Cause>
 }
 
 /// Returns the cause for which a rule refused an order of a company.
-fn cause_in_orders(
-    view: &GameView,
-    company: Company,
-    order: &Order,
-    rule: Refusal,
-) -> Option<Cause>
+fn cause_in_orders(view: &GameView, company: Company, order: &Order, rule: Refusal) -> Option<Cause>
     ensures { result
         ≡ cause_in_orders view.now.events.now company order.now rule }
 {
@@ -103,7 +120,7 @@ fn cause_of_pay(done: Option<Done>) -> Cause
 {
     match done {
         Some(Done::Pay) => Cause::PaidOrWithheld,
-        Some(Done::Token | Done::Run) | None => Cause::NothingEarned,
+        _ => Cause::NothingEarned,
     }
 }
 
@@ -112,11 +129,18 @@ fn cause_of_run(view: &GameView, company: Company, order: &Order) -> Cause
     ensures { result ≡ cause_of_run view.now.events.now company order.now }
 {
     match order {
-        Order::Run { kind, .. } if view.trains(Some(company), *kind) > 0 => Cause::AllHaveRun,
+        Order::Run { kind, .. } if has_train(view, company, *kind) => Cause::AllHaveRun,
         Order::Run { .. } => Cause::NoSuchTrain,
         _ if has_trains(view, company) => Cause::SomeHaveRun,
         _ => Cause::NoTrain,
     }
+}
+
+/// Returns whether a company has a train of a kind.
+fn has_train(view: &GameView, company: Company, kind: Kind) -> bool
+    ensures { result ≡ has_train view.now.events.now company kind }
+{
+    view.trains(Some(company), kind) > 0
 }
 
 /// Returns why no money is to be raised for a train of a company.
@@ -172,12 +196,10 @@ fn cause_of_trade_in(order: &Order) -> Option<Cause>
 fn cause_of_trade(kind: Kind, trade_in: Kind) -> Cause
     ensures { result ≡ cause_of_trade kind trade_in }
 {
-    if kind != Kind::Diesel {
-        Cause::NotForDiesel
-    } else if may_be_traded(trade_in) {
-        Cause::NoSuchTrain
-    } else {
-        Cause::NeverTraded
+    match kind {
+        Kind::Diesel if may_be_traded(trade_in) => Cause::NoSuchTrain,
+        Kind::Diesel => Cause::NeverTraded,
+        _ => Cause::NotForDiesel,
     }
 }
 
@@ -193,14 +215,24 @@ fn cause_of_stay(view: &GameView, seat: Seat, order: &Order) -> Option<Cause>
     ensures { result
         ≡ cause_of_stay view.now.seats view.now.events.now seat order.now }
 {
-    let (company, shares) = match order {
-        Order::Sell { company, shares } | Order::Raise { company, shares } => (*company, *shares),
-        _ => return None,
-    };
-    if none_is_left(view, seat, Sale { company, shares }) {
-        Some(Cause::NobodyElse)
+    match order {
+        Order::Sell { company, shares } | Order::Raise { company, shares } => {
+            let (company, shares) = (*company, *shares);
+            Some(cause_of_sale(view, seat, Sale { company, shares }))
+        }
+        _ => None,
+    }
+}
+
+/// Returns why a president must stay who would sell so.
+fn cause_of_sale(view: &GameView, seat: Seat, sale: Sale) -> Cause
+    ensures { result
+        ≡ cause_of_sale view.now.seats view.now.events.now seat sale }
+{
+    if none_is_left(view, seat, sale) {
+        Cause::NobodyElse
     } else {
-        Some(Cause::PresidencyMoves)
+        Cause::PresidencyMoves
     }
 }
 

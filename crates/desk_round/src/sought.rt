@@ -8,7 +8,8 @@ use crate::track::break_of;
 use crate::ways::{push_ways_to_stop, push_ways_to_tile};
 use desk_base::Piece::{Bytes, Number, Words};
 use desk_base::{
-    Cause, Objection, bad_side, board_at, fill, objection_by_view, objection_to, push, push_objection,
+    Cause, Objection, bad_side, board_at, fill, objection_by_view, objection_to, push,
+    push_objection,
 };
 use history::{
     GameView, Holder, LayRule, OpeningRule, Party, PrivateRule, Refusal, Ruling, RunRule,
