@@ -3,5 +3,6 @@ pub mod Cause
 pub mod Done
 pub mod Figures
 pub mod Played
+pub mod Refused
 pub mod RoundPart
 pub mod Why
