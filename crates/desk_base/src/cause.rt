@@ -1,4 +1,11 @@
 //! The causes of a rule that has several: which one it was that refused a line.
+ghost use Rattle.std.specs.Prelude.{◌≡◌};
+ghost use Rattle.desk_base.specs.Cause.{cause_of_slot, has_empty_slot};
+ghost use Rattle.map_tables.specs.Place.{stop_of};
+
+use board::Board;
+use board_state::{OnMap, slots};
+use map_tables::{Place, joined_stop};
 
 /// The cause, among several of a rule, for which a line was refused.
 #[derive(Clone, Copy)]
@@ -43,8 +50,14 @@ pub enum Cause {
     NobodyElse,
     /// S5, of RAISE: the presidency of the company that operates would move.
     PresidencyMoves,
+    /// K3: no token lies in a slot of the stop, which is kept for a home.
+    SlotIsKept,
+    /// K3: tokens lie in all slots of the stop.
+    NoSlot,
     /// T4: the order or the offer names a price of 0.
     PriceIsZero,
+    /// T5: the company has such a train, and would buy it from itself.
+    BuysFromItself,
     /// T6: the train that is bought is no D.
     NotForDiesel,
     /// T6: the train that is traded in is no 4, 5 or 6.
@@ -78,9 +91,34 @@ impl Cause {
             Cause::NotShort => " (% could run no train, or there is money enough)",
             Cause::NobodyElse => " (nobody else has two)",
             Cause::PresidencyMoves => " (the presidency of % would move)",
+            Cause::SlotIsKept => " (a slot is kept for a home)",
+            Cause::NoSlot => " (no slot is free)",
             Cause::PriceIsZero => " (the price is 0)",
+            Cause::BuysFromItself => " (% is the buyer)",
             Cause::NotForDiesel => " (only for a D a train is traded in)",
             Cause::NeverTraded => " (only a 4, 5 or 6 is traded in)",
         }
+    }
+}
+
+/// Returns why no token is placed at a stop of a city that has no free slot.
+pub fn cause_of_slot(board: &Board, place: Place) -> Cause
+    ensures { result ≡ cause_of_slot board.now (stop_of place) }
+{
+    if has_empty_slot(board, place) {
+        Cause::SlotIsKept
+    } else {
+        Cause::NoSlot
+    }
+}
+
+/// Returns whether a place names a stop of a city with a slot in which no token lies, whether it is
+/// kept for a home or not.
+fn has_empty_slot(board: &Board, place: Place) -> bool
+    ensures { result ≡ has_empty_slot board.now (stop_of place) }
+{
+    match place.stop() {
+        Some(stop) => board.count_at(joined_stop(stop)) < slots(board, stop),
+        None => false,
     }
 }

@@ -24,7 +24,7 @@ mod text;
 
 pub use belongings::{objection_by_view, other_president};
 pub use by_tables::objection_to;
-pub use cause::Cause;
+pub use cause::{Cause, cause_of_slot};
 pub use coming::can_come;
 pub use explaining::{all_reasons_text, explain, list_text, reason_text};
 pub use fault::DeskFault;

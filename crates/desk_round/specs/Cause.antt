@@ -1,6 +1,6 @@
 -- Which cause of a rule it was that refused a line, of a rule with several. Each is what the rule
 -- itself looks at, in the order in which it looks.
-use Rattle.std.specs.Prelude.{ℕ, ◌==◌, List, Option, Some, None, if◌then◌else◌}
+use Rattle.std.specs.Prelude.{ℕ, Bool, ◌==◌, List, Option, Some, None, if◌then◌else◌}
 use Rattle.certs.specs.Sale.{none_is_left}
 use Rattle.certs.specs.declared.deal.Sale.{Sale}
 use Rattle.desk_base.specs.declared.cause.Cause.{Cause}
@@ -15,7 +15,7 @@ use Rattle.events.specs.declared.ruling.OpeningRule.TheVariants.{NotOfOpening}
 use Rattle.events.specs.declared.ruling.Refusal.{Refusal}
 use Rattle.events.specs.declared.ruling.Refusal.TheVariants as refusal
 use Rattle.events.specs.declared.ruling.StockRule.TheVariants.{NotOfStock, PresidentMustStay}
-use Rattle.events.specs.declared.ruling.TrainRule.TheVariants.{NoConsent, NoTradeIn}
+use Rattle.events.specs.declared.ruling.TrainRule.TheVariants.{NoConsent, NoTradeIn, NotSellers}
 use Rattle.map_tables.specs.declared.rules.LayRule.TheVariants as lay
 use Rattle.map_tables.specs.declared.rules.RunRule.TheVariants as run
 use Rattle.order_grammar.specs.declared.order.Offer.TheVariants as offer
@@ -85,6 +85,16 @@ abbrev pub cause_of_trade : Kind → Kind → Cause
 cause_of_trade Diesel trade_in = if may_be_traded trade_in then cause.NoSuchTrain else cause.NeverTraded
 cause_of_trade other trade_in = cause.NotForDiesel
 
+-- of a company that is to sell a train, and has such a train, or has not: it is the buyer
+abbrev pub cause_of_owner : Bool → Option Cause
+cause_of_owner has = if has then Some cause.BuysFromItself else None
+
+-- of an order to buy a train of a company
+abbrev pub cause_of_seller : List Event → Order → Option Cause
+cause_of_seller events (order.BuyTrain kind (source.Company seller price)) =
+    cause_of_owner (has_train events seller kind)
+cause_of_seller events other = None
+
 -- of an order with a trade-in
 abbrev pub cause_of_trade_in : Order → Option Cause
 cause_of_trade_in (order.BuyTrain kind (source.Trade trade_in)) = Some (cause_of_trade kind trade_in)
@@ -115,6 +125,7 @@ cause_in_orders events company its (refusal.Lay lay.StepUsed) = Some (cause_of_l
 cause_in_orders events company its (refusal.Pay rule) = Some (cause_of_pay (last_done events company))
 cause_in_orders events company its (refusal.Run run.NoTrain) = Some (cause_of_run events company its)
 cause_in_orders events company its (refusal.Stock NotOfStock) = Some (cause_of_raise events company)
+cause_in_orders events company its (refusal.Train NotSellers) = cause_of_seller events its
 cause_in_orders events company its (refusal.Train NoTradeIn) = cause_of_trade_in its
 cause_in_orders events company its other = None
 

@@ -4,6 +4,7 @@ ghost use Rattle.certs.specs.Sale.{another_has, kept_after, none_is_left};
 ghost use Rattle.desk_round.specs.Cause.{cause_above, cause_in_orders, cause_in_turn, cause_of};
 ghost use Rattle.desk_round.specs.Cause.{cause_of_lay, cause_of_pay, cause_of_price, cause_of_raise};
 ghost use Rattle.desk_round.specs.Cause.{cause_of_run, cause_of_sale, cause_of_stay, cause_of_trade};
+ghost use Rattle.desk_round.specs.Cause.{cause_of_owner, cause_of_seller};
 ghost use Rattle.desk_round.specs.Cause.{cause_of_trade_in, cause_out_of_place, cause_there};
 ghost use Rattle.desk_round.specs.Cause.{price_named};
 ghost use Rattle.purchases.specs.Discard.{has_train};
@@ -97,6 +98,7 @@ fn cause_in_orders(view: &GameView, company: Company, order: &Order, rule: Refus
         Refusal::Pay(_) => Some(cause_of_pay(last_done(view.events, company))),
         Refusal::Run(RunRule::NoTrain) => Some(cause_of_run(view, company, order)),
         Refusal::Stock(StockRule::NotOfStock) => Some(cause_of_raise(view, company)),
+        Refusal::Train(TrainRule::NotSellers) => cause_of_seller(view, order),
         Refusal::Train(TrainRule::NoTradeIn) => cause_of_trade_in(order),
         _ => None,
     }
@@ -174,6 +176,30 @@ fn cause_of_price(price: Amount) -> Option<Cause>
 {
     if price == 0 {
         Some(Cause::PriceIsZero)
+    } else {
+        None
+    }
+}
+
+/// Returns why a company sells no train that it has: it is the buyer. `None` if it has none.
+fn cause_of_seller(view: &GameView, order: &Order) -> Option<Cause>
+    ensures { result ≡ cause_of_seller view.now.events.now order.now }
+{
+    match order {
+        Order::BuyTrain {
+            kind,
+            from: TrainSource::Company { seller, .. },
+        } => cause_of_owner(has_train(view, *seller, *kind)),
+        _ => None,
+    }
+}
+
+/// Returns why a company that has such a train, or has not, sells none; `None` if it has none.
+fn cause_of_owner(has_train: bool) -> Option<Cause>
+    ensures { result ≡ cause_of_owner has_train }
+{
+    if has_train {
+        Some(Cause::BuysFromItself)
     } else {
         None
     }

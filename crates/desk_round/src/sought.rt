@@ -8,8 +8,8 @@ use crate::track::break_of;
 use crate::ways::{push_ways_to_stop, push_ways_to_tile};
 use desk_base::Piece::{Bytes, Number, Words};
 use desk_base::{
-    Cause, Objection, bad_side, board_at, fill, objection_by_view, objection_to, push,
-    push_objection,
+    Cause, Objection, bad_side, board_at, cause_of_slot, fill, objection_by_view, objection_to,
+    push, push_objection,
 };
 use history::{
     GameView, Holder, LayRule, OpeningRule, Party, PrivateRule, Refusal, Ruling, RunRule,
@@ -188,7 +188,10 @@ fn push_by_view(
                 None => Ok(()),
             }
         }
-        (Refusal::Token(TokenRule::NoFreeSlot), _) => fill(out, " (no slot is free)", &[]),
+        (Refusal::Token(TokenRule::NoFreeSlot), Order::Token(place)) => {
+            let board = board_at(alloc, ruled.view)?;
+            fill(out, cause_of_slot(&board, *place).words(), &[])
+        }
         (Refusal::Private(PrivateRule::NoConsent), Order::BuyOwnedPrivate { private, .. }) => {
             let reason = Objection::Owner(*private, ruled.view.owner(*private));
             push_objection(out, ruled.sheets, reason)
