@@ -4,12 +4,13 @@
 //! Reading order: `text` (`Piece`, `push`, `fill`), `reason` (`Reason`), `advice`, `explaining`
 //! (`explain`), `set_number` (`number_in_set`, `end_after`), `coming` (`can_come`), `objection`
 //! (`Objection`), `map_facts`, `by_tables` (what the map and the tables show), `belongings` (what
-//! somebody has).
+//! somebody has), `cause` (which one it was of several).
 #![tactic(auto)]
 
 mod advice;
 mod belongings;
 mod by_tables;
+mod cause;
 mod coming;
 mod explaining;
 mod fault;
@@ -23,6 +24,7 @@ mod text;
 
 pub use belongings::{objection_by_view, other_president};
 pub use by_tables::objection_to;
+pub use cause::{Cause, cause_of_slot};
 pub use coming::can_come;
 pub use explaining::{all_reasons_text, explain, list_text, reason_text};
 pub use fault::DeskFault;

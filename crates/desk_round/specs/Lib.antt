@@ -1,5 +1,8 @@
 -- What the desk tells of a round.
+pub mod Cause
+pub mod Done
 pub mod Figures
 pub mod Played
+pub mod Refused
 pub mod RoundPart
 pub mod Why

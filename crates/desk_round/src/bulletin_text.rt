@@ -195,7 +195,7 @@ impl Telling<'_> {
             view,
             round: self.round,
             seat,
-            company: None,
+            place: None,
         };
         let mut why = Vec::new(self.alloc);
         push_rule(self.alloc, &mut why, ruled, number, ruling)?;

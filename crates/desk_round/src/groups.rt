@@ -82,7 +82,7 @@ fn push_any(groups: &mut Vec<Group>, group: Option<Group>) -> Result<(), AllocEr
 
 /// Returns the company among whose orders a line is, if it is among some.
 fn company_of(lines: &[SheetLine], seat: Seat, line: u32) -> Option<Company> {
-    sheet_line(lines, seat, line)?.company
+    sheet_line(lines, seat, line)?.place.company()
 }
 
 /// Returns whose turn an event belongs to. `now` is whose turn the event before it belongs to, and

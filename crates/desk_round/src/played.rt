@@ -29,7 +29,7 @@ fn begins(round: Round, event: &Event) -> bool
 }
 
 /// Returns whether two rounds are the same.
-fn same_round(one: Round, other: Round) -> bool
+pub(crate) fn same_round(one: Round, other: Round) -> bool
     ensures { result ≡ same_round one other }
 {
     match (one, other) {

@@ -4,6 +4,7 @@ ghost use Rattle.desk_round.specs.RoundPart.{HasNoText, IsRoundFault, IsRoundPar
 ghost use Rattle.desk_round.specs.RoundPart.{round_asked, text_of_round};
 
 use crate::played::was_played;
+use crate::refused::refused_in;
 use crate::sheet_line::lines_of;
 use crate::sought::Ruled;
 use crate::told::{Told, tell};
@@ -106,30 +107,43 @@ fn push_with_rules(
     let lines = lines_of(alloc, game.sheets(), round)?;
     let mut walk = Walk::along(events);
     let mut rest = text;
-    let mut within = false;
-    for (passed, event) in events.iter().enumerate() {
-        if let Event::Round(begun) = event {
-            within = *begun == round;
-        }
-        if !within {
-            continue;
-        }
-        if let Some(first) = first_line(rest) {
-            fill(out, "%\n", &[Bytes(first.line)])?;
-            rest = first.rest;
-        }
-        if let Event::Ruled { seat, line, ruling } = event {
-            let view = view_behind(&mut walk, passed, game.history().seats());
+    let mut told = place_of(events, round);
+    for place in refused_in(alloc, events, round)?.as_slice() {
+        let view = view_behind(&mut walk, *place, game.history().seats());
+        let behind = place.saturating_add(1);
+        rest = push_lines(out, rest, behind.saturating_sub(told))?;
+        told = behind;
+        if let Some(Event::Ruled { seat, line, ruling }) = events.get(*place) {
             let ruled = Ruled {
                 sheets: game.sheets(),
                 lines: lines.as_slice(),
                 view: &view,
                 round,
                 seat: *seat,
-                company: None,
+                place: None,
             };
             push_why(alloc, out, ruled, *line, ruling)?;
         }
     }
     push(out, &[Bytes(rest)])
+}
+
+/// Returns the place in the list of events of the one that begins a round; 0 if none does.
+fn place_of(events: &[Event], round: Round) -> usize {
+    events
+        .iter()
+        .position(|event| event.round() == Some(round))
+        .unwrap_or(0)
+}
+
+/// Adds this many lines of a text, or all if there are fewer. Returns the text behind them.
+fn push_lines<'a>(out: &mut Vec<u8>, text: &'a [u8], count: usize) -> Result<&'a [u8], AllocError> {
+    let mut rest = text;
+    for _ in 0..count {
+        if let Some(first) = first_line(rest) {
+            fill(out, "%\n", &[Bytes(first.line)])?;
+            rest = first.rest;
+        }
+    }
+    Ok(rest)
 }

@@ -1,5 +1,4 @@
-//! The lines of the sheets for a round, by their numbers: their text, and the company to whose
-//! orders each belongs.
+//! The lines of the sheets for a round, by their numbers: their text, and where each stands.
 ghost use Rattle.std.specs.Prelude.{IfSome};
 ghost use Rattle.desk_round.specs.Why.{IsLineOf};
 
@@ -21,8 +20,29 @@ pub(crate) struct SheetLine<'a> {
     number: u32,
     /// Its bytes.
     pub(crate) text: &'a [u8],
-    /// The company whose orders it is among; `None` if it is among none.
-    pub(crate) company: Option<Company>,
+    /// Where it stands in the sheet.
+    pub(crate) place: LinePlace,
+}
+
+/// Where a line stands in a sheet.
+#[derive(Clone, Copy)]
+pub(crate) enum LinePlace {
+    /// Above the first head.
+    Standing,
+    /// In a turn, its head included.
+    Turn,
+    /// Among the orders for a company, their head included.
+    Orders(Company),
+}
+
+impl LinePlace {
+    /// Returns the company among whose orders the line is; `None` if it is among none.
+    pub(crate) fn company(self) -> Option<Company> {
+        match self {
+            LinePlace::Orders(company) => Some(company),
+            LinePlace::Standing | LinePlace::Turn => None,
+        }
+    }
 }
 
 /// Returns the lines of all sheets for a round, up to the last that is kept. Fails only if
@@ -47,13 +67,13 @@ fn push_sheet<'a>(
     round: Round,
 ) -> Result<(), AllocError> {
     let mut parts = sheets.parts(seat, round);
-    let mut company = None;
+    let mut place = LinePlace::Standing;
     for _ in 0..LINES_KEPT {
         let line = match parts.take_line() {
             Some(line) => line,
             None => match parts.take_head() {
                 Some(head) => {
-                    company = company_of(head);
+                    place = place_behind(head);
                     head
                 }
                 None => return Ok(()),
@@ -63,17 +83,17 @@ fn push_sheet<'a>(
             seat,
             number: line.number,
             text: line.text,
-            company,
+            place,
         })?;
     }
     Ok(())
 }
 
-/// Returns the company whose orders a head begins; `None` for other heads.
-fn company_of(head: UnreadLine) -> Option<Company> {
+/// Returns where the lines behind a head stand: among the orders for its company, or in a turn.
+fn place_behind(head: UnreadLine) -> LinePlace {
     match head.read().order() {
-        Ok(Order::Company(company)) => Some(*company),
-        _ => None,
+        Ok(Order::Company(company)) => LinePlace::Orders(*company),
+        _ => LinePlace::Turn,
     }
 }
 

@@ -1,20 +1,22 @@
 //! What is added after the rule that refused an order: the figures that it compared, and the cause
 //! if there are several.
 
+use crate::cause::{cause_of, cause_out_of_place};
 use crate::figures::{figures_of, push_figures};
-use crate::sheet_line::SheetLine;
+use crate::sheet_line::{LinePlace, SheetLine};
 use crate::track::break_of;
 use crate::ways::{push_ways_to_stop, push_ways_to_tile};
 use desk_base::Piece::{Bytes, Number, Words};
 use desk_base::{
-    Objection, bad_side, board_at, fill, objection_by_view, objection_to, push, push_objection,
+    Cause, Objection, bad_side, board_at, cause_of_slot, fill, objection_by_view, objection_to,
+    push, push_objection,
 };
 use history::{
-    Event, GameView, Holder, LayRule, OpeningRule, Party, PrivateRule, Refusal, Ruling, RunRule,
+    GameView, Holder, LayRule, OpeningRule, Party, PrivateRule, Refusal, Ruling, RunRule,
     Shareholder, StockRule, TokenRule, TrainRule,
 };
 use map_tables::{Colour, Hex, Lay, neighbour, printed_colour, tile};
-use order_grammar::{Order, TrainSource};
+use order_grammar::{Fault, Order, TrainSource};
 use report::name;
 use sheets::Sheets;
 use std::alloc::{AllocError, Global};
@@ -33,8 +35,15 @@ pub(crate) struct Ruled<'a> {
     pub(crate) round: Round,
     /// Whose line it is.
     pub(crate) seat: Seat,
-    /// The company among whose orders it is, if it is among some.
-    pub(crate) company: Option<Company>,
+    /// Where it stands in its sheet, if that is known.
+    pub(crate) place: Option<LinePlace>,
+}
+
+impl Ruled<'_> {
+    /// Returns the company among whose orders the line is, if it is known to be among some.
+    fn company(&self) -> Option<Company> {
+        self.place?.company()
+    }
 }
 
 /// Adds the figures that a rule compared when it refused an order, and the cause if there are
@@ -56,6 +65,11 @@ pub(crate) fn push_sought<'a>(
     if let Some(figures) = figures_of(ruled.view, ruled.seat, *condition, order, *rule) {
         push_figures(out, ruled.sheets, ruled.seat, figures)?;
     }
+    if let Some(place) = ruled.place
+        && let Some(cause) = cause_of(ruled.view, ruled.seat, place, order, *rule)
+    {
+        push_cause(out, place, cause)?;
+    }
     match (rule, order) {
         (Refusal::Opening(OpeningRule::NotOfOpening), _) => push_of_par(out, ruled, *rule, order),
         (Refusal::Stock(StockRule::NoExchange), _) => push_of_exchange(out, ruled),
@@ -73,6 +87,28 @@ pub(crate) fn push_sought<'a>(
             _,
         ) => push_cash(out, ruled),
         _ => push_by_tables(alloc, out, ruled, *rule, order),
+    }
+}
+
+/// Adds which cause of several it was that a line at this place was refused for.
+fn push_cause(out: &mut Vec<u8>, place: LinePlace, cause: Cause) -> Result<(), AllocError> {
+    match place.company() {
+        Some(company) => fill(out, cause.words(), &[Words(company.code())]),
+        None => fill(out, cause.words(), &[]),
+    }
+}
+
+/// Adds which lines have a place where a line of a round stands that has none; nothing for other
+/// faults.
+pub(crate) fn push_of_place(
+    out: &mut Vec<u8>,
+    round: Round,
+    place: LinePlace,
+    fault: Fault,
+) -> Result<(), AllocError> {
+    match fault {
+        Fault::OutOfPlace => push_cause(out, place, cause_out_of_place(round, place)),
+        _ => Ok(()),
     }
 }
 
@@ -152,8 +188,10 @@ fn push_by_view(
                 None => Ok(()),
             }
         }
-        (Refusal::Token(TokenRule::NoFreeSlot), _) => fill(out, " (no slot is free)", &[]),
-        (Refusal::Pay(_), _) => push_of_pay(out, ruled),
+        (Refusal::Token(TokenRule::NoFreeSlot), Order::Token(place)) => {
+            let board = board_at(alloc, ruled.view)?;
+            fill(out, cause_of_slot(&board, *place).words(), &[])
+        }
         (Refusal::Private(PrivateRule::NoConsent), Order::BuyOwnedPrivate { private, .. }) => {
             let reason = Objection::Owner(*private, ruled.view.owner(*private));
             push_objection(out, ruled.sheets, reason)
@@ -184,34 +222,6 @@ fn push_by_view(
     }
 }
 
-/// Adds whether the company in hand has paid or withheld, or has earned nothing.
-fn push_of_pay(out: &mut Vec<u8>, ruled: Ruled) -> Result<(), AllocError> {
-    let Some(company) = ruled.company else {
-        return Ok(());
-    };
-    let words = if has_paid(ruled.view, company) {
-        " (% has paid or withheld)"
-    } else {
-        " (% has earned nothing)"
-    };
-    fill(out, words, &[Words(company.code())])
-}
-
-/// Returns whether a company has paid or withheld in the round in hand.
-fn has_paid(view: &GameView, its: Company) -> bool {
-    let mut has_paid = false;
-    for event in view.events {
-        match event {
-            Event::Round(_) => has_paid = false,
-            Event::Dividend { company, .. } | Event::Withheld { company, .. } => {
-                has_paid = has_paid || *company == its;
-            }
-            _ => {}
-        }
-    }
-    has_paid
-}
-
 /// Returns the name of the colour of a hex at a moment of the game.
 fn colour_of(view: &GameView, hex: Hex) -> &'static str {
     let mut colour = printed_colour(hex);
@@ -235,7 +245,7 @@ fn colour_of(view: &GameView, hex: Hex) -> &'static str {
 fn push_cash(out: &mut Vec<u8>, ruled: Ruled) -> Result<(), AllocError> {
     let (mut words, mut end) = (" (% has %", "");
     for company in &Company::ALL {
-        let is_meant = match ruled.company {
+        let is_meant = match ruled.company() {
             Some(its) => its == *company,
             None => {
                 ruled.view.floated(*company) && ruled.view.president(*company) == Some(ruled.seat)

@@ -3,7 +3,7 @@ ghost use Rattle.std.specs.Prelude.{◌≡◌};
 ghost use Rattle.desk_round.specs.Why.{reason_of};
 
 use crate::sheet_line::sheet_line;
-use crate::sought::{Ruled, push_sought};
+use crate::sought::{Ruled, push_of_place, push_sought};
 use desk_base::Piece::{Cut, Words};
 use desk_base::{Reason, fill};
 use history::{PackedRuling, Verdict};
@@ -43,14 +43,12 @@ pub(crate) fn push_rule<'a>(
     let (code, rule) = (Words(reason.code()), Words(reason.sentence()));
     fill(out, "%: %", &[code, rule])?;
     let line = sheet_line(ruled.lines, ruled.seat, number);
-    let company = match line {
-        Some(line) => line.company,
-        None => None,
-    };
-    if let (Verdict::Faulty(_), Some(line)) = (ruling.verdict(), line) {
+    if let (Verdict::Faulty(fault), Some(line)) = (ruling.verdict(), line) {
         fill(out, ": %", &[Cut(line.text, FAULTY_COLUMNS)])?;
+        push_of_place(out, ruled.round, line.place, fault)?;
     }
-    push_sought(alloc, out, Ruled { company, ..ruled }, &ruling.ruling())
+    let place = line.map(|line| line.place);
+    push_sought(alloc, out, Ruled { place, ..ruled }, &ruling.ruling())
 }
 
 /// Returns the reason why a line was refused, which has its code; `None` if it was obeyed.

@@ -1,0 +1,293 @@
+//! Which cause of a rule it was that refused a line, of a rule with several.
+ghost use Rattle.std.specs.Prelude.{◌≡◌};
+ghost use Rattle.certs.specs.Sale.{another_has, kept_after, none_is_left};
+ghost use Rattle.desk_round.specs.Cause.{cause_above, cause_in_orders, cause_in_turn, cause_of};
+ghost use Rattle.desk_round.specs.Cause.{cause_of_lay, cause_of_pay, cause_of_price, cause_of_raise};
+ghost use Rattle.desk_round.specs.Cause.{cause_of_run, cause_of_sale, cause_of_stay, cause_of_trade};
+ghost use Rattle.desk_round.specs.Cause.{cause_of_owner, cause_of_seller};
+ghost use Rattle.desk_round.specs.Cause.{cause_of_trade_in, cause_out_of_place, cause_there};
+ghost use Rattle.desk_round.specs.Cause.{price_named};
+ghost use Rattle.purchases.specs.Discard.{has_train};
+ghost use Rattle.purchases.specs.Train.{may_be_traded};
+
+use crate::done::{Done, last_done};
+use crate::sheet_line::LinePlace;
+use certs::Sale;
+use desk_base::Cause;
+use history::{
+    GameView, LayRule, OpeningRule, Refusal, RunRule, ShareCount, Shareholder, StockRule, TrainRule,
+};
+use order_grammar::{Offer, Order, TrainSource};
+use purchases::has_trains;
+use tables::{Amount, Company, Kind, Round, Seat};
+
+/// The shares of a president's certificate.
+const PRESIDENT_SHARES: ShareCount = 2;
+
+/// Returns why a line of a round has no place where it stands.
+pub(crate) fn cause_out_of_place(round: Round, place: LinePlace) -> Cause
+    ensures { result ≡ cause_out_of_place round place }
+{
+    match place {
+        LinePlace::Standing => cause_above(round),
+        LinePlace::Turn => Cause::InTurn,
+        LinePlace::Orders(_) => Cause::InOrders,
+    }
+}
+
+/// Returns why a line has no place above the first head of a sheet for a round.
+fn cause_above(round: Round) -> Cause
+    ensures { result ≡ cause_above round }
+{
+    match round {
+        Round::Opening(_) => Cause::AboveTurnOfOpening,
+        Round::Stock(_) => Cause::AboveTurnOfStock,
+        Round::Operating { .. } => Cause::AboveCompany,
+    }
+}
+
+/// Returns the cause for which a rule refused an order of a seat that stands at this place, by the
+/// game before it; `None` if the rule has one cause alone, or what is told beside it says which.
+pub(crate) fn cause_of(
+    view: &GameView,
+    seat: Seat,
+    place: LinePlace,
+    order: &Order,
+    rule: Refusal,
+) -> Option<Cause>
+    ensures { result
+        ≡ cause_of view.now.seats view.now.events.now seat place order.now rule }
+{
+    match rule {
+        Refusal::Train(TrainRule::NoConsent) => cause_of_price(price_named(order)?),
+        Refusal::Stock(StockRule::PresidentMustStay) => cause_of_stay(view, seat, order),
+        _ => cause_there(view, place, order, rule),
+    }
+}
+
+/// Returns the cause for which a rule refused an order, of a rule whose cause depends on where the
+/// order stands.
+fn cause_there(view: &GameView, place: LinePlace, order: &Order, rule: Refusal) -> Option<Cause>
+    ensures { result ≡ cause_there view.now.events.now place order.now rule }
+{
+    match place {
+        LinePlace::Standing => None,
+        LinePlace::Turn => cause_in_turn(rule),
+        LinePlace::Orders(company) => cause_in_orders(view, company, order, rule),
+    }
+}
+
+/// Returns the cause for which a rule refused an order of a turn.
+fn cause_in_turn(rule: Refusal) -> Option<Cause>
+    ensures { result ≡ cause_in_turn rule }
+{
+    match rule {
+        Refusal::Opening(OpeningRule::NotOfOpening) => Some(Cause::TurnOfOpening),
+        Refusal::Stock(StockRule::NotOfStock) => Some(Cause::TurnOfStock),
+        _ => None,
+    }
+}
+
+/// Returns the cause for which a rule refused an order of a company.
+fn cause_in_orders(view: &GameView, company: Company, order: &Order, rule: Refusal) -> Option<Cause>
+    ensures { result
+        ≡ cause_in_orders view.now.events.now company order.now rule }
+{
+    match rule {
+        Refusal::Lay(LayRule::StepUsed) => Some(cause_of_lay(last_done(view.events, company))),
+        Refusal::Pay(_) => Some(cause_of_pay(last_done(view.events, company))),
+        Refusal::Run(RunRule::NoTrain) => Some(cause_of_run(view, company, order)),
+        Refusal::Stock(StockRule::NotOfStock) => Some(cause_of_raise(view, company)),
+        Refusal::Train(TrainRule::NotSellers) => cause_of_seller(view, order),
+        Refusal::Train(TrainRule::NoTradeIn) => cause_of_trade_in(order),
+        _ => None,
+    }
+}
+
+/// Returns why a company lays no tile that has done this last in its turn.
+fn cause_of_lay(done: Option<Done>) -> Cause
+    ensures { result ≡ cause_of_lay done }
+{
+    match done {
+        None => Cause::LayUsed,
+        Some(Done::Token) => Cause::TokenPlaced,
+        Some(Done::Run) => Cause::HasRun,
+        Some(Done::Pay) => Cause::PaidOrWithheld,
+    }
+}
+
+/// Returns why a company neither pays nor withholds that has done this last in its turn.
+fn cause_of_pay(done: Option<Done>) -> Cause
+    ensures { result ≡ cause_of_pay done }
+{
+    match done {
+        Some(Done::Pay) => Cause::PaidOrWithheld,
+        _ => Cause::NothingEarned,
+    }
+}
+
+/// Returns why no train of a company is left to run, by an order for one of a kind or for the best.
+fn cause_of_run(view: &GameView, company: Company, order: &Order) -> Cause
+    ensures { result ≡ cause_of_run view.now.events.now company order.now }
+{
+    match order {
+        Order::Run { kind, .. } if has_train(view, company, *kind) => Cause::AllHaveRun,
+        Order::Run { .. } => Cause::NoSuchTrain,
+        _ if has_trains(view, company) => Cause::SomeHaveRun,
+        _ => Cause::NoTrain,
+    }
+}
+
+/// Returns whether a company has a train of a kind.
+fn has_train(view: &GameView, company: Company, kind: Kind) -> bool
+    ensures { result ≡ has_train view.now.events.now company kind }
+{
+    view.trains(Some(company), kind) > 0
+}
+
+/// Returns why no money is to be raised for a train of a company.
+fn cause_of_raise(view: &GameView, company: Company) -> Cause
+    ensures { result ≡ cause_of_raise view.now.events.now company }
+{
+    if has_trains(view, company) {
+        Cause::HasTrain
+    } else {
+        Cause::NotShort
+    }
+}
+
+/// Returns the price of a train that an order or an offer names; `None` if it names none.
+fn price_named(order: &Order) -> Option<Amount>
+    ensures { result ≡ price_named order.now }
+{
+    match order {
+        Order::BuyTrain {
+            from: TrainSource::Company { price, .. },
+            ..
+        }
+        | Order::Offer(Offer::Train { price, .. }) => Some(*price),
+        _ => None,
+    }
+}
+
+/// Returns the cause that a price is 0; `None` if it is not.
+fn cause_of_price(price: Amount) -> Option<Cause>
+    ensures { result ≡ cause_of_price price }
+{
+    if price == 0 {
+        Some(Cause::PriceIsZero)
+    } else {
+        None
+    }
+}
+
+/// Returns why a company sells no train that it has: it is the buyer. `None` if it has none.
+fn cause_of_seller(view: &GameView, order: &Order) -> Option<Cause>
+    ensures { result ≡ cause_of_seller view.now.events.now order.now }
+{
+    match order {
+        Order::BuyTrain {
+            kind,
+            from: TrainSource::Company { seller, .. },
+        } => cause_of_owner(has_train(view, *seller, *kind)),
+        _ => None,
+    }
+}
+
+/// Returns why a company that has such a train, or has not, sells none; `None` if it has none.
+fn cause_of_owner(has_train: bool) -> Option<Cause>
+    ensures { result ≡ cause_of_owner has_train }
+{
+    if has_train {
+        Some(Cause::BuysFromItself)
+    } else {
+        None
+    }
+}
+
+/// Returns why a train is not traded in; `None` for orders without a trade-in.
+fn cause_of_trade_in(order: &Order) -> Option<Cause>
+    ensures { result ≡ cause_of_trade_in order.now }
+{
+    match order {
+        Order::BuyTrain {
+            kind,
+            from: TrainSource::Trade(trade_in),
+        } => Some(cause_of_trade(*kind, *trade_in)),
+        _ => None,
+    }
+}
+
+/// Returns why a train of a kind is not traded in for one of another.
+fn cause_of_trade(kind: Kind, trade_in: Kind) -> Cause
+    ensures { result ≡ cause_of_trade kind trade_in }
+{
+    match kind {
+        Kind::Diesel if may_be_traded(trade_in) => Cause::NoSuchTrain,
+        Kind::Diesel => Cause::NeverTraded,
+        _ => Cause::NotForDiesel,
+    }
+}
+
+/// Returns whether a train of a kind may be traded in for a D.
+fn may_be_traded(kind: Kind) -> bool
+    ensures { result ≡ may_be_traded kind }
+{
+    matches!(kind, Kind::Four | Kind::Five | Kind::Six)
+}
+
+/// Returns why a president must stay who orders a sale; `None` for other orders.
+fn cause_of_stay(view: &GameView, seat: Seat, order: &Order) -> Option<Cause>
+    ensures { result
+        ≡ cause_of_stay view.now.seats view.now.events.now seat order.now }
+{
+    match order {
+        Order::Sell { company, shares } | Order::Raise { company, shares } => {
+            let (company, shares) = (*company, *shares);
+            Some(cause_of_sale(view, seat, Sale { company, shares }))
+        }
+        _ => None,
+    }
+}
+
+/// Returns why a president must stay who would sell so.
+fn cause_of_sale(view: &GameView, seat: Seat, sale: Sale) -> Cause
+    ensures { result
+        ≡ cause_of_sale view.now.seats view.now.events.now seat sale }
+{
+    if none_is_left(view, seat, sale) {
+        Cause::NobodyElse
+    } else {
+        Cause::PresidencyMoves
+    }
+}
+
+/// Returns whether the president would keep fewer than two shares, and no other seat has two.
+fn none_is_left(view: &GameView, seat: Seat, sale: Sale) -> bool
+    ensures { result ≡ none_is_left view.now.seats view.now.events.now seat sale }
+{
+    would_keep(view, seat, sale) < PRESIDENT_SHARES
+        && !another_has(view, sale.company, seat, PRESIDENT_SHARES)
+}
+
+/// Returns what the seat would keep of the company.
+fn would_keep(view: &GameView, seat: Seat, sale: Sale) -> ShareCount
+    ensures { result ≡ kept_after view.now.events.now seat sale }
+{
+    view.shares(sale.company, Shareholder::Seat(seat)) - ShareCount::from(sale.shares)
+}
+
+/// Returns whether another seat has at least this many shares of a company.
+fn another_has(view: &GameView, company: Company, seat: Seat, least: ShareCount) -> bool
+    ensures { result
+        ≡ another_has view.now.seats view.now.events.now company seat least }
+{
+    let mut other = seat;
+    for _ in 1..view.seats {
+        other = other.left(view.seats);
+        if view.shares(company, Shareholder::Seat(other)) >= least {
+            return true;
+        }
+    }
+    false
+}

@@ -1,0 +1,49 @@
+//! Which lines of a round were refused.
+ghost use Rattle.std.specs.Prelude.{◌≡◌, IfOk};
+ghost use Rattle.desk_round.specs.Refused.{is_refused, refused_in, within_then};
+ghost use Rattle.tables.specs.Round.{same_round};
+
+use crate::played::same_round;
+use history::{Event, Verdict};
+use std::alloc::{AllocError, Global};
+use tables::Round;
+
+/// Returns the places in the list of events of all rulings of a round by which a line was refused,
+/// or has a fault, in their order. Fails only if allocation fails.
+pub(crate) fn refused_in(
+    alloc: Global,
+    events: &[Event],
+    round: Round,
+) -> Result<Vec<usize>, AllocError>
+    ensures { IfOk result (λ places. places.items ≡ refused_in round events.now) }
+{
+    let mut places = Vec::new(alloc);
+    let mut within = false;
+    for (place, event) in events.iter().enumerate() {
+        within = within_then(within, event, round);
+        if within && is_refused(event) {
+            places.push(place)?;
+        }
+    }
+    Ok(places)
+}
+
+/// Returns whether a round is in hand after an event.
+fn within_then(within: bool, event: &Event, round: Round) -> bool
+    ensures { result ≡ within_then round within event.now }
+{
+    match event.round() {
+        Some(begun) => same_round(begun, round),
+        None => within,
+    }
+}
+
+/// Returns whether an event is a ruling by which a line was refused, or has a fault.
+fn is_refused(event: &Event) -> bool
+    ensures { result ≡ is_refused event.now }
+{
+    match event {
+        Event::Ruled { ruling, .. } => !matches!(ruling.verdict(), Verdict::Obeyed),
+        _ => false,
+    }
+}
