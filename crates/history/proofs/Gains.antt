@@ -81,12 +81,8 @@ module _ (game : Game) (event : Event) (transfer : Transfer) (moves : transfer_o
       → AreOffered (with_event game event).events
   offered_moved no_owner enough company unplaced =
       let left = enough company (unplaced_before game event company unplaced) in
-      omega (
-        arith,
-        ints,
-        shares_after game.events event transfer company InitialOffering moves,
-        least_after game event (closed_kept game event no_owner) company,
-      )
+      let fact = shares_after game.events event transfer company InitialOffering moves in
+      omega (arith, ints, least_after game event (closed_kept game event no_owner) company)
 
   -- what an event has to show that moves shares at the table, as many as there are
   pub move_shows : ownership_of event ≡ None → IsAtTable game.seats transfer.from → IsAtTable game.seats transfer.to
@@ -104,12 +100,9 @@ module _ (game : Game) (event : Event) (transfer : Transfer) (moves : transfer_o
       → StayLed game.events (with_event game event).events
   stay_led_gaining bank no_par no_office company =
       still_led game.events (with_event game event).events company (par_of_before game.events event company no_par)
-      (president_of_before game.events event company no_office) (λ seat _ two. omega (
-        arith,
-        ints,
-        shares_after game.events event transfer company (OfSeat seat) moves,
-        none_with_seat transfer.from seat (moved company transfer) bank,
-      ))
+      (president_of_before game.events event company no_office) (λ seat _ two.
+      let fact = shares_after game.events event transfer company (OfSeat seat) moves in
+      omega (arith, ints, none_with_seat transfer.from seat (moved company transfer) bank))
 
   -- so are all
   pub gain_leads : IsOfBank transfer.from → par_set event ≡ None → office_of event ≡ None → square_set event ≡ None

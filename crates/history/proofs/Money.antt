@@ -60,55 +60,34 @@ with_its_company other sum = omega arith
 -- a sum with a party of the game is with its parties
 with_parties : (seats : ℕ) (at : Party) (sum : ℕ) → IsParty seats at → sum_with at sum (parties seats) ≡ sum
 with_parties seats party.Bank sum is =
-    omega (
-      arith,
-      sum_with_both party.Bank sum (map party_at (all_seats seats)) (map party_of_company companies),
-      no_seat_of_bank sum (all_seats seats),
-    )
+    let fact = sum_with_both party.Bank sum (map party_at (all_seats seats)) (map party_of_company companies) in
+    omega (arith, no_seat_of_bank sum (all_seats seats))
 with_parties seats (party.Holder (holder.Seat seat)) sum is =
-    omega (
-      arith,
-      sum_with_both (party_at seat) sum (map party_at (all_seats seats)) (map party_of_company companies),
-      seats_as_parts seat sum (all_seats seats),
-      with_seats seat sum 0 seats (omega arith) (omega arith),
-    )
+    let fact = sum_with_both (party_at seat) sum (map party_at (all_seats seats)) (map party_of_company companies) in
+    let other_fact = seats_as_parts seat sum (all_seats seats) in
+    omega (arith, with_seats seat sum 0 seats (omega arith) (omega arith))
 with_parties seats (party.Holder (holder.Company company)) sum is =
-    omega (
-      arith,
-      sum_with_both (party_of_company company) sum (map party_at (all_seats seats))
-          (map party_of_company companies),
-      no_seat_of_company company sum (all_seats seats),
-      with_its_company company
-          sum,
-    )
+    let fact = sum_with_both (party_of_company company) sum (map party_at (all_seats seats)) (map party_of_company companies) in
+    let other_fact = no_seat_of_company company sum (all_seats seats) in
+    omega (arith, with_its_company company sum)
 
 -- a party's cash with an event before them
 cash_in_front : (seats : ℕ) (event : Event) (events : List Event) (one : Party)
     → cash_of seats (event ∷ events) one ≡ (cash_of seats events one +ℤ pos (paid_to one (payment_of event))) -ℤ pos
     (paid_by one (payment_of event))
 cash_in_front seats event events one =
-    omega (
-      arith,
-      ints,
-      sum_by-cons (λ e. paid_to one (payment_of e)) event events,
-      sum_by-cons
-          (λ e. paid_by one (payment_of e)) event events,
-    )
+    let fact = sum_by-cons (λ e. paid_to one (payment_of e)) event events in
+    omega (arith, ints, sum_by-cons (λ e. paid_by one (payment_of e)) event events)
 
 -- without a payment parties have together what they had
 unpaid : (seats : ℕ) (event : Event) (events : List Event) (some : List Party) → payment_of event ≡ None
     → cash_together seats (event ∷ events) some ≡ cash_together seats events some
 unpaid seats event events [] none = refl
 unpaid seats event events (one ∷ others) none =
-    omega (
-      arith,
-      ints,
-      cash_in_front seats event events one,
-      ap (paid_to one) none,
-      ap (paid_by one) none,
-      unpaid
-          seats event events others none,
-    )
+    let fact = cash_in_front seats event events one in
+    let other_fact = ap (paid_to one) none in
+    let third_fact = ap (paid_by one) none in
+    omega (arith, ints, unpaid seats event events others none)
 
 -- with a payment parties have together what it adds more, and what it takes less
 paid : (seats : ℕ) (event : Event) (events : List Event) (payment : Payment) (some : List Party)
@@ -117,15 +96,10 @@ paid : (seats : ℕ) (event : Event) (events : List Event) (payment : Payment) (
     (sum_with payment.from payment.amount some)
 paid seats event events payment [] pays = omega (arith, ints)
 paid seats event events payment (one ∷ others) pays =
-    omega (
-      arith,
-      ints,
-      cash_in_front seats event events one,
-      ap (paid_to one) pays,
-      ap (paid_by one) pays,
-      paid seats
-          event events payment others pays,
-    )
+    let fact = cash_in_front seats event events one in
+    let other_fact = ap (paid_to one) pays in
+    let third_fact = ap (paid_by one) pays in
+    omega (arith, ints, paid seats event events payment others pays)
 
 -- so all parties have together what they had
 together_stays : (seats : ℕ) (event : Event) (events : List Event) (payment : Option Payment)
@@ -133,14 +107,9 @@ together_stays : (seats : ℕ) (event : Event) (events : List Event) (payment : 
     → cash_together seats (event ∷ events) (parties seats) ≡ cash_together seats events (parties seats)
 together_stays seats event events None pays within = unpaid seats event events (parties seats) pays
 together_stays seats event events (Some payment) pays within =
-    omega (
-      arith,
-      ints,
-      paid seats event events payment (parties seats) pays,
-      with_parties seats payment.to
-          payment.amount within.1,
-      with_parties seats payment.from payment.amount within.0,
-    )
+    let fact = paid seats event events payment (parties seats) pays in
+    let other_fact = with_parties seats payment.to payment.amount within.1 in
+    omega (arith, ints, with_parties seats payment.from payment.amount within.0)
 
 -- at any other number of seats nobody begins with money
 begin_with_none : (seats : ℕ) (some : List Seat) → start_money_of seats ≡ 0

@@ -104,20 +104,12 @@ enough_after_exchange game seat from owner NewYorkCentral has before =
     (not_closed (last_said (λ e. owner_said MohawkHudson (ownership_of e)) game.events) owner has) in
     let eight : least_offered (game.events ++ Exchanged seat from ∷ []) NewYorkCentral ≡ 8 =
     ap (λ (closed : Bool). if closed then 8 else 9) (closed_after game.events seat from) in
-    omega (
-      arith,
-      ints,
-      shares_after game.events (Exchanged seat from) (exchange seat from) NewYorkCentral InitialOffering refl,
-      one_goes from seat,
-    )
+    let fact = shares_after game.events (Exchanged seat from) (exchange seat from) NewYorkCentral InitialOffering refl in
+    omega (arith, ints, one_goes from seat)
 enough_after_exchange game seat from owner other has before =
-    omega (
-      arith,
-      ints,
-      least_after game (Exchanged seat from) (λ _. closed_after game.events seat from) other,
-      shares_after game.events (Exchanged seat from) (exchange seat from) other InitialOffering refl,
-      part_of_none from (moved other (exchange seat from)) refl,
-    )
+    let fact = least_after game (Exchanged seat from) (λ _. closed_after game.events seat from) other in
+    let other_fact = shares_after game.events (Exchanged seat from) (exchange seat from) other InitialOffering refl in
+    omega (arith, ints, part_of_none from (moved other (exchange seat from)) refl)
 
 -- MH's exchange
 pub exchange_sound : ExchangeKeepsSound

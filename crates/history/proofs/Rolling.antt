@@ -72,23 +72,13 @@ still_held events event move place kind is there before =
           subst (λ (at : TrainPlace). pos 1 ≤ℤ trains_at events at kind)
           (same_train_place_is move.from place same.1) (subst
           (λ (of : Kind). pos 1 ≤ℤ trains_at events move.from of) (same_kind_is move.kind kind same.0) there) in
-          omega (
-            arith,
-            ints,
-            trains_at_end events event place kind,
-            ap (λ m. one_if (train_goes place kind m)) is,
-            ap
-                one_if goes,
-          )
+          let fact = trains_at_end events event place kind in
+          let other_fact = ap (λ m. one_if (train_goes place kind m)) is in
+          omega (arith, ints, ap one_if goes)
       | inr stays ↦
-          omega (
-            arith,
-            ints,
-            trains_at_end events event place kind,
-            ap (λ m. one_if (train_goes place kind m)) is,
-            ap
-                one_if stays,
-          )
+          let fact = trains_at_end events event place kind in
+          let other_fact = ap (λ m. one_if (train_goes place kind m)) is in
+          omega (arith, ints, ap one_if stays)
     ]
 
 -- a train that leaves a company or the pool is none that the bank sells
@@ -105,13 +95,10 @@ trains_after_move events event owner kind to is there before =
     let move : TrainMove = record { kind = kind; from = train_owner_place owner; to = to } in
     record {
       held = λ other of. still_held events event move (train_owner_place other) of is there (before.held other of);
-      sold = λ of number has. let few = before.sold of number has in omega (
-        arith,
-        sold_at_end events event of,
-        ap (λ m. one_if (train_goes place.Bank of m)) is,
-        ap one_if
-            (never_of_bank owner of kind to),
-      );
+      sold = λ of number has. let few = before.sold of number has in
+          let fact = sold_at_end events event of in
+          let other_fact = ap (λ m. one_if (train_goes place.Bank of m)) is in
+          omega (arith, ap one_if (never_of_bank owner of kind to));
     }
 
 -- the bank is neither of them
@@ -128,35 +115,22 @@ pub trains_after_sale : (events : List Event) (event : Event) (kind : Kind) (to 
 trains_after_sale events event kind to is left before =
     let move : TrainMove = record { kind = kind; from = place.Bank; to = to } in
     record {
-      held = λ other of. let had = before.held other of in omega (
-        arith,
-        ints,
-        trains_at_end events event (train_owner_place other) of,
-        ap
-            (λ m. one_if (train_goes (train_owner_place other) of m)) is,
-        ap one_if
-            (none_from_train_owner other of kind to),
-      );
+      held = λ other of. let had = before.held other of in
+          let fact = trains_at_end events event (train_owner_place other) of in
+          let other_fact = ap (λ m. one_if (train_goes (train_owner_place other) of m)) is in
+          omega (arith, ints, ap one_if (none_from_train_owner other of kind to));
       sold = λ of number has. elim (truth (same_kind kind of)) [
         | inl same ↦
             let fewer = left number (ap (λ k. (trains_of k).number) (same_kind_is kind of same) ∙ has) in
             let sold = subst (λ k. trains_sold events k < number) (same_kind_is kind of same) fewer in
-            omega (
-              arith,
-              sold_at_end events event of,
-              ap (λ m. one_if (train_goes place.Bank of m)) is,
-              ap
-                  (λ (test : Bool). one_if (test && true)) same,
-            )
+            let fact = sold_at_end events event of in
+            let other_fact = ap (λ m. one_if (train_goes place.Bank of m)) is in
+            omega (arith, ap (λ (test : Bool). one_if (test && true)) same)
         | inr other ↦
             let few = before.sold of number has in
-            omega (
-              arith,
-              sold_at_end events event of,
-              ap (λ m. one_if (train_goes place.Bank of m)) is,
-              ap
-                  (λ (test : Bool). one_if (test && true)) other,
-            )
+            let fact = sold_at_end events event of in
+            let other_fact = ap (λ m. one_if (train_goes place.Bank of m)) is in
+            omega (arith, ap (λ (test : Bool). one_if (test && true)) other)
       ];
     }
 

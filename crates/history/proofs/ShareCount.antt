@@ -1,7 +1,7 @@
 -- What becomes of the shares of the companies where an event moves some: they leave one place and
 -- go to another, and ten stay ten.
-use Rattle.std.proofs.Common.{◌≡◌, ◌≢◌, ℕ, zero, suc, ◌+◌, ◌≤◌, ◌<◌, inl, inr, Bool, true, if◌then◌else◌, List, [], ◌∷◌}
-use Rattle.std.proofs.Common.{◌++◌, Some, map, pos, ◌≤ℤ◌, ◌-ℤ◌, ◌+ℤ◌, refl, subst, ap, arith}
+use Rattle.std.proofs.Common.{◌≡◌, ◌≢◌, ℕ, zero, suc, ◌+◌, ◌≤◌, ◌<◌, inl, inr, true, if◌then◌else◌, List, [], ◌∷◌}
+use Rattle.std.proofs.Common.{◌++◌, Some, map, pos, ◌≤ℤ◌, ◌-ℤ◌, ◌+ℤ◌, refl, ap, arith}
 use Rattle.std.proofs.lemmas.Bool.{cases_eq}
 use Rattle.std.proofs.lemmas.Bool.Decides.{Decides-eqb}
 use Rattle.std.proofs.lemmas.Int.{ints}
@@ -48,18 +48,12 @@ pub shares_after : (events : List Event) (event : Event) (transfer : Transfer) (
     ≡ (shares_of events company place +ℤ pos (part transfer.to place (moved company transfer))) -ℤ pos
     (part transfer.from place (moved company transfer))
 shares_after events event transfer company place is =
-    omega (
-      arith,
-      ints,
-      shares_of_at_end events event company place,
-      ap (brought_to company place) is,
-      ap
-          (taken_from company place) is,
-      either_order (same_company transfer.company company)
-          (same_shareholder transfer.to place) transfer.shares,
-      either_order (same_company transfer.company company)
-          (same_shareholder transfer.from place) transfer.shares,
-    )
+    let fact = shares_of_at_end events event company place in
+    let other_fact = ap (brought_to company place) is in
+    let third_fact = ap (taken_from company place) is in
+    let fourth_fact = either_order (same_company transfer.company company) (same_shareholder transfer.to place) transfer.shares in
+    let fifth_fact = either_order (same_company transfer.company company) (same_shareholder transfer.from place) transfer.shares in
+    omega (arith, ints)
 
 -- seats together
 held_by_after : (events : List Event) (event : Event) (transfer : Transfer) (company : Company) (seats : List Seat)
@@ -68,13 +62,8 @@ held_by_after : (events : List Event) (event : Event) (transfer : Transfer) (com
     (parts transfer.from (moved company transfer) seats)
 held_by_after events event transfer company [] is = omega (arith, ints)
 held_by_after events event transfer company (seat ∷ others) is =
-    omega (
-      arith,
-      ints,
-      shares_after events event transfer company (OfSeat seat) is,
-      held_by_after events event
-          transfer company others is,
-    )
+    let fact = shares_after events event transfer company (OfSeat seat) is in
+    omega (arith, ints, held_by_after events event transfer company others is)
 
 -- the place is one of a table
 abbrev pub IsAtTable : ℕ → Shareholder → Type 0
@@ -106,18 +95,12 @@ pub with_seats : (seat : Seat) (shares from count : ℕ) → from ≤ seat.0 →
 with_seats seat shares from zero low high = absurd (omega arith)
 with_seats seat shares from (suc count) low high =
     elim (cases_eq seat.0 from) [
-      | inl same ↦ omega (
-        arith,
-        chosen seat.0 from shares 0 same,
-        none_later seat shares (from + 1) count
-            (omega arith),
-      )
-      | inr apart ↦ omega (
-        arith,
-        passed_over seat.0 from shares 0 apart,
-        with_seats seat shares (from + 1) count
-            (omega arith) (omega arith),
-      )
+      | inl same ↦
+          let fact = chosen seat.0 from shares 0 same in
+          omega (arith, none_later seat shares (from + 1) count (omega arith))
+      | inr apart ↦
+          let fact = passed_over seat.0 from shares 0 apart in
+          omega (arith, with_seats seat shares (from + 1) count (omega arith) (omega arith))
     ]
 
 -- shares at one place of a table are somewhere
@@ -132,19 +115,12 @@ pub ten_after : (game : Game) (event : Event) (transfer : Transfer) → transfer
     → IsAtTable game.seats transfer.from → IsAtTable game.seats transfer.to → AreTenInAll game
     → AreTenInAll (with_event game event)
 ten_after game event transfer is from to ten company =
-    omega (
-      arith,
-      ints,
-      ten company,
-      shares_after game.events event transfer company InitialOffering is,
-      shares_after
-          game.events event transfer company BankPool is,
-      held_by_after game.events event transfer company
-          (all_seats game.seats) is,
-      all_there game.seats transfer.from (moved company transfer) from,
-      all_there
-          game.seats transfer.to (moved company transfer) to,
-    )
+    let fact = ten company in
+    let other_fact = shares_after game.events event transfer company InitialOffering is in
+    let third_fact = shares_after game.events event transfer company BankPool is in
+    let fourth_fact = held_by_after game.events event transfer company (all_seats game.seats) is in
+    let fifth_fact = all_there game.seats transfer.from (moved company transfer) from in
+    omega (arith, ints, all_there game.seats transfer.to (moved company transfer) to)
 
 -- no more leave a place than it has
 taken_low : (events : List Event) (transfer : Transfer) (company : Company) (place : Shareholder)
@@ -154,29 +130,13 @@ taken_low events transfer company place enough held =
     elim (truth (same_company transfer.company company)) [
       | inl same ↦
           elim (truth (same_shareholder transfer.from place)) [
-            | inl here ↦
-                let its : moved company transfer ≡ transfer.shares =
-                ap (λ (is : Bool). if is then transfer.shares else 0) same in
-                let taken : part transfer.from place (moved company transfer) ≡ moved company transfer =
-                ap (λ (is : Bool). if is then moved company transfer else 0) here in
-                let at_company : pos transfer.shares ≤ℤ shares_of events company transfer.from =
-                subst (λ (one : Company). pos transfer.shares ≤ℤ shares_of events one transfer.from)
-                (same_company_is transfer.company company same) enough in
-                let at_place : pos transfer.shares ≤ℤ shares_of events company place =
-                subst (λ (one : Shareholder). pos transfer.shares ≤ℤ shares_of events company one)
-                (same_shareholder_is transfer.from place here) at_company in
-                omega (arith, ints)
-            | inr elsewhere ↦
-                let taken : part transfer.from place (moved company transfer) ≡ 0 =
-                ap (λ (is : Bool). if is then moved company transfer else 0) elsewhere in
-                omega (arith, ints)
+            | inl here ↦ rw (same, here) (rw (
+              ← (same_company_is transfer.company company same),
+              ← (same_shareholder_is transfer.from place here),
+            ) enough)
+            | inr elsewhere ↦ rw (same, elsewhere) held
           ]
-      | inr apart ↦
-          let its : moved company transfer ≡ 0 = ap (λ (is : Bool). if is then transfer.shares else 0) apart in
-          let taken : part transfer.from place (moved company transfer) ≡ part transfer.from place 0 =
-          ap (part transfer.from place) its in
-          let nothing : part transfer.from place 0 ≡ 0 = nothing_there (same_shareholder transfer.from place) in
-          omega (arith, ints)
+      | inr apart ↦ rw (apart, nothing_there (same_shareholder transfer.from place)) held
     ]
 
 -- shares are held as before, where there were this many
@@ -184,10 +144,5 @@ pub held_after : (events : List Event) (event : Event) (transfer : Transfer) →
     → pos transfer.shares ≤ℤ shares_of events transfer.company transfer.from → SharesAreHeld events
     → SharesAreHeld (events ++ event ∷ [])
 held_after events event transfer is enough held company place =
-    omega (
-      arith,
-      ints,
-      shares_after events event transfer company place is,
-      taken_low events transfer company place
-          enough (held company place),
-    )
+    let fact = shares_after events event transfer company place is in
+    omega (arith, ints, taken_low events transfer company place enough (held company place))

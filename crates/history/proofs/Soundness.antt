@@ -181,12 +181,8 @@ module _ (game : Game) (event : Event) where
       → AreOffered game.events → AreOffered after.events
   offered_after none closed offered company unplaced =
       let before = offered company (unplaced_before company unplaced) in
-      omega (
-        arith,
-        ints,
-        least_after closed company,
-        shares_of_before game.events event company InitialOffering none,
-      )
+      let fact = least_after closed company in
+      omega (arith, ints, shares_of_before game.events event company InitialOffering none)
 
   -- without a tile or a token the map state fits as before
   fit_kept : tile_laid event ≡ None → token_placed event ≡ None → LiesFit game.events → LiesFit after.events

@@ -145,13 +145,9 @@ module _ (game : Game) (started : Company) (seat : Seat) (price : ℕ) (event : 
         par_of_before first.events event company no_par ∙ par_after game.events started price company
             ∙ new_word (same_company started company) price (par_of game.events company) same,
         is_par,
-        omega (
-          arith,
-          ints,
-          shares_after first.events event (gift started seat 2) company (OfSeat seat) moves,
-          shares_of_before game.events (Par started price) company (OfSeat seat) refl,
-          itself seat.0 (moved company (gift started seat 2)),
-        ),
+        let fact = shares_after first.events event (gift started seat 2) company (OfSeat seat) moves in
+            let other_fact = shares_of_before game.events (Par started price) company (OfSeat seat) refl in
+            omega (arith, ints, itself seat.0 (moved company (gift started seat 2))),
       )
 
   -- it is led by the seat, and others as before
@@ -170,12 +166,8 @@ module _ (game : Game) (started : Company) (seat : Seat) (price : ℕ) (event : 
       → pos 2 ≤ℤ shares_of first.events started InitialOffering
   many_offered unplaced sound =
       let offered = sound.offered started unplaced in
-      omega (
-        arith,
-        ints,
-        shares_of_before game.events (Par started price) started InitialOffering refl,
-        least_eight game.events started,
-      )
+      let fact = shares_of_before game.events (Par started price) started InitialOffering refl in
+      omega (arith, ints, least_eight game.events started)
 
   -- a company without a square is another, which keeps its shares
   enough_left : (square : Square) → par_square_of price ≡ Some square → IsNearlySound first
