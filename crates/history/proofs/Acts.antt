@@ -18,7 +18,7 @@ use Rattle.totals.proofs.EventAtEnd.{last_said_before, sv_price_of_at_end}
 pub use Rattle.history.proofs.Soundness.{stays_sold}
 use Rattle.history.proofs.Soundness.{IsNearlySound, Shows, companies_after, floated_kept, led_kept, nearly_sound_after}
 use Rattle.history.proofs.Soundness.{nearly_sound_of, offered_after, paying, sound_after, sound_of, stay_led}
-use Rattle.history.proofs.Owned.{owner_is_party}
+use Rattle.history.proofs.Money.{owner_is_party}
 use Rattle.totals.proofs.Standing.{bids_split}
 use Rattle.totals.specs.Bids.{bids_elsewhere_of, tied_on}
 use Rattle.history.specs.Laws.{BidKeepsSound, PriceKeepsSound, RevenueKeepsSound, SaleKeepsSound, SvIsGivenAway}

@@ -1,6 +1,6 @@
 -- What a bid or a sale makes of the standing bids.
 use Rattle.std.proofs.Common.{◌<◌, ◌≡◌, ℕ, ◌≤◌, ◌==◌, ◌⊎◌, inl, inr, Bool, true, false, ◌&&◌, if◌then◌else◌, List, []}
-use Rattle.std.proofs.Common.{◌∷◌, ◌++◌, Option, Some, None, unwrap_or, sum_by, refl, sym, ap, ◌∙◌, arith}
+use Rattle.std.proofs.Common.{◌∷◌, ◌++◌, Option, Some, None, unwrap_or, sum_by, refl, sym, subst, ap, ◌∙◌, arith}
 use Rattle.std.proofs.lemmas.Bool.Decides.{Decides-eqb, nat_tests}
 use std.Path.{fun_ext}
 use Rattle.events.specs.Event.{bidding_of}
@@ -92,59 +92,51 @@ sale_cases : (here : Bool) (earlier : Option ℕ) (said : ℕ)
 sale_cases true earlier said is = absurd (cc)
 sale_cases false earlier said is = is
 
+-- so a seat has the bid that was made, or the one that it had
+bid_after : (events : List Event) (private : Private) (seat : Seat) (amount : ℕ) (on : Private) (by : Seat) (said : ℕ)
+    → bid_of (events ++ Bids private seat amount ∷ []) on by ≡ Some said
+    → ((seat ≡ by) × (private ≡ on) × (amount ≡ said)) ⊎ (bid_of events on by ≡ Some said)
+bid_after events private seat amount on by said is =
+    elim (bid_cases (same_private private on && (seat.0 == by.0)) amount (bid_of events on by) said
+    (sym (bid_of_at_end events (Bids private seat amount) on by) ∙ is)) [
+      | inl new ↦
+          let here = both (same_private private on) (seat.0 == by.0) new.0 in
+          inl (same_seat_is seat by here.1, same_private_is private on here.0, new.1)
+      | inr old ↦ inr old.1
+    ]
+
 -- so bids differ after a bid that differs from those of the other seats
 pub differ_after_bid : (events : List Event) (private : Private) (seat : Seat) (amount : ℕ)
     → ((other : Seat) → bid_of events private other ≡ Some amount → other ≡ seat) → BidsDiffer events
     → BidsDiffer (events ++ Bids private seat amount ∷ [])
 differ_after_bid events private seat amount apart differ on a b said of_a of_b =
-    let case_a = bid_cases (same_private private on && (seat.0 == a.0)) amount (bid_of events on a) said
-    (sym (bid_of_at_end events (Bids private seat amount) on a) ∙ of_a) in
-    let case_b = bid_cases (same_private private on && (seat.0 == b.0)) amount (bid_of events on b) said
-    (sym (bid_of_at_end events (Bids private seat amount) on b) ∙ of_b) in
-    elim case_a [
-      | inl new_a ↦
-          let here_a = both (same_private private on) (seat.0 == a.0) new_a.0 in
-          elim case_b [
-            | inl new_b ↦
-                let here_b = both (same_private private on) (seat.0 == b.0) new_b.0 in
-                sym (same_seat_is seat a here_a.1) ∙ same_seat_is seat b here_b.1
-            | inr old_b ↦
-                sym (same_seat_is seat a here_a.1) ∙ sym (apart b
-                (ap (λ p. bid_of events p b) (same_private_is private on here_a.0) ∙ old_b.1
-                ∙ ap (λ (n : ℕ). Some n) (sym new_a.1)))
-          ]
-      | inr old_a ↦
-          elim case_b [
-            | inl new_b ↦
-                let here_b = both (same_private private on) (seat.0 == b.0) new_b.0 in
-                apart a (ap (λ p. bid_of events p a) (same_private_is private on here_b.0) ∙ old_a.1
-                ∙ ap (λ (n : ℕ). Some n) (sym new_b.1)) ∙ same_seat_is seat b here_b.1
-            | inr old_b ↦ differ on a b said old_a.1 old_b.1
-          ]
+    elim (bid_after events private seat amount on a said of_a) [
+      | inl new_a ↦ elim (bid_after events private seat amount on b said of_b) [
+        | inl new_b ↦ sym new_a.0 ∙ new_b.0
+        | inr old_b ↦ sym new_a.0 ∙ sym (apart b (rw (new_a.1, new_a.2) old_b))
+      ]
+      | inr old_a ↦ elim (bid_after events private seat amount on b said of_b) [
+        | inl new_b ↦ apart a (rw (new_b.1, new_b.2) old_a) ∙ new_b.0
+        | inr old_b ↦ differ on a b said old_a old_b
+      ]
     ]
 
 -- and are small after a small bid
 pub small_after_bid : (events : List Event) (private : Private) (seat : Seat) (amount : ℕ) → amount ≤ 99999
     → BidsAreSmall events → BidsAreSmall (events ++ Bids private seat amount ∷ [])
 small_after_bid events private seat amount low small on by said is =
-    elim (bid_cases (same_private private on && (seat.0 == by.0)) amount (bid_of events on by) said
-    (sym (bid_of_at_end events (Bids private seat amount) on by) ∙ is)) [
-      | inl new ↦ omega (arith, new.1)
-      | inr old ↦ small on by said old.1
+    elim (bid_after events private seat amount on by said is) [
+      | inl new ↦ omega (arith, new.2)
+      | inr old ↦ small on by said old
     ]
-
--- two seats are the same where a test says so
-its_seat : (on : Bool) (a b : ℕ) → (on && (a == b)) ≡ true → a ≡ b
-its_seat on a b both = grind (arith, nat_tests)
 
 -- and are of seats at the table after the bid of one
 pub seated_after_bid : (seats : ℕ) (events : List Event) (private : Private) (seat : Seat) (amount : ℕ)
     → seat.0 < seats → BiddersAreSeated seats events → BiddersAreSeated seats (events ++ Bids private seat amount ∷ [])
 seated_after_bid seats events private seat amount under seated on by said is =
-    elim (bid_cases (same_private private on && (seat.0 == by.0)) amount (bid_of events on by) said
-    (sym (bid_of_at_end events (Bids private seat amount) on by) ∙ is)) [
-      | inl new ↦ let same : seat.0 ≡ by.0 = its_seat (same_private private on) seat.0 by.0 new.0 in omega arith
-      | inr old ↦ seated on by said old.1
+    elim (bid_after events private seat amount on by said is) [
+      | inl new ↦ subst (λ (one : Seat). one.0 < seats) new.0 under
+      | inr old ↦ seated on by said old
     ]
 
 -- after a sale bids stand as before on the other privates

@@ -13,7 +13,7 @@ use Rattle.totals.proofs.Choices.{nothing_there, old_word, same_company_is, trut
 use Rattle.totals.proofs.EventAtEnd.{is_floated_before, last_said_at_end, par_of_before}
 use Rattle.totals.proofs.EventAtEnd.{president_of_before, square_of_before}
 use Rattle.history.proofs.NearlySound.{nearly_sound_recorded, recorded_same}
-use Rattle.history.proofs.Gains.{move_shows}
+use Rattle.history.proofs.ShareCount.{move_shows}
 use Rattle.history.proofs.Soundness.{IsNearlySound, StayLed, floated_kept, given_kept, led_kept, nearly_sound_after}
 use Rattle.history.proofs.Soundness.{nearly_sound_of, paying, sound_after, sound_of, stay_led, still_led}
 use Rattle.history.proofs.Starts.{is_led_passed, least_eight}

@@ -8,7 +8,7 @@ use Rattle.events.specs.declared.event.Shareholder.TheVariants.{InitialOffering,
 use Rattle.events.specs.declared.event.Transfer.{Transfer}
 use Rattle.history.proofs.Acts.{sale_sound}
 use Rattle.totals.proofs.EventAtEnd.{last_said_at_end, shares_of_before}
-use Rattle.history.proofs.Gains.{gain_leads, left_after, move_shows}
+use Rattle.history.proofs.ShareCount.{gain_leads, left_after, move_shows}
 use Rattle.history.proofs.Soundness.{nearly_sound_of, sound_after}
 use Rattle.history.specs.Laws.{CaIsSoldWithItsGift, GiftKeepsSound}
 use Rattle.totals.specs.LookBack.{is_sold, owner_said, with_event}

@@ -1,11 +1,9 @@
 pub mod RoundOffers
 pub mod Rolling
 pub mod BidWords
-pub mod Owned
 pub mod Acts
 pub mod Soundness
 pub mod ShareCount
-pub mod Gains
 pub mod Gifts
 pub mod Starts
 pub mod Purchases
@@ -17,6 +15,5 @@ pub mod Payments
 pub mod TrainActs
 pub mod PrivateActs
 pub mod ForcedActs
-pub mod Revenues
 pub mod Cheapest
 pub mod Recording

@@ -1,26 +1,34 @@
 -- A payment takes from one party what it adds to another, so that all money stays what it was at
--- first.
-use Rattle.std.proofs.Common.{◌≡◌, ◌≢◌, ℕ, ◌+◌, ◌*◌, ◌-◌, ◌==◌, inl, inr, if◌then◌else◌, List, [], ◌∷◌}
-use Rattle.std.proofs.Common.{◌++◌, map, Option, Some, None, pos, ◌-ℤ◌, ◌+ℤ◌, refl, sym, subst, ap, ◌∙◌, arith}
+-- first. A private's owner has paid for it, so that it is a party of the game where all payments go
+-- between parties.
+use Rattle.std.proofs.Common.{◌≡◌, ◌≢◌, ℕ, ◌+◌, ◌*◌, ◌-◌, ◌==◌, inl, inr, if◌then◌else◌, List, [], ◌∷◌, ◌++◌, map}
+use Rattle.std.proofs.Common.{Option, Some, None, pos, ◌-ℤ◌, ◌+ℤ◌, refl, sym, subst, ap, ◌∙◌, arith, ◌⊎◌, Bool, true}
+use Rattle.std.proofs.Common.{false}
 use Rattle.std.proofs.lemmas.Bool.{cases_eq}
 use Rattle.std.proofs.lemmas.Bool.Decides.{nat_tests}
 use Rattle.std.proofs.lemmas.Int.{ints}
 use Rattle.std.proofs.lemmas.List.Sums.{sum_by-cons}
-use Rattle.events.specs.Event.{party_at, party_of_company, payment_of}
+use Rattle.events.specs.Event.{party_at, party_of_company, payment_of, ownership_of}
 use Rattle.events.specs.declared.event.Event.{Event}
 use Rattle.events.specs.declared.event.Holder.TheVariants as holder
 use Rattle.events.specs.declared.event.Party.{Party}
 use Rattle.events.specs.declared.event.Party.TheVariants as party
 use Rattle.events.specs.declared.event.Payment.{Payment}
-use Rattle.totals.specs.LookBack.{cash_of, paid_by, paid_to, same_party}
+use Rattle.totals.specs.LookBack.{cash_of, paid_by, paid_to, same_party, last_said, owner_said}
 use Rattle.events.specs.declared.event.Shareholder.TheVariants.{Seat as OfSeat}
 use Rattle.history.proofs.ShareCount.{parts, with_seats}
-use Rattle.history.specs.Money.{AllMoneyStays, IsParty, IsWithin, cash_together, parties}
-use Rattle.tables.specs.Roster.{bank_start_of, companies, start_money_of}
+use Rattle.history.specs.Money.{AllMoneyStays, IsParty, IsWithin, cash_together, parties, AreWithin}
+use Rattle.tables.specs.Roster.{bank_start_of, companies, start_money_of, same_private}
 use Rattle.tables.specs.Seat.{all_seats}
 use Rattle.tables.specs.declared.roster.Company.{Company}
 use Rattle.tables.specs.declared.roster.Company.TheVariants.{Pennsylvania}
 use Rattle.tables.specs.declared.seat.Seat.{Seat}
+use Rattle.std.specs.Option.{option_flatten, option_or}
+use Rattle.events.specs.declared.event.Event.TheVariants.{Closed, Exchanged, PrivateBought, Sold}
+use Rattle.events.specs.declared.event.Holder.{Holder}
+use Rattle.history.specs.Laws.{OwnersAreParties}
+use Rattle.tables.specs.declared.roster.Private.{Private}
+use Rattle.tables.specs.declared.roster.Private.TheVariants.{MohawkHudson}
 
 -- what of a sum, all with one party, is with some parties
 abbrev sum_with : Party → ℕ → List Party → ℕ
@@ -152,3 +160,60 @@ pub money_stays : AllMoneyStays
 money_stays seats [] within = money_at_first seats
 money_stays seats (event ∷ events) within =
     together_stays seats event events (payment_of event) refl within.0 ∙ money_stays seats events within.1
+
+-- an owner, if there is one, is a party
+abbrev IsOwnedWithin : ℕ → Option Holder → Type 0
+IsOwnedWithin seats None = Unit {0}
+IsOwnedWithin seats (Some owner) = IsParty seats (party.Holder owner)
+
+-- so is the one that an event names, where this one is
+owner_named : (same : Bool) (seats : ℕ) (said : Option Holder) (owner : Holder)
+    → ◌≡◌ {A = Option (Option Holder)} (if same then Some said else None) (Some (Some owner))
+    → IsOwnedWithin seats said → IsParty seats (party.Holder owner)
+owner_named true seats said owner names within =
+    let is : said ≡ Some owner = cc in
+    subst (IsOwnedWithin seats) is within
+owner_named false seats said owner names within = absurd (cc)
+
+-- as it is where the event pays between parties
+named_is_party : (seats : ℕ) (event : Event) (private : Private) (owner : Holder) → IsWithin seats (payment_of event)
+    → owner_said private (ownership_of event) ≡ Some (Some owner) → IsParty seats (party.Holder owner)
+named_is_party seats (Sold sold seat price) private owner pays names =
+    owner_named (same_private sold private) seats (Some (holder.Seat seat)) owner names pays.0
+named_is_party seats (Exchanged seat from) private owner pays names =
+    owner_named (same_private MohawkHudson private) seats None owner names tt
+named_is_party seats (Closed closed) private owner pays names =
+    owner_named (same_private closed private) seats None owner names tt
+named_is_party seats (PrivateBought bought company seller price) private owner pays names =
+    owner_named (same_private bought private) seats (Some (holder.Company company)) owner names tt
+named_is_party seats other private owner pays names = absurd (cc)
+
+-- the last word is the later one, or the earlier
+either_word : {A : Type 0} (later earlier : Option A) (word : A) → option_or later earlier ≡ Some word
+    → (later ≡ Some word) ⊎ (earlier ≡ Some word)
+either_word None earlier word is = inr is
+either_word (Some later) earlier word is = inl is
+
+-- the owner of whom was said last is a party
+word_is_party : (seats : ℕ) (events : List Event) (private : Private) (owner : Holder) → AreWithin seats events
+    → last_said (λ e. owner_said private (ownership_of e)) events ≡ Some (Some owner)
+    → IsParty seats (party.Holder owner)
+word_is_party seats [] private owner within said = absurd (cc)
+word_is_party seats (event ∷ events) private owner within said =
+    elim (either_word (last_said (λ e. owner_said private (ownership_of e)) events)
+    (owner_said private (ownership_of event)) (Some owner) said) [
+      | inl later ↦ word_is_party seats events private owner within.1 later
+      | inr here ↦ named_is_party seats event private owner within.0 here
+    ]
+
+-- an owner was said
+said_so : (word : Option (Option Holder)) (owner : Holder) → option_flatten word ≡ Some owner → word ≡ Some (Some owner)
+said_so None owner is = absurd (cc)
+said_so (Some None) owner is = absurd (cc)
+said_so (Some (Some one)) owner is = ap Some is
+
+-- so is the owner of a private in a sound list
+pub owner_is_party : OwnersAreParties
+owner_is_party game private owner sound owns =
+    word_is_party game.seats game.events private owner sound.within
+    (said_so (last_said (λ e. owner_said private (ownership_of e)) game.events) owner owns)

@@ -6,7 +6,7 @@ use Rattle.events.specs.declared.event.Event.TheVariants.{PrivateBought}
 use Rattle.events.specs.declared.event.Holder.{Holder}
 use Rattle.events.specs.declared.event.Holder.TheVariants as holder
 use Rattle.history.proofs.Acts.{stays_closed}
-use Rattle.history.proofs.Owned.{owner_is_party}
+use Rattle.history.proofs.Money.{owner_is_party}
 use Rattle.history.proofs.Payments.{can_pay}
 use Rattle.history.proofs.Soundness.{offered_after, paying, sound_after}
 use Rattle.history.specs.Laws.{PrivateKeepsSound}

@@ -11,8 +11,8 @@ use Rattle.events.specs.declared.event.Holder.{Holder}
 use Rattle.events.specs.declared.event.Shareholder.TheVariants.{InitialOffering, Seat as OfSeat}
 use Rattle.events.specs.declared.event.Transfer.{Transfer}
 use Rattle.totals.proofs.EventAtEnd.{bids_of_before, cash_of_before, last_said_at_end}
-use Rattle.history.proofs.Gains.{EnoughAreLeft, bank_at_table, gain_leads, left_after, move_shows}
-use Rattle.history.proofs.Gains.{source_of_bank}
+use Rattle.history.proofs.ShareCount.{EnoughAreLeft, bank_at_table, gain_leads, left_after, move_shows}
+use Rattle.history.proofs.ShareCount.{source_of_bank}
 use Rattle.history.proofs.Payments.{can_afford}
 use Rattle.history.proofs.PrivateActs.{not_closed}
 use Rattle.history.proofs.Soundness.{IsNearlySound, Shows, least_after, nearly_sound_of, paying}

@@ -13,7 +13,7 @@ use Rattle.events.specs.declared.event.Shareholder.TheVariants.{InitialOffering,
 use Rattle.totals.proofs.Choices.{new_word, old_word, something, truth}
 use Rattle.totals.proofs.EventAtEnd.{is_floated_before, last_said_at_end, par_of_before, president_of_before}
 use Rattle.totals.proofs.EventAtEnd.{shares_of_before, square_of_before}
-use Rattle.history.proofs.Gains.{EnoughAreLeft, left_after, move_shows, stay_led_gaining}
+use Rattle.history.proofs.ShareCount.{EnoughAreLeft, left_after, move_shows, stay_led_gaining}
 use Rattle.history.proofs.Gifts.{gift}
 use Rattle.history.proofs.Soundness.{IsNearlySound, Shows, given_kept, nearly_sound_after}
 use Rattle.history.proofs.Soundness.{nearly_sound_of, sound_of, still_led}

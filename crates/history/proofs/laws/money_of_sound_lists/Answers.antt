@@ -1,5 +1,5 @@
 use Rattle.history.proofs.Money.{money_stays}
-use Rattle.history.proofs.Owned.{owner_is_party}
+use Rattle.history.proofs.Money.{owner_is_party}
 use Rattle.history.proofs.laws.money_of_sound_lists.Goals as goal
 
 pub returns-clause-together : goal.returns-clause-together

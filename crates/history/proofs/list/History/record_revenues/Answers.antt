@@ -1,5 +1,5 @@
 use Rattle.std.proofs.Common.{ℕ, refl, ap, get_or, ◌∙◌}
-use Rattle.history.proofs.Revenues.{revenues_go_on}
+use Rattle.history.proofs.Recording.{revenues_go_on}
 use Rattle.totals.specs.LookBack.{Game, owner_of}
 use Rattle.history.specs.Record.{paid_to_owner}
 use Rattle.tables.specs.Roster.{privates}
