@@ -1,6 +1,6 @@
 -- A bid, a sale, a revenue or a new price of SV keeps a list sound.
 use Rattle.std.proofs.Common.{◌==◌, ◌≤◌, ◌≡◌, ℕ, ◌<◌, inl, inr, Bool, true, false, if◌then◌else◌, [], ◌∷◌, ◌++◌, Option}
-use Rattle.std.proofs.Common.{Some, None, is_some, is_none, ◌&&◌, pos, ◌≤ℤ◌, ◌-ℤ◌, List, refl, sym, subst, ap, ◌∙◌, arith}
+use Rattle.std.proofs.Common.{Some, None, is_some, is_none, ◌&&◌, pos, ◌≤ℤ◌, List, refl, sym, subst, ap, ◌∙◌, arith}
 use Rattle.std.proofs.lemmas.Int.{ints}
 use Rattle.std.specs.Option.{option_flatten}
 use Rattle.events.specs.Event.{ownership_of, party_at}
@@ -20,9 +20,9 @@ use Rattle.history.proofs.Soundness.{IsNearlySound, Shows, companies_after, floa
 use Rattle.history.proofs.Soundness.{nearly_sound_of, offered_after, paying, sound_after, sound_of, stay_led}
 use Rattle.history.proofs.Money.{owner_is_party}
 use Rattle.totals.proofs.Standing.{bids_split}
-use Rattle.totals.specs.Bids.{bids_elsewhere_of, tied_on}
+use Rattle.totals.specs.Bids.{free_for, tied_on}
 use Rattle.history.specs.Laws.{BidKeepsSound, PriceKeepsSound, RevenueKeepsSound, SaleKeepsSound, SvIsGivenAway}
-use Rattle.totals.specs.LookBack.{Game, cash_of, is_closed, is_sold, owner_of, owner_said, sv_price_of, with_event}
+use Rattle.totals.specs.LookBack.{Game, is_closed, is_sold, owner_of, owner_said, sv_price_of, with_event}
 use Rattle.history.specs.Sound.{IsSvPrice, SeatsAreSolvent}
 use Rattle.tables.specs.Roster.{same_private}
 use Rattle.tables.specs.declared.roster.Private.{Private}
@@ -31,14 +31,11 @@ use Rattle.tables.specs.declared.seat.Seat.{Seat}
 
 -- a sum of a seat, or otherwise no more than was tied, is free of the other bids
 free_by : (game : Game) (private : Private) (seat by : Seat) (sum rest : ℕ)
-    → pos sum ≤ℤ (cash_of game.seats game.events (party_at seat) -ℤ pos
-    (bids_elsewhere_of game.events seat private)) → SeatsAreSolvent game → rest ≤ tied_on game.events by private
-    → pos (if seat.0 == by.0 then sum else rest) ≤ℤ (cash_of game.seats game.events (party_at by) -ℤ pos
-    (bids_elsewhere_of game.events by private))
+    → pos sum ≤ℤ free_for game.seats game.events seat private → SeatsAreSolvent game → rest ≤ tied_on game.events by private
+    → pos (if seat.0 == by.0 then sum else rest) ≤ℤ free_for game.seats game.events by private
 free_by game private seat by sum rest affordable solvent low =
     elim (truth (seat.0 == by.0)) [
-      | inl same ↦ rw same (subst (λ (one : Seat). pos sum ≤ℤ (cash_of game.seats game.events (party_at one) -ℤ pos
-          (bids_elsewhere_of game.events one private))) (same_seat_is seat by same) affordable)
+      | inl same ↦ rw same (rw (← (same_seat_is seat by same)) affordable)
       | inr apart ↦
           let before = solvent by in
           rw apart (omega (arith, ints, bids_split game.events by private))
@@ -46,8 +43,7 @@ free_by game private seat by sum rest affordable solvent low =
 
 -- after a bid each seat still has what its bids tie
 solvent_after_bid : (game : Game) (private : Private) (seat : Seat) (amount : ℕ)
-    → pos amount ≤ℤ (cash_of game.seats game.events (party_at seat) -ℤ pos
-    (bids_elsewhere_of game.events seat private)) → SeatsAreSolvent game
+    → pos amount ≤ℤ free_for game.seats game.events seat private → SeatsAreSolvent game
     → SeatsAreSolvent (with_event game (Bids private seat amount))
 solvent_after_bid game private seat amount affordable solvent by =
     let bid = Bids private seat amount in
@@ -74,8 +70,7 @@ bid_sound game private seat amount low seated apart affordable sound =
 
 -- after a sale each seat still has what its bids tie
 solvent_after_sale : (game : Game) (private : Private) (seat : Seat) (price : ℕ)
-    → pos price ≤ℤ (cash_of game.seats game.events (party_at seat) -ℤ pos
-    (bids_elsewhere_of game.events seat private)) → SeatsAreSolvent game
+    → pos price ≤ℤ free_for game.seats game.events seat private → SeatsAreSolvent game
     → SeatsAreSolvent (with_event game (Sold private seat price))
 solvent_after_sale game private seat price affordable solvent by =
     let sale = Sold private seat price in
@@ -105,8 +100,7 @@ stays_closed events event owned private owner says standing closed =
 
 -- what a sale of an unsold private has to show
 sale_shows : (game : Game) (private : Private) (seat : Seat) (price : ℕ) → is_sold game.events private ≡ false
-    → seat.0 < game.seats → pos price ≤ℤ (cash_of game.seats game.events (party_at seat) -ℤ pos
-    (bids_elsewhere_of game.events seat private)) → IsNearlySound game → Shows game (Sold private seat price)
+    → seat.0 < game.seats → pos price ≤ℤ free_for game.seats game.events seat private → IsNearlySound game → Shows game (Sold private seat price)
 sale_shows game private seat price unsold seated affordable before = (
   solvent_after_sale game private seat price affordable before.solvent,
   (

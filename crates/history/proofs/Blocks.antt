@@ -101,9 +101,9 @@ module _ (game : Game) (company : Company) (seat : Seat) (shares price : ℕ) wh
   is_led_then stays other =
       still_led game.events sold.events other (pars_then other) (presidents_then other)
       (λ president presides two. elim (truth (same_company company other)) [
-        | inl same ↦ subst (λ (one : Company). president_of game.events one ≡ Some president
-            → pos 2 ≤ℤ shares_of sold.events one (OfSeat president)) (same_company_is company other same)
-            (stays president) presides
+        | inl same ↦
+            let here = same_company_is company other same in
+            rw (← here) (stays president (ap (president_of game.events) here ∙ presides))
         | inr apart ↦ rw (others_held other president apart) two
       ])
 
@@ -115,8 +115,7 @@ module _ (game : Game) (company : Company) (seat : Seat) (shares price : ℕ) wh
         before.par,
         pars_then other ∙ before.has_par,
         before.is_par,
-        subst (λ (one : Company). pos 2 ≤ℤ shares_of sold.events one (OfSeat president))
-            (same_company_is company other same) two,
+        rw (← (same_company_is company other same)) two,
       )) (λ apart. still_led game.events sold.events other (pars_then other) (presidents_then other)
       (λ by _ two. rw (others_held other by apart) two) before)
 
@@ -155,10 +154,8 @@ is_led_succeeded events company old new presided more other before =
     let here : company ≡ other = same_company_is company other same in
     let same_seat : before.president ≡ old = ap (λ (word : Option Seat). unwrap_or word old)
     (sym before.has_president ∙ sym (ap (president_of events) here) ∙ presided) in
-    let its_more : shares_of events other (OfSeat old) ≤ℤ shares_of events other (OfSeat new) =
-    subst (λ (one : Company). shares_of events one (OfSeat old) ≤ℤ shares_of events one (OfSeat new)) here more in
-    let two : pos 2 ≤ℤ shares_of events other (OfSeat old) =
-    subst (λ (seat : Seat). pos 2 ≤ℤ shares_of events other (OfSeat seat)) same_seat before.holds_two in
+    let its_more : shares_of events other (OfSeat old) ≤ℤ shares_of events other (OfSeat new) = rw (← here) more in
+    let two : pos 2 ≤ℤ shares_of events other (OfSeat old) = rw (← same_seat) before.holds_two in
     (before.par, before.has_par, before.is_par, omega (arith, ints))) (λ _. before)
 
 -- a presidency that passes to a seat with no fewer shares

@@ -1,5 +1,5 @@
 -- What a seat or a company can pay for keeps a list sound.
-use Rattle.std.proofs.Common.{ℕ, ◌==◌, inl, inr, if◌then◌else◌, pos, ◌≤ℤ◌, refl, subst}
+use Rattle.std.proofs.Common.{ℕ, ◌==◌, inl, inr, if◌then◌else◌, pos, ◌≤ℤ◌, refl}
 use Rattle.events.specs.Event.{party_of_company}
 use Rattle.events.specs.declared.event.Event.TheVariants.{Home, Laid, Token, Withheld}
 use Rattle.totals.proofs.Choices.{same_company_is, truth}
@@ -19,8 +19,7 @@ pub can_pay : (game : Game) (company other : Company) (cost : ℕ)
     → pos (if same_company company other then cost else 0) ≤ℤ cash_of game.seats game.events (party_of_company other)
 can_pay game company other cost enough solvent =
     elim (truth (same_company company other)) [
-      | inl same ↦ rw same (subst (λ (one : Company). pos cost ≤ℤ cash_of game.seats game.events
-          (party_of_company one)) (same_company_is company other same) enough)
+      | inl same ↦ rw same (rw (← (same_company_is company other same)) enough)
       | inr apart ↦ rw apart (solvent other)
     ]
 
@@ -29,8 +28,7 @@ pub can_afford : (game : Game) (seat by : Seat) (cost : ℕ) → pos cost ≤ℤ
     → SeatsAreSolvent game → pos (if seat.0 == by.0 then cost else 0) ≤ℤ free_cash_of game.seats game.events by
 can_afford game seat by cost enough solvent =
     elim (truth (seat.0 == by.0)) [
-      | inl same ↦ rw same (subst (λ (one : Seat). pos cost ≤ℤ free_cash_of game.seats game.events one)
-          (same_seat_is seat by same) enough)
+      | inl same ↦ rw same (rw (← (same_seat_is seat by same)) enough)
       | inr apart ↦ rw apart (solvent by)
     ]
 

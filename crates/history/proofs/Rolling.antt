@@ -1,7 +1,7 @@
 -- An event that moves no train leaves all trains where they lie. One that moves a train that is
 -- there leaves nobody with a negative number, and the bank has sold no more than there are.
 use Rattle.std.proofs.Common.{◌≡◌, ℕ, ◌+◌, ◌<◌, inl, inr, Bool, true, false, ◌&&◌, ◌==◌, if◌then◌else◌, List, [], ◌∷◌}
-use Rattle.std.proofs.Common.{◌++◌, Option, Some, None, ℤ, pos, ◌≤ℤ◌, refl, sym, subst, ap, ◌∙◌, arith}
+use Rattle.std.proofs.Common.{◌++◌, Option, Some, None, pos, ◌≤ℤ◌, refl, sym, subst, ap, ◌∙◌, arith}
 use Rattle.std.proofs.lemmas.Bool.Decides.{Decides-eqb}
 use Rattle.std.proofs.lemmas.Int.{ints}
 use Rattle.std.proofs.lemmas.List.Sums.{sum_by_push}
@@ -54,8 +54,7 @@ pub trains_kept : (events : List Event) (event : Event) → train_moved event �
     → TrainsAreHeld (events ++ event ∷ [])
 trains_kept events event none before =
     record {
-      held = λ owner kind. subst (λ (trains : ℤ). pos 0 ≤ℤ trains)
-          (sym (trains_at_before events event (train_owner_place owner) kind none)) (before.held owner kind);
+      held = λ owner kind. rw (trains_at_before events event (train_owner_place owner) kind none) (before.held owner kind);
       sold = λ kind number there. let few = before.sold kind number there in omega
           (arith, sold_at_end events event kind, ap (λ move. one_if (train_goes place.Bank kind move)) none);
     }
@@ -69,9 +68,7 @@ still_held events event move place kind is there before =
       | inl goes ↦
           let same = both (same_kind move.kind kind) (same_train_place move.from place) goes in
           let here : pos 1 ≤ℤ trains_at events place kind =
-          subst (λ (at : TrainPlace). pos 1 ≤ℤ trains_at events at kind)
-          (same_train_place_is move.from place same.1) (subst
-          (λ (of : Kind). pos 1 ≤ℤ trains_at events move.from of) (same_kind_is move.kind kind same.0) there) in
+          rw (← (same_train_place_is move.from place same.1), ← (same_kind_is move.kind kind same.0)) there in
           let fact = trains_at_end events event place kind in
           let other_fact = ap (λ m. one_if (train_goes place kind m)) is in
           omega (arith, ints, ap one_if goes)
