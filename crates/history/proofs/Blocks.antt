@@ -3,7 +3,6 @@
 use Rattle.std.proofs.Common.{◌≡◌, ℕ, ◌<◌, ◌==◌, inl, inr, Bool, false, if◌then◌else◌, List, [], ◌∷◌, ◌++◌, Option}
 use Rattle.std.proofs.Common.{Some, None, is_some, unwrap_or, pos, ◌≤ℤ◌, refl, sym, subst, ap, ◌∙◌, arith}
 use Rattle.std.proofs.lemmas.Int.{ints}
-use Rattle.std.specs.Option.{option_or}
 use Rattle.events.specs.Event.{floated_by, square_set}
 use Rattle.events.specs.declared.event.Event.{Event}
 use Rattle.events.specs.declared.event.Event.TheVariants.{Floats, Moves, President, Sells}
@@ -175,14 +174,6 @@ is_led_few game company None unplaced few sound =
     absurd (omega (arith, ints, least_eight game.events company))
 is_led_few game company (Some square) placed few sound = sound.led company square placed
 
--- who has floated after one did
-floated_after : (events : List Event) (company other : Company) (amount : ℕ)
-    → is_floated (events ++ Floats company amount ∷ []) other
-    ≡ is_some (option_or (if same_company company other then Some company else None)
-    (last_said (λ e. float_said other (floated_by e)) events))
-floated_after events company other amount =
-    ap is_some (last_said_at_end (λ e. float_said other (floated_by e)) events (Floats company amount))
-
 -- a float, of a company with few shares left
 pub float_sound : FloatKeepsSound
 float_sound game company amount few sound =
@@ -194,17 +185,10 @@ float_sound game company amount few sound =
         | inr apart ↦ sound.floated other (sym (ap is_some
             (old_word (same_company company other) company
             (last_said (λ e. float_said other (floated_by e)) game.events) apart))
-            ∙ sym (floated_after game.events company other amount) ∙ floated)
+            ∙ sym (ap is_some (last_said_at_end (λ e. float_said other (floated_by e)) game.events floats)) ∙ floated)
       ]),
       tt,
     ) sound
-
--- a company's square after a move
-square_moved : (events : List Event) (company : Company) (to : Square) (other : Company)
-    → square_of (events ++ Moves company to ∷ []) other
-    ≡ option_or (if same_company company other then Some to else None) (square_of events other)
-square_moved events company to other =
-    last_said_at_end (λ e. square_said other (square_set e)) events (Moves company to)
 
 -- a company that has a square after a move had one before
 had_square : (events : List Event) (company other : Company) (from to square : Square)
@@ -216,7 +200,7 @@ had_square events company other from to square started placed =
       | inr apart ↦ (
         square,
         sym (old_word (same_company company other) to (square_of events other) apart)
-            ∙ sym (square_moved events company to other) ∙ placed,
+            ∙ sym (last_said_at_end (λ e. square_said other (square_set e)) events (Moves company to)) ∙ placed,
       )
     ]
 
