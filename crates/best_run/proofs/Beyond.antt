@@ -4,7 +4,7 @@ use Rattle.std.proofs.Common.{length, get_or, set, slice_get, replicate, refl, s
 use Rattle.search_task.specs.declared.task.Node.{Node}
 use Rattle.search_task.specs.declared.task.Task.{Task}
 use Rattle.best_run.specs.declared.state.PartialRun.{PartialRun}
-use Rattle.best_run.specs.declared.worth.Worth.{Worth}
+use Rattle.best_run.specs.declared.value_ahead.Worth.{Worth}
 use Rattle.best_run.specs.Ahead.{HasPassed, HasRanked, IsLeast, IsWorth, beyond, ends_by, goes_back, goes_on, if_ending}
 use Rattle.best_run.specs.Ahead.{if_passed, most_ahead, one_end, two_ends}
 use Rattle.search_task.specs.Fit.{IsFit}

@@ -10,7 +10,7 @@ use Rattle.search_task.specs.declared.task.Task.{Task}
 use Rattle.search_task.specs.declared.task.Leg.{Leg}
 use Rattle.best_run.specs.declared.state.Assigned.{Assigned}
 use Rattle.best_run.specs.declared.state.PartialRun.{PartialRun}
-use Rattle.best_run.specs.declared.worth.Worth.{Worth}
+use Rattle.best_run.specs.declared.value_ahead.Worth.{Worth}
 use Rattle.best_run.specs.Ahead.{HasPassed, HasRanked, HasTakenBack, IsLeast, IsWorth, beyond, goes_back, goes_on}
 use Rattle.best_run.specs.Ahead.{if_ending, if_passed, one_end, two_ends}
 use Rattle.search_task.specs.Fit.{BordersFit, IsFit}

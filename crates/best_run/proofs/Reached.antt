@@ -15,7 +15,7 @@ use Rattle.search_task.specs.declared.task.Leg.{Leg}
 use Rattle.best_run.specs.declared.memo.Found.{Found}
 use Rattle.best_run.specs.declared.state.Assigned.{Assigned}
 use Rattle.best_run.specs.declared.state.PartialRun.{PartialRun}
-use Rattle.best_run.specs.declared.worth.Worth.{Worth}
+use Rattle.best_run.specs.declared.value_ahead.Worth.{Worth}
 use Rattle.best_run.specs.Ahead.{IsLeast, IsOutlook, IsWorth, LiesAhead, beyond, ends_by, goes_back, goes_on, one_end}
 use Rattle.best_run.specs.Ahead.{two_ends}
 use Rattle.best_run.specs.Canonical.{AreHeld, IsInReach}

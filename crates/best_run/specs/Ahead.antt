@@ -12,7 +12,7 @@ use Rattle.search_task.specs.declared.task.Task.{Task}
 use Rattle.search_task.specs.declared.task.Leg.{Leg}
 use Rattle.best_run.specs.declared.state.Assigned.{Assigned}
 use Rattle.best_run.specs.declared.state.PartialRun.{PartialRun}
-use Rattle.best_run.specs.declared.worth.Worth.{Worth}
+use Rattle.best_run.specs.declared.value_ahead.Worth.{Worth}
 use Rattle.search_task.specs.Fit.{unused}
 use Rattle.search_task.specs.Legs.{legs_at}
 use Rattle.best_run.specs.Moves.{LeadsToAtMost, can_take, partial}

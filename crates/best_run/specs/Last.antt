@@ -8,7 +8,7 @@ use Rattle.search_task.specs.declared.task.Task.{Task}
 use Rattle.search_task.specs.declared.task.Leg.{Leg}
 use Rattle.best_run.specs.declared.state.Assigned.{Assigned}
 use Rattle.best_run.specs.declared.state.PartialRun.{PartialRun}
-use Rattle.best_run.specs.declared.worth.Worth.{Worth}
+use Rattle.best_run.specs.declared.value_ahead.Worth.{Worth}
 use Rattle.best_run.specs.Ahead.{IsWorth, most_ahead}
 use Rattle.search_task.specs.Spots.{ends_in, node_at, value_in}
 use Rattle.search_task.specs.Crossed.{misses}

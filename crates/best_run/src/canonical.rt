@@ -10,8 +10,8 @@ ghost use Rattle.search_task.specs.Spots.{node_at, stop_in};
 ghost use Rattle.best_run.specs.Suffix.{AreBounds};
 ghost use Rattle.search_task.specs.Legs.{AreReady, IsStop};
 
-use crate::last::count;
-use crate::outlook::{Outlook, look_along, nothing_ahead};
+use crate::end_stops::count;
+use crate::lookahead::{Outlook, look_along, nothing_ahead};
 use crate::search::are_pruned_by_cap;
 use crate::search_state::SearchState;
 use crate::state::{Assigned, PartialRun};

@@ -9,7 +9,7 @@ ghost use Rattle.certificate.specs.Filled.{IsAcceptedFilled};
 ghost use Rattle.certificate.specs.Holding.{IsAccepted};
 ghost use Rattle.legal_runs.specs.Set.{IsGreatest};
 
-use crate::answer::Best;
+use crate::claim_and_marks::Best;
 use crate::claimed::claimed_runs;
 use crate::memo::Found;
 use crate::move_path::Mark;

@@ -10,9 +10,9 @@ ghost use Rattle.best_run.specs.Moves.{own_before, partial};
 ghost use Rattle.search_task.specs.Spots.{node_at, own_in, stop_in};
 
 use crate::canonical::{canonical, canonical_begun, is_pruned_by_reach, reach};
+use crate::lookahead::stops_ahead;
 use crate::memo::Found;
 use crate::move_path::Mark;
-use crate::outlook::stops_ahead;
 use crate::state::{Assigned, PartialRun, along, begun, can_take, mark_own, may_finish};
 use search_task::{Segment, Spots, Task};
 use tables::Amount;

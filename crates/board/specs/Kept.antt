@@ -1,6 +1,6 @@
 -- The links of a hex that are kept as a value: a number of them, the first of those in it.
 use Rattle.std.specs.Prelude.{List, take}
-use Rattle.board.specs.declared.kept.KeptLinks.{KeptLinks}
+use Rattle.board.specs.declared.kept_links.KeptLinks.{KeptLinks}
 use Rattle.map_tables.specs.declared.track.Link.{Link}
 
 -- the links that are kept

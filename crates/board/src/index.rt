@@ -7,7 +7,7 @@ ghost use Rattle.map_tables.specs.Place.{stop_of};
 ghost use Rattle.reach.specs.Reached.{stop_order};
 ghost use Rattle.map_tables.specs.declared.place.Stop.{Stop};
 
-use crate::kept::KeptLinks;
+use crate::kept_links::KeptLinks;
 use map_tables::{HEXES, Hex, Lay, Links, Place, Stop, joined_stop, laid_links};
 use tables::Company;
 

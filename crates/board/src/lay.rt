@@ -13,9 +13,9 @@ ghost use Rattle.map_tables.specs.Track.{end_order};
 ghost use Rattle.map_tables.specs.declared.hex.Hex.{Hex};
 ghost use Rattle.tables.specs.Rules.{first_broken};
 
-use crate::after::After;
 use crate::asker::{Asker, TurnStep};
 use crate::board::Board;
+use crate::board_with_lay::After;
 use crate::fault::LayFault;
 use crate::powers::is_dh_lay;
 use board_state::{OnMap, has_bad_side, is_open, is_wrong_kind, same_hex};

@@ -45,17 +45,17 @@
 //! assert_eq!(rt; board.put_lay(lay), Ok(()));
 //! ```
 //!
-//! Reading order: `fault`, `kept` (the links of a hex as a value), `index`, `board`, `after` (a
+//! Reading order: `fault`, `kept_links` (the links of a hex as a value), `index`, `board`, `board_with_lay` (a
 //! board with one more tile), `network` (the position that is kept), `asker`, `powers` (of CS and
 //! DH), `lay`, `token`, `laws`.
 #![tactic(auto)]
 
-mod after;
 mod asker;
 mod board;
+mod board_with_lay;
 mod fault;
 mod index;
-mod kept;
+mod kept_links;
 pub mod laws;
 mod lay;
 mod network;

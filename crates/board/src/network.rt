@@ -1,8 +1,8 @@
 //! The position that a board keeps.
 ghost use Rattle.board_state.specs.MapState.{position_of, with_lay};
 
-use crate::after::After;
 use crate::board::Board;
+use crate::board_with_lay::After;
 use board_state::laws::map_states_are_lawful;
 use board_state::{full_on_map, links_on_map, red_on_map, token_on_map, value_on_map};
 use map_tables::{Hex, Links, Stop};

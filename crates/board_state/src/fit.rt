@@ -6,7 +6,7 @@ ghost use Rattle.map_tables.specs.Fit.{is_shut, is_side, is_wrong_kind, place_of
 ghost use Rattle.map_tables.specs.Place.{stop_of};
 
 use crate::fault::BoardFault;
-use crate::shown::{slots_at, taken_at};
+use crate::stop_facts::{slots_at, taken_at};
 use map_tables::{
     End, Hex, HexKind, Lay, Place, Side, TileKind, hex_kind, laid_links, neighbour, printed_links,
     printed_stops, tile,

@@ -12,8 +12,8 @@
 //! The definitions, in `specs/`: `MapState` (the tiles and tokens, and the position) and `Fit`
 //! (what may lie at all).
 //!
-//! Reading order: `fault`, `shown` (what shows at a hex or a stop), `fit` (what may lie at all),
-//! `on_map` (what follows from the map state), `plain`, `network` (the position that is kept),
+//! Reading order: `fault`, `stop_facts` (what shows at a hex or a stop), `fit` (what may lie at all),
+//! `on_map` (what follows from the map state), `plain_board`, `network` (the position that is kept),
 //! `laws`.
 #![tactic(auto)]
 
@@ -22,11 +22,11 @@ mod fit;
 pub mod laws;
 mod network;
 mod on_map;
-mod plain;
-mod shown;
+mod plain_board;
+mod stop_facts;
 
 pub use fault::BoardFault;
 pub use fit::{fault_of, has_bad_side, is_open, is_wrong_kind};
 pub use on_map::{OnMap, full_on_map, links_on_map, red_on_map, slots, token_on_map, value_on_map};
-pub use plain::PlainBoard;
-pub use shown::{same_company, same_hex, same_stop};
+pub use plain_board::PlainBoard;
+pub use stop_facts::{same_company, same_hex, same_stop};

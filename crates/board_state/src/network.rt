@@ -3,7 +3,7 @@ ghost use Rattle.board_state.specs.MapState.{position_of};
 
 use crate::laws::map_states_are_lawful;
 use crate::on_map::{full_on_map, links_on_map, red_on_map, token_on_map, value_on_map};
-use crate::plain::PlainBoard;
+use crate::plain_board::PlainBoard;
 use map_tables::{Hex, Links, Stop};
 use reach::Network;
 use tables::{Amount, Company};

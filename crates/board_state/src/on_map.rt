@@ -8,7 +8,7 @@ ghost use Rattle.board_state.specs.MapState.{MapState, position_of, track_in, va
 ghost use Rattle.map_tables.specs.OnMap.{has_token, links_on, names, slots_at, slots_on, tile_on};
 ghost use Rattle.reach.specs.Position.{HasToken, IsFull, at_stop, is_red, links_of, value_of};
 
-use crate::shown::{is_red, is_stop, same_hex, value_in};
+use crate::stop_facts::{is_red, is_stop, same_hex, value_in};
 use map_tables::{
     Hex, Lay, Links, Stop, StopNumber, hex_kind, joined_stop, printed_links, printed_slots,
     printed_value, tile,

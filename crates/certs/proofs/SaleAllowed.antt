@@ -9,7 +9,7 @@ use Rattle.certs.specs.President.{others_from}
 use Rattle.certs.specs.Sale.{is_first_stock, is_not_held, is_over_five, kept_after, none_is_left, moves_operating}
 use Rattle.certs.specs.Sale.{must_stay, one_has, sale_judgement, sale_rules}
 use Rattle.certs.specs.SaleAct.{MaySell}
-use Rattle.certs.specs.declared.deal.Sale.{Sale}
+use Rattle.certs.specs.declared.share_deal.Sale.{Sale}
 use Rattle.events.specs.Event.{IsQuiet}
 use Rattle.events.specs.RuleCodes.{code_of_stock_rule}
 use Rattle.events.specs.declared.event.Event.{Event}

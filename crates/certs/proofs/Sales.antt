@@ -10,7 +10,7 @@ use Rattle.certs.specs.Counted.{presides}
 use Rattle.certs.specs.President.{others_from, seat_shares_of, successor_of}
 use Rattle.certs.specs.Purchase.{market_price_of}
 use Rattle.certs.specs.Sale.{is_not_held, kept_after, none_is_left, must_stay, one_has}
-use Rattle.certs.specs.declared.deal.Sale.{Sale}
+use Rattle.certs.specs.declared.share_deal.Sale.{Sale}
 use Rattle.events.specs.declared.event.Event.{Event}
 use Rattle.events.specs.declared.event.Event.TheVariants as event
 use Rattle.events.specs.declared.event.Shareholder.TheVariants.{Seat as OfSeat}

@@ -9,8 +9,8 @@ use Rattle.std.specs.Prelude.{ℕ, ◌*◌, Bool, true, false, not, ◌&&◌, Li
 use Rattle.std.specs.Prelude.{pos, ◌+ℤ◌, unwrap_or}
 use Rattle.std.specs.Int.Signed.{le_z, lt_z}
 use Rattle.certs.specs.Counted.{counted_of, counts_on}
-use Rattle.certs.specs.declared.deal.Purchase.{Purchase}
-use Rattle.certs.specs.declared.deal.Purchase.TheVariants.{Par, Share}
+use Rattle.certs.specs.declared.share_deal.Purchase.{Purchase}
+use Rattle.certs.specs.declared.share_deal.Purchase.TheVariants.{Par, Share}
 use Rattle.events.specs.Event.{is_par_value, place_of_source}
 use Rattle.events.specs.declared.event.Event.{Event}
 use Rattle.events.specs.declared.event.Shareholder.TheVariants.{Seat as OfSeat}

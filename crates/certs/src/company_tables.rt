@@ -2,7 +2,7 @@
 ghost use Rattle.certs.specs.CompanyTables.{AreCompanyTablesOf, AreSharesOf, IsRowOf};
 ghost use Rattle.certs.specs.Rows.{AreBounded, IsBounded};
 
-use crate::rows::Row;
+use crate::share_places::Row;
 use history::{GameView, Shareholder};
 use tables::{Company, Seat, Square};
 

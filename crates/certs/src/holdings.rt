@@ -3,7 +3,7 @@ ghost use Rattle.certs.specs.Rows.{AreBounded};
 ghost use Rattle.tables.specs.declared.roster.Company.{Company};
 
 use crate::company_tables::{CompanyTables, company_tables_of};
-use crate::rows::{Row, index_of, moved};
+use crate::share_places::{Row, index_of, moved};
 use history::{GameView, History, Owners, ShareCount, Shareholder, Transfer};
 use tables::{Company, Seat, Square};
 

@@ -7,29 +7,29 @@
 //! purchase and of a sale are checked in the order of their numbers, and the first that is broken
 //! is returned.
 //!
-//! Reading order: `holdings`, `company_tables` (what they are made of), `rows` (the shares of one
-//! company), `president`, `counted` (the certificates that count), `deal` (what is bought and
+//! Reading order: `holdings`, `company_tables` (what they are made of), `share_places` (the shares of one
+//! company), `president`, `counted_certificates` (the certificates that count), `share_deal` (what is bought and
 //! sold), `purchase`, `sale`, `sell` (what follows from a sale), `dividend` (what a
 //! company pays out), `laws` (what decides the presidency, and that it and what counts are the same
 //! by the events of a game).
 #![tactic(auto)]
 
 mod company_tables;
-mod counted;
-mod deal;
+mod counted_certificates;
 mod dividend;
 mod holdings;
 pub mod laws;
 mod president;
 mod purchase;
-mod rows;
 mod sale;
 mod sell;
+mod share_deal;
+mod share_places;
 
-pub use deal::{Purchase, Sale};
 pub use dividend::pay_out;
 pub use holdings::Holdings;
 pub use president::successor;
 pub use purchase::{is_over_six, market_price, may_buy, share_price};
 pub use sale::may_sell;
 pub use sell::{record_president, sell_block};
+pub use share_deal::{Purchase, Sale};

@@ -8,8 +8,8 @@ ghost use Rattle.events.specs.declared.event.Shareholder.TheVariants.{Seat as Of
 ghost use Rattle.totals.specs.Shares.{par_of, shares_of, square_of};
 ghost use Rattle.tables.specs.Roster.{certificate_limit_of};
 
-use crate::counted::{counted_now, counts_on};
-use crate::deal::Purchase;
+use crate::counted_certificates::{counted_now, counts_on};
+use crate::share_deal::Purchase;
 use history::{GameView, History, ShareCount, Shareholder, StockRule};
 use order_grammar::ShareSource;
 use tables::{

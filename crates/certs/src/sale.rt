@@ -6,7 +6,7 @@ ghost use Rattle.events.specs.declared.event.Shareholder.TheVariants.{BankPool};
 ghost use Rattle.totals.specs.LookBack.{round_of};
 ghost use Rattle.totals.specs.Shares.{shares_of};
 
-use crate::deal::Sale;
+use crate::share_deal::Sale;
 use history::{GameView, History, ShareCount, Shareholder, StockRule};
 use tables::{Company, Round, Seat, rules};
 

@@ -3,9 +3,9 @@ ghost use Rattle.std.specs.Prelude.{◌≡◌, ◌≤◌, ◌<◌, OnOk};
 ghost use Rattle.certs.specs.SaleAct.{MaySell, after_sale, sold, succeeded, with_president};
 ghost use Rattle.history.specs.Sound.{IsSound};
 
-use crate::deal::Sale;
 use crate::president::successor;
 use crate::purchase::market_price;
+use crate::share_deal::Sale;
 use history::{Event, History};
 use market::move_token_down;
 use std::alloc::AllocError;

@@ -1,36 +1,36 @@
 //! A game as it stands, at its end or between two of its rounds, as text. No call reads or writes a
 //! stream.
 //!
-//! Each figure comes from a reader of the game's list, or from `purse`, `earnings`, `stack` or
+//! Each figure comes from a reader of the game's list, or from `player_figures`, `earnings`, `stack` or
 //! `stock_left`, whose contracts define it. The games of `games/desk/` test the layout.
 //!
-//! Reading order: `asked` (the round that is asked for), `stood` (the game at a moment). Then the
-//! figures that the readers of a game do not have (`purse`, `earnings`, `stack`, `stock_left`, `rows`), and
+//! Reading order: `round_name` (the round that is asked for), `between_rounds` (the game at a moment). Then the
+//! figures that the readers of a game do not have (`player_figures`, `earnings`, `stack`, `stock_left`, `state_rows`), and
 //! their layout: `lines`, `state_round`, `state_players`, `state_companies`, `state_stock`,
 //! `state_chart`, `state_map`, `whole_state` (`state`).
 #![tactic(auto)]
 
-mod asked;
+mod between_rounds;
 mod earnings;
 mod lines;
-mod purse;
-mod rows;
+mod player_figures;
+mod round_name;
 mod stack;
 mod state_chart;
 mod state_companies;
 mod state_map;
 mod state_players;
 mod state_round;
+mod state_rows;
 mod state_stock;
 mod stock_left;
-mod stood;
 mod whole_state;
 
-pub use asked::read_round;
+pub use between_rounds::{Moment, Stood, play_before, play_behind, stood_at_last, stood_now};
 pub use desk_base::{DeskFault, best_at};
 pub use earnings::{Earnings, earnings_of};
-pub use purse::{Purse, purse_of};
+pub use player_figures::{Purse, purse_of};
+pub use round_name::read_round;
 pub use stack::{all_in_order, before_in_stack, company_at, operates};
 pub use stock_left::{has_token, tile_on, tiles_left, tokens_left, trains_left};
-pub use stood::{Moment, Stood, play_before, play_behind, stood_at_last, stood_now};
 pub use whole_state::{state, state_text};

@@ -1,8 +1,8 @@
 //! What each player has, and who owns each private.
 
-use crate::purse::purse_of;
-use crate::rows::private_row;
-use crate::stood::Stood;
+use crate::between_rounds::Stood;
+use crate::player_figures::purse_of;
+use crate::state_rows::private_row;
 use desk_base::Piece::{Bytes, Column, Number, Right, Words};
 use desk_base::{fill, push};
 use history::{History, Holder};

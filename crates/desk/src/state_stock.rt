@@ -1,7 +1,7 @@
 //! The trains that are left, the tiles that lie on the map, and the tiles that are left.
 
 use crate::lines::{end_open_line, next_place};
-use crate::rows::train_row;
+use crate::state_rows::train_row;
 use crate::stock_left::{tile_on, tiles_left};
 use desk_base::Piece::{Bytes, Column, Number, Right, Words};
 use desk_base::{fill, push};

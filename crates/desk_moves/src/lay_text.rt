@@ -5,7 +5,7 @@ use crate::best_after::Trains;
 use crate::fault::MovesFault;
 use crate::lay_best::Earning;
 use crate::progress::Progress;
-use crate::told::LayForm;
+use crate::questions::LayForm;
 use crate::turn_order::push_before;
 use crate::turn_start::{asker_at_start, board_at_start};
 use desk::{Stood, tiles_left};

@@ -7,11 +7,11 @@
 //! returns text; no call reads or writes a stream.
 //!
 //! Reading order: `fault` (why there is no answer), `progress` (how far one is), `words` (companies,
-//! hexes and trains on a command line), `told` (`answer`: the game that is asked), `turn_start` (a
+//! hexes and trains on a command line), `questions` (`answer`: the game that is asked), `turn_start` (a
 //! company as its turn begins), `line_text` (its lays and tokens as order lines), `lay_text` (the
 //! same for a reader), `best_after` and `lay_best` (with revenues), `turn_order` (who operates
 //! before it), `best_text` (its best runs), `may_text` (what a player may do, by `desk_may`),
-//! `hex_text` with `hex_sides`, `tried` (`trial`).
+//! `hex_text` with `hex_sides`, `trials` (`trial`).
 #![tactic(auto)]
 
 mod best_after;
@@ -24,14 +24,14 @@ mod lay_text;
 mod line_text;
 mod may_text;
 mod progress;
-mod told;
-mod tried;
+mod questions;
+mod trials;
 mod turn_order;
 mod turn_start;
 mod words;
 
 pub use fault::{MovesFault, NoAnswer};
 pub use progress::Progress;
-pub use told::{LayForm, Question, answer};
-pub use tried::{TrialForm, trial};
+pub use questions::{LayForm, Question, answer};
+pub use trials::{TrialForm, trial};
 pub use words::{read_company, read_hex, read_kind};

@@ -2,7 +2,7 @@
 -- itself looks at, in the order in which it looks.
 use Rattle.std.specs.Prelude.{ℕ, Bool, ◌==◌, List, Option, Some, None, if◌then◌else◌}
 use Rattle.certs.specs.Sale.{none_is_left}
-use Rattle.certs.specs.declared.deal.Sale.{Sale}
+use Rattle.certs.specs.declared.share_deal.Sale.{Sale}
 use Rattle.desk_base.specs.declared.cause.Cause.{Cause}
 use Rattle.desk_base.specs.declared.cause.Cause.TheVariants as cause
 use Rattle.desk_round.specs.Done.{last_done}

@@ -2,10 +2,10 @@
 //! brought.
 
 use crate::groups::{Group, Whose, groups_of};
-use crate::ran::push_ran;
 use crate::round_part::{round_asked, text_of};
 use crate::sheet_line::{SheetLine, lines_of, sheet_line};
 use crate::sought::Ruled;
+use crate::train_runs::push_ran;
 use crate::why::{FAULTY_COLUMNS, push_rule};
 use crate::wrapped::{push_wrapped, push_wrapped_lines};
 use desk_base::Piece::{Bytes, Column, Cut, Number, Right, Words};

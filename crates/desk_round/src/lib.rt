@@ -2,11 +2,11 @@
 //! ran, and the round as its players read it. Each public call takes the allocator and the bytes of
 //! an order file, and returns text. No call reads or writes a stream.
 //!
-//! Reading order: `played`, `refused` (which lines were), `round_part` (`round`), `told` (the game
+//! Reading order: `played`, `refused` (which lines were), `round_part` (`round`), `round_texts` (the game
 //! of a file), `sheet_line` (the lines of the sheets), `why` (the rule that a line broke),
 //! `figures` (the figures that it compared), `done` (how far a company's turn had come), `cause`
 //! (which cause of several it was), `sought` (all that is known of the case), `track` and `ways`
-//! (where track breaks or leads), `ran` (`runs`), `groups` (whose turn an event belongs to),
+//! (where track breaks or leads), `train_runs` (`runs`), `groups` (whose turn an event belongs to),
 //! `wrapped`, `bulletin_text` (`bulletin`).
 #![tactic(auto)]
 
@@ -16,18 +16,18 @@ mod done;
 mod figures;
 mod groups;
 mod played;
-mod ran;
 mod refused;
 mod round_part;
+mod round_texts;
 mod sheet_line;
 mod sought;
-mod told;
 mod track;
+mod train_runs;
 mod ways;
 mod why;
 mod wrapped;
 
-pub use ran::{push_run, runs};
 pub use round_part::{round, round_with_rules};
-pub use told::bulletin;
+pub use round_texts::bulletin;
+pub use train_runs::{push_run, runs};
 pub use wrapped::push_wrapped;

@@ -9,7 +9,7 @@ use Rattle.certs.specs.President.{others_from, seat_shares_of, successor_of, wit
 use Rattle.certs.specs.Purchase.{market_price_of}
 use Rattle.certs.specs.Sale.{kept_after, none_is_left, must_stay, moves_operating, one_has, sale_judgement, sale_rules}
 use Rattle.certs.specs.SaleAct.{sold, with_president, with_successor}
-use Rattle.certs.specs.declared.deal.Sale.{Sale}
+use Rattle.certs.specs.declared.share_deal.Sale.{Sale}
 use Rattle.events.specs.Event.{office_of}
 use Rattle.events.specs.RuleCodes.{code_of_stock_rule}
 use Rattle.events.specs.declared.event.Event.{Event}

@@ -4,7 +4,7 @@ use Rattle.std.proofs.Common.{Some, None, find, option_map, is_none, refl, sym, 
 use Rattle.certs.proofs.SaleAllowed.{sale_allowed, same_judgement}
 use Rattle.certs.specs.Sale.{sale_judgement}
 use Rattle.certs.specs.SaleAct.{MaySell, after_sale}
-use Rattle.certs.specs.declared.deal.Sale.{Sale}
+use Rattle.certs.specs.declared.share_deal.Sale.{Sale}
 use Rattle.events.specs.Event.{IsQuiet, round_begun_by}
 use Rattle.events.specs.declared.event.Event.{Event}
 use Rattle.events.specs.declared.event.Event.TheVariants as event

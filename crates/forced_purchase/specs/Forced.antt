@@ -7,7 +7,7 @@
 -- short they are bankrupt, and nothing is bought.
 use Rattle.std.specs.Prelude.{ℕ, true, if◌then◌else◌, List, Option, Some, None, is_none, find, pos}
 use Rattle.std.specs.Int.Signed.{lt_z}
-use Rattle.certs.specs.declared.deal.Sale.{Sale}
+use Rattle.certs.specs.declared.share_deal.Sale.{Sale}
 use Rattle.events.specs.declared.event.Event.TheVariants as event
 use Rattle.totals.specs.LookBack.{Game, with_event}
 use Rattle.totals.specs.Trains.{at_least_zero}

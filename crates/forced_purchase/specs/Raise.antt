@@ -6,7 +6,7 @@ use Rattle.std.specs.Prelude.{ℕ, Bool, ◌&&◌, ◌||◌, if◌then◌else◌
 use Rattle.std.specs.Prelude.{codes}
 use Rattle.certs.specs.Sale.{sale_judgement}
 use Rattle.certs.specs.SaleAct.{after_sale}
-use Rattle.certs.specs.declared.deal.Sale.{Sale}
+use Rattle.certs.specs.declared.share_deal.Sale.{Sale}
 use Rattle.events.specs.declared.event.Event.TheVariants as event
 use Rattle.events.specs.declared.ruling.Refusal.{Refusal}
 use Rattle.events.specs.declared.ruling.Refusal.TheVariants as refusal

@@ -5,7 +5,7 @@
 //! nothing that it says is against the rules, as `specs/Sound.antt` defines it. Most events leave
 //! most facts alone, and the laws say which event keeps a list sound.
 //!
-//! Reading order: `list` (`History`), `boxed_totals` and `offered` (what it keeps beside the list),
+//! Reading order: `list` (`History`), `boxed_totals` and `offers_of_round` (what it keeps beside the list),
 //! `record_event` (events that follow from the list alone), `conditions` (of orders, as they are
 //! checked against a list), `walk` (along a list, with its totals), `laws`.
 #![tactic(auto)]
@@ -14,7 +14,7 @@ mod boxed_totals;
 mod conditions;
 pub mod laws;
 mod list;
-mod offered;
+mod offers_of_round;
 mod record_event;
 mod walk;
 

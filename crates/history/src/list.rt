@@ -13,7 +13,7 @@ ghost use Rattle.totals.specs.Trains.{phase_of, trains_held};
 ghost use Rattle.order_grammar.specs.Condition.{ordered};
 
 use crate::boxed_totals::BoxedTotals;
-use crate::offered::apply_offer;
+use crate::offers_of_round::apply_offer;
 use events::{Event, Holder, PackedLine, Party, SUM_MOST, Shareholder};
 use map_tables::{Lay, Place};
 use order_grammar::{Condition, Offer, Order};

@@ -3,8 +3,8 @@ use Rattle.std.proofs.Common.{◌≡◌, ℕ, ◌++◌, List, [], ◌∷◌, Opt
 use Rattle.std.proofs.Common.{ap, sym, ◌∙◌}
 use Rattle.certs.specs.Purchase.{allowed, cost_of, purchase_judgement}
 use Rattle.certs.specs.Sale.{sale_judgement}
-use Rattle.certs.specs.declared.deal.Purchase.{Purchase}
-use Rattle.certs.specs.declared.deal.Sale.{Sale}
+use Rattle.certs.specs.declared.share_deal.Purchase.{Purchase}
+use Rattle.certs.specs.declared.share_deal.Sale.{Sale}
 use Rattle.events.specs.declared.event.Event.{Event}
 use Rattle.events.specs.declared.ruling.StockRule.{StockRule}
 use Rattle.moves.proofs.ListedLemmas.{lists_broken, lists_kept}

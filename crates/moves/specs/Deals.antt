@@ -7,9 +7,9 @@ use Rattle.std.specs.List.{flat_map}
 use Rattle.board.specs.LayRules.{cost_or}
 use Rattle.certs.specs.Purchase.{cost_of, market_price_of, purchase_judgement}
 use Rattle.certs.specs.Sale.{sale_judgement}
-use Rattle.certs.specs.declared.deal.Purchase.{Purchase}
-use Rattle.certs.specs.declared.deal.Purchase.TheVariants.{Par, Share}
-use Rattle.certs.specs.declared.deal.Sale.{Sale}
+use Rattle.certs.specs.declared.share_deal.Purchase.{Purchase}
+use Rattle.certs.specs.declared.share_deal.Purchase.TheVariants.{Par, Share}
+use Rattle.certs.specs.declared.share_deal.Sale.{Sale}
 use Rattle.events.specs.declared.event.Event.{Event}
 use Rattle.events.specs.declared.ruling.StockRule.{StockRule}
 use Rattle.order_grammar.specs.declared.order.ShareSource.{ShareSource}

@@ -1,8 +1,8 @@
 //! What a seat may buy and sell as its turn of a stock round begins.
 ghost use Rattle.std.specs.Prelude.{◌≡◌, ◌≤◌, ◌<◌, ◌∷◌, [], pos, IfOk, OnOk};
 ghost use Rattle.certs.specs.Purchase.{cost_of};
-ghost use Rattle.certs.specs.declared.deal.Purchase.{Purchase};
-ghost use Rattle.certs.specs.declared.deal.Sale.{Sale};
+ghost use Rattle.certs.specs.declared.share_deal.Purchase.{Purchase};
+ghost use Rattle.certs.specs.declared.share_deal.Sale.{Sale};
 ghost use Rattle.moves.specs.Deals.{IsPurchaseAnswer, IsSaleAnswer, all_purchases, all_sales, brought_by};
 ghost use Rattle.moves.specs.Deals.{exchange_of, purchases_of, sales_of, shares_of, starts_of};
 ghost use Rattle.moves.specs.Listed.{AreListed, Lists};

@@ -39,8 +39,8 @@ use Rattle.operating.specs.RunBest.{BestRuled, trains_now, with_those_held}
 use Rattle.operating.specs.Runs.{has_run, no_runs}
 use Rattle.operating.specs.TurnState.{TurnState, line_recorded}
 use Rattle.forced_purchase.specs.declared.operator.Operator.{Operator}
-use Rattle.operating.specs.declared.runs.CompletedRun.{CompletedRun}
-use Rattle.operating.specs.declared.runs.Runs.{Runs}
+use Rattle.operating.specs.declared.completed_runs.CompletedRun.{CompletedRun}
+use Rattle.operating.specs.declared.completed_runs.Runs.{Runs}
 use Rattle.order_grammar.specs.declared.fault.Fault.{Fault}
 use Rattle.order_grammar.specs.declared.order.Order.{Order}
 use Rattle.order_grammar.specs.declared.order.Order.TheVariants as order

@@ -19,8 +19,8 @@ use Rattle.operating.specs.Runs.{no_runs}
 use Rattle.operating.specs.Turn.{begun}
 use Rattle.operating.specs.TurnState.{TurnState}
 use Rattle.forced_purchase.specs.declared.operator.Operator.{Operator}
-use Rattle.operating.specs.declared.runs.CompletedRun.{CompletedRun}
-use Rattle.operating.specs.declared.runs.Runs.{Runs}
+use Rattle.operating.specs.declared.completed_runs.CompletedRun.{CompletedRun}
+use Rattle.operating.specs.declared.completed_runs.Runs.{Runs}
 use Rattle.order_grammar.specs.declared.fault.Fault.{Fault}
 use Rattle.order_grammar.specs.declared.order.Order.{Order}
 use Rattle.order_grammar.specs.declared.order.Order.TheVariants as order

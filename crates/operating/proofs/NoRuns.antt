@@ -24,8 +24,8 @@ use Rattle.operating.specs.Runs.{has_run, no_runs, with_ran}
 use Rattle.operating.specs.Turn.{begun}
 use Rattle.operating.specs.TurnState.{TurnState}
 use Rattle.forced_purchase.specs.declared.operator.Operator.{Operator}
-use Rattle.operating.specs.declared.runs.CompletedRun.{CompletedRun}
-use Rattle.operating.specs.declared.runs.Runs.{Runs}
+use Rattle.operating.specs.declared.completed_runs.CompletedRun.{CompletedRun}
+use Rattle.operating.specs.declared.completed_runs.Runs.{Runs}
 use Rattle.order_grammar.specs.declared.fault.Fault.{Fault}
 use Rattle.order_grammar.specs.declared.order.Order.{Order}
 use Rattle.order_grammar.specs.declared.order.Order.TheVariants as order

@@ -24,7 +24,7 @@ use Rattle.operating.specs.Train.{train_ruled}
 use Rattle.purchases.specs.Train.{purchase_of, train_judgement}
 use Rattle.forced_purchase.specs.declared.operator.Operator.{Operator}
 use Rattle.purchases.specs.declared.train.TrainPurchase.{TrainPurchase}
-use Rattle.operating.specs.declared.runs.Runs.{Runs}
+use Rattle.operating.specs.declared.completed_runs.Runs.{Runs}
 use Rattle.order_grammar.specs.declared.order.Order.{Order}
 use Rattle.order_grammar.specs.declared.order.Order.TheVariants as order
 use Rattle.sheets.specs.Part.{Numbered}

@@ -22,7 +22,7 @@ use Rattle.operating.specs.MapState.{position_now, steps_now}
 use Rattle.operating.specs.Run.{broken_by, judged_run, ran_by, ran_unless, rules_of_turn, run_judgement}
 use Rattle.operating.specs.Runs.{IsBounded, IsCounted, RunsOfTurn, has_run, runs_most}
 use Rattle.operating.specs.TurnState.{TurnState}
-use Rattle.operating.specs.declared.runs.CompletedRun.{CompletedRun}
+use Rattle.operating.specs.declared.completed_runs.CompletedRun.{CompletedRun}
 use Rattle.reach.specs.Lawful.{IsLawful}
 use Rattle.reach.specs.Position.{Position}
 use Rattle.reach.specs.declared.walk.Step.{Step}

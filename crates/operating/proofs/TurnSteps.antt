@@ -57,7 +57,7 @@ use Rattle.operating.specs.Turn.{CompanyOrdersLead, IsCompanyTurn, begun}
 use Rattle.purchases.specs.Train.{purchase_of, train_judgement}
 use Rattle.forced_purchase.specs.declared.operator.Operator.{Operator}
 use Rattle.operating.specs.declared.progress.Progress.{Progress}
-use Rattle.operating.specs.declared.runs.CompletedRun.{CompletedRun}
+use Rattle.operating.specs.declared.completed_runs.CompletedRun.{CompletedRun}
 use Rattle.order_grammar.specs.declared.fault.Fault.{Fault}
 use Rattle.order_grammar.specs.declared.order.Order.{Order}
 use Rattle.order_grammar.specs.declared.order.Order.TheVariants as order

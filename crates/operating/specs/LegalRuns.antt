@@ -12,7 +12,7 @@ use Rattle.operating.specs.Run.{judged_run}
 use Rattle.operating.specs.Turn.{begun}
 use Rattle.operating.specs.TurnState.{TurnState}
 use Rattle.forced_purchase.specs.declared.operator.Operator.{Operator}
-use Rattle.operating.specs.declared.runs.CompletedRun.{CompletedRun}
+use Rattle.operating.specs.declared.completed_runs.CompletedRun.{CompletedRun}
 use Rattle.order_grammar.specs.declared.fault.Fault.{Fault}
 use Rattle.order_grammar.specs.declared.order.Order.{Order}
 use Rattle.order_grammar.specs.declared.order.Order.TheVariants as order

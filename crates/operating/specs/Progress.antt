@@ -10,7 +10,7 @@ use Rattle.board.specs.declared.asker.TurnStep.TheVariants as step
 use Rattle.map_tables.specs.declared.lay.Lay.{Lay}
 use Rattle.operating.specs.Runs.{no_runs, with_ran}
 use Rattle.operating.specs.declared.progress.Progress.{Progress}
-use Rattle.operating.specs.declared.runs.CompletedRun.{CompletedRun}
+use Rattle.operating.specs.declared.completed_runs.CompletedRun.{CompletedRun}
 
 -- how far a turn has come that has just begun
 abbrev pub at_start : Progress

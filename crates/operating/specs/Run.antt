@@ -22,7 +22,7 @@ use Rattle.operating.specs.Progress.{is_past_runs, run_done}
 use Rattle.operating.specs.Runs.{has_run}
 use Rattle.operating.specs.TurnState.{TurnState, turn_state, line_recorded}
 use Rattle.operating.specs.declared.progress.Progress.{Progress}
-use Rattle.operating.specs.declared.runs.CompletedRun.{CompletedRun}
+use Rattle.operating.specs.declared.completed_runs.CompletedRun.{CompletedRun}
 use Rattle.order_grammar.specs.declared.order.Order.{Order}
 use Rattle.reach.specs.Position.{Position}
 use Rattle.sheets.specs.Part.{Numbered}

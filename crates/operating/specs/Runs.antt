@@ -3,7 +3,7 @@
 use Rattle.std.specs.Prelude.{ℕ, Bool, List, ℤ, ◌≡◌, ◌+◌, ◌*◌, ◌≤◌, length, false, replicate, pos, slice_index_or, ◌-◌}
 use Rattle.std.specs.Prelude.{◌^◌, ◌≤ℤ◌, ◌+ℤ◌, slice_set}
 use Rattle.legal_runs.specs.Law.{unused}
-use Rattle.operating.specs.declared.runs.CompletedRun.{CompletedRun}
+use Rattle.operating.specs.declared.completed_runs.CompletedRun.{CompletedRun}
 use Rattle.tables.specs.Train.{place_of_kind}
 use Rattle.tables.specs.declared.rolling_stock.Kind.{Kind}
 

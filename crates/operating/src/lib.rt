@@ -12,7 +12,7 @@
 //!
 //! `purchases` rules what it buys, and `forced_purchase` the train that it must buy.
 //!
-//! Reading order: `runs` (what its trains have done), `progress` (how far the turn has come),
+//! Reading order: `completed_runs` (what its trains have done), `progress` (how far the turn has come),
 //! `company_turn` (all that lasts for the turn: the functions that rule a line are its methods),
 //! `game_and_board` (the game and its board between turns), `map_state` (the tiles and tokens on
 //! the map), `board_asker` (the company as the rules of the board see it), `home_token`; a file for
@@ -26,6 +26,7 @@ mod best_laws;
 mod board_asker;
 mod company_orders;
 mod company_turn;
+mod completed_runs;
 mod forced_laws;
 mod game_and_board;
 mod home_token;
@@ -38,7 +39,6 @@ mod private_laws;
 mod progress;
 mod run;
 mod run_best;
-mod runs;
 mod sale_laws;
 mod tile_laws;
 mod token;

@@ -4,7 +4,7 @@ ghost use Rattle.operating.specs.Progress.{is_past_runs, is_unpaid, lay_done, pa
 ghost use Rattle.operating.specs.Progress.{token_done};
 ghost use Rattle.operating.specs.Runs.{IsCounted};
 
-use crate::runs::{CompletedRun, Runs};
+use crate::completed_runs::{CompletedRun, Runs};
 use board::{Asker, Board, TurnStep, is_dh_lay};
 use map_tables::Lay;
 use tables::Amount;

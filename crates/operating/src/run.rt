@@ -15,9 +15,9 @@ ghost use Rattle.sheets.specs.Part.{line_with};
 ghost use Rattle.tables.specs.Rules.{first_broken};
 
 use crate::company_turn::CompanyTurn;
+use crate::completed_runs::{CompletedRun, Runs};
 use crate::map_state::update_map_state;
 use crate::progress::Progress;
-use crate::runs::{CompletedRun, Runs};
 use board::Board;
 use history::{Event, History, Refusal, RunRule};
 use legal_runs::check_run;

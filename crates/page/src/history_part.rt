@@ -2,7 +2,6 @@
 //! table.
 ghost use Rattle.std.specs.Prelude.{IfSome, ◌≤◌, ◌<◌};
 
-use crate::record::Entry;
 use crate::route_lines::DASHES;
 use crate::scene::Scene;
 use crate::signs::put_line_colour;
@@ -10,6 +9,7 @@ use crate::table_forms::{
     NOTHING, begin_head, begin_row, begin_table, end_head, put_caption, put_heading, put_row_head,
 };
 use crate::tiles_part::begin_section;
+use crate::worth_history::Entry;
 use picture::Piece::{Name, Number, Round, Words};
 use picture::{Attr, Point, Tag, Writer, letter};
 use tables::{Company, Money, Seat};

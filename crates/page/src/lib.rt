@@ -8,7 +8,7 @@
 //! track of a hex is that of the tile that lies there, or of the print, and the runs are those that
 //! `desk` tells of. How it is laid out is tested by the pages of `games/page/`.
 //!
-//! Reading order: `scene` (what a page shows), `record` (the game round by round), `routes` (what
+//! Reading order: `scene` (what a page shows), `worth_history` (the game round by round), `routes` (what
 //! trains ran), `tokens` (what lies in slots), `style`, `signs`, `hex_words`, `map_part`,
 //! `route_lines`, `chart_part`, `history_part`, `table_forms`, `players_part`, `companies_part`,
 //! `tiles_part` (`tile_sheet`), `status_part`, `whole_page` (`page`).
@@ -20,7 +20,6 @@ mod hex_words;
 mod history_part;
 mod map_part;
 mod players_part;
-mod record;
 mod route_lines;
 mod routes;
 mod scene;
@@ -31,6 +30,7 @@ mod table_forms;
 mod tiles_part;
 mod tokens;
 mod whole_page;
+mod worth_history;
 
 pub use tiles_part::tile_sheet;
 pub use whole_page::page;

@@ -12,25 +12,25 @@
 //! keeps; `Stops` has stops as marks, `Tokens` the list in which walks begin, and `Pieces` what is
 //! reached of one hex.
 //!
-//! Reading order: `network`, `walk`, `answer`, `stops` and `reaches` (the public calls), `search`,
-//! `keeper` (what it does with links), `numbers` (of stops and of spots), `stop_marks`.
+//! Reading order: `network`, `walk`, `reach_found`, `stops` and `reaches` (the public calls), `search`,
+//! `link_visitor` (what it does with links), `stop_numbers` (of stops and of spots), `stop_marks`.
 #![tactic(auto)]
 
-mod answer;
-mod keeper;
+mod link_visitor;
 mod network;
-mod numbers;
+mod reach_found;
 mod reaches;
 mod search;
 mod stop_marks;
+mod stop_numbers;
 mod stops;
 mod walk;
 
-pub use answer::{Reach, reached};
 pub use network::Network;
-pub use numbers::{SPOTS, STOPS, spot_number, stop_order};
+pub use reach_found::{Reach, reached};
 pub use reaches::{reaches_hex, reaches_stop};
 pub use search::twin;
 pub use stop_marks::StopMarks;
+pub use stop_numbers::{SPOTS, STOPS, spot_number, stop_order};
 pub use stops::{ReachedStops, reached_stops};
 pub use walk::{Spot, Step};

@@ -8,7 +8,7 @@ ghost use Rattle.reach.specs.Search.{AllArrive, HasAllTokens, IsClosed};
 ghost use Rattle.reach.specs.Tokens.{AreNamed};
 ghost use Rattle.reach.specs.Walk.{IsTrack};
 
-use crate::keeper::Forgetful;
+use crate::link_visitor::Forgetful;
 use crate::network::Network;
 use crate::search::{Marks, mark_named, search};
 use map_tables::{Hex, Place, Stop};

@@ -11,9 +11,9 @@ ghost use Rattle.reach.specs.Tokens.{AreNamed, IsListed, stop_of_token};
 ghost use Rattle.reach.specs.Walk.{IsTrack, entered_at, left_at};
 ghost use Rattle.reach.specs.declared.walk.Step.{Step};
 
-use crate::keeper::Keeper;
+use crate::link_visitor::Keeper;
 use crate::network::Network;
-use crate::numbers::{SPOTS, spot_number};
+use crate::stop_numbers::{SPOTS, spot_number};
 use crate::walk::{Spot, Step};
 use arrayvec::ArrayVec;
 use map_tables::{End, HEXES, Hex, Link, Place, Stop, StopNumber, joined_stop};

@@ -2,7 +2,7 @@
 ghost use Rattle.std.specs.Prelude.{◌≡◌, true, false, get_or, replicate, set};
 ghost use Rattle.reach.specs.Reached.{stop_order};
 
-use crate::numbers::{STOPS, stop_order};
+use crate::stop_numbers::{STOPS, stop_order};
 use map_tables::Stop;
 use std::marker::Model;
 

@@ -5,11 +5,11 @@ ghost use Rattle.reach.specs.Reached.{AreSortedBy, stop_order};
 ghost use Rattle.reach.specs.Search.{AreMarkedStops, IsPushed};
 ghost use Rattle.reach.specs.Stops.{AreReachedStops};
 
-use crate::keeper::Forgetful;
+use crate::link_visitor::Forgetful;
 use crate::network::Network;
-use crate::numbers::STOPS;
 use crate::search::{Marks, mark_tokens, search};
 use crate::stop_marks::StopMarks;
+use crate::stop_numbers::STOPS;
 use map_tables::{HEXES, Hex, Stop, StopNumber};
 use std::marker::Model;
 use tables::Company;

@@ -10,21 +10,21 @@
 //! file has exactly one report.
 //!
 //! Reading order: `column` (numbers and names in columns), `line` (an event as a line), `statement`
-//! (what each player and the bank hold), `worth` (what each player is worth at the end), `text`
+//! (what each player and the bank hold), `end_worth` (what each player is worth at the end), `text`
 //! (`refusal_text`, `report`, `round_text`), `parts` (`header_text`, `next_text`, `end_text` and
 //! its halves), `laws`.
 #![tactic(auto)]
 
 mod column;
+mod end_worth;
 pub mod laws;
 mod line;
 mod parts;
 mod statement;
 mod text;
-mod worth;
 
 pub use column::{push_left, push_right};
+pub use end_worth::player_worth;
 pub use line::{name, push_name, push_square};
 pub use parts::{end_text, header_text, next_text, outcome_text, unread_text};
 pub use text::{refusal_text, report, round_text};
-pub use worth::player_worth;

@@ -6,9 +6,9 @@ ghost use Rattle.report.specs.Report.{is_round, name_owing, over_text, refusal_l
 ghost use Rattle.report.specs.Report.{rounds_text, text_between, unread_lines};
 ghost use Rattle.sheets.specs.File.{players_of};
 
+use crate::end_worth::push_worths;
 use crate::line::{push_event, push_name};
 use crate::statement::{Snapshot, push_statement};
-use crate::worth::push_worths;
 use history::{Event, History, Walk};
 use order_grammar::{Fault, Version, print_number, print_round};
 use rounds::{End, Game};

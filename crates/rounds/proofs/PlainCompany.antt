@@ -3,7 +3,7 @@ use Rattle.std.proofs.Common.{◌≡◌, ℕ, ◌==◌, ◌&&◌, Bool, true, fa
 use Rattle.std.proofs.Common.{is_none, option_map, Result, Ok, Err, inl, inr, pos, refl, sym, subst, ap}
 use Rattle.std.specs.Int.RustNames.{unsigned_abs}
 use Rattle.std.specs.Int.Signed.{lt_z}
-use Rattle.certs.specs.declared.deal.Sale.{Sale}
+use Rattle.certs.specs.declared.share_deal.Sale.{Sale}
 use Rattle.events.specs.declared.event.Event.{Event}
 use Rattle.events.specs.declared.event.Event.TheVariants as event
 use Rattle.events.specs.declared.event.Holder.{Holder}

@@ -18,7 +18,7 @@
 //! - `Legs`: how segments make legs from stop to stop, and where runs may begin.
 //!
 //! Reading order: `task` (what there is), `bit_set` (marks of borders and spots, a bit each),
-//! `stretch` (a segment of track), `segments` (those from all spots), `crossing` (the borders of a
+//! `outgoing_segment` (a segment of track), `segments` (those from all spots), `crossing` (the borders of a
 //! leg, a set of them), `steps` (those of a leg), `spots` (the spots of a position, and the whole
 //! task), `legs` (from stop to stop), `mirror` (whether legs lead back over all legs).
 #![tactic(auto)]
@@ -27,10 +27,10 @@ mod bit_set;
 mod crossing;
 mod legs;
 mod mirror;
+mod outgoing_segment;
 mod segments;
 mod spots;
 mod steps;
-mod stretch;
 mod task;
 
 pub use bit_set::{BORDERS, BitSet, Borders, Spots, mixed_with};

@@ -3,7 +3,7 @@
 ghost use Rattle.std.specs.Prelude.{◌≡◌, ◌<◌, [], IfOk, OnOk, Some, length, slice_get};
 ghost use Rattle.search_task.specs.Segments.{AddsSegment, segments_from};
 
-use crate::stretch::Stretch;
+use crate::outgoing_segment::Stretch;
 use reach::SPOTS;
 use std::alloc::{AllocError, Global};
 use std::marker::Model;

@@ -12,8 +12,8 @@ ghost use Rattle.reach.specs.Lawful.{IsLawful};
 ghost use Rattle.reach.specs.Walk.{entered_at};
 ghost use Rattle.tables.specs.Train.{stops_of};
 
+use crate::outgoing_segment::Stretch;
 use crate::segments::Segments;
-use crate::stretch::Stretch;
 use crate::task::{Node, Task};
 use legal_runs::border_to;
 use map_tables::{End, HEXES, Hex, Stop, StopNumber, neighbour};

@@ -5,7 +5,7 @@ use Rattle.std.proofs.lemmas.Int.{ints}
 use Rattle.std.specs.Int.Signed.{lt_z}
 use Rattle.certs.proofs.SaleAllowed.{holds, same_start}
 use Rattle.certs.specs.Purchase.{is_sold_out_there, purchase_judgement, share_price_of, share_purchase_rules}
-use Rattle.certs.specs.declared.deal.Purchase.TheVariants as purchase
+use Rattle.certs.specs.declared.share_deal.Purchase.TheVariants as purchase
 use Rattle.events.specs.Event.{place_of_source}
 use Rattle.events.specs.RuleCodes.{code_of_stock_rule}
 use Rattle.events.specs.declared.event.Event.{Event}

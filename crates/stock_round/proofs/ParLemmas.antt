@@ -3,7 +3,7 @@ use Rattle.std.proofs.Common.{◌≡◌, ℕ, ◌*◌, ◌<◌, false, List, Opt
 use Rattle.std.proofs.Common.{◌∙◌}
 use Rattle.certs.proofs.SaleAllowed.{holds, same_start}
 use Rattle.certs.specs.Purchase.{purchase_judgement, share_purchase_rules}
-use Rattle.certs.specs.declared.deal.Purchase.TheVariants as purchase
+use Rattle.certs.specs.declared.share_deal.Purchase.TheVariants as purchase
 use Rattle.events.specs.Event.{is_par_value}
 use Rattle.events.specs.RuleCodes.{code_of_stock_rule}
 use Rattle.events.specs.declared.event.Event.{Event}

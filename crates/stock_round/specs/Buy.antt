@@ -5,7 +5,7 @@
 use Rattle.std.specs.Prelude.{◌≡◌, ℕ, true, false, List, [], ◌∷◌, ◌++◌, Option}
 use Rattle.certs.specs.Purchase.{is_sold_out_there, is_short_of_cash, purchase_judgement, share_price_of}
 use Rattle.certs.specs.SaleAct.{with_president}
-use Rattle.certs.specs.declared.deal.Purchase.TheVariants as purchase
+use Rattle.certs.specs.declared.share_deal.Purchase.TheVariants as purchase
 use Rattle.events.specs.declared.event.Event.{Event}
 use Rattle.events.specs.declared.event.Event.TheVariants as event
 use Rattle.events.specs.declared.ruling.StockRule.{StockRule}

@@ -3,7 +3,7 @@
 -- are those of a purchase, which are defined with the certificates.
 use Rattle.std.specs.Prelude.{◌≡◌, ℕ, ◌*◌, false, List, [], ◌∷◌, ◌++◌, Option}
 use Rattle.certs.specs.Purchase.{is_no_par, is_short_of_cash, purchase_judgement}
-use Rattle.certs.specs.declared.deal.Purchase.TheVariants as purchase
+use Rattle.certs.specs.declared.share_deal.Purchase.TheVariants as purchase
 use Rattle.events.specs.declared.event.Event.{Event}
 use Rattle.events.specs.declared.event.Event.TheVariants as event
 use Rattle.events.specs.declared.ruling.StockRule.{StockRule}

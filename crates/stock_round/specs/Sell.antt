@@ -3,7 +3,7 @@
 use Rattle.std.specs.Prelude.{ℕ, List, Option, None}
 use Rattle.certs.specs.Sale.{sale_judgement}
 pub use Rattle.certs.specs.SaleAct.{MaySell, after_sale}
-use Rattle.certs.specs.declared.deal.Sale.{Sale}
+use Rattle.certs.specs.declared.share_deal.Sale.{Sale}
 use Rattle.events.specs.declared.event.Event.{Event}
 use Rattle.events.specs.declared.ruling.StockRule.{StockRule}
 use Rattle.tables.specs.declared.roster.Company.{Company}

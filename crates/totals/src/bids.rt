@@ -5,9 +5,9 @@ ghost use Rattle.totals.specs.Bids.{AppliesBidOn, AreStanding, bid_of, bids_else
 ghost use Rattle.totals.specs.Bids.{free_cash_of, greatest_bid_of};
 ghost use Rattle.totals.specs.Bids.{free_for, tied_on};
 
-use crate::aspect::{InRound, last_said};
+use crate::event_folds::{InRound, last_said};
+use crate::event_topics::{BidOn, LimitOn, ParOrdered};
 use crate::look_back::GameView;
-use crate::topics::{BidOn, LimitOn, ParOrdered};
 use arrayvec::ArrayVec;
 use events::{Bid, Bidding, Holder, Party};
 use tables::{Amount, Money, PLAYERS_MOST, PerSeat, Private, Seat};

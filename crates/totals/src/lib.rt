@@ -12,20 +12,20 @@
 //!
 //! Reading order: `look_back`, `owners`, `bids`, `offers`, `shares`, `operating` and `trains` (the
 //! readers of `GameView`), `totals` (what a list says, an event at a time), `balances` and
-//! `applying` (how an event changes the totals), `aspect` (the ways of looking back), `topics`
+//! `apply_event` (how an event changes the totals), `event_folds` (the ways of looking back), `event_topics`
 //! (what is looked for).
 #![tactic(auto)]
 
-mod applying;
-mod aspect;
+mod apply_event;
 mod balances;
 mod bids;
+mod event_folds;
+mod event_topics;
 mod look_back;
 mod offers;
 mod operating;
 mod owners;
 mod shares;
-mod topics;
 mod totals;
 mod trains;
 

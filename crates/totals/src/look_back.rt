@@ -9,10 +9,10 @@ ghost use Rattle.totals.specs.LookBack.{FitsMemory, IsModerate, bankrupt_in, bro
 ghost use Rattle.totals.specs.LookBack.{cheapest_of, is_sold, is_sold_in, last_said, owner_in, owner_of, priority_of};
 ghost use Rattle.totals.specs.LookBack.{round_of, start_of, sv_price_of};
 
-use crate::aspect::balance;
 use crate::balances::entry_of_party;
+use crate::event_folds::balance;
+use crate::event_topics::Cash;
 use crate::owners::Owners;
-use crate::topics::Cash;
 use crate::totals::Totals;
 use events::{Event, Holder, Party};
 use order_grammar::Offer;

@@ -2,9 +2,9 @@
 ghost use Rattle.std.specs.Prelude.{◌≡◌};
 ghost use Rattle.totals.specs.Offers.{has_consent, has_offered, is_among};
 
-use crate::aspect::{InRound, last_said};
+use crate::event_folds::{InRound, last_said};
+use crate::event_topics::OfferBy;
 use crate::look_back::GameView;
-use crate::topics::OfferBy;
 use events::is_offer;
 use order_grammar::Offer;
 use tables::Seat;

@@ -5,10 +5,10 @@ ghost use Rattle.totals.specs.Totals.{at_company};
 ghost use Rattle.totals.specs.Shares.{arrival_of, has_sold_in_round, is_floated, is_started, par_of, president_of};
 ghost use Rattle.totals.specs.Shares.{shares_of, square_of, start_shares};
 
-use crate::aspect::{InRound, balance, last_said};
 use crate::balances::entry_of_shares;
+use crate::event_folds::{InRound, balance, last_said};
+use crate::event_topics::{SaleBy, Shares};
 use crate::look_back::GameView;
-use crate::topics::{SaleBy, Shares};
 use events::Shareholder;
 use tables::{Amount, COMPANIES, Company, Money, PLAYERS_MOST, PerCompany, Seat, Square};
 

@@ -4,7 +4,7 @@ ghost use Rattle.std.specs.Prelude.{◌≡◌, ◌++◌, ◌∷◌, ◌<◌, ◌
 ghost use Rattle.events.specs.declared.event.Event.{Event as TheEvent};
 ghost use Rattle.totals.specs.Totals.{AreTotalsOf, says_little};
 
-use crate::applying::{
+use crate::apply_event::{
     apply, apply_arrival, apply_bankrupt, apply_bids, apply_broken, apply_float,
     apply_greatest_bid, apply_limit, apply_par, apply_par_order, apply_president, apply_ruling,
     apply_sale, apply_square, apply_token, apply_turn, no_limits,

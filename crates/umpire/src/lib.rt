@@ -13,36 +13,36 @@
 //! ```
 //!
 //! Reading order: `watched` (readers and writers that remember a failure), `fault`, `input`,
-//! `output` (a text), `refusal` (of a file), `ending` (what follows the rounds of a report),
+//! `output` (a text), `refusal` (of a file), `report_end` (what follows the rounds of a report),
 //! `program` (the report, and `run`); `certificates` (those of a game, written), `group_text` (how
-//! a group is written), `parting` (an order file and the text of certificates after it), `groups`
+//! a group is written), `input_split` (an order file and the text of certificates after it), `groups`
 //! (how one is read from that text), `verifier` (a runner that goes by them), `verification` (the
-//! game of a file, judged by them); `gathering` (a text that is written in long pieces),
+//! game of a file, judged by them); `buffered_write` (a text that is written in long pieces),
 //! `migration` (a file that migrates to version 2); `laws`, `migration_laws`.
 #![tactic(auto)]
 
+mod buffered_write;
 mod certificates;
-mod ending;
 mod fault;
-mod gathering;
 mod group_text;
 mod groups;
 mod input;
+mod input_split;
 pub mod laws;
 mod migration;
 mod migration_laws;
 mod output;
-mod parting;
 mod program;
 mod refusal;
+mod report_end;
 mod verification;
 mod verifier;
 mod watched;
 
 pub use certificates::certs;
 pub use fault::{Fault, status, word};
+pub use input_split::{CERTIFICATES_MOST, Parted, part};
 pub use migration::migrate;
-pub use parting::{CERTIFICATES_MOST, Parted, part};
 pub use program::run;
 pub use verification::verify;
 pub use watched::Watched;

@@ -10,8 +10,8 @@ ghost use Rattle.umpire.specs.Migration.{IsMigrated, StopsMigration};
 ghost use Rattle.umpire.specs.Run.{IsWriteFault};
 ghost use Rattle.umpire.specs.Watched.{has_failed, inside};
 
+use crate::buffered_write::{put, write_gathered};
 use crate::fault::Fault;
-use crate::gathering::{put, write_gathered};
 use crate::input::read_file;
 use crate::output::write_text;
 use crate::refusal::write_refusal;

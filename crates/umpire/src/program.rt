@@ -8,11 +8,11 @@ ghost use Rattle.umpire.specs.Rounds.{WritesAllRounds, WritesPrefixOfRounds};
 ghost use Rattle.umpire.specs.Run.{IsReported, IsWriteFault, Stops};
 ghost use Rattle.umpire.specs.Watched.{has_failed, inside};
 
-use crate::ending::write_end;
 use crate::fault::Fault;
 use crate::input::read_file;
 use crate::output::write_text;
 use crate::refusal::write_refusal;
+use crate::report_end::write_end;
 use crate::watched::Watched;
 use best_run::Search;
 use report::{header_text, next_text};

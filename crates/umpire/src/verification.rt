@@ -12,13 +12,13 @@ ghost use Rattle.umpire.specs.Verify.{IsAnswered, IsGameAnswered, IsJudged, Refu
 ghost use Rattle.umpire.specs.Verify.{uncertified_line};
 ghost use Rattle.umpire.specs.Watched.{has_failed, inside};
 
-use crate::ending::write_end;
 use crate::fault::Fault;
 use crate::input::read_first;
+use crate::input_split::{CERTIFICATES_MOST, Parted, part};
 use crate::output::write_text;
-use crate::parting::{CERTIFICATES_MOST, Parted, part};
 use crate::program::write_header;
 use crate::refusal::write_refusal;
+use crate::report_end::write_end;
 use crate::verifier::Verifier;
 use crate::watched::Watched;
 use order_grammar::print_round;

@@ -1,7 +1,7 @@
 -- Each token adds what it leads to.
 use Rattle.std.proofs.Common.{◌≡◌, ◌+◌, Some, length, slice_get, refl, sym, ap, subst, ◌∙◌, arith}
 use Rattle.std.proofs.lemmas.Option.{slice_get_read}
-use Rattle.best_run.specs.declared.outlook.Outlook.{Outlook}
+use Rattle.best_run.specs.declared.lookahead.Outlook.{Outlook}
 use Rattle.best_run.specs.Ahead.{IsWorth}
 use Rattle.best_run.specs.Canonical.{ReachesBelow}
 use Rattle.search_task.specs.Spots.{own_in}

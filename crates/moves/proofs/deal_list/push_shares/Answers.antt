@@ -1,5 +1,5 @@
 use Rattle.std.proofs.Common.{◌∷◌, [], refl}
-use Rattle.certs.specs.declared.deal.Purchase.TheVariants.{Share}
+use Rattle.certs.specs.declared.share_deal.Purchase.TheVariants.{Share}
 use Rattle.order_grammar.specs.declared.order.ShareSource.{ShareSource}
 use Rattle.moves.specs.Deals.{IsPurchaseAnswer, sources}
 use Rattle.moves.proofs.ListedLemmas.{lists_done, lists_next, lists_none}

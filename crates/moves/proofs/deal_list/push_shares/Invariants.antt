@@ -1,6 +1,6 @@
 -- The shares from the places so far.
 use Rattle.std.proofs.Common.{◌∷◌, [], take, flat_map}
-use Rattle.certs.specs.declared.deal.Purchase.TheVariants.{Share}
+use Rattle.certs.specs.declared.share_deal.Purchase.TheVariants.{Share}
 use Rattle.moves.specs.Deals.{IsPurchaseAnswer}
 use Rattle.moves.specs.Listed.{Lists}
 use Rattle.moves.proofs.deal_list.push_shares.Given as goal

@@ -1,5 +1,5 @@
 use Rattle.std.proofs.Common.{◌∷◌, [], ℕ, refl}
-use Rattle.certs.specs.declared.deal.Purchase.TheVariants.{Par}
+use Rattle.certs.specs.declared.share_deal.Purchase.TheVariants.{Par}
 use Rattle.moves.specs.Deals.{IsPurchaseAnswer, par_values}
 use Rattle.moves.proofs.ListedLemmas.{lists_done, lists_next, lists_none}
 use Rattle.moves.proofs.deal_list.push_starts.Goals as goal

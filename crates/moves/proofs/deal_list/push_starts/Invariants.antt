@@ -1,6 +1,6 @@
 -- The par values so far.
 use Rattle.std.proofs.Common.{◌∷◌, [], take, flat_map}
-use Rattle.certs.specs.declared.deal.Purchase.TheVariants.{Par}
+use Rattle.certs.specs.declared.share_deal.Purchase.TheVariants.{Par}
 use Rattle.moves.specs.Deals.{IsPurchaseAnswer}
 use Rattle.moves.specs.Listed.{Lists}
 use Rattle.moves.proofs.deal_list.push_starts.Given as goal

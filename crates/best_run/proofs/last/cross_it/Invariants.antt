@@ -1,6 +1,0 @@
--- The legs before the next one cross it.
-use Rattle.best_run.specs.Last.{CrossItBelow}
-use Rattle.best_run.proofs.last.cross_it.Given as goal
-
-abbrev pub invariant-loop-index : goal.invariant-loop-index
-invariant-loop-index l = CrossItBelow l.task l.assigned.used l.spot l.border l.index

@@ -1,5 +1,0 @@
-use Rattle.totals.proofs.Empty.{no_bid}
-use Rattle.totals.proofs.applying.no_limits.Goals as goal
-
-pub returns : goal.returns
-returns c = no_bid

@@ -1,5 +1,0 @@
-use Rattle.totals.proofs.Empty.{no_sale}
-use Rattle.totals.proofs.applying.no_sales.Goals as goal
-
-pub returns : goal.returns
-returns c = no_sale
