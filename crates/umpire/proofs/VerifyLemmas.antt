@@ -16,6 +16,7 @@ use Rattle.sheets.specs.declared.fault.FileFault.TheVariants.{TooLong}
 use Rattle.tables.specs.declared.roster.Company.{Company}
 use Rattle.tables.specs.declared.round.Round.{Round}
 use Rattle.umpire.proofs.PartingLemmas.{found_within}
+use Rattle.umpire.proofs.Stopping.{stops_unread, stops_whole}
 use Rattle.umpire.specs.Failure.{AppendsPrefix}
 use Rattle.umpire.specs.Groups.{groups_of}
 use Rattle.umpire.specs.Parting.{certificates_most, certificates_of, file_before, from_divider, order_file_of}
@@ -23,8 +24,8 @@ use Rattle.umpire.specs.Parting.{without_newline}
 use Rattle.umpire.specs.Rounds.{IsTextOfRounds, WritesAllRounds, WritesPrefixOfRounds}
 use Rattle.umpire.specs.Run.{IsCutShort, IsFileOf, IsReadFault, IsReported, IsWriteFault}
 use Rattle.umpire.specs.Verify.{AnswersContent, AnswersGame, AnswersInput, HasAllGroups, IsAnswerCut, IsAnswered}
-use Rattle.umpire.specs.Verify.{IsGameAnswered, IsGameCut, IsRefusal, LacksGroup, Refuses, StopsGame, StopsVerify, content_of_input}
-use Rattle.umpire.specs.Verify.{uncertified_line}
+use Rattle.umpire.specs.Verify.{IsGameAnswered, IsGameCut, IsInputRefused, IsRefusal, IsUncertified, LacksGroup}
+use Rattle.umpire.specs.Verify.{Refuses, StopsGame, StopsVerify, content_of_input, uncertified_line}
 use Rattle.umpire.specs.declared.fault.Fault.{Fault}
 use Rattle.umpire.specs.declared.fault.Fault.TheVariants.{Read, Write, Memory, File, Certificate}
 
@@ -164,31 +165,27 @@ cut_whole given old new input read (inr known) =
       prefix = known.prefix;
     })
 
-pub stops_whole :
+pub stops_of_input :
     (given old new : Option (List ℕ)) (input : List ℕ) (read_failed write_failed : Bool) (fault : Fault) →
     IfSome given (λ bytes. input ≡ take 134217730 bytes) → read_failed ≡ false
     → StopsVerify (Some input) old new false write_failed fault →
     StopsVerify given old new read_failed write_failed fault
-stops_whole given old new input rf wf Read read unfailed known = absurd cc
-stops_whole given old new input rf wf Write read unfailed known =
-    (unfailed, known.1, cut_whole given old new input read known.2)
-stops_whole given old new input rf wf Memory read unfailed known =
-    (unfailed, known.1, cut_whole given old new input read known.2)
-stops_whole given old new input rf wf (File fault) read unfailed known =
-    (unfailed, known.1, answered_whole given old new input (Err (File fault)) read known.2)
-stops_whole given old new input rf wf (Certificate round company) read unfailed known =
-    (unfailed, known.1, answered_whole given old new input (Err (Certificate round company)) read known.2)
+stops_of_input given old new input read_failed write_failed fault read unfailed known =
+    stops_whole (IsAnswerCut (Some input) old new) (IsAnswerCut given old new) (IsInputRefused (Some input) old new)
+    (IsInputRefused given old new) (IsUncertified (Some input) old new) (IsUncertified given old new)
+    (cut_whole given old new input read)
+    (λ refusal. answered_whole given old new input (Err (File refusal)) read)
+    (λ round company. answered_whole given old new input (Err (Certificate round company)) read) old new read_failed
+    write_failed fault unfailed known
 
 -- reading stopped early, and nothing was written
 pub stops_reading :
     (given old : Option (List ℕ)) (read_failed write_failed : Bool) (fault : Fault) → IsReadFault read_failed fault
     → write_failed ≡ false →
     StopsVerify given old old read_failed write_failed fault
-stops_reading given old rf wf Read is unfailed = (is, unfailed, Keeps-refl old)
-stops_reading given old rf wf Memory is unfailed = (is, unfailed, inl (Keeps-refl old))
-stops_reading given old rf wf Write is unfailed = absurd is
-stops_reading given old rf wf (File fault) is unfailed = absurd is
-stops_reading given old rf wf (Certificate round company) is unfailed = absurd is
+stops_reading given old read_failed write_failed fault is unfailed =
+    stops_unread (IsAnswerCut given old old) (IsInputRefused given old old) (IsUncertified given old old) old read_failed
+    write_failed fault is unfailed (inl (Keeps-refl old))
 
 -- for a file that is refused it writes that refusal
 pub refusal_answers : (input text : List ℕ) (fault : FileFault) (outcome : Result (Unit {0}) Fault)

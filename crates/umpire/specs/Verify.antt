@@ -23,7 +23,7 @@ use Rattle.tables.specs.declared.round.Round.{Round}
 use Rattle.umpire.specs.Failure.{AppendsPrefix}
 use Rattle.umpire.specs.Groups.{groups_of}
 use Rattle.umpire.specs.Parting.{certificates_most, certificates_of, order_file_of}
-use Rattle.umpire.specs.Run.{IsFileOf}
+use Rattle.umpire.specs.Run.{IsFileOf, StopsBy}
 use Rattle.umpire.specs.declared.fault.Fault.{Fault}
 use Rattle.umpire.specs.declared.fault.Fault.TheVariants.{Read, Write, Memory, File, Certificate}
 
@@ -160,14 +160,15 @@ pub record IsAnswerCutShort (given old new : Option (List ℕ)) : Type 0 where
 abbrev pub IsAnswerCut : Option (List ℕ) → Option (List ℕ) → Option (List ℕ) → Type 0
 IsAnswerCut given old new = Keeps old new ⊎ IsAnswerCutShort given old new
 
--- what a fault leaves, and which calls of the reader and the writer have failed
+-- the line that says so follows what the writer held, where the best runs of a company have no group
+abbrev pub IsUncertified : Option (List ℕ) → Option (List ℕ) → Option (List ℕ) → Round → Company → Type 0
+IsUncertified given old new round company = IsAnswered given (Err (Certificate round company)) old new
+
+-- the line that says so does, where a file is refused
+abbrev pub IsInputRefused : Option (List ℕ) → Option (List ℕ) → Option (List ℕ) → FileFault → Type 0
+IsInputRefused given old new fault = IsAnswered given (Err (File fault)) old new
+
+-- what a fault leaves of an answer
 abbrev pub StopsVerify : Option (List ℕ) → Option (List ℕ) → Option (List ℕ) → Bool → Bool → Fault → Type 0
-StopsVerify given old new read_failed write_failed Read = (read_failed ≡ true) × (write_failed ≡ false) × Keeps old new
-StopsVerify given old new read_failed write_failed Write =
-    (read_failed ≡ false) × (write_failed ≡ true) × IsAnswerCut given old new
-StopsVerify given old new read_failed write_failed Memory =
-    (read_failed ≡ false) × (write_failed ≡ false) × IsAnswerCut given old new
-StopsVerify given old new read_failed write_failed (File fault) =
-    (read_failed ≡ false) × (write_failed ≡ false) × IsAnswered given (Err (File fault)) old new
-StopsVerify given old new read_failed write_failed (Certificate round company) =
-    (read_failed ≡ false) × (write_failed ≡ false) × IsAnswered given (Err (Certificate round company)) old new
+StopsVerify given old new =
+    StopsBy (IsAnswerCut given old new) (IsInputRefused given old new) (IsUncertified given old new) old new
