@@ -21,11 +21,11 @@ use Rattle.sheets.specs.declared.fault.FileFault.{FileFault}
 use Rattle.umpire.specs.Certified.{AreCertified, CertifyGame}
 use Rattle.umpire.specs.Certs.{AreCertificatesCut, IsCertified, IsCutInGroups, StopsCerts}
 use Rattle.umpire.specs.Failure.{AppendsPrefix}
-use Rattle.umpire.proofs.Stopping.{stops_cut, stops_unread, stops_whole}
-use Rattle.umpire.specs.Run.{IsReadFault, IsRefused, IsWriteFault, NeverUncertified, as_read}
+use Rattle.umpire.proofs.Stopping.{stops_cut, stops_refused, stops_unread, stops_whole}
+use Rattle.umpire.specs.Run.{IsReadFault, IsRefused, IsWriteFault, NeverUncertified, Refuses, as_read}
 use Rattle.umpire.specs.Written.{certificates_text, group_text, order_line}
 use Rattle.umpire.specs.declared.fault.Fault.{Fault}
-use Rattle.umpire.proofs.Files.{Says, refused, says}
+use Rattle.umpire.proofs.Files.{Says, refusal_written, refused, says}
 use Rattle.umpire.proofs.Parts.{LeavesRest, prefix_of_first_part, prefix_of_second_part}
 
 -- a text with nothing left was written whole
@@ -199,12 +199,18 @@ result_stops (Ok done) file old new failed is cut = tt
 result_stops (Err fault) file old new failed is cut = certificates_stop file old new failed fault is (inr (inl cut))
 
 -- a prefix of the line that says why a file is refused
+refusal_cut : (file : List ℕ) (old new : Option (List ℕ)) (refusal : FileFault) → content_of file ≡ Err refusal
+    → AppendsPrefix old new (refusal_line refusal) → AreCertificatesCut (Some file) old new
+refusal_cut file old new refusal is prefix =
+    inr (inr (record { file = file; fault = refusal; whole = refl; refused = is; prefix = prefix }))
+
+-- what a refused file leaves
 pub refusal_stops : (file : List ℕ) (old new : Option (List ℕ)) (failed : Bool) (refusal : FileFault) (fault : Fault)
-    → content_of file ≡ Err refusal → IsWriteFault failed fault → AppendsPrefix old new (refusal_line refusal)
+    → content_of file ≡ Err refusal → Refuses refusal old new failed fault
     → StopsCerts (Some file) old new false failed fault
-refusal_stops file old new failed refusal fault is stopped prefix =
-    certificates_stop file old new failed fault stopped
-    (inr (inr (record { file = file; fault = refusal; whole = refl; refused = is; prefix = prefix })))
+refusal_stops file old new failed refusal fault is refuses =
+    stops_refused (AreCertificatesCut (Some file) old new) (IsRefused (Some file) old new) NeverUncertified old new failed
+    refusal fault (refusal_cut file old new refusal is) (refusal_written file old new refusal is) refuses
 
 -- what a fault leaves where this was read
 pub stops_of : (given old new : Option (List ℕ)) (file : List ℕ) (read_failed write_failed : Bool) (fault : Fault)

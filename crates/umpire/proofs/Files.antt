@@ -10,8 +10,10 @@ use Rattle.sheets.specs.File.{Content, IsAccepted, content_of}
 use Rattle.sheets.specs.declared.fault.FileFault.{FileFault}
 use Rattle.sheets.specs.declared.fault.FileFault.TheVariants.{TooLong}
 use Rattle.umpire.specs.Failure.{AppendsPrefix}
-use Rattle.umpire.proofs.Stopping.{stops_unread, stops_whole}
-use Rattle.umpire.specs.Run.{IsReported, IsRefused, IsCutShort, IsFileOf, IsReadFault, NeverUncertified, Stops, as_read}
+use Rattle.std.specs.Io.KnownBytes.{Appends}
+use Rattle.umpire.proofs.Stopping.{stops_refused, stops_unread, stops_whole}
+use Rattle.umpire.specs.Run.{IsReported, IsRefused, IsCutShort, IsFileOf, IsReadFault, NeverUncertified, Refuses, Stops}
+use Rattle.umpire.specs.Run.{as_read}
 use Rattle.umpire.specs.declared.fault.Fault.{Fault}
 
 -- all of a file was read, or it is too long and so is what was read of it
@@ -135,6 +137,19 @@ cut_in_refusal file old new fault is prefix =
     let report : IsReport file (refusal_line fault) =
     subst (λ (r : Result Content FileFault). IsReportOf file r (refusal_line fault)) (sym is) refl in
     record { file = file; text = refusal_line fault; whole = refl; report = report; prefix = prefix }
+
+-- the line that says why a file is refused
+pub refusal_written : (file : List ℕ) (old new : Option (List ℕ)) (fault : FileFault) → content_of file ≡ Err fault
+    → Appends old new (refusal_line fault) → IsRefused (Some file) old new fault
+refusal_written file old new fault is written = record { file = file; whole = refl; refused = is; written = written }
+
+-- what a refused file leaves
+pub refusal_stops : (file : List ℕ) (old new : Option (List ℕ)) (failed : Bool) (refusal : FileFault) (fault : Fault)
+    → content_of file ≡ Err refusal → Refuses refusal old new failed fault
+    → Stops (Some file) old new false failed fault
+refusal_stops file old new failed refusal fault is refuses =
+    stops_refused (IsCutShort (Some file) old new) (IsRefused (Some file) old new) NeverUncertified old new failed refusal
+    fault (cut_in_refusal file old new refusal is) (refusal_written file old new refusal is) refuses
 
 -- what reading leaves where it stops early
 pub read_stops : ((file : List ℕ) → (text : List ℕ) × IsReport file text)

@@ -17,11 +17,11 @@ use Rattle.sheets.specs.declared.fault.FileFault.TheVariants.{Header, TooLong}
 use Rattle.umpire.specs.Failure.{AppendsPrefix}
 use Rattle.umpire.specs.Migrated.{file_in_two, migrated, named_version}
 use Rattle.umpire.specs.Migration.{IsMigrated, IsMigratedShort, StopsMigration, answer_to, migration_of}
-use Rattle.umpire.proofs.Stopping.{stops_cut, stops_unread, stops_whole}
-use Rattle.umpire.specs.Run.{IsReadFault, IsRefused, IsWriteFault, NeverUncertified, as_read}
+use Rattle.umpire.proofs.Stopping.{stops_cut, stops_refused, stops_unread, stops_whole}
+use Rattle.umpire.specs.Run.{IsReadFault, IsRefused, IsWriteFault, NeverUncertified, Refuses, as_read}
 use Rattle.umpire.specs.declared.fault.Fault.{Fault}
 use Rattle.umpire.specs.declared.fault.Fault.TheVariants.{Write}
-use Rattle.umpire.proofs.Files.{Says, refused, says}
+use Rattle.umpire.proofs.Files.{Says, refusal_written, refused, says}
 use Rattle.umpire.proofs.Parts.{none_of}
 
 by_content : (whole file : List ℕ) (content : Result Content FileFault) → content_of file ≡ content
@@ -150,6 +150,19 @@ write_failed (Ok done) failed is known = tt
 write_failed (Err fault) failed is known = rw is known
 
 -- the line of a refused file
-pub refused_goes : (file : List ℕ) (fault : FileFault) → content_of file ≡ Err fault
+refused_goes : (file : List ℕ) (fault : FileFault) → content_of file ≡ Err fault
     → migration_of file ≡ refusal_line fault
 refused_goes file fault refused = ap (answer_to file) refused
+
+refusal_cut : (file : List ℕ) (old new : Option (List ℕ)) (refusal : FileFault) → content_of file ≡ Err refusal
+    → AppendsPrefix old new (refusal_line refusal) → IsMigratedShort (Some file) old new
+refusal_cut file old new refusal is prefix =
+    record { file = file; whole = refl; prefix = rw (refused_goes file refusal is) prefix }
+
+-- what a refused file leaves
+pub refusal_stops : (file : List ℕ) (old new : Option (List ℕ)) (failed : Bool) (refusal : FileFault) (fault : Fault)
+    → content_of file ≡ Err refusal → Refuses refusal old new failed fault
+    → StopsMigration (Some file) old new false failed fault
+refusal_stops file old new failed refusal fault is refuses =
+    stops_refused (IsMigratedShort (Some file) old new) (IsRefused (Some file) old new) NeverUncertified old new failed
+    refusal fault (refusal_cut file old new refusal is) (refusal_written file old new refusal is) refuses

@@ -74,6 +74,16 @@ pub record IsCutShort (given old new : Option (List ℕ)) : Type 0 where
   pub report : IsReport file text
   pub prefix : AppendsPrefix old new text
 
+-- what a fault leaves if a file is refused: the line that says so, or a prefix of it if writing was
+-- stopped
+abbrev pub Refuses : FileFault → Option (List ℕ) → Option (List ℕ) → Bool → Fault → Type 0
+Refuses refusal old new failed Read = ⊥
+Refuses refusal old new failed Write = (failed ≡ true) × AppendsPrefix old new (refusal_line refusal)
+Refuses refusal old new failed Memory = (failed ≡ false) × AppendsPrefix old new (refusal_line refusal)
+Refuses refusal old new failed (File fault) = (failed ≡ false) × (fault ≡ refusal)
+    × Appends old new (refusal_line refusal)
+Refuses refusal old new failed (Certificate round company) = ⊥
+
 -- What a fault leaves, and which calls of the reader and the writer have failed. If a read failed
 -- nothing more is written. If a write failed, or memory ran out, the text is cut. What a refused
 -- file or certificate leaves is written whole.

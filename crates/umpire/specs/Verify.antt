@@ -108,16 +108,6 @@ StopsGame file groups old new failed (File fault) = ⊥
 StopsGame file groups old new failed (Certificate round company) =
     (failed ≡ false) × IsGameAnswered file groups (Err (Certificate round company)) old new
 
--- what a fault leaves if a file is refused: the line that says so, or a prefix of it if writing was
--- stopped
-abbrev pub Refuses : FileFault → Option (List ℕ) → Option (List ℕ) → Bool → Fault → Type 0
-Refuses refusal old new failed Read = ⊥
-Refuses refusal old new failed Write = (failed ≡ true) × AppendsPrefix old new (refusal_line refusal)
-Refuses refusal old new failed Memory = (failed ≡ false) × AppendsPrefix old new (refusal_line refusal)
-Refuses refusal old new failed (File fault) = (failed ≡ false) × (fault ≡ refusal)
-    × Appends old new (refusal_line refusal)
-Refuses refusal old new failed (Certificate round company) = ⊥
-
 -- what the order file of an input says, or why the input is refused: its text of certificates is
 -- over its limit, or the order file is refused
 unfoldable pub content_of_input : List ℕ → Result Content FileFault

@@ -12,7 +12,7 @@ use crate::ending::write_end;
 use crate::fault::Fault;
 use crate::input::read_file;
 use crate::output::write_text;
-use crate::refusal::write_refusal;
+use crate::refusal::refuse;
 use crate::watched::Watched;
 use best_run::Search;
 use report::{header_text, next_text};
@@ -71,10 +71,7 @@ fn write_answer<W: Write>(alloc: Global, file: &[u8], writer: &mut Watched<W>) -
         Ok(sheets) => write_game(alloc, &sheets, writer),
         // An allocation failed: passed on.
         Err(FileFault::Memory) => Err(Fault::Memory),
-        Err(fault) => {
-            write_refusal(alloc, fault, writer)?;
-            Err(Fault::File(fault))
-        }
+        Err(fault) => Err(refuse(alloc, fault, writer)),
     }
 }
 
