@@ -3,7 +3,7 @@ ghost use Rattle.report.specs.Column.{Adds};
 ghost use Rattle.report.specs.Parts.{last_round, last_round_text};
 ghost use Rattle.report.specs.Report.{IsLengthOfRound, awaiting_text, end_text, ends_round, game_line, header};
 ghost use Rattle.report.specs.Report.{is_round, name_owing, over_text, refusal_line, report_of, round_text_of};
-ghost use Rattle.report.specs.Report.{rounds_text, text_between, round_with_statement_at, unread_lines};
+ghost use Rattle.report.specs.Report.{round_with_statement_at, rounds_text, text_between, unread_lines};
 ghost use Rattle.sheets.specs.File.{players_of};
 
 use crate::line::{push_event, push_name};
