@@ -1,13 +1,11 @@
 -- The parts of a report as they are written while the game is played. They are the header, the text
 -- of each round after the step that plays it, and last what follows the rounds.
 use Rattle.std.specs.Prelude.{◌≡◌, ℕ, zero, suc, if◌then◌else◌, List, [], ◌∷◌, ◌++◌, Option, Some, None, Bool, is_some}
-use Rattle.std.specs.List.{flat_map, list_any}
+use Rattle.std.specs.List.{list_any}
 use Rattle.events.specs.Event.{round_begun_by}
 use Rattle.events.specs.declared.event.Event.{Event}
 use Rattle.totals.specs.LookBack.{Game}
-use Rattle.report.specs.Line.{event_line}
-use Rattle.report.specs.Report.{end_text, unread_lines}
-use Rattle.report.specs.Statement.{statement}
+use Rattle.report.specs.Report.{end_text, round_with_statement, unread_lines}
 use Rattle.rounds.specs.Steps.{PlaysNext, Underway, game_so_far}
 use Rattle.rounds.specs.declared.game.End.{End}
 use Rattle.sheets.specs.File.{unread_of}
@@ -23,8 +21,7 @@ last_round (event ∷ events) = if list_any (λ other. is_some (round_begun_by o
 -- the lines of its events, and the statement as the game stands; nothing before the first round
 abbrev pub last_round_text : List ℕ → ℕ → List Event → List ℕ
 last_round_text file seats [] = []
-last_round_text file seats (event ∷ events) =
-    flat_map (event_line file) (last_round (event ∷ events)) ++ statement file seats (event ∷ events)
+last_round_text file seats (event ∷ events) = round_with_statement file seats (event ∷ events) (last_round (event ∷ events))
 
 -- the text of the round that began last in a game, if there is a game
 abbrev pub text_of_last : List ℕ → Option Game → List ℕ

@@ -19,6 +19,7 @@ use Rattle.rounds.specs.declared.game.End.TheVariants.{Awaiting, Bank, Bankrupt}
 use Rattle.sheets.specs.File.{Content, content_of, code_of_fault, sheet_of, players_of, unread_of, version_of}
 use Rattle.sheets.specs.declared.fault.FileFault.{FileFault}
 use Rattle.tables.specs.Round.{same_round}
+use Rattle.totals.specs.declared.look_back.GameView.{GameView}
 use Rattle.tables.specs.declared.round.Round as round
 
 -- the line of a refused file
@@ -57,10 +58,17 @@ abbrev pub rounds_in : List Event → List (List Event)
 rounds_in [] = []
 rounds_in (event ∷ events) = with_event_in_round event (ends_round events) (rounds_in events)
 
--- the lines of a round's events, and the statement as it is after them
+-- the text of a round: the lines of its events, and the statement of all events up to its end
+abbrev pub round_with_statement : List ℕ → ℕ → List Event → List Event → List ℕ
+round_with_statement file seats all events = flat_map (event_line file) events ++ statement file seats all
+
+-- the text of a round whose events are the last of a game as it stood
+abbrev pub round_with_statement_at : List ℕ → GameView → List Event → List ℕ
+round_with_statement_at file view events = round_with_statement file view.seats view.events.now events
+
+-- the text of a round whose events come after these
 abbrev pub lines_of_round : List ℕ → ℕ → List Event → List Event → List ℕ
-lines_of_round file seats before events =
-    flat_map (event_line file) events ++ statement file seats (before ++ events)
+lines_of_round file seats before events = round_with_statement file seats (before ++ events) events
 
 -- the texts of some rounds, in order
 abbrev pub texts_of_rounds : List ℕ → ℕ → List Event → List (List Event) → List ℕ

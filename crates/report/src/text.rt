@@ -3,7 +3,7 @@ ghost use Rattle.report.specs.Column.{Adds};
 ghost use Rattle.report.specs.Parts.{last_round, last_round_text};
 ghost use Rattle.report.specs.Report.{IsLengthOfRound, awaiting_text, end_text, ends_round, game_line, header};
 ghost use Rattle.report.specs.Report.{is_round, name_owing, over_text, refusal_line, report_of, round_text_of};
-ghost use Rattle.report.specs.Report.{rounds_text, text_between, unread_lines};
+ghost use Rattle.report.specs.Report.{round_with_statement_at, rounds_text, text_between, unread_lines};
 ghost use Rattle.sheets.specs.File.{players_of};
 
 use crate::end_worth::push_worths;
@@ -39,7 +39,7 @@ pub fn round_text(alloc: Global, game: &Game, round: Round) -> Result<Vec<u8>, A
     while begun < events.len() {
         let end = begun + length_of_round(&events[begun..]);
         if is_round(&events[begun..end], &round) {
-            push_round(&mut out, game, begun, end, &mut Walk::along(events))?;
+            push_round_between(&mut out, game, begun, end, &mut Walk::along(events))?;
             return Ok(out);
         }
         begun = end;
@@ -94,15 +94,15 @@ fn push_rounds(out: &mut Vec<u8>, game: &Game) -> Result<(), AllocError>
     let mut begun = 0;
     while begun < events.len() {
         let end = begun + length_of_round(&events[begun..]);
-        push_round(out, game, begun, end, &mut walk)?;
+        push_round_between(out, game, begun, end, &mut walk)?;
         begun = end;
     }
     Ok(())
 }
 
-/// Adds the text of the round whose events are those from `begun` up to `end`: their lines, and the
-/// statement after them, to which the walk along the events goes.
-fn push_round(
+/// Adds the text of the round whose events are those from `begun` up to `end`, with the statement of
+/// the game as it stood after them, to which the walk along the events goes.
+fn push_round_between(
     out: &mut Vec<u8>,
     game: &Game,
     begun: usize,
@@ -117,15 +117,9 @@ fn push_round(
 {
     let history = game.history();
     let events = history.events();
-    for event in &events[begun..end] {
-        push_event(out, game.sheets(), event)?;
-    }
     walk.go(end);
-    push_statement(
-        out,
-        game.sheets(),
-        &Snapshot::at(walk.view(history.seats())),
-    )
+    let stood = Snapshot::at(walk.view(history.seats()));
+    push_round(out, game.sheets(), &stood, &events[begun..end])
 }
 
 /// Adds the text of the round that began last, as the game stands; nothing before the first.
@@ -142,10 +136,26 @@ pub(crate) fn push_last_round(
     if events.is_empty() {
         return Ok(());
     }
-    for event in &events[begin_of_last_round(events)..] {
+    let last = &events[begin_of_last_round(events)..];
+    push_round(out, sheets, &Snapshot::of(history), last)
+}
+
+/// Adds the text of a round: the lines of its events, and the statement of the game as it stood
+/// after them.
+fn push_round(
+    out: &mut Vec<u8>,
+    sheets: &Sheets,
+    stood: &Snapshot,
+    events: &[Event],
+) -> Result<(), AllocError>
+    requires { stood.now.view.seats ≡ length (players_of sheets.now) }
+    ensures { OnOk result
+        (Adds out.old out.new (round_with_statement_at sheets.now stood.now.view events.now)) }
+{
+    for event in events {
         push_event(out, sheets, event)?;
     }
-    push_statement(out, sheets, &Snapshot::of(history))
+    push_statement(out, sheets, stood)
 }
 
 /// Returns the place where the events of the round that began last begin.

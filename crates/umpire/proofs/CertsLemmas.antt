@@ -21,11 +21,11 @@ use Rattle.sheets.specs.declared.fault.FileFault.{FileFault}
 use Rattle.umpire.specs.Certified.{AreCertified, CertifyGame}
 use Rattle.umpire.specs.Certs.{AreCertificatesCut, IsCertified, IsCutInGroups, StopsCerts}
 use Rattle.umpire.specs.Failure.{AppendsPrefix}
-use Rattle.umpire.specs.Run.{IsReadFault, IsWriteFault, as_read}
+use Rattle.umpire.proofs.Stopping.{stops_cut, stops_refused, stops_unread, stops_whole}
+use Rattle.umpire.specs.Run.{IsReadFault, IsRefused, IsWriteFault, NeverUncertified, Refuses, as_read}
 use Rattle.umpire.specs.Written.{certificates_text, group_text, order_line}
 use Rattle.umpire.specs.declared.fault.Fault.{Fault}
-use Rattle.umpire.specs.declared.fault.Fault.TheVariants.{Read, Write, Memory, File, Certificate}
-use Rattle.umpire.proofs.Files.{Says, refused, says}
+use Rattle.umpire.proofs.Files.{Says, refusal_written, refused, says}
 use Rattle.umpire.proofs.Parts.{LeavesRest, prefix_of_first_part, prefix_of_second_part}
 
 -- a text with nothing left was written whole
@@ -188,11 +188,9 @@ cut_at_start file old new accepted prefix =
 pub certificates_stop : (file : List ℕ) (old new : Option (List ℕ)) (failed : Bool) (fault : Fault)
     → IsWriteFault failed fault → AreCertificatesCut (Some file) old new
     → StopsCerts (Some file) old new false failed fault
-certificates_stop file old new failed Read is cut = absurd is
-certificates_stop file old new failed Write is cut = (refl, is, cut)
-certificates_stop file old new failed Memory is cut = (refl, is, cut)
-certificates_stop file old new failed (File fault) is cut = absurd is
-certificates_stop file old new failed (Certificate round company) is cut = absurd is
+certificates_stop file old new failed fault is cut =
+    stops_cut (AreCertificatesCut (Some file) old new) (IsRefused (Some file) old new) NeverUncertified old new failed
+    fault is cut
 
 pub result_stops : {A : Type 0} (result : Result A Fault) (file : List ℕ) (old new : Option (List ℕ)) (failed : Bool)
     → IfErr result (IsWriteFault failed) → OnErr result (IsCutInGroups (Some file) old new)
@@ -201,36 +199,37 @@ result_stops (Ok done) file old new failed is cut = tt
 result_stops (Err fault) file old new failed is cut = certificates_stop file old new failed fault is (inr (inl cut))
 
 -- a prefix of the line that says why a file is refused
+refusal_cut : (file : List ℕ) (old new : Option (List ℕ)) (refusal : FileFault) → content_of file ≡ Err refusal
+    → AppendsPrefix old new (refusal_line refusal) → AreCertificatesCut (Some file) old new
+refusal_cut file old new refusal is prefix =
+    inr (inr (record { file = file; fault = refusal; whole = refl; refused = is; prefix = prefix }))
+
+-- what a refused file leaves
 pub refusal_stops : (file : List ℕ) (old new : Option (List ℕ)) (failed : Bool) (refusal : FileFault) (fault : Fault)
-    → content_of file ≡ Err refusal → IsWriteFault failed fault → AppendsPrefix old new (refusal_line refusal)
+    → content_of file ≡ Err refusal → Refuses refusal old new failed fault
     → StopsCerts (Some file) old new false failed fault
-refusal_stops file old new failed refusal fault is stopped prefix =
-    certificates_stop file old new failed fault stopped
-    (inr (inr (record { file = file; fault = refusal; whole = refl; refused = is; prefix = prefix })))
+refusal_stops file old new failed refusal fault is refuses =
+    stops_refused (AreCertificatesCut (Some file) old new) (IsRefused (Some file) old new) NeverUncertified old new failed
+    refusal fault (refusal_cut file old new refusal is) (refusal_written file old new refusal is) refuses
 
 -- what a fault leaves where this was read
 pub stops_of : (given old new : Option (List ℕ)) (file : List ℕ) (read_failed write_failed : Bool) (fault : Fault)
     → IfSome given (λ bytes. file ≡ as_read bytes) →
     read_failed ≡ false → StopsCerts (Some file) old new false write_failed fault
     → StopsCerts given old new read_failed write_failed fault
-stops_of given old new file read_failed write_failed Read read unfailed known = absurd cc
-stops_of given old new file read_failed write_failed Write read unfailed known =
-    (unfailed, known.1, cut_of given old new file read known.2)
-stops_of given old new file read_failed write_failed Memory read unfailed known =
-    (unfailed, known.1, cut_of given old new file read known.2)
-stops_of given old new file read_failed write_failed (File fault) read unfailed known =
-    (unfailed, known.1, refused given old new file fault read known.2)
-stops_of given old new file read_failed write_failed (Certificate round company) read unfailed known = absurd known
+stops_of given old new file read_failed write_failed fault read unfailed known =
+    stops_whole (AreCertificatesCut (Some file) old new) (AreCertificatesCut given old new)
+    (IsRefused (Some file) old new) (IsRefused given old new) NeverUncertified NeverUncertified
+    (cut_of given old new file read) (λ refusal. refused given old new file refusal read)
+    (λ round company never. never) old new read_failed write_failed fault unfailed known
 
 -- what reading leaves where it stops early
 pub read_stops_certs : (given old : Option (List ℕ)) (read_failed write_failed : Bool) (fault : Fault)
     → IsReadFault read_failed fault → write_failed ≡ false →
     StopsCerts given old old read_failed write_failed fault
-read_stops_certs given old read_failed write_failed Read is unfailed = (is, unfailed, Keeps-refl old)
-read_stops_certs given old read_failed write_failed Memory is unfailed = (is, unfailed, inl (Keeps-refl old))
-read_stops_certs given old read_failed write_failed Write is unfailed = absurd is
-read_stops_certs given old read_failed write_failed (File fault) is unfailed = absurd is
-read_stops_certs given old read_failed write_failed (Certificate round company) is unfailed = absurd is
+read_stops_certs given old read_failed write_failed fault is unfailed =
+    stops_unread (AreCertificatesCut given old old) (IsRefused given old old) NeverUncertified old read_failed
+    write_failed fault is unfailed (inl (Keeps-refl old))
 
 -- the texts of the groups ahead, from a group on
 pub groups_ahead : (groups : List Group) (place : ℕ) (group : Group) → place < length groups

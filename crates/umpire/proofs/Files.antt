@@ -2,7 +2,7 @@
 use Rattle.std.proofs.Common.{◌≡◌, ℕ, ◌<◌, ◌≤◌, ◌⊎◌, inl, inr, Bool, false, List, [], length, ap, refl, sym, subst}
 use Rattle.std.proofs.Common.{arith, ◌∙◌}
 use Rattle.std.specs.Prelude.{Option, Some, None, Result, Ok, Err, IfSome, IsOk}
-use Rattle.std.proofs.KnownBytes.{Appends-nil, Keeps-refl}
+use Rattle.std.proofs.KnownBytes.{Appends-nil}
 use Rattle.std.proofs.lemmas.List.{take_all, length-take-le}
 use Rattle.report.specs.Report.{IsReport, IsReportOf, refusal_line}
 use Rattle.sheets.proofs.ContentLemmas.{too_long}
@@ -10,9 +10,11 @@ use Rattle.sheets.specs.File.{Content, IsAccepted, content_of}
 use Rattle.sheets.specs.declared.fault.FileFault.{FileFault}
 use Rattle.sheets.specs.declared.fault.FileFault.TheVariants.{TooLong}
 use Rattle.umpire.specs.Failure.{AppendsPrefix}
-use Rattle.umpire.specs.Run.{IsReported, IsRefused, IsCutShort, IsFileOf, IsReadFault, Stops, as_read}
+use Rattle.std.specs.Io.KnownBytes.{Appends}
+use Rattle.umpire.proofs.Stopping.{stops_refused, stops_unread, stops_whole}
+use Rattle.umpire.specs.Run.{IsReported, IsRefused, IsCutShort, IsFileOf, IsReadFault, NeverUncertified, Refuses, Stops}
+use Rattle.umpire.specs.Run.{as_read}
 use Rattle.umpire.specs.declared.fault.Fault.{Fault}
-use Rattle.umpire.specs.declared.fault.Fault.TheVariants.{Read, Write, Memory, File, Certificate}
 
 -- all of a file was read, or it is too long and so is what was read of it
 read_or_long : (bytes file : List ℕ) → file ≡ as_read bytes → (length bytes ≤ 67108864) ⊎ (67108864 < length bytes)
@@ -109,14 +111,11 @@ cut_short given old new file read known =
 pub stops : (given old new : Option (List ℕ)) (file : List ℕ) (read_failed write_failed : Bool) (fault : Fault)
     → IfSome given (λ bytes. file ≡ as_read bytes) → read_failed ≡ false
     → Stops (Some file) old new false write_failed fault → Stops given old new read_failed write_failed fault
-stops given old new file read_failed write_failed Read read unfailed known = absurd cc
-stops given old new file read_failed write_failed Write read unfailed known =
-    (unfailed, known.1, cut_short given old new file read known.2)
-stops given old new file read_failed write_failed Memory read unfailed known =
-    (unfailed, known.1, cut_short given old new file read known.2)
-stops given old new file read_failed write_failed (File fault) read unfailed known =
-    (unfailed, known.1, refused given old new file fault read known.2)
-stops given old new file read_failed write_failed (Certificate round company) read unfailed known = absurd known
+stops given old new file read_failed write_failed fault read unfailed known =
+    stops_whole (IsCutShort (Some file) old new) (IsCutShort given old new) (IsRefused (Some file) old new)
+    (IsRefused given old new) NeverUncertified NeverUncertified (cut_short given old new file read)
+    (λ refusal. refused given old new file refusal read) (λ round company never. never) old new read_failed write_failed
+    fault unfailed known
 
 -- nothing of a report is a prefix of it
 prefix_of_none : (given old : Option (List ℕ)) (file : List ℕ) → IsFileOf given file
@@ -139,12 +138,23 @@ cut_in_refusal file old new fault is prefix =
     subst (λ (r : Result Content FileFault). IsReportOf file r (refusal_line fault)) (sym is) refl in
     record { file = file; text = refusal_line fault; whole = refl; report = report; prefix = prefix }
 
+-- the line that says why a file is refused
+pub refusal_written : (file : List ℕ) (old new : Option (List ℕ)) (fault : FileFault) → content_of file ≡ Err fault
+    → Appends old new (refusal_line fault) → IsRefused (Some file) old new fault
+refusal_written file old new fault is written = record { file = file; whole = refl; refused = is; written = written }
+
+-- what a refused file leaves
+pub refusal_stops : (file : List ℕ) (old new : Option (List ℕ)) (failed : Bool) (refusal : FileFault) (fault : Fault)
+    → content_of file ≡ Err refusal → Refuses refusal old new failed fault
+    → Stops (Some file) old new false failed fault
+refusal_stops file old new failed refusal fault is refuses =
+    stops_refused (IsCutShort (Some file) old new) (IsRefused (Some file) old new) NeverUncertified old new failed refusal
+    fault (cut_in_refusal file old new refusal is) (refusal_written file old new refusal is) refuses
+
 -- what reading leaves where it stops early
 pub read_stops : ((file : List ℕ) → (text : List ℕ) × IsReport file text)
     → (given old : Option (List ℕ)) (read_failed write_failed : Bool) (fault : Fault) → IsReadFault read_failed fault
     → write_failed ≡ false → Stops given old old read_failed write_failed fault
-read_stops some given old read_failed write_failed Read is unfailed = (is, unfailed, Keeps-refl old)
-read_stops some given old read_failed write_failed Memory is unfailed = (is, unfailed, nothing_written some given old)
-read_stops some given old read_failed write_failed Write is unfailed = absurd is
-read_stops some given old read_failed write_failed (File fault) is unfailed = absurd is
-read_stops some given old read_failed write_failed (Certificate round company) is unfailed = absurd is
+read_stops some given old read_failed write_failed fault is unfailed =
+    stops_unread (IsCutShort given old old) (IsRefused given old old) NeverUncertified old read_failed write_failed fault
+    is unfailed (nothing_written some given old)

@@ -1,4 +1,5 @@
 pub mod Known
+pub mod Stopping
 pub mod Parts
 pub mod UnreadParts
 pub mod Files

@@ -4,7 +4,6 @@ use Rattle.std.proofs.Common.{◌≡◌, ℕ, Bool, true, false, cond, List, [],
 use Rattle.std.specs.Prelude.{Option, Some, None, Result, Ok, Err, IfErr, IfSome, IsOk, OnErr, OnOk, is_some, nat_lt}
 use Rattle.std.specs.Prelude.{unwrap_or}
 use Rattle.std.specs.Io.KnownBytes.{Appends}
-use Rattle.std.proofs.KnownBytes.{Keeps-refl}
 use Rattle.order_grammar.specs.Line.{reading_of}
 use Rattle.order_grammar.specs.declared.condition.Version.{Version}
 use Rattle.order_grammar.specs.declared.condition.Version.TheVariants.{One, Two}
@@ -18,10 +17,11 @@ use Rattle.sheets.specs.declared.fault.FileFault.TheVariants.{Header, TooLong}
 use Rattle.umpire.specs.Failure.{AppendsPrefix}
 use Rattle.umpire.specs.Migrated.{file_in_two, migrated, named_version}
 use Rattle.umpire.specs.Migration.{IsMigrated, IsMigratedShort, StopsMigration, answer_to, migration_of}
-use Rattle.umpire.specs.Run.{IsReadFault, IsWriteFault, as_read}
+use Rattle.umpire.proofs.Stopping.{stops_cut, stops_refused, stops_unread, stops_whole}
+use Rattle.umpire.specs.Run.{IsReadFault, IsRefused, IsWriteFault, NeverUncertified, Refuses, as_read}
 use Rattle.umpire.specs.declared.fault.Fault.{Fault}
-use Rattle.umpire.specs.declared.fault.Fault.TheVariants.{Read, Write, Memory, File, Certificate}
-use Rattle.umpire.proofs.Files.{Says, refused, says}
+use Rattle.umpire.specs.declared.fault.Fault.TheVariants.{Write}
+use Rattle.umpire.proofs.Files.{Says, refusal_written, refused, says}
 use Rattle.umpire.proofs.Parts.{none_of}
 
 by_content : (whole file : List ℕ) (content : Result Content FileFault) → content_of file ≡ content
@@ -65,15 +65,11 @@ pub migration_stops : (given old new : Option (List ℕ)) (file : List ℕ) (rea
     (fault : Fault) → IfSome given (λ bytes. file ≡ as_read bytes) → read_failed ≡ false
     → StopsMigration (Some file) old new false write_failed fault
     → StopsMigration given old new read_failed write_failed fault
-migration_stops given old new file read_failed write_failed Read read unfailed known = absurd cc
-migration_stops given old new file read_failed write_failed Write read unfailed known =
-    (unfailed, known.1, cut_short given old new file read known.2)
-migration_stops given old new file read_failed write_failed Memory read unfailed known =
-    (unfailed, known.1, cut_short given old new file read known.2)
-migration_stops given old new file read_failed write_failed (File fault) read unfailed known =
-    (unfailed, known.1, refused given old new file fault read known.2)
-migration_stops given old new file read_failed write_failed (Certificate round company) read unfailed known =
-    absurd known
+migration_stops given old new file read_failed write_failed fault read unfailed known =
+    stops_whole (IsMigratedShort (Some file) old new) (IsMigratedShort given old new) (IsRefused (Some file) old new)
+    (IsRefused given old new) NeverUncertified NeverUncertified (cut_short given old new file read)
+    (λ refusal. refused given old new file refusal read) (λ round company never. never) old new read_failed write_failed
+    fault unfailed known
 
 -- where nothing is written yet
 pub nothing_of_it : (given old : Option (List ℕ)) → IsMigratedShort given old old
@@ -83,23 +79,17 @@ nothing_of_it (Some bytes) old = record { file = bytes; whole = refl; prefix = n
 -- what reading leaves where it stops early
 pub migration_unread : (given old : Option (List ℕ)) (read_failed write_failed : Bool) (fault : Fault)
     → IsReadFault read_failed fault → write_failed ≡ false → StopsMigration given old old read_failed write_failed fault
-migration_unread given old read_failed write_failed Read is unfailed = (is, unfailed, Keeps-refl old)
-migration_unread given old read_failed write_failed Memory is unfailed = (is, unfailed, nothing_of_it given old)
-migration_unread given old read_failed write_failed Write is unfailed = absurd is
-migration_unread given old read_failed write_failed (File fault) is unfailed = absurd is
-migration_unread given old read_failed write_failed (Certificate round company) is unfailed = absurd is
+migration_unread given old read_failed write_failed fault is unfailed =
+    stops_unread (IsMigratedShort given old old) (IsRefused given old old) NeverUncertified old read_failed write_failed
+    fault is unfailed (nothing_of_it given old)
 
 -- what a write that failed leaves, or allocation fails, where this is written of the file
 pub migration_cut : (file text : List ℕ) (old new : Option (List ℕ)) (failed : Bool) (fault : Fault)
     → IsWriteFault failed fault → migration_of file ≡ text → AppendsPrefix old new text
     → StopsMigration (Some file) old new false failed fault
-migration_cut file text old new failed Read is of prefix = absurd is
-migration_cut file text old new failed Write is of prefix =
-    (refl, is, record { file = file; whole = refl; prefix = rw of prefix })
-migration_cut file text old new failed Memory is of prefix =
-    (refl, is, record { file = file; whole = refl; prefix = rw of prefix })
-migration_cut file text old new failed (File fault) is of prefix = absurd is
-migration_cut file text old new failed (Certificate round company) is of prefix = absurd is
+migration_cut file text old new failed fault is of prefix =
+    stops_cut (IsMigratedShort (Some file) old new) (IsRefused (Some file) old new) NeverUncertified old new failed fault
+    is (record { file = file; whole = refl; prefix = rw of prefix })
 
 by_answer : (file : List ℕ) (content : Result Content FileFault) → IsOk content → answer_to file content ≡ migrated file
 by_answer file (Ok content) accepted = refl
@@ -160,6 +150,19 @@ write_failed (Ok done) failed is known = tt
 write_failed (Err fault) failed is known = rw is known
 
 -- the line of a refused file
-pub refused_goes : (file : List ℕ) (fault : FileFault) → content_of file ≡ Err fault
+refused_goes : (file : List ℕ) (fault : FileFault) → content_of file ≡ Err fault
     → migration_of file ≡ refusal_line fault
 refused_goes file fault refused = ap (answer_to file) refused
+
+refusal_cut : (file : List ℕ) (old new : Option (List ℕ)) (refusal : FileFault) → content_of file ≡ Err refusal
+    → AppendsPrefix old new (refusal_line refusal) → IsMigratedShort (Some file) old new
+refusal_cut file old new refusal is prefix =
+    record { file = file; whole = refl; prefix = rw (refused_goes file refusal is) prefix }
+
+-- what a refused file leaves
+pub refusal_stops : (file : List ℕ) (old new : Option (List ℕ)) (failed : Bool) (refusal : FileFault) (fault : Fault)
+    → content_of file ≡ Err refusal → Refuses refusal old new failed fault
+    → StopsMigration (Some file) old new false failed fault
+refusal_stops file old new failed refusal fault is refuses =
+    stops_refused (IsMigratedShort (Some file) old new) (IsRefused (Some file) old new) NeverUncertified old new failed
+    refusal fault (refusal_cut file old new refusal is) (refusal_written file old new refusal is) refuses

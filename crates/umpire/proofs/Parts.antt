@@ -14,9 +14,9 @@ use Rattle.sheets.specs.File.{IsAccepted}
 use Rattle.tables.specs.declared.round.Round.{Round}
 use Rattle.umpire.specs.Failure.{AppendsPrefix}
 use Rattle.umpire.specs.Rounds.{WritesAllRounds, WritesPrefixOfRounds, WritesRounds}
-use Rattle.umpire.specs.Run.{IsCutShort, IsReported, IsWriteFault, Stops}
+use Rattle.umpire.proofs.Stopping.{stops_cut}
+use Rattle.umpire.specs.Run.{IsCutShort, IsRefused, IsReported, IsWriteFault, NeverUncertified, Stops}
 use Rattle.umpire.specs.declared.fault.Fault.{Fault}
-use Rattle.umpire.specs.declared.fault.Fault.TheVariants.{Read, Write, Memory, File, Certificate}
 
 -- of a text all was written but this
 pub record LeavesRest (old new : Option (List ℕ)) (text rest : List ℕ) : Type 0 where
@@ -220,8 +220,5 @@ all_of_start file play ended old new is all =
 -- a report that is cut short, by a write that failed or by a failed allocation
 pub stops_short : (file : List ℕ) (old new : Option (List ℕ)) (failed : Bool) (fault : Fault)
     → IsWriteFault failed fault → IsCutShort (Some file) old new → Stops (Some file) old new false failed fault
-stops_short file old new failed Read is cut = absurd is
-stops_short file old new failed Write is cut = (refl, is, cut)
-stops_short file old new failed Memory is cut = (refl, is, cut)
-stops_short file old new failed (File fault) is cut = absurd is
-stops_short file old new failed (Certificate round company) is cut = absurd is
+stops_short file old new failed fault is cut =
+    stops_cut (IsCutShort (Some file) old new) (IsRefused (Some file) old new) NeverUncertified old new failed fault is cut

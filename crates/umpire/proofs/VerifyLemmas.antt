@@ -16,15 +16,16 @@ use Rattle.sheets.specs.declared.fault.FileFault.TheVariants.{TooLong}
 use Rattle.tables.specs.declared.roster.Company.{Company}
 use Rattle.tables.specs.declared.round.Round.{Round}
 use Rattle.umpire.proofs.PartingLemmas.{found_within}
+use Rattle.umpire.proofs.Stopping.{stops_refused, stops_unread, stops_whole}
 use Rattle.umpire.specs.Failure.{AppendsPrefix}
 use Rattle.umpire.specs.Groups.{groups_of}
 use Rattle.umpire.specs.Parting.{certificates_most, certificates_of, file_before, from_divider, order_file_of}
 use Rattle.umpire.specs.Parting.{without_newline}
 use Rattle.umpire.specs.Rounds.{IsTextOfRounds, WritesAllRounds, WritesPrefixOfRounds}
-use Rattle.umpire.specs.Run.{IsCutShort, IsFileOf, IsReadFault, IsReported, IsWriteFault}
+use Rattle.umpire.specs.Run.{IsCutShort, IsFileOf, IsReadFault, IsReported, IsWriteFault, Refuses}
 use Rattle.umpire.specs.Verify.{AnswersContent, AnswersGame, AnswersInput, HasAllGroups, IsAnswerCut, IsAnswered}
-use Rattle.umpire.specs.Verify.{IsGameAnswered, IsGameCut, IsRefusal, LacksGroup, Refuses, StopsGame, StopsVerify, content_of_input}
-use Rattle.umpire.specs.Verify.{uncertified_line}
+use Rattle.umpire.specs.Verify.{IsGameAnswered, IsGameCut, IsInputRefused, IsRefusal, IsUncertified, LacksGroup}
+use Rattle.umpire.specs.Verify.{StopsGame, StopsVerify, content_of_input, uncertified_line}
 use Rattle.umpire.specs.declared.fault.Fault.{Fault}
 use Rattle.umpire.specs.declared.fault.Fault.TheVariants.{Read, Write, Memory, File, Certificate}
 
@@ -164,31 +165,27 @@ cut_whole given old new input read (inr known) =
       prefix = known.prefix;
     })
 
-pub stops_whole :
+pub stops_of_input :
     (given old new : Option (List ℕ)) (input : List ℕ) (read_failed write_failed : Bool) (fault : Fault) →
     IfSome given (λ bytes. input ≡ take 134217730 bytes) → read_failed ≡ false
     → StopsVerify (Some input) old new false write_failed fault →
     StopsVerify given old new read_failed write_failed fault
-stops_whole given old new input rf wf Read read unfailed known = absurd cc
-stops_whole given old new input rf wf Write read unfailed known =
-    (unfailed, known.1, cut_whole given old new input read known.2)
-stops_whole given old new input rf wf Memory read unfailed known =
-    (unfailed, known.1, cut_whole given old new input read known.2)
-stops_whole given old new input rf wf (File fault) read unfailed known =
-    (unfailed, known.1, answered_whole given old new input (Err (File fault)) read known.2)
-stops_whole given old new input rf wf (Certificate round company) read unfailed known =
-    (unfailed, known.1, answered_whole given old new input (Err (Certificate round company)) read known.2)
+stops_of_input given old new input read_failed write_failed fault read unfailed known =
+    stops_whole (IsAnswerCut (Some input) old new) (IsAnswerCut given old new) (IsInputRefused (Some input) old new)
+    (IsInputRefused given old new) (IsUncertified (Some input) old new) (IsUncertified given old new)
+    (cut_whole given old new input read)
+    (λ refusal. answered_whole given old new input (Err (File refusal)) read)
+    (λ round company. answered_whole given old new input (Err (Certificate round company)) read) old new read_failed
+    write_failed fault unfailed known
 
 -- reading stopped early, and nothing was written
 pub stops_reading :
     (given old : Option (List ℕ)) (read_failed write_failed : Bool) (fault : Fault) → IsReadFault read_failed fault
     → write_failed ≡ false →
     StopsVerify given old old read_failed write_failed fault
-stops_reading given old rf wf Read is unfailed = (is, unfailed, Keeps-refl old)
-stops_reading given old rf wf Memory is unfailed = (is, unfailed, inl (Keeps-refl old))
-stops_reading given old rf wf Write is unfailed = absurd is
-stops_reading given old rf wf (File fault) is unfailed = absurd is
-stops_reading given old rf wf (Certificate round company) is unfailed = absurd is
+stops_reading given old read_failed write_failed fault is unfailed =
+    stops_unread (IsAnswerCut given old old) (IsInputRefused given old old) (IsUncertified given old old) old read_failed
+    write_failed fault is unfailed (inl (Keeps-refl old))
 
 -- for a file that is refused it writes that refusal
 pub refusal_answers : (input text : List ℕ) (fault : FileFault) (outcome : Result (Unit {0}) Fault)
@@ -271,14 +268,18 @@ game_stops input file certificates old new failed (Certificate round company) of
           of_certificates within accepted stops.1,
     )
 
--- a fault of a file that is refused is the one with which its input is
-same_outcome : (fault refusal : FileFault) → fault ≡ refusal
-    → IsRefusal refusal (Err (File fault)) (refusal_line refusal)
-same_outcome fault refusal is = (
-  ap (λ (f : FileFault). let outcome : Result (Unit {0}) Fault =
-      Err (File f) in outcome) is,
-  refl,
-)
+-- the line that says why an input is refused is its answer
+refusal_answered : (input : List ℕ) (old new : Option (List ℕ)) (refusal : FileFault)
+    → content_of_input input ≡ Err refusal → Appends old new (refusal_line refusal)
+    → IsInputRefused (Some input) old new refusal
+refusal_answered input old new refusal is written =
+    record {
+      input = input;
+      text = refusal_line refusal;
+      whole = refl;
+      answers = refusal_answers input (refusal_line refusal) refusal (Err (File refusal)) is (refl, refl);
+      written = written;
+    }
 
 refusal_cut : (input : List ℕ) (old new : Option (List ℕ)) (refusal : FileFault)
     → content_of_input input ≡ Err refusal → AppendsPrefix old new (refusal_line refusal)
@@ -293,37 +294,14 @@ refusal_cut input old new refusal is prefix =
       prefix = prefix;
     })
 
--- writing that line was stopped
-pub refuses_short : (refusal : FileFault) (old new : Option (List ℕ)) (failed : Bool) (fault : Fault)
-    → IsWriteFault failed fault → AppendsPrefix old new (refusal_line refusal) → Refuses refusal old new failed fault
-refuses_short refusal old new failed Read is prefix = absurd is
-refuses_short refusal old new failed Write is prefix = (is, prefix)
-refuses_short refusal old new failed Memory is prefix = (is, prefix)
-refuses_short refusal old new failed (File fault) is prefix = absurd is
-refuses_short refusal old new failed (Certificate round company) is prefix = absurd is
-
+-- so is what that line leaves
 pub refusal_stops :
     (input : List ℕ) (old new : Option (List ℕ)) (failed : Bool) (refusal : FileFault) (fault : Fault)
     → content_of_input input ≡ Err refusal →
     Refuses refusal old new failed fault → StopsVerify (Some input) old new false failed fault
-refusal_stops input old new failed refusal Read is refuses = absurd refuses
-refusal_stops input old new failed refusal Write is refuses =
-    (refl, refuses.0, refusal_cut input old new refusal is refuses.1)
-refusal_stops input old new failed refusal Memory is refuses =
-    (refl, refuses.0, refusal_cut input old new refusal is refuses.1)
-refusal_stops input old new failed refusal (File fault) is refuses = (
-  refl,
-  refuses.0,
-  record {
-    input = input;
-    text = refusal_line refusal;
-    whole = refl;
-    answers = refusal_answers input (refusal_line refusal) refusal (Err (File fault)) is
-        (same_outcome fault refusal refuses.1);
-    written = refuses.2;
-  },
-)
-refusal_stops input old new failed refusal (Certificate round company) is refuses = absurd refuses
+refusal_stops input old new failed refusal fault is refuses =
+    stops_refused (IsAnswerCut (Some input) old new) (IsInputRefused (Some input) old new) (IsUncertified (Some input) old new)
+    old new failed refusal fault (refusal_cut input old new refusal is) (refusal_answered input old new refusal is) refuses
 
 -- for a game that has all its groups it writes the report
 pub report_answers :

@@ -1,5 +1,5 @@
 -- What the writing of certificates leaves, by what the reader gave and what the writer held.
-use Rattle.std.specs.Prelude.{◌≡◌, ◌⊎◌, ℕ, Bool, true, false, List, Option}
+use Rattle.std.specs.Prelude.{◌⊎◌, ℕ, Bool, List, Option}
 use Rattle.std.specs.Io.KnownBytes.{Appends, Keeps}
 use Rattle.certificate.specs.declared.group.Group.{Group}
 use Rattle.operating.specs.Calls.{Call}
@@ -8,10 +8,9 @@ use Rattle.rounds.specs.StepsCall.{StepsCall}
 use Rattle.sheets.specs.File.{IsAccepted}
 use Rattle.umpire.specs.Certified.{AreCertified, CertifyGame}
 use Rattle.umpire.specs.Failure.{AppendsPrefix}
-use Rattle.umpire.specs.Run.{IsCutInRefusal, IsFileOf, IsRefused}
+use Rattle.umpire.specs.Run.{IsCutInRefusal, IsFileOf, IsRefused, NeverUncertified, StopsBy}
 use Rattle.umpire.specs.Written.{certificates_text}
 use Rattle.umpire.specs.declared.fault.Fault.{Fault}
-use Rattle.umpire.specs.declared.fault.Fault.TheVariants.{Read, Write, Memory, File, Certificate}
 
 -- the file is accepted, and the text of groups that certify its game follows what the writer held
 pub record IsCertified (given old new : Option (List ℕ)) : Type 0 where
@@ -41,13 +40,7 @@ pub record IsCutInGroups (given old new : Option (List ℕ)) : Type 0 where
 abbrev pub AreCertificatesCut : Option (List ℕ) → Option (List ℕ) → Option (List ℕ) → Type 0
 AreCertificatesCut given old new = Keeps old new ⊎ (IsCutInGroups given old new ⊎ IsCutInRefusal given old new)
 
--- what a fault leaves, and which calls of the reader and the writer have failed
+-- what a fault leaves of certificates
 abbrev pub StopsCerts : Option (List ℕ) → Option (List ℕ) → Option (List ℕ) → Bool → Bool → Fault → Type 0
-StopsCerts given old new read_failed write_failed Read = (read_failed ≡ true) × (write_failed ≡ false) × Keeps old new
-StopsCerts given old new read_failed write_failed Write =
-    (read_failed ≡ false) × (write_failed ≡ true) × AreCertificatesCut given old new
-StopsCerts given old new read_failed write_failed Memory =
-    (read_failed ≡ false) × (write_failed ≡ false) × AreCertificatesCut given old new
-StopsCerts given old new read_failed write_failed (File fault) =
-    (read_failed ≡ false) × (write_failed ≡ false) × IsRefused given old new fault
-StopsCerts given old new read_failed write_failed (Certificate round company) = ⊥
+StopsCerts given old new =
+    StopsBy (AreCertificatesCut given old new) (IsRefused given old new) NeverUncertified old new

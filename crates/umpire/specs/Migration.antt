@@ -1,14 +1,13 @@
 -- What migrating to version 2 leaves, by what the reader gave and what the writer held.
-use Rattle.std.specs.Prelude.{◌≡◌, ℕ, Bool, true, false, List, Option, Result, Ok, Err}
-use Rattle.std.specs.Io.KnownBytes.{Appends, Keeps}
+use Rattle.std.specs.Prelude.{ℕ, Bool, List, Option, Result, Ok, Err}
+use Rattle.std.specs.Io.KnownBytes.{Appends}
 use Rattle.report.specs.Report.{refusal_line}
 use Rattle.sheets.specs.File.{Content, IsAccepted, content_of}
 use Rattle.sheets.specs.declared.fault.FileFault.{FileFault}
 use Rattle.umpire.specs.Failure.{AppendsPrefix}
 use Rattle.umpire.specs.Migrated.{migrated}
-use Rattle.umpire.specs.Run.{IsFileOf, IsRefused}
+use Rattle.umpire.specs.Run.{IsFileOf, IsRefused, NeverUncertified, StopsBy}
 use Rattle.umpire.specs.declared.fault.Fault.{Fault}
-use Rattle.umpire.specs.declared.fault.Fault.TheVariants.{Read, Write, Memory, File, Certificate}
 
 -- what is written of a file, by what it says: the migrated file, or the line that says why it is
 -- refused
@@ -33,14 +32,7 @@ pub record IsMigratedShort (given old new : Option (List ℕ)) : Type 0 where
   pub whole : IsFileOf given file
   pub prefix : AppendsPrefix old new (migration_of file)
 
--- what a fault leaves, and which calls of the reader and the writer have failed
+-- what a fault leaves of a migrated file
 abbrev pub StopsMigration : Option (List ℕ) → Option (List ℕ) → Option (List ℕ) → Bool → Bool → Fault → Type 0
-StopsMigration given old new read_failed write_failed Read =
-    (read_failed ≡ true) × (write_failed ≡ false) × Keeps old new
-StopsMigration given old new read_failed write_failed Write =
-    (read_failed ≡ false) × (write_failed ≡ true) × IsMigratedShort given old new
-StopsMigration given old new read_failed write_failed Memory =
-    (read_failed ≡ false) × (write_failed ≡ false) × IsMigratedShort given old new
-StopsMigration given old new read_failed write_failed (File fault) =
-    (read_failed ≡ false) × (write_failed ≡ false) × IsRefused given old new fault
-StopsMigration given old new read_failed write_failed (Certificate round company) = ⊥
+StopsMigration given old new =
+    StopsBy (IsMigratedShort given old new) (IsRefused given old new) NeverUncertified old new

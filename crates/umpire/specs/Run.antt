@@ -4,6 +4,8 @@ use Rattle.std.specs.Io.KnownBytes.{Appends, Keeps}
 use Rattle.report.specs.Report.{IsReport, refusal_line}
 use Rattle.sheets.specs.File.{IsAccepted, content_of}
 use Rattle.sheets.specs.declared.fault.FileFault.{FileFault}
+use Rattle.tables.specs.declared.roster.Company.{Company}
+use Rattle.tables.specs.declared.round.Round.{Round}
 use Rattle.umpire.specs.Failure.{AppendsPrefix}
 use Rattle.umpire.specs.declared.fault.Fault.{Fault}
 use Rattle.umpire.specs.declared.fault.Fault.TheVariants.{Read, Write, Memory, File, Certificate}
@@ -72,13 +74,36 @@ pub record IsCutShort (given old new : Option (List ℕ)) : Type 0 where
   pub report : IsReport file text
   pub prefix : AppendsPrefix old new text
 
--- what a fault leaves, and which calls of the reader and the writer have failed
+-- what a fault leaves if a file is refused: the line that says so, or a prefix of it if writing was
+-- stopped
+abbrev pub Refuses : FileFault → Option (List ℕ) → Option (List ℕ) → Bool → Fault → Type 0
+Refuses refusal old new failed Read = ⊥
+Refuses refusal old new failed Write = (failed ≡ true) × AppendsPrefix old new (refusal_line refusal)
+Refuses refusal old new failed Memory = (failed ≡ false) × AppendsPrefix old new (refusal_line refusal)
+Refuses refusal old new failed (File fault) = (failed ≡ false) × (fault ≡ refusal)
+    × Appends old new (refusal_line refusal)
+Refuses refusal old new failed (Certificate round company) = ⊥
+
+-- What a fault leaves, and which calls of the reader and the writer have failed. If a read failed
+-- nothing more is written. If a write failed, or memory ran out, the text is cut. What a refused
+-- file or certificate leaves is written whole.
+abbrev pub StopsBy : Type 0 → (FileFault → Type 0) → (Round → Company → Type 0) → Option (List ℕ) → Option (List ℕ)
+    → Bool → Bool → Fault → Type 0
+StopsBy cut refused uncertified old new read_failed write_failed Read =
+    (read_failed ≡ true) × (write_failed ≡ false) × Keeps old new
+StopsBy cut refused uncertified old new read_failed write_failed Write =
+    (read_failed ≡ false) × (write_failed ≡ true) × cut
+StopsBy cut refused uncertified old new read_failed write_failed Memory =
+    (read_failed ≡ false) × (write_failed ≡ false) × cut
+StopsBy cut refused uncertified old new read_failed write_failed (File fault) =
+    (read_failed ≡ false) × (write_failed ≡ false) × refused fault
+StopsBy cut refused uncertified old new read_failed write_failed (Certificate round company) =
+    (read_failed ≡ false) × (write_failed ≡ false) × uncertified round company
+
+-- no certificate is refused where none is asked for
+abbrev pub NeverUncertified : Round → Company → Type 0
+NeverUncertified round company = ⊥
+
+-- what a fault leaves of a report
 abbrev pub Stops : Option (List ℕ) → Option (List ℕ) → Option (List ℕ) → Bool → Bool → Fault → Type 0
-Stops given old new read_failed write_failed Read = (read_failed ≡ true) × (write_failed ≡ false) × Keeps old new
-Stops given old new read_failed write_failed Write =
-    (read_failed ≡ false) × (write_failed ≡ true) × IsCutShort given old new
-Stops given old new read_failed write_failed Memory =
-    (read_failed ≡ false) × (write_failed ≡ false) × IsCutShort given old new
-Stops given old new read_failed write_failed (File fault) =
-    (read_failed ≡ false) × (write_failed ≡ false) × IsRefused given old new fault
-Stops given old new read_failed write_failed (Certificate round company) = ⊥
+Stops given old new = StopsBy (IsCutShort given old new) (IsRefused given old new) NeverUncertified old new

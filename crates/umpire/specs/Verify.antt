@@ -23,7 +23,7 @@ use Rattle.tables.specs.declared.round.Round.{Round}
 use Rattle.umpire.specs.Failure.{AppendsPrefix}
 use Rattle.umpire.specs.Groups.{groups_of}
 use Rattle.umpire.specs.Parting.{certificates_most, certificates_of, order_file_of}
-use Rattle.umpire.specs.Run.{IsFileOf}
+use Rattle.umpire.specs.Run.{IsFileOf, StopsBy}
 use Rattle.umpire.specs.declared.fault.Fault.{Fault}
 use Rattle.umpire.specs.declared.fault.Fault.TheVariants.{Read, Write, Memory, File, Certificate}
 
@@ -108,16 +108,6 @@ StopsGame file groups old new failed (File fault) = ⊥
 StopsGame file groups old new failed (Certificate round company) =
     (failed ≡ false) × IsGameAnswered file groups (Err (Certificate round company)) old new
 
--- what a fault leaves if a file is refused: the line that says so, or a prefix of it if writing was
--- stopped
-abbrev pub Refuses : FileFault → Option (List ℕ) → Option (List ℕ) → Bool → Fault → Type 0
-Refuses refusal old new failed Read = ⊥
-Refuses refusal old new failed Write = (failed ≡ true) × AppendsPrefix old new (refusal_line refusal)
-Refuses refusal old new failed Memory = (failed ≡ false) × AppendsPrefix old new (refusal_line refusal)
-Refuses refusal old new failed (File fault) = (failed ≡ false) × (fault ≡ refusal)
-    × Appends old new (refusal_line refusal)
-Refuses refusal old new failed (Certificate round company) = ⊥
-
 -- what the order file of an input says, or why the input is refused: its text of certificates is
 -- over its limit, or the order file is refused
 unfoldable pub content_of_input : List ℕ → Result Content FileFault
@@ -160,14 +150,15 @@ pub record IsAnswerCutShort (given old new : Option (List ℕ)) : Type 0 where
 abbrev pub IsAnswerCut : Option (List ℕ) → Option (List ℕ) → Option (List ℕ) → Type 0
 IsAnswerCut given old new = Keeps old new ⊎ IsAnswerCutShort given old new
 
--- what a fault leaves, and which calls of the reader and the writer have failed
+-- the line that says so follows what the writer held, where the best runs of a company have no group
+abbrev pub IsUncertified : Option (List ℕ) → Option (List ℕ) → Option (List ℕ) → Round → Company → Type 0
+IsUncertified given old new round company = IsAnswered given (Err (Certificate round company)) old new
+
+-- the line that says so does, where a file is refused
+abbrev pub IsInputRefused : Option (List ℕ) → Option (List ℕ) → Option (List ℕ) → FileFault → Type 0
+IsInputRefused given old new fault = IsAnswered given (Err (File fault)) old new
+
+-- what a fault leaves of an answer
 abbrev pub StopsVerify : Option (List ℕ) → Option (List ℕ) → Option (List ℕ) → Bool → Bool → Fault → Type 0
-StopsVerify given old new read_failed write_failed Read = (read_failed ≡ true) × (write_failed ≡ false) × Keeps old new
-StopsVerify given old new read_failed write_failed Write =
-    (read_failed ≡ false) × (write_failed ≡ true) × IsAnswerCut given old new
-StopsVerify given old new read_failed write_failed Memory =
-    (read_failed ≡ false) × (write_failed ≡ false) × IsAnswerCut given old new
-StopsVerify given old new read_failed write_failed (File fault) =
-    (read_failed ≡ false) × (write_failed ≡ false) × IsAnswered given (Err (File fault)) old new
-StopsVerify given old new read_failed write_failed (Certificate round company) =
-    (read_failed ≡ false) × (write_failed ≡ false) × IsAnswered given (Err (Certificate round company)) old new
+StopsVerify given old new =
+    StopsBy (IsAnswerCut given old new) (IsInputRefused given old new) (IsUncertified given old new) old new

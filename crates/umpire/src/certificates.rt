@@ -18,7 +18,7 @@ use crate::fault::Fault;
 use crate::group_text::{print_certs, print_claim, print_marks};
 use crate::input::read_file;
 use crate::output::write_text;
-use crate::refusal::write_refusal;
+use crate::refusal::refuse;
 use crate::watched::Watched;
 use best_run::Keeping;
 use certificate::{Bits, Group};
@@ -77,10 +77,7 @@ fn write_certificates<W: Write>(
         Ok(sheets) => write_game(alloc, &sheets, writer),
         // An allocation failed: passed on.
         Err(FileFault::Memory) => Err(Fault::Memory),
-        Err(fault) => {
-            write_refusal(alloc, fault, writer)?;
-            Err(Fault::File(fault))
-        }
+        Err(fault) => Err(refuse(alloc, fault, writer)),
     }
 }
 

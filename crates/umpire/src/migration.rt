@@ -14,7 +14,7 @@ use crate::buffered_write::{put, write_gathered};
 use crate::fault::Fault;
 use crate::input::read_file;
 use crate::output::write_text;
-use crate::refusal::write_refusal;
+use crate::refusal::refuse;
 use crate::watched::Watched;
 use order_grammar::{LINE_MOST, Version, begins_with_word, has_word};
 use sheets::{FileFault, examine, first_line};
@@ -73,10 +73,7 @@ fn write_migration<W: Write>(
         Ok(Version::Two) => write_text(writer, file),
         // An allocation failed: passed on.
         Err(FileFault::Memory) => Err(Fault::Memory),
-        Err(fault) => {
-            write_refusal(alloc, fault, writer)?;
-            Err(Fault::File(fault))
-        }
+        Err(fault) => Err(refuse(alloc, fault, writer)),
     }
 }
 

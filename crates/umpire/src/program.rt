@@ -11,7 +11,7 @@ ghost use Rattle.umpire.specs.Watched.{has_failed, inside};
 use crate::fault::Fault;
 use crate::input::read_file;
 use crate::output::write_text;
-use crate::refusal::write_refusal;
+use crate::refusal::refuse;
 use crate::report_end::write_end;
 use crate::watched::Watched;
 use best_run::Search;
@@ -71,10 +71,7 @@ fn write_answer<W: Write>(alloc: Global, file: &[u8], writer: &mut Watched<W>) -
         Ok(sheets) => write_game(alloc, &sheets, writer),
         // An allocation failed: passed on.
         Err(FileFault::Memory) => Err(Fault::Memory),
-        Err(fault) => {
-            write_refusal(alloc, fault, writer)?;
-            Err(Fault::File(fault))
-        }
+        Err(fault) => Err(refuse(alloc, fault, writer)),
     }
 }
 

@@ -2,7 +2,7 @@ ghost use Rattle.report.specs.Report.{refusal_line};
 ghost use Rattle.std.specs.Io.KnownBytes.{Appends};
 ghost use Rattle.std.specs.Prelude.{◌≡◌, false, IfErr, OnErr, OnOk};
 ghost use Rattle.umpire.specs.Failure.{AppendsPrefix};
-ghost use Rattle.umpire.specs.Run.{IsWriteFault};
+ghost use Rattle.umpire.specs.Run.{IsWriteFault, Refuses};
 ghost use Rattle.umpire.specs.Watched.{has_failed, inside};
 
 use crate::fault::Fault;
@@ -13,8 +13,21 @@ use sheets::FileFault;
 use std::alloc::Global;
 use std::io::Write;
 
+/// Writes that a file is refused. Returns the fault with which the program ends: that refusal, or
+/// what stopped the writing.
+pub(crate) fn refuse<W: Write>(alloc: Global, fault: FileFault, writer: &mut Watched<W>) -> Fault
+    requires { has_failed writer.old ≡ false }
+    ensures { Refuses fault (W.contents (inside writer.old)) (W.contents (inside writer.new))
+        (has_failed writer.new) result }
+{
+    match write_refusal(alloc, fault, writer) {
+        Ok(()) => Fault::File(fault),
+        Err(stopped) => stopped,
+    }
+}
+
 /// Writes the one line that says why a file is refused as a whole.
-pub(crate) fn write_refusal<W: Write>(
+fn write_refusal<W: Write>(
     alloc: Global,
     fault: FileFault,
     writer: &mut Watched<W>,

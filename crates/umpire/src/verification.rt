@@ -8,7 +8,7 @@ ghost use Rattle.umpire.specs.Failure.{AppendsPrefix, TakesAtMost};
 ghost use Rattle.umpire.specs.Groups.{groups_of};
 ghost use Rattle.umpire.specs.Rounds.{IsTextOfRounds};
 ghost use Rattle.umpire.specs.Run.{IsCutShort, IsReported, IsWriteFault};
-ghost use Rattle.umpire.specs.Verify.{IsAnswered, IsGameAnswered, IsJudged, Refuses, StopsGame, StopsVerify};
+ghost use Rattle.umpire.specs.Verify.{IsAnswered, IsGameAnswered, IsJudged, StopsGame, StopsVerify};
 ghost use Rattle.umpire.specs.Verify.{uncertified_line};
 ghost use Rattle.umpire.specs.Watched.{has_failed, inside};
 
@@ -17,7 +17,7 @@ use crate::input::read_first;
 use crate::input_split::{CERTIFICATES_MOST, Parted, part};
 use crate::output::write_text;
 use crate::program::write_header;
-use crate::refusal::write_refusal;
+use crate::refusal::refuse;
 use crate::report_end::write_end;
 use crate::verifier::Verifier;
 use crate::watched::Watched;
@@ -89,19 +89,6 @@ fn write_answer<W: Write>(alloc: Global, input: &[u8], writer: &mut Watched<W>) 
         // An allocation failed: passed on.
         Err(FileFault::Memory) => Err(Fault::Memory),
         Err(fault) => Err(refuse(alloc, fault, writer)),
-    }
-}
-
-/// Writes that a file is refused. Returns the fault with which the program ends: that refusal, or
-/// what stopped the writing.
-fn refuse<W: Write>(alloc: Global, fault: FileFault, writer: &mut Watched<W>) -> Fault
-    requires { has_failed writer.old ≡ false }
-    ensures { Refuses fault (W.contents (inside writer.old)) (W.contents (inside writer.new))
-        (has_failed writer.new) result }
-{
-    match write_refusal(alloc, fault, writer) {
-        Ok(()) => Fault::File(fault),
-        Err(stopped) => stopped,
     }
 }
 

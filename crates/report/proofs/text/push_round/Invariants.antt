@@ -1,4 +1,4 @@
-use Rattle.std.proofs.Common.{◌≡◌, ◌++◌, take, slice_range}
+use Rattle.std.proofs.Common.{◌≡◌, ◌++◌, take}
 use Rattle.std.specs.List.{flat_map}
 use Rattle.report.specs.Line.{event_line}
 use Rattle.report.proofs.text.push_round.Given as goal
@@ -6,5 +6,4 @@ use Rattle.report.proofs.text.push_round.Given as goal
 -- the lines of the events so far
 abbrev pub invariant-loop-event : goal.invariant-loop-event
 invariant-loop-event l =
-    l.out.items ≡ l.fn.out.items ++ flat_map (event_line l.game.file)
-    (take l.event-index (slice_range l.game.game.events l.begun l.end))
+    l.out.items ≡ l.fn.out.items ++ flat_map (event_line l.sheets) (take l.event-index l.events)

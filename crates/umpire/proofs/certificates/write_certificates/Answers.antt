@@ -1,7 +1,6 @@
 use Rattle.std.proofs.Common.{◌≡◌, arith, inl, refl, rules}
 use Rattle.std.proofs.KnownBytes.{Keeps-refl}
 use Rattle.std.proofs.lemmas.Grind.{common_steps}
-use Rattle.std.proofs.lemmas.Result.{err_from_is_err_and}
 use Rattle.std.specs.Prelude.{Err}
 use Rattle.sheets.specs.File.{content_of}
 use Rattle.umpire.proofs.CertsLemmas.{refusal_stops, result_stops}
@@ -15,13 +14,7 @@ returns-in-Ok-clause-err g c =
 pub returns-in-Err-Memory-clause-err : goal.returns-in-Err-Memory-clause-err
 returns-in-Err-Memory-clause-err g c = (refl, c.requires, inl (Keeps-refl _))
 
-pub returns-in_err-write_refusal-in-Err : goal.returns-in_err-write_refusal-in-Err
-returns-in_err-write_refusal-in-Err g c =
-    let given = err_from_is_err_and c.from_residual.result c.from_residual.ensures.1 in
-    let known = c.in_err-write_refusal-in-Err.ensures in
+pub returns-in-Err-clause-err : goal.returns-in-Err-clause-err
+returns-in-Err-clause-err g c =
     let is : content_of c.args.file.now ≡ Err c.in-Err.fault = first_of (search rules, grind (arith, common_steps)) in
-    record {
-      ok = rw given.1 tt;
-      unfailed = rw given.1 tt;
-      err = rw (given.1, given.2) (refusal_stops _ _ _ _ _ _ is known.err known.prefix);
-    }
+    refusal_stops _ _ _ _ _ _ is c.refuse.ensures

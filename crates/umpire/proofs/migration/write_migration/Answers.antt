@@ -1,22 +1,15 @@
 use Rattle.std.proofs.Common.{◌≡◌, arith, rules, sym, ◌∙◌}
 use Rattle.std.proofs.lemmas.Grind.{common_steps}
-use Rattle.std.proofs.lemmas.Result.{err_from_is_err_and}
 use Rattle.std.specs.Prelude.{Err}
 use Rattle.sheets.specs.File.{content_of}
-use Rattle.umpire.proofs.MigrationLemmas.{accepted_goes, cut_by, migrated_by, migration_cut, one_goes, refused_goes}
+use Rattle.umpire.proofs.MigrationLemmas.{accepted_goes, cut_by, migrated_by, one_goes, refusal_stops}
 use Rattle.umpire.proofs.MigrationLemmas.{two_stays, write_failed}
 use Rattle.umpire.proofs.migration.write_migration.Goals as goal
 
-pub returns-in_err-write_refusal-in-Err : goal.returns-in_err-write_refusal-in-Err
-returns-in_err-write_refusal-in-Err g c =
-    let given = err_from_is_err_and c.from_residual.result c.from_residual.ensures.1 in
-    let known = c.in_err-write_refusal-in-Err.ensures in
+pub returns-in-Err-clause-err : goal.returns-in-Err-clause-err
+returns-in-Err-clause-err g c =
     let is : content_of c.args.file.now ≡ Err c.in-Err.fault = first_of (search rules, grind (arith, common_steps)) in
-    record {
-      ok = rw given.1 tt;
-      unfailed = rw given.1 tt;
-      err = rw (given.1, given.2) (migration_cut _ _ _ _ _ _ known.err (refused_goes _ _ is) known.prefix);
-    }
+    refusal_stops _ _ _ _ _ _ is c.refuse.ensures
 
 pub returns-in-Ok-One-clause-ok : goal.returns-in-Ok-One-clause-ok
 returns-in-Ok-One-clause-ok g c =

@@ -1,7 +1,7 @@
 use Rattle.std.proofs.Common.{arith}
 use Rattle.std.proofs.lemmas.Grind.{common_steps}
 use Rattle.report.proofs.Rounds.{up_to_the_end}
-use Rattle.report.proofs.text.push_round.Goals as goal
+use Rattle.report.proofs.text.push_round_between.Goals as goal
 
 pub returns : goal.returns
 returns c =
