@@ -45,7 +45,7 @@ fn cross_it(task: &Task, assigned: &Assigned, spot: usize, border: usize) -> boo
     let from = &task.departures[spot];
     for index in 0..from.legs.len() {
         let borders = &from.legs[index].segment.borders;
-        if borders.misses(&assigned.used) && !borders.crosses(border) {
+        if !borders.crosses(border) && borders.misses(&assigned.used) {
             return false;
         }
     }
