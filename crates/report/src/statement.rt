@@ -1,9 +1,11 @@
-ghost use Rattle.std.specs.Prelude.{◌≡◌, ◌∷◌, ◌<◌, OnOk, length};
+ghost use Rattle.std.specs.Prelude.{◌≡◌, ◌∷◌, ◌<◌, [], OnOk, length};
+ghost use Rattle.std.specs.Fmt.{signed_decimal};
+ghost use Rattle.std.specs.Option.{ForSome};
 ghost use Rattle.certs.specs.Counted.{counted_of};
 ghost use Rattle.certs.specs.Holdings.{AreHoldingsAt};
 ghost use Rattle.certs.specs.Rows.{HasPlace};
 ghost use Rattle.totals.specs.LookBack.{owner_in};
-ghost use Rattle.report.specs.Column.{Adds};
+ghost use Rattle.report.specs.Column.{Adds, at_right};
 ghost use Rattle.report.specs.Statement.{AreOwnersIn, bank_line_at, cash_column_at, code_owned, codes_owned};
 ghost use Rattle.report.specs.Statement.{company_figures_at, company_line_at, company_lines_at, counted_column};
 ghost use Rattle.report.specs.Statement.{holdings, codes_of_kind, codes_of_trains, is_seat, player_line_at};
@@ -280,7 +282,7 @@ fn push_shares(
     ensures { OnOk result
         (Adds out.old out.new (shares_column snapshot.now.view.events.now company place)) }
 {
-    push_right(out, snapshot.holdings.shares(company, place), COUNT_WIDTH)
+    push_count(out, snapshot.holdings.shares(company, place))
 }
 
 /// Adds how many certificates of a seat count in their column. The seat is one of six.
@@ -290,7 +292,36 @@ fn push_counted(out: &mut Vec<u8>, snapshot: &Snapshot, seat: Seat) -> Result<()
     ensures { OnOk result
         (Adds out.old out.new (counted_column snapshot.now.view.events.now seat)) }
 {
-    push_right(out, certificates(snapshot, seat), COUNT_WIDTH)
+    push_count(out, certificates(snapshot, seat))
+}
+
+/// Adds a number of certificates or shares in its column. Nearly all have one digit.
+fn push_count(out: &mut Vec<u8>, count: ShareCount) -> Result<(), AllocError>
+    ensures { OnOk result (Adds out.old out.new (at_right 3 (signed_decimal count))) }
+{
+    match digit_of(count) {
+        Some(digit) => push_digit(out, digit),
+        None => push_right(out, count, COUNT_WIDTH),
+    }
+}
+
+/// Returns the digit of a number that has one.
+#[tactic(auto, using(std::proofs::lemmas::Fmt::decimal_digit))]
+fn digit_of(number: ShareCount) -> Option<u8>
+    ensures { ForSome result (λ digit. signed_decimal number ≡ digit ∷ []) }
+{
+    match u8::try_from(number) {
+        Ok(value) if value < 10 => Some(b'0' + value),
+        _ => None,
+    }
+}
+
+/// Adds a digit at the right of a column of certificates or shares.
+#[tactic(auto, unfolding(crate::specs::Column::at_right))]
+fn push_digit(out: &mut Vec<u8>, digit: u8) -> Result<(), AllocError>
+    ensures { OnOk result (Adds out.old out.new (at_right 3 (digit ∷ []))) }
+{
+    out.extend_from_slice(&[b' ', b' ', digit])
 }
 
 /// Returns how many certificates of a seat count against the limit. The seat is one of six.
