@@ -4,4 +4,4 @@ use Rattle.events.proofs.ruling.PayRule.rows.Goals as goal
 
 -- each rule is found in its row
 pub returns : goal.returns
-returns c = elim [ rule.NothingToPay ↦ refl | _ ↦ refl ]
+returns c = elim [ rule.NothingToPay ↦ refl ]
