@@ -21,6 +21,7 @@ use Rattle.map_tables.specs.declared.rules.RunRule.TheVariants as run
 use Rattle.order_grammar.specs.declared.order.Offer.TheVariants as offer
 use Rattle.order_grammar.specs.declared.order.Order.{Order}
 use Rattle.order_grammar.specs.declared.order.Order.TheVariants as order
+use Rattle.order_grammar.specs.declared.order.TrainSource.{TrainSource}
 use Rattle.order_grammar.specs.declared.order.TrainSource.TheVariants as source
 use Rattle.purchases.specs.Discard.{has_train}
 use Rattle.purchases.specs.Train.{has_trains, may_be_traded}
@@ -55,11 +56,18 @@ abbrev pub cause_of_pay : Option Done → Cause
 cause_of_pay (Some done.Pay) = cause.PaidOrWithheld
 cause_of_pay other = cause.NothingEarned
 
+-- of a RUN of a train of a kind: each such train has run, or the company has none
+abbrev pub cause_of_kind : List Event → Company → Kind → Cause
+cause_of_kind events company kind = if has_train events company kind then cause.AllHaveRun else cause.NoSuchTrain
+
+-- of a RUN BEST: a train has run, or the company has none
+abbrev pub cause_of_best : List Event → Company → Cause
+cause_of_best events company = if has_trains events company then cause.SomeHaveRun else cause.NoTrain
+
 -- of a RUN of a train of a kind, and of a RUN BEST: there is no such train, or it has run
 abbrev pub cause_of_run : List Event → Company → Order → Cause
-cause_of_run events company (order.Run kind run) =
-    if has_train events company kind then cause.AllHaveRun else cause.NoSuchTrain
-cause_of_run events company other = if has_trains events company then cause.SomeHaveRun else cause.NoTrain
+cause_of_run events company (order.Run kind run) = cause_of_kind events company kind
+cause_of_run events company other = cause_of_best events company
 
 -- of a RAISE for a company: no purchase is due since it has a train, or there is another reason
 abbrev pub cause_of_raise : List Event → Company → Cause
@@ -89,10 +97,14 @@ cause_of_trade other trade_in = cause.NotForDiesel
 abbrev pub cause_of_owner : Bool → Option Cause
 cause_of_owner has = if has then Some cause.BuysFromItself else None
 
+-- of a train that is bought there
+abbrev pub cause_of_source : List Event → Kind → TrainSource → Option Cause
+cause_of_source events kind (source.Company seller price) = cause_of_owner (has_train events seller kind)
+cause_of_source events kind other = None
+
 -- of an order to buy a train of a company
 abbrev pub cause_of_seller : List Event → Order → Option Cause
-cause_of_seller events (order.BuyTrain kind (source.Company seller price)) =
-    cause_of_owner (has_train events seller kind)
+cause_of_seller events (order.BuyTrain kind from) = cause_of_source events kind from
 cause_of_seller events other = None
 
 -- of an order with a trade-in
@@ -105,12 +117,15 @@ abbrev pub cause_of_sale : ℕ → List Event → Seat → Sale → Cause
 cause_of_sale seats events seat sale =
     if none_is_left seats events seat sale then cause.NobodyElse else cause.PresidencyMoves
 
+-- of a sale of so many shares of a company
+abbrev pub cause_of_shares : ℕ → List Event → Seat → Company → ℕ → Cause
+cause_of_shares seats events seat company shares =
+    cause_of_sale seats events seat (record { company = company; shares = shares })
+
 -- of an order to sell
 abbrev pub cause_of_stay : ℕ → List Event → Seat → Order → Option Cause
-cause_of_stay seats events seat (order.Sell company shares) =
-    Some (cause_of_sale seats events seat (record { company = company; shares = shares }))
-cause_of_stay seats events seat (order.Raise company shares) =
-    Some (cause_of_sale seats events seat (record { company = company; shares = shares }))
+cause_of_stay seats events seat (order.Sell company shares) = Some (cause_of_shares seats events seat company shares)
+cause_of_stay seats events seat (order.Raise company shares) = Some (cause_of_shares seats events seat company shares)
 cause_of_stay seats events seat other = None
 
 -- of a rule that refused an order in a turn: the turn has no such order

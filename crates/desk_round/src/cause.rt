@@ -4,7 +4,8 @@ ghost use Rattle.certs.specs.Sale.{another_has, kept_after, none_is_left};
 ghost use Rattle.desk_round.specs.Cause.{cause_above, cause_in_orders, cause_in_turn, cause_of};
 ghost use Rattle.desk_round.specs.Cause.{cause_of_lay, cause_of_pay, cause_of_price, cause_of_raise};
 ghost use Rattle.desk_round.specs.Cause.{cause_of_run, cause_of_sale, cause_of_stay, cause_of_trade};
-ghost use Rattle.desk_round.specs.Cause.{cause_of_owner, cause_of_seller};
+ghost use Rattle.desk_round.specs.Cause.{cause_of_best, cause_of_kind, cause_of_owner, cause_of_seller};
+ghost use Rattle.desk_round.specs.Cause.{cause_of_shares, cause_of_source};
 ghost use Rattle.desk_round.specs.Cause.{cause_of_trade_in, cause_out_of_place, cause_there};
 ghost use Rattle.desk_round.specs.Cause.{price_named};
 ghost use Rattle.purchases.specs.Discard.{has_train};
@@ -131,10 +132,30 @@ fn cause_of_run(view: &GameView, company: Company, order: &Order) -> Cause
     ensures { result ≡ cause_of_run view.now.events.now company order.now }
 {
     match order {
-        Order::Run { kind, .. } if has_train(view, company, *kind) => Cause::AllHaveRun,
-        Order::Run { .. } => Cause::NoSuchTrain,
-        _ if has_trains(view, company) => Cause::SomeHaveRun,
-        _ => Cause::NoTrain,
+        Order::Run { kind, .. } => cause_of_kind(view, company, *kind),
+        _ => cause_of_best(view, company),
+    }
+}
+
+/// Returns why no train of a kind is left to a company to run.
+fn cause_of_kind(view: &GameView, company: Company, kind: Kind) -> Cause
+    ensures { result ≡ cause_of_kind view.now.events.now company kind }
+{
+    if has_train(view, company, kind) {
+        Cause::AllHaveRun
+    } else {
+        Cause::NoSuchTrain
+    }
+}
+
+/// Returns why the trains of a company cannot run their best.
+fn cause_of_best(view: &GameView, company: Company) -> Cause
+    ensures { result ≡ cause_of_best view.now.events.now company }
+{
+    if has_trains(view, company) {
+        Cause::SomeHaveRun
+    } else {
+        Cause::NoTrain
     }
 }
 
@@ -186,10 +207,17 @@ fn cause_of_seller(view: &GameView, order: &Order) -> Option<Cause>
     ensures { result ≡ cause_of_seller view.now.events.now order.now }
 {
     match order {
-        Order::BuyTrain {
-            kind,
-            from: TrainSource::Company { seller, .. },
-        } => cause_of_owner(has_train(view, *seller, *kind)),
+        Order::BuyTrain { kind, from } => cause_of_source(view, *kind, *from),
+        _ => None,
+    }
+}
+
+/// Returns the same for a train of a kind, by where it is bought.
+fn cause_of_source(view: &GameView, kind: Kind, from: TrainSource) -> Option<Cause>
+    ensures { result ≡ cause_of_source view.now.events.now kind from }
+{
+    match from {
+        TrainSource::Company { seller, .. } => cause_of_owner(has_train(view, seller, kind)),
         _ => None,
     }
 }
@@ -242,12 +270,18 @@ fn cause_of_stay(view: &GameView, seat: Seat, order: &Order) -> Option<Cause>
         ≡ cause_of_stay view.now.seats view.now.events.now seat order.now }
 {
     match order {
-        Order::Sell { company, shares } | Order::Raise { company, shares } => {
-            let (company, shares) = (*company, *shares);
-            Some(cause_of_sale(view, seat, Sale { company, shares }))
-        }
+        Order::Sell { company, shares } => Some(cause_of_shares(view, seat, *company, *shares)),
+        Order::Raise { company, shares } => Some(cause_of_shares(view, seat, *company, *shares)),
         _ => None,
     }
+}
+
+/// Returns why a president must stay who would sell so many shares of a company.
+fn cause_of_shares(view: &GameView, seat: Seat, company: Company, shares: Amount) -> Cause
+    ensures { result
+        ≡ cause_of_shares view.now.seats view.now.events.now seat company shares }
+{
+    cause_of_sale(view, seat, Sale { company, shares })
 }
 
 /// Returns why a president must stay who would sell so.
