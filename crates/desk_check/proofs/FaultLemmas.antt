@@ -1,6 +1,6 @@
 -- Faults that are told of lines, one after another.
 use Rattle.std.proofs.Common.{◌≡◌, ℕ, ◌+◌, ◌≤◌, Bool, true, false, List, [], ◌∷◌, ◌++◌, Option, Some, None, cond, refl, sym, ap}
-use Rattle.std.proofs.Common.{◌∙◌, append_assoc, arith}
+use Rattle.std.proofs.Common.{◌∙◌, append_assoc, arith, subst}
 use Rattle.std.proofs.lemmas.Bool.{ltb-false, or_parts}
 use Rattle.std.proofs.lemmas.Grind.{flat_map-append}
 use Rattle.std.proofs.lemmas.List.{append-nil}
@@ -11,6 +11,7 @@ use Rattle.desk_check.specs.SheetFaults.{is_open_then, number_then, told_by, tol
 use Rattle.desk_check.specs.declared.check_found.Finding.{Finding}
 use Rattle.desk_check.specs.declared.check_found.Found.{Found}
 use Rattle.desk_check.specs.declared.check_found.Matter.{Matter}
+use Rattle.desk_check.specs.declared.check_found.Said.{Said}
 use Rattle.desk_check.specs.declared.check_lines.FileLine.{FileLine}
 use Rattle.desk_check.specs.declared.check_sheets.Sent.{Sent}
 use Rattle.order_grammar.specs.declared.condition.Version.{Version}
@@ -133,3 +134,34 @@ number_within number text within =
       | true ↦ omega (arith, within)
       | false ↦ omega (arith, within)
     ]
+
+-- a sheet begins with no line numbered and no head
+pub tells_first : (old new : Found) (version : Version) (sent : Sent) (from number : ℕ) (is_open : Bool) (passed : ℕ)
+    (lines : List (List ℕ)) → number ≡ 0 → is_open ≡ false
+    → TellsFaults old new (faults_in version sent from number is_open passed lines)
+    → TellsFaults old new (faults_in version sent from 0 false passed lines)
+tells_first old new version sent from number is_open passed lines none closed told =
+    subst (λ (n : ℕ). TellsFaults old new (faults_in version sent from n false passed lines)) none
+    (subst (λ (o : Bool). TellsFaults old new (faults_in version sent from number o passed lines)) closed told)
+
+-- where those of the lines that are left would complete what is told, and one line more is read,
+-- those of the lines behind it do
+pub tells_next : (first old mid : Found) (whole : List Told) (version : Version) (sent : Sent) (from number : ℕ)
+    (is_open : Bool) (passed : ℕ) (text : List ℕ) (lines texts : List (List ℕ)) (line next_number : ℕ)
+    (next_open : Bool) (next_passed : ℕ) (said : Option Said) →
+    ((new : Found) → TellsFaults old new (faults_in version sent from number is_open passed lines)
+    → TellsFaults first new whole)
+    → lines ≡ text ∷ texts → ends_sheet number text ≡ false → old.from ≡ from → line ≡ passed + 1
+    → next_passed ≡ line → next_number ≡ number_then number text
+    → next_open ≡ is_open_then version sent.round number is_open text
+    → said ≡ fault_of_line version sent.round number is_open text
+    → TellsFaults old mid (told_from old.from sent line said) →
+    (new : Found) → TellsFaults mid new (faults_in version sent from next_number next_open next_passed texts)
+    → TellsFaults first new whole
+tells_next first old mid whole version sent from number is_open passed text lines texts line next_number next_open
+    next_passed said rest next goes_on same_from is_line is_passed is_number is_open_by is_said one new told =
+    let step : faults_in version sent from number is_open passed lines
+        ≡ told_from old.from sent line said ++ faults_in version sent from next_number next_open next_passed texts =
+        rw (same_from, is_said, is_number, is_open_by, is_passed, is_line)
+        (faults_next version sent from number is_open passed text lines texts next goes_on) in
+    rest new (subst (TellsFaults old new) (sym step) (tells_more old mid new _ _ one told))

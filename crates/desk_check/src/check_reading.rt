@@ -1,6 +1,6 @@
 //! A sheet line by line: faults, orders without a place, and what can be seen to be wrong before
 //! its round is played.
-ghost use Rattle.std.specs.Prelude.{◌≡◌, ◌≤◌, [], OnOk, Ok};
+ghost use Rattle.std.specs.Prelude.{◌≡◌, ◌≤◌, [], OnOk, Ok, false};
 ghost use Rattle.desk_check.specs.SheetFaults.{TellsFaults, ends_sheet, fault_of_line, fault_said};
 ghost use Rattle.desk_check.specs.SheetFaults.{faults_of, is_open_then, is_out_of_place};
 ghost use Rattle.desk_check.specs.SheetFaults.{number_then, said_of_fault, told_from};
@@ -41,6 +41,7 @@ struct Reader<'v, 'g> {
 /// Finds what is wrong with the lines of a sheet of a file of some version, and the companies that
 /// it leaves without orders, by the game as its round begins, where that is known. Of lines past
 /// `LINES_MOST`, which have one fault whatever they say, only the first is read.
+#[tactic(auto, using(crate::proofs::FaultLemmas::tells_no_more))]
 pub(crate) fn look_at_sheet<'a>(
     version: Version,
     view: Option<&GameView>,
