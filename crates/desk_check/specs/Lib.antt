@@ -3,8 +3,11 @@ pub mod FileLines
 pub mod Found
 pub mod Heads
 pub mod Looked
+pub mod Mail
+pub mod Refused
 pub mod Replaced
 pub mod RoundsPlayed
+pub mod SheetFaults
 pub mod SheetLines
 pub mod Slip
 pub mod Unplayed

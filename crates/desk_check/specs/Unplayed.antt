@@ -1,8 +1,6 @@
 -- What a line of a sheet is that is not played yet: a head, a line that may be taken up, or one
 -- that has a fault by itself or whose order has no place where it is.
-use Rattle.std.specs.Prelude.{◌≡◌, ℕ, Bool, true, false, if◌then◌else◌, List, Result, Ok, Err, ⊤}
-use Rattle.desk_check.specs.declared.check_found.Said.{Said}
-use Rattle.desk_check.specs.declared.check_found.Said.TheVariants as said
+use Rattle.std.specs.Prelude.{ℕ, Bool, true, false, if◌then◌else◌, List, Result, Ok, Err}
 use Rattle.desk_check.specs.declared.check_reading.Look.{Look}
 use Rattle.desk_check.specs.declared.check_reading.Look.TheVariants.{Head, Good, Bad}
 use Rattle.purchases.specs.Standing.{has_place_before as is_before_orders}
@@ -60,21 +58,3 @@ look_of round is_open (Ok its) = look_of_order round is_open its
 abbrev pub look_of_text : Version → ℕ → List ℕ → Round → Bool → Look
 look_of_text version number text round is_open =
     look_of round is_open (numbered number (reading_in version text)).reading
-
--- a fault that is told of a line is its own: that of its text, or that its order has no place there
-abbrev pub IsOwnFault : Version → ℕ → List ℕ → Round → Bool → Said → Type 0
-IsOwnFault version number text round is_open (said.Faulty fault) =
-    look_of_text version number text round is_open ≡ Bad fault
-IsOwnFault version number text round is_open said.Unopened =
-    look_of_text version number text round is_open ≡ Bad OutOfPlace
-IsOwnFault version number text round is_open (said.Breaks code reason) = ⊤
-IsOwnFault version number text round is_open (said.Presided company president) = ⊤
-IsOwnFault version number text round is_open (said.Again company line) = ⊤
-
--- no fault is told
-abbrev pub IsNoFault : Said → Type 0
-IsNoFault (said.Faulty fault) = ⊥
-IsNoFault said.Unopened = ⊥
-IsNoFault (said.Breaks code reason) = ⊤
-IsNoFault (said.Presided company president) = ⊤
-IsNoFault (said.Again company line) = ⊤

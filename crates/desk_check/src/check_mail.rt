@@ -1,30 +1,42 @@
 //! Lines that look like mail.
+ghost use Rattle.std.specs.Prelude.{◌≡◌};
+ghost use Rattle.desk_check.specs.Mail.{begins_with_one, is_above_quotation, is_mail};
+ghost use Rattle.desk_check.specs.Slip.{texts};
 
 /// The first words of the headers of a mail, and of the lines that it quotes.
-static HEADS: [&str; 8] = [
-    "From:",
-    "To:",
-    "Cc:",
-    "Date:",
-    "Sent:",
-    "Subject:",
-    "Message-ID:",
-    ">",
+static HEADS: [&[u8]; 8] = [
+    b"From:",
+    b"To:",
+    b"Cc:",
+    b"Date:",
+    b"Sent:",
+    b"Subject:",
+    b"Message-ID:",
+    b">",
 ];
 
 /// Returns whether a line looks like mail: a header `From: Ann`, a quoted line `> TURN`, or `On
 /// Friday Bob wrote:`.
-pub(crate) fn is_mail(line: &[u8]) -> bool {
-    if !matches!(
-        line.first(),
-        Some(b'F' | b'T' | b'C' | b'D' | b'S' | b'M' | b'O' | b'>')
-    ) {
-        return false;
+#[tactic(auto, unfolding(crate::specs::Mail::is_mail))]
+pub(crate) fn is_mail(line: &[u8]) -> bool
+    ensures { result ≡ is_mail line.now }
+{
+    begins_with_one(line, &HEADS) || is_above_quotation(line)
+}
+
+/// Returns whether a line begins with one of these.
+fn begins_with_one(line: &[u8], heads: &[&[u8]]) -> bool
+    ensures { result ≡ begins_with_one line.now (texts heads.now) }
+{
+    match heads {
+        [] => false,
+        [head, rest @ ..] => line.starts_with(head) || begins_with_one(line, rest),
     }
-    for head in &HEADS {
-        if line.starts_with(head.as_bytes()) {
-            return true;
-        }
-    }
+}
+
+/// Returns whether a line says who wrote what is quoted below it.
+fn is_above_quotation(line: &[u8]) -> bool
+    ensures { result ≡ is_above_quotation line.now }
+{
     line.starts_with(b"On ") && line.ends_with(b" wrote:")
 }

@@ -1,7 +1,11 @@
 //! A sheet line by line: faults, orders without a place, and what can be seen to be wrong before
 //! its round is played.
-ghost use Rattle.std.specs.Prelude.{◌≡◌, IfSome, Ok};
-ghost use Rattle.desk_check.specs.Unplayed.{IsNoFault, IsOwnFault, has_place, look_of};
+ghost use Rattle.std.specs.Prelude.{◌≡◌, ◌≤◌, [], OnOk, Ok, false};
+ghost use Rattle.desk_check.specs.SheetFaults.{TellsFaults, ends_sheet, fault_of_line, fault_said};
+ghost use Rattle.desk_check.specs.SheetFaults.{faults_of, is_open_then, is_out_of_place};
+ghost use Rattle.desk_check.specs.SheetFaults.{number_then, said_of_fault, told_from};
+ghost use Rattle.desk_check.specs.Unplayed.{has_place, look_of};
+ghost use Rattle.sheets.specs.Limits.{lines_most};
 ghost use Rattle.sheets.specs.Part.{line_read, opens_part};
 
 use crate::check_found::{Found, Matter, Said};
@@ -9,7 +13,7 @@ use crate::check_lines::{FileLine, FileLines, is_blank};
 use crate::check_mail::is_mail;
 use crate::check_orders::Block;
 use crate::check_seat::has_to_order;
-use crate::check_sheets::Head;
+use crate::check_sheets::{Head, Sent};
 use desk_base::{Objection, objection_by_view, objection_to, other_president};
 use history::GameView;
 use order_grammar::{Fault, Order, Version, begins_with_word};
@@ -37,12 +41,16 @@ struct Reader<'v, 'g> {
 /// Finds what is wrong with the lines of a sheet of a file of some version, and the companies that
 /// it leaves without orders, by the game as its round begins, where that is known. Of lines past
 /// `LINES_MOST`, which have one fault whatever they say, only the first is read.
+#[tactic(auto, using(crate::proofs::FaultLemmas::tells_no_more))]
 pub(crate) fn look_at_sheet<'a>(
     version: Version,
     view: Option<&GameView>,
     head: &Head<'a>,
     found: &mut Found<'a>,
-) -> Result<(), AllocError> {
+) -> Result<(), AllocError>
+    ensures { OnOk result (TellsFaults found.old found.new
+        (faults_of version found.old.from head.now)) }
+{
     let mut reader = Reader {
         version,
         view,
@@ -51,40 +59,72 @@ pub(crate) fn look_at_sheet<'a>(
         block: Block::none(),
         begun: [None; 8],
     };
-    let lines = FileLines {
-        passed: head.line.number,
-        rest: head.line.rest,
+    reader.take_lines(head, found)?;
+    reader.add_silent(head, found)?;
+    Ok(())
+}
+
+/// Returns whether a sheet ends at a line, or so many of its lines came before that it is not read.
+#[tactic(auto, unfolding(sheets::specs::File::is_sheet_line))]
+fn ends_sheet(number: u32, line: &[u8]) -> bool
+    ensures { result ≡ ends_sheet number line.now }
+{
+    begins_with_word(line, b"SHEET") || number > LINES_MOST
+}
+
+/// Adds what there is to say of a line of a sheet, if there is something.
+fn add_said<'a>(
+    line: &FileLine<'a>,
+    sent: Sent,
+    said: Option<Said>,
+    found: &mut Found<'a>,
+) -> Result<(), AllocError>
+    ensures { OnOk result (TellsFaults found.old found.new
+        (told_from found.old.from sent line.now.number (fault_said said))) }
+{
+    let Some(said) = said else {
+        return Ok(());
     };
-    for line in lines {
-        if begins_with_word(line.text, b"SHEET") || reader.number > LINES_MOST {
-            break;
-        }
-        if let Some(said) = reader.take(head, &line) {
-            found.add_line(&line, Matter::Line(head.sent, said))?;
-        }
-    }
-    if let (Round::Operating { .. }, Some(view)) = (head.sent.round, view) {
-        for company in &Company::ALL {
-            let begun = reader.begun[company.place()];
-            if begun.is_none() && has_to_order(view, *company, head.sent.seat) {
-                found.add(&head.line, Matter::Silent(*company))?;
-            }
-        }
-    }
+    found.add_line(line, Matter::Line(sent, said))?;
     Ok(())
 }
 
 impl Reader<'_, '_> {
+    /// Finds what is wrong with the lines of a sheet.
+    fn take_lines<'a>(&mut self, head: &Head<'a>, found: &mut Found<'a>) -> Result<(), AllocError>
+        requires none { self.old.number ≡ 0 }
+        requires closed { self.old.is_open ≡ false }
+        ensures { OnOk result (TellsFaults found.old found.new
+            (faults_of self.old.version found.old.from head.now)) }
+    {
+        let lines = FileLines {
+            passed: head.line.number,
+            rest: head.line.rest,
+        };
+        for line in lines {
+            if ends_sheet(self.number, line.text) {
+                return Ok(());
+            }
+            let said = self.take(head, &line);
+            add_said(&line, head.sent, said, found)?;
+        }
+        Ok(())
+    }
+
     /// Takes the next line. Returns what there is to say of it; `None` for mail.
-    #[tactic(auto, using(crate::proofs::FaultLemmas::no_fault_is_own))]
     fn take(&mut self, head: &Head, line: &FileLine) -> Option<Said>
-        ensures { IfSome result (IsOwnFault self.new.version self.new.number
-            line.now.text.now head.now.sent.round self.old.is_open) }
+        requires { self.old.number ≤ lines_most }
+        ensures version { self.new.version ≡ self.old.version }
+        ensures number { self.new.number ≡ number_then self.old.number line.now.text.now }
+        ensures is_open { self.new.is_open ≡ is_open_then self.old.version head.now.sent.round
+            self.old.number self.old.is_open line.now.text.now }
+        ensures fault { fault_said result ≡ fault_of_line self.old.version head.now.sent.round
+            self.old.number self.old.is_open line.now.text.now }
     {
         if is_blank(line.text) {
             return None;
         }
-        self.number = self.number.saturating_add(1);
+        self.number += 1;
         let read = UnreadLine {
             version: self.version,
             number: self.number,
@@ -93,16 +133,12 @@ impl Reader<'_, '_> {
         .read();
         match look_at(&read, head.sent.round, self.is_open) {
             Look::Bad(_) if is_mail(line.text) => None,
-            Look::Bad(Fault::OutOfPlace) if !self.is_open => Some(Said::Unopened),
-            Look::Bad(fault) => Some(Said::Faulty(fault)),
+            Look::Bad(fault) => Some(said_of_fault(self.is_open, fault)),
             Look::Head => {
                 self.is_open = true;
                 self.begin(head, line, &read)
             }
-            Look::Good => {
-                let (code, reason) = self.object(head, &read)?;
-                Some(Said::Breaks(code, reason))
-            }
+            Look::Good => self.object(head, &read),
         }
     }
 
@@ -110,7 +146,8 @@ impl Reader<'_, '_> {
     fn begin(&mut self, head: &Head, line: &FileLine, read: &NumberedLine) -> Option<Said>
         ensures version { self.new.version ≡ self.old.version }
         ensures number { self.new.number ≡ self.old.number }
-        ensures no_fault { IfSome result IsNoFault }
+        ensures is_open { self.new.is_open ≡ self.old.is_open }
+        ensures no_fault { fault_said result ≡ None }
     {
         self.block = Block::none();
         let Ok(Order::Company(company)) = read.order() else {
@@ -124,10 +161,22 @@ impl Reader<'_, '_> {
         Some(Said::Presided(*company, president))
     }
 
-    /// Takes an order that has a place; why it is wrong, with the code of the rule that it breaks.
-    fn object(&mut self, head: &Head, read: &NumberedLine) -> Option<(&'static str, Objection)>
+    /// Takes an order that has a place; what there is to say of it, if it is wrong.
+    fn object(&mut self, head: &Head, read: &NumberedLine) -> Option<Said>
         ensures version { self.new.version ≡ self.old.version }
         ensures number { self.new.number ≡ self.old.number }
+        ensures is_open { self.new.is_open ≡ self.old.is_open }
+        ensures no_fault { fault_said result ≡ None }
+    {
+        let (code, reason) = self.wrong_with(head, read)?;
+        Some(Said::Breaks(code, reason))
+    }
+
+    /// Takes an order that has a place; why it is wrong, with the code of the rule that it breaks.
+    fn wrong_with(&mut self, head: &Head, read: &NumberedLine) -> Option<(&'static str, Objection)>
+        ensures version { self.new.version ≡ self.old.version }
+        ensures number { self.new.number ≡ self.old.number }
+        ensures is_open { self.new.is_open ≡ self.old.is_open }
     {
         let Ok(order) = read.order() else {
             return None;
@@ -145,6 +194,48 @@ impl Reader<'_, '_> {
         }
         objection_by_view(self.view?, head.sent.seat, order)
     }
+
+    /// Finds the companies that a sheet leaves without orders.
+    fn add_silent<'a>(&self, head: &Head<'a>, found: &mut Found<'a>) -> Result<(), AllocError>
+        ensures { OnOk result (TellsFaults found.old found.new []) }
+    {
+        for company in &Company::ALL {
+            if !self.is_silent(head.sent, *company) {
+                continue;
+            }
+            found.add(&head.line, Matter::Silent(*company))?;
+        }
+        Ok(())
+    }
+
+    /// Returns whether a sheet has no orders for a company that operates, over which its player
+    /// presides.
+    fn is_silent(&self, sent: Sent, company: Company) -> bool {
+        match (sent.round, self.view) {
+            (Round::Operating { .. }, Some(view)) => {
+                self.begun[company.place()].is_none() && has_to_order(view, company, sent.seat)
+            }
+            _ => false,
+        }
+    }
+}
+
+/// Returns what is said of a line with this fault, behind a head or before the first.
+fn said_of_fault(is_open: bool, fault: Fault) -> Said
+    ensures { result ≡ said_of_fault is_open fault }
+{
+    if !is_open && is_out_of_place(fault) {
+        Said::Unopened
+    } else {
+        Said::Faulty(fault)
+    }
+}
+
+/// Returns whether a fault is that of an order that has no place.
+fn is_out_of_place(fault: Fault) -> bool
+    ensures { result ≡ is_out_of_place fault }
+{
+    matches!(fault, Fault::OutOfPlace)
 }
 
 /// What a line of a sheet is.

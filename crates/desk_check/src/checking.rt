@@ -1,6 +1,8 @@
 //! Lints an order file.
-ghost use Rattle.std.specs.Prelude.{◌≤◌, length};
+ghost use Rattle.std.specs.Prelude.{◌≡◌, ◌≤◌, IfOk, None, OnOk, length};
 ghost use Rattle.desk_check.specs.Heads.{AreKept};
+ghost use Rattle.desk_check.specs.Refused.{refusal_in};
+ghost use Rattle.sheets.specs.File.{content_of};
 ghost use Rattle.sheets.specs.Limits.{file_most};
 
 use crate::check_early::look_at_lines;
@@ -40,7 +42,9 @@ pub struct Findings {
 /// round.
 ///
 /// Fails only if allocation fails.
-pub fn check(alloc: Global, file: &[u8], extent: Extent) -> Result<Findings, AllocError> {
+pub fn check(alloc: Global, file: &[u8], extent: Extent) -> Result<Findings, AllocError>
+    ensures { IfOk result (λ findings. findings.refused ≡ refusal_in (content_of file.now)) }
+{
     let mut findings = Findings {
         text: Vec::new(alloc),
         refused: None,
@@ -50,12 +54,16 @@ pub fn check(alloc: Global, file: &[u8], extent: Extent) -> Result<Findings, All
 }
 
 /// Adds the findings of a file.
+#[tactic(auto, using(crate::proofs::RefusedLemmas::accepted_unrefused))]
 fn look_through(
     alloc: Global,
     file: &[u8],
     extent: Extent,
     findings: &mut Findings,
-) -> Result<(), AllocError> {
+) -> Result<(), AllocError>
+    requires { findings.old.refused ≡ None }
+    ensures { OnOk result (findings.new.refused ≡ refusal_in (content_of file.now)) }
+{
     match collect(alloc, file) {
         Ok(sheets) => look_at_sheets(alloc, file, extent, &sheets, &mut findings.text),
         // An allocation failed: passed on.
