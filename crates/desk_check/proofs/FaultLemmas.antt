@@ -161,7 +161,7 @@ pub tells_next : (first old mid : Found) (whole : List Told) (version : Version)
 tells_next first old mid whole version sent from number is_open passed text lines texts line next_number next_open
     next_passed said rest next goes_on same_from is_line is_passed is_number is_open_by is_said one new told =
     let step : faults_in version sent from number is_open passed lines
-        ≡ told_from old.from sent line said ++ faults_in version sent from next_number next_open next_passed texts =
-        rw (same_from, is_said, is_number, is_open_by, is_passed, is_line)
-        (faults_next version sent from number is_open passed text lines texts next goes_on) in
+    ≡ told_from old.from sent line said ++ faults_in version sent from next_number next_open next_passed texts =
+    rw (same_from, is_said, is_number, is_open_by, is_passed, is_line)
+    (faults_next version sent from number is_open passed text lines texts next goes_on) in
     rest new (subst (TellsFaults old new) (sym step) (tells_more old mid new _ _ one told))

@@ -7,7 +7,7 @@ use Rattle.sheets.specs.declared.fault.FileFault.{FileFault}
 
 unrefused : (content : Result Content FileFault) → IsOk content → refusal_in content ≡ None
 unrefused (Ok content) accepted = refl
-unrefused (Err fault) accepted = absurd accepted
+unrefused (Err fault) accepted = cc
 
 pub accepted_unrefused : (file : List ℕ) → IsAccepted file → refusal_in (content_of file) ≡ None
 accepted_unrefused file accepted = unrefused (content_of file) accepted

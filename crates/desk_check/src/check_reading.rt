@@ -211,12 +211,13 @@ impl Reader<'_, '_> {
     /// Returns whether a sheet has no orders for a company that operates, over which its player
     /// presides.
     fn is_silent(&self, sent: Sent, company: Company) -> bool {
-        match (sent.round, self.view) {
-            (Round::Operating { .. }, Some(view)) => {
-                self.begun[company.place()].is_none() && has_to_order(view, company, sent.seat)
-            }
-            _ => false,
-        }
+        let begun = self.begun[company.place()];
+        let Some(view) = self.view else {
+            return false;
+        };
+        matches!(sent.round, Round::Operating { .. })
+            && begun.is_none()
+            && has_to_order(view, company, sent.seat)
     }
 }
 
