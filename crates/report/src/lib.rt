@@ -9,9 +9,8 @@
 //! byte for byte, that `specs/Report` and `specs/Parts` define, or fails if allocation fails. Each
 //! file has exactly one report.
 //!
-//! Reading order: `column` (numbers and names in columns), `line` (an event as a row of fields, and
-//! a row as a line), `statement` (what each player and the bank hold), `end_worth` (what each player
-//! is worth at the end), `text`
+//! Reading order: `column` (numbers and names in columns), `line` (an event as a line), `statement`
+//! (what each player and the bank hold), `end_worth` (what each player is worth at the end), `text`
 //! (`refusal_text`, `report`, `round_text`), `parts` (`header_text`, `next_text`, `end_text` and
 //! its halves), `laws`.
 #![tactic(auto)]
