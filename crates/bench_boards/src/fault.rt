@@ -6,7 +6,7 @@ use thiserror::Error;
 
 /// Why no greatest revenue is printed.
 #[derive(Debug, Drop, Error)]
-pub enum Fault {
+pub enum LinesFault {
     /// An allocation failed.
     #[error("memory ran out")]
     Memory,
@@ -24,48 +24,48 @@ pub enum Fault {
     Company,
 }
 
-impl Fault {
+impl LinesFault {
     /// Returns the status that the program ends with: 2 if the input is bad, otherwise 4.
     pub fn status(&self) -> u8 {
         match self {
-            Fault::Memory | Fault::Io => 4,
-            Fault::Line | Fault::Board | Fault::Company => 2,
+            LinesFault::Memory | LinesFault::Io => 4,
+            LinesFault::Line | LinesFault::Board | LinesFault::Company => 2,
         }
     }
 }
 
-impl From<AllocError> for Fault {
-    fn from(_error: AllocError) -> Fault {
+impl From<AllocError> for LinesFault {
+    fn from(_error: AllocError) -> LinesFault {
         // An allocation failed: passed on.
-        Fault::Memory
+        LinesFault::Memory
     }
 }
 
-impl From<io::Error> for Fault {
-    fn from(error: io::Error) -> Fault {
+impl From<io::Error> for LinesFault {
+    fn from(error: io::Error) -> LinesFault {
         if error.kind() == io::ErrorKind::OutOfMemory {
             // An allocation failed: passed on.
-            Fault::Memory
+            LinesFault::Memory
         } else {
-            Fault::Io
+            LinesFault::Io
         }
     }
 }
 
-impl From<BoardFault> for Fault {
-    fn from(fault: BoardFault) -> Fault {
+impl From<BoardFault> for LinesFault {
+    fn from(fault: BoardFault) -> LinesFault {
         match fault {
             // An allocation failed: passed on.
-            BoardFault::Memory => Fault::Memory,
-            _ => Fault::Board,
+            BoardFault::Memory => LinesFault::Memory,
+            _ => LinesFault::Board,
         }
     }
 }
 
-impl From<RunnerFault> for Fault {
+impl From<RunnerFault> for LinesFault {
     // A search never refuses.
-    fn from(_fault: RunnerFault) -> Fault {
+    fn from(_fault: RunnerFault) -> LinesFault {
         // An allocation failed: passed on.
-        Fault::Memory
+        LinesFault::Memory
     }
 }

@@ -1,4 +1,4 @@
-use crate::fault::Fault;
+use crate::fault::LinesFault;
 use best_run::Search;
 use board::Board;
 use certificate::Runner;
@@ -8,7 +8,7 @@ use tables::{Company, Kind, Money, Round};
 
 /// What the lines of a board say.
 #[derive(Drop)]
-pub struct Game {
+pub struct BoardLines {
     number: u32,
     is_begun: bool,
     phase: Kind,
@@ -18,10 +18,10 @@ pub struct Game {
     tokens: Vec<(Place, Company)>,
 }
 
-impl Game {
+impl BoardLines {
     /// Returns no board.
-    pub fn new(alloc: Global) -> Game {
-        Game {
+    pub fn new(alloc: Global) -> BoardLines {
+        BoardLines {
             number: 0,
             is_begun: false,
             phase: Kind::Two,
@@ -48,8 +48,8 @@ impl Game {
     }
 
     /// Returns the company whose trains run. The error is `Company` if none is named.
-    pub fn company(&self) -> Result<Company, Fault> {
-        self.company.ok_or(Fault::Company)
+    pub fn company(&self) -> Result<Company, LinesFault> {
+        self.company.ok_or(LinesFault::Company)
     }
 
     /// Returns the company's trains.
@@ -58,13 +58,13 @@ impl Game {
     }
 
     /// Returns the tiles and tokens as they lie. The error is `Board` or `Memory`.
-    pub fn board(&self, alloc: Global) -> Result<Board, Fault> {
+    pub fn board(&self, alloc: Global) -> Result<Board, LinesFault> {
         Ok(Board::of(alloc, &self.lays, &self.tokens, self.phase)?)
     }
 
     /// Returns the greatest revenue of the company's trains on the board, in dollars, as an order
     /// to run their best finds it. The error is `Company`, `Board` or `Memory`.
-    pub fn revenue(&self, alloc: Global) -> Result<Money, Fault> {
+    pub fn revenue(&self, alloc: Global) -> Result<Money, LinesFault> {
         let company = self.company()?;
         let board = self.board(alloc)?;
         let round = Round::Operating { set: 1, number: 1 };
@@ -73,7 +73,7 @@ impl Game {
     }
 
     /// Reads a line. The error is `Line` or `Memory`.
-    pub fn read_line(&mut self, line: &str) -> Result<(), Fault> {
+    pub fn read_line(&mut self, line: &str) -> Result<(), LinesFault> {
         let mut words = line.split_whitespace();
         let Some(first) = words.next() else {
             return Ok(());
@@ -100,7 +100,7 @@ impl Game {
         third: &str,
         fourth: &str,
         swap: bool,
-    ) -> Result<(), Fault> {
+    ) -> Result<(), LinesFault> {
         match first {
             "BOARD" => self.number = number_of(second)?,
             "PHASE" => self.phase = kind_of(second)?,
@@ -108,7 +108,7 @@ impl Game {
             "LAY" => push(&mut self.lays, lay_of(second, third, fourth, swap)?)?,
             "TOKEN" => push(&mut self.tokens, (place_of(second)?, company_of(third)?))?,
             "GREATEST" => {}
-            _ => return Err(Fault::Line),
+            _ => return Err(LinesFault::Line),
         }
         Ok(())
     }
@@ -121,41 +121,41 @@ fn push<T: Drop>(items: &mut Vec<T>, item: T) -> Result<(), AllocError> {
 }
 
 /// Returns a number in decimal digits. The error is `Line`.
-fn number_of(word: &str) -> Result<u32, Fault> {
-    word.parse::<u32>().map_err(|_| Fault::Line)
+fn number_of(word: &str) -> Result<u32, LinesFault> {
+    word.parse::<u32>().map_err(|_| LinesFault::Line)
 }
 
 /// Returns the kind of train that a word names. The error is `Line`.
-fn kind_of(word: &str) -> Result<Kind, Fault> {
+fn kind_of(word: &str) -> Result<Kind, LinesFault> {
     for kind in Kind::ALL {
         if kind.code() == word {
             return Ok(kind);
         }
     }
-    Err(Fault::Line)
+    Err(LinesFault::Line)
 }
 
 /// Returns the company that a word names. The error is `Line`.
-fn company_of(word: &str) -> Result<Company, Fault> {
+fn company_of(word: &str) -> Result<Company, LinesFault> {
     for company in Company::ALL {
         if company.code() == word {
             return Ok(company);
         }
     }
-    Err(Fault::Line)
+    Err(LinesFault::Line)
 }
 
 /// Returns the stop that a word names. The error is `Line`.
-fn place_of(word: &str) -> Result<Place, Fault> {
-    Place::from_text(word.as_bytes()).ok_or(Fault::Line)
+fn place_of(word: &str) -> Result<Place, LinesFault> {
+    Place::from_text(word.as_bytes()).ok_or(LinesFault::Line)
 }
 
 /// Returns a tile with its hex and rotation. The error is `Line`.
-fn lay_of(tile: &str, hex: &str, rotation: &str, swap: bool) -> Result<Lay, Fault> {
+fn lay_of(tile: &str, hex: &str, rotation: &str, swap: bool) -> Result<Lay, LinesFault> {
     Ok(Lay {
-        hex: Hex::from_text(hex.as_bytes()).ok_or(Fault::Line)?,
-        tile: TileNo::from_text(tile.as_bytes()).ok_or(Fault::Line)?,
-        rot: Rotation::from_text(rotation.as_bytes()).ok_or(Fault::Line)?,
+        hex: Hex::from_text(hex.as_bytes()).ok_or(LinesFault::Line)?,
+        tile: TileNo::from_text(tile.as_bytes()).ok_or(LinesFault::Line)?,
+        rot: Rotation::from_text(rotation.as_bytes()).ok_or(LinesFault::Line)?,
         swap,
     })
 }

@@ -13,8 +13,8 @@ mod fault;
 mod game;
 mod marks;
 
-use fault::Fault;
-use game::Game;
+use fault::LinesFault;
+use game::BoardLines;
 use marks::measure;
 use std::env;
 use std::process::ExitCode;
@@ -31,14 +31,14 @@ fn main(rt: HostRuntime) -> ExitCode {
 }
 
 /// Reads boards to the end, and prints what each earns.
-fn read_all(rt: &HostRuntime) -> Result<(), Fault> {
+fn read_all(rt: &HostRuntime) -> Result<(), LinesFault> {
     let marks = env::args(rt)?.any(|word| word.as_str() == "marks");
-    let mut game = Game::new(rt.alloc());
+    let mut game = BoardLines::new(rt.alloc());
     for line in rt.lines(rt.alloc()) {
         let line = line?;
         if game.is_board(line.as_str()) {
             print(rt, &game, marks)?;
-            game = Game::new(rt.alloc());
+            game = BoardLines::new(rt.alloc());
         }
         game.read_line(line.as_str())?;
     }
@@ -46,7 +46,7 @@ fn read_all(rt: &HostRuntime) -> Result<(), Fault> {
 }
 
 /// Prints what a board earns, if one was begun, and what the marks cost, if that is requested.
-fn print(rt: &HostRuntime, game: &Game, marks: bool) -> Result<(), Fault> {
+fn print(rt: &HostRuntime, game: &BoardLines, marks: bool) -> Result<(), LinesFault> {
     if !game.is_begun() {
         return Ok(());
     }

@@ -1,5 +1,5 @@
-use crate::fault::Fault;
-use crate::game::Game;
+use crate::fault::LinesFault;
+use crate::game::BoardLines;
 use best_run::best;
 use board::Board;
 use certificate::{Bits, Claim, accepts_bits, write_marks};
@@ -22,7 +22,7 @@ pub struct Cost {
 
 /// Writes the marks for the greatest revenue of the company's trains on a board, and checks them.
 /// The error is `Company`, `Board`, `Memory`, or `Io` if the clock fails.
-pub fn measure(rt: &HostRuntime, game: &Game) -> Result<Cost, Fault> {
+pub fn measure(rt: &HostRuntime, game: &BoardLines) -> Result<Cost, LinesFault> {
     let company = game.company()?;
     let board = game.board(rt.alloc())?;
     let found = best(rt.alloc(), &board, company, game.trains())?;
@@ -40,11 +40,11 @@ pub fn measure(rt: &HostRuntime, game: &Game) -> Result<Cost, Fault> {
 /// write them. The error is `Memory`, or `Io` if the clock fails.
 fn write(
     rt: &HostRuntime,
-    game: &Game,
+    game: &BoardLines,
     board: &Board,
     company: Company,
     revenue: u32,
-) -> Result<(Bits, Duration), Fault> {
+) -> Result<(Bits, Duration), LinesFault> {
     let begun = Instant::now(rt)?;
     let marks = write_marks(rt.alloc(), board, company, game.trains(), revenue)?;
     Ok((marks, begun.elapsed(rt)?))
@@ -54,12 +54,12 @@ fn write(
 /// `Io` if the clock fails.
 fn check(
     rt: &HostRuntime,
-    game: &Game,
+    game: &BoardLines,
     board: &Board,
     company: Company,
     claim: &Claim,
     marks: &Bits,
-) -> Result<(bool, Duration), Fault> {
+) -> Result<(bool, Duration), LinesFault> {
     let begun = Instant::now(rt)?;
     let accepted = accepts_bits(board, company, game.trains(), claim, marks);
     Ok((accepted, begun.elapsed(rt)?))

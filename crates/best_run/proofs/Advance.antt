@@ -7,7 +7,7 @@ use Rattle.reach.specs.Position.{Position, IsAmong}
 use Rattle.reach.specs.Search.{spot_number}
 use Rattle.reach.specs.Walk.{entered_at, left_at, stop_of}
 use Rattle.reach.specs.declared.walk.Spot.{Spot}
-use Rattle.reach.specs.declared.walk.Step.{Step}
+use Rattle.reach.specs.declared.walk.WalkStep.{WalkStep}
 use Rattle.tables.specs.declared.rolling_stock.Kind.{Kind}
 use Rattle.tables.specs.declared.roster.Company.{Company}
 use Rattle.legal_runs.specs.Legal.{border_at, worth}
@@ -51,7 +51,7 @@ module _ (position : Position) (company : Company) (kinds : List Kind) (task : T
 
   used_more : (most : ℕ) (others : List ℕ) (at : Spot) (stops : List Stop) (borders : List ℕ) (assigned : Assigned)
       (run : PartialRun) → Tells task position company most others at stops borders assigned run
-      → (step : Step) (segment : Segment) → IsSegmentOf step segment → (border : ℕ)
+      → (step : WalkStep) (segment : Segment) → IsSegmentOf step segment → (border : ℕ)
       → IsMarked (using assigned segment).used border
       ↔ (IsAmong border (border_at (entered_at step).hex (entered_at step).end ++ borders) ⊎ IsAmong border others)
   used_more most others at stops borders assigned run tells step segment is border =
@@ -80,7 +80,7 @@ module _ (position : Position) (company : Company) (kinds : List Kind) (task : T
   -- a step to a stop
   pub to_stop : (most : ℕ) (others : List ℕ) (at : Spot) (stops : List Stop) (borders : List ℕ) (assigned : Assigned)
       (run : PartialRun) → Tells task position company most others at stops borders assigned run
-      → (step : Step) (segment : Segment) → IsSegmentOf step segment → (stop : Stop)
+      → (step : WalkStep) (segment : Segment) → IsSegmentOf step segment → (stop : Stop)
       → stop_of (left_at step) ≡ Some stop → 0 < run.left
       → Tells task position company most others (left_at step) (stop ∷ stops)
       (border_at (entered_at step).hex (entered_at step).end ++ borders) (using assigned segment)
@@ -127,7 +127,7 @@ module _ (position : Position) (company : Company) (kinds : List Kind) (task : T
   -- a step to a side
   pub to_side : (most : ℕ) (others : List ℕ) (at : Spot) (stops : List Stop) (borders : List ℕ) (assigned : Assigned)
       (run : PartialRun) → Tells task position company most others at stops borders assigned run
-      → (step : Step) (segment : Segment) → IsSegmentOf step segment → stop_of (left_at step) ≡ None
+      → (step : WalkStep) (segment : Segment) → IsSegmentOf step segment → stop_of (left_at step) ≡ None
       → Tells task position company most others (left_at step) stops
       (border_at (entered_at step).hex (entered_at step).end ++ borders) (using assigned segment)
       (along task run segment)

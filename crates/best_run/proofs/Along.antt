@@ -4,7 +4,7 @@ use Rattle.std.proofs.Common.{◌≡◌, ℕ, ◌+◌, ◌<◌, ◌≤◌, Bool,
 use Rattle.std.proofs.Common.{length, slice_get, replicate, refl, sym, ap, subst, ◌∙◌, arith, le_trans, length-append}
 use Rattle.std.proofs.lemmas.Option.{slice_get_within}
 use Rattle.reach.specs.Position.{IsAmong}
-use Rattle.reach.specs.declared.walk.Step.{Step}
+use Rattle.reach.specs.declared.walk.WalkStep.{WalkStep}
 use Rattle.best_run.specs.declared.memo.Found.{Found}
 use Rattle.search_task.specs.declared.task.Segment.{Segment}
 use Rattle.search_task.specs.declared.task.Task.{Task}
@@ -148,7 +148,7 @@ module _ (task : Task) (fit : IsFit task) (stop : ℕ) (stops : stop_in (node_at
         moves = back.moves;
         completes = back.completes;
         total = back.total ∙ ap (λ s. total_after task s later) (sym here);
-        marks_are = back.marks_are ∙ ap (λ (steps : List Step). go_along steps ++ marks_of later) (sym made.steps);
+        marks_are = back.marks_are ∙ ap (λ (steps : List WalkStep). go_along steps ++ marks_of later) (sym made.steps);
       }
 
   -- what may be done by a segment begins with a leg

@@ -4,14 +4,14 @@ use Rattle.std.proofs.Common.{◌≡◌, ◌↔◌, ℕ, ◌+◌, true, ◌⊎�
 use Rattle.std.proofs.Common.{length, refl, sym, ap, subst, ◌∙◌, arith}
 use Rattle.map_tables.specs.declared.hex.Hex.{Hex}
 use Rattle.map_tables.specs.declared.place.Stop.{Stop}
-use Rattle.map_tables.specs.declared.track.End.{End}
-use Rattle.map_tables.specs.declared.track.End.TheVariants.{Side as AtSide, Stop as AtStop}
+use Rattle.map_tables.specs.declared.track.TrackEnd.{TrackEnd}
+use Rattle.map_tables.specs.declared.track.TrackEnd.TheVariants.{Side as AtSide, Stop as AtStop}
 use Rattle.reach.specs.Lawful.{IsLawful}
 use Rattle.reach.specs.Position.{Position, IsAmong, IsFull, is_red}
 use Rattle.reach.specs.Walk.{AreJoined, BeginsAt, GoesOn, IsWalk, PassesBy, PassesOnly, begins_at, entered_at, left_at}
 use Rattle.reach.specs.Walk.{stop_at_end, stop_of}
 use Rattle.reach.specs.declared.walk.Spot.{Spot}
-use Rattle.reach.specs.declared.walk.Step.{Step}
+use Rattle.reach.specs.declared.walk.WalkStep.{WalkStep}
 use Rattle.reach.proofs.Spots.{back}
 use Rattle.tables.specs.declared.roster.Company.{Company}
 use Rattle.legal_runs.specs.Legal.{AreDistinct, EndsAtStop, border_at, crossed, first_stop, listed, visited, worth}
@@ -104,58 +104,58 @@ two_onto None (Some stop) = refl
 two_onto (Some stop) None = refl
 two_onto (Some stop) (Some other) = refl
 
-onto_border : (hex : Hex) (end : End) (borders : List ℕ)
+onto_border : (hex : Hex) (end : TrackEnd) (borders : List ℕ)
     → onto (border_at hex end) borders ≡ border_at hex end ++ borders
 onto_border hex (AtSide side) borders = refl
 onto_border hex (AtStop number) borders = refl
 
 -- no border is crossed at a stop
-no_border : (hex : Hex) (end : End) (stop : Stop) → stop_at_end hex end ≡ Some stop → border_at hex end ≡ []
+no_border : (hex : Hex) (end : TrackEnd) (stop : Stop) → stop_at_end hex end ≡ Some stop → border_at hex end ≡ []
 no_border hex (AtSide side) stop is = absurd cc
 no_border hex (AtStop number) stop is = refl
 
 -- a walk begins at a spot
-abbrev pub Starts : List Step → Spot → Type 0
+abbrev pub Starts : List WalkStep → Spot → Type 0
 Starts [] at = ⊥
 Starts (step ∷ before) at = begins_at step before ≡ at
 
 -- the borders of the spots where the steps of a walk are left
-abbrev borders_left : List Step → List ℕ
+abbrev borders_left : List WalkStep → List ℕ
 borders_left [] = []
 borders_left (step ∷ before) = border_at (left_at step).hex (left_at step).end ++ borders_left before
 
 -- a walk goes on with what comes before another, the other way
-abbrev Meets : List Step → List Step → Type 0
+abbrev Meets : List WalkStep → List WalkStep → Type 0
 Meets done [] = Unit {0}
 Meets done (step ∷ before) = GoesOn done (flipped step)
 
-abbrev MeetsBy : (Stop → Type 0) → List Step → List Step → Type 0
+abbrev MeetsBy : (Stop → Type 0) → List WalkStep → List WalkStep → Type 0
 MeetsBy P done [] = Unit {0}
 MeetsBy P done (step ∷ before) = PassesBy P done (flipped step)
 
-starts_back : (steps : List Step) (first : Step) (done : List Step) (at : Spot) → Starts (first ∷ done) at
+starts_back : (steps : List WalkStep) (first : WalkStep) (done : List WalkStep) (at : Spot) → Starts (first ∷ done) at
     → Starts (onto (returning steps) (first ∷ done)) at
 starts_back [] first done at starts = starts
 starts_back (step ∷ before) first done at starts = starts_back before (flipped step) (first ∷ done) at starts
 
-begins_back : (steps : List Step) (first : Step) (done : List Step) → BeginsAt (λ stop. Unit {0}) (first ∷ done)
+begins_back : (steps : List WalkStep) (first : WalkStep) (done : List WalkStep) → BeginsAt (λ stop. Unit {0}) (first ∷ done)
     → BeginsAt (λ stop. Unit {0}) (onto (returning steps) (first ∷ done))
 begins_back [] first done begins = begins
 begins_back (step ∷ before) first done begins = begins_back before (flipped step) (first ∷ done) begins
 
 -- where the way back ends
-record Ends (walk : List Step) (at : Spot) : Type 0 where
-  pub last : Step
-  pub rest : List Step
+record Ends (walk : List WalkStep) (at : Spot) : Type 0 where
+  pub last : WalkStep
+  pub rest : List WalkStep
   pub is : walk ≡ last ∷ rest
   pub is_at : left_at last ≡ at
 
-ends_back : (step : Step) (before done : List Step)
+ends_back : (step : WalkStep) (before done : List WalkStep)
     → Ends (onto (returning (step ∷ before)) done) (begins_at step before)
 ends_back step [] done = record { last = flipped step; rest = done; is = refl; is_at = flip_leaves step }
 ends_back step (earlier ∷ before) done = ends_back earlier before (flipped step ∷ done)
 
-crosses_back : (steps done : List Step) → crossed (onto (returning steps) done)
+crosses_back : (steps done : List WalkStep) → crossed (onto (returning steps) done)
     ≡ onto (borders_left steps) (crossed done)
 crosses_back [] done = refl
 crosses_back (step ∷ before) done =
@@ -179,33 +179,33 @@ module _ (position : Position) (lawful : IsLawful position) where
   border_joined at next (inl one) = no_border at.hex at.end one.0 one.1 ∙ sym (no_border next.hex next.end one.0 one.2)
   border_joined at next (inr over) = one_border lawful.borders_pair at next over
 
-  walks_back : (steps done : List Step) → IsWalk position steps → IsWalk position done → Meets done steps
+  walks_back : (steps done : List WalkStep) → IsWalk position steps → IsWalk position done → Meets done steps
       → IsWalk position (onto (returning steps) done)
   walks_back [] done walk before meets = before
   walks_back (step ∷ before) done walk after meets =
       walks_back before (flipped step ∷ done) walk.2 (walk.0, meets, after) (meets_next before walk.1)
     where
-      meets_next : (before : List Step) → GoesOn before step → Meets (flipped step ∷ done) before
+      meets_next : (before : List WalkStep) → GoesOn before step → Meets (flipped step ∷ done) before
       meets_next [] goes = tt
       meets_next (earlier ∷ before) goes =
           subst (λ (s : Spot). AreJoined (left_at (flipped step)) s) (sym (flip_enters earlier))
           (subst (λ (s : Spot). AreJoined s (left_at earlier)) (sym (flip_leaves step))
           (joined_back (left_at earlier) (entered_at step) goes))
 
-  passes_back : (P : Stop → Type 0) (steps done : List Step) → IsWalk position steps → PassesOnly P steps
+  passes_back : (P : Stop → Type 0) (steps done : List WalkStep) → IsWalk position steps → PassesOnly P steps
       → PassesOnly P done → MeetsBy P done steps → PassesOnly P (onto (returning steps) done)
   passes_back P [] done walk passes after meets = after
   passes_back P (step ∷ before) done walk passes after meets =
       passes_back P before (flipped step ∷ done) walk.2 passes.1 (meets, after) (meets_next before walk.1 passes.0)
     where
-      meets_next : (before : List Step) → GoesOn before step → PassesBy P before step
+      meets_next : (before : List WalkStep) → GoesOn before step → PassesBy P before step
           → MeetsBy P (flipped step ∷ done) before
       meets_next [] goes by = tt
       meets_next (earlier ∷ before) goes by =
           subst (λ (s : Spot). IfSome (stop_of s) P) (sym (flip_enters earlier))
           (subst (λ o. IfSome o P) (sym (one_stop (left_at earlier) (entered_at step) goes)) by)
 
-  visits_back : (before : List Step) (step first : Step) (done : List Step) → IsWalk position (step ∷ before)
+  visits_back : (before : List WalkStep) (step first : WalkStep) (done : List WalkStep) → IsWalk position (step ∷ before)
       → visited (onto (returning (step ∷ before)) (first ∷ done))
       ≡ onto (first_stop before step ++ visited before) (visited (first ∷ done))
   visits_back [] step first done walk =
@@ -220,7 +220,7 @@ module _ (position : Position) (lawful : IsLawful position) where
       ∙ ap (λ (stops : List Stop). onto rest stops) (sym (onto_listed (stop_of (left_at earlier)) seen))
       ∙ sym (onto_append (listed (stop_of (left_at earlier))) rest seen)
 
-  visited_back : (step : Step) (before : List Step) → IsWalk position (step ∷ before)
+  visited_back : (step : WalkStep) (before : List WalkStep) → IsWalk position (step ∷ before)
       → visited (onto (returning (step ∷ before)) []) ≡ onto (visited (step ∷ before)) []
   visited_back step [] walk =
       ap (λ (s : Spot). listed (stop_of s) ++ (listed (stop_of (entered_at (flipped step))) ++ [])) (flip_leaves step)
@@ -241,7 +241,7 @@ module _ (position : Position) (lawful : IsLawful position) where
       ∙ sym (onto_append (listed there) rest (onto (listed here) []))
       ∙ sym (onto_append (listed here) (listed there ++ rest) [])
 
-  left_same : (step : Step) (before : List Step) → IsWalk position (step ∷ before)
+  left_same : (step : WalkStep) (before : List WalkStep) → IsWalk position (step ∷ before)
       → BeginsAt (λ stop. Unit {0}) (step ∷ before) → borders_left (step ∷ before)
       ≡ border_at (left_at step).hex (left_at step).end ++ crossed (step ∷ before)
   left_same step [] walk begins =
@@ -254,7 +254,7 @@ module _ (position : Position) (lawful : IsLawful position) where
       ∙ ap (λ (bs : List ℕ). bs ++ crossed (earlier ∷ before))
       (border_joined (left_at earlier) (entered_at step) walk.1))
 
-  crossed_back : (step : Step) (before : List Step) → IsWalk position (step ∷ before)
+  crossed_back : (step : WalkStep) (before : List WalkStep) → IsWalk position (step ∷ before)
       → BeginsAt (λ stop. Unit {0}) (step ∷ before) → EndsAtStop (step ∷ before)
       → crossed (onto (returning (step ∷ before)) []) ≡ onto (crossed (step ∷ before)) []
   crossed_back step before walk begins ends =
@@ -264,9 +264,9 @@ module _ (position : Position) (lawful : IsLawful position) where
       ∙ ap (λ (bs : List ℕ). bs ++ crossed (step ∷ before)) (no_border at.hex at.end ends.0 ends.1))
 
   -- a walk from stop to stop, turned about
-  pub record Turned (company : Company) (most : ℕ) (others : List ℕ) (step : Step) (before : List Step) : Type 0 where
-    pub last : Step
-    pub rest : List Step
+  pub record Turned (company : Company) (most : ℕ) (others : List ℕ) (step : WalkStep) (before : List WalkStep) : Type 0 where
+    pub last : WalkStep
+    pub rest : List WalkStep
     pub is : onto (returning (step ∷ before)) [] ≡ last ∷ rest
     pub is_at : left_at last ≡ begins_at step before
     pub starts : begins_at last rest ≡ left_at step
@@ -275,7 +275,7 @@ module _ (position : Position) (lawful : IsLawful position) where
     pub holds : Holds position company most others (last ∷ rest)
 
   pub walk_turned :
-      (company : Company) (most : ℕ) (others : List ℕ) (step : Step) (before : List Step)
+      (company : Company) (most : ℕ) (others : List ℕ) (step : WalkStep) (before : List WalkStep)
       → Holds position company most others (step ∷ before) →
       EndsAtStop (step ∷ before) → Turned company most others step before
   walk_turned company most others step before holds ends =

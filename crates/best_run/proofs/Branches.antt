@@ -9,7 +9,7 @@ use Rattle.reach.specs.Position.{Position, HasToken, IsAmong}
 use Rattle.reach.specs.Search.{spot_number}
 use Rattle.reach.specs.Walk.{BeginsAt, begins_at, entered_at, left_at, stop_of}
 use Rattle.reach.specs.declared.walk.Spot.{Spot}
-use Rattle.reach.specs.declared.walk.Step.{Step}
+use Rattle.reach.specs.declared.walk.WalkStep.{WalkStep}
 use Rattle.reach.proofs.Spots.{stop_number}
 use Rattle.tables.specs.declared.rolling_stock.Kind.{Kind}
 use Rattle.tables.specs.declared.roster.Company.{Company}
@@ -67,12 +67,12 @@ ahead_canonical task home xs ys canonical ahead spot stop there among =
     ahead spot stop there ((canonical.among stop).1 among)
 
 -- one walk visits the same stops as another, and crosses the same borders
-pub record AreOne (position : Position) (walk other : List Step) : Type 0 where
+pub record AreOne (position : Position) (walk other : List WalkStep) : Type 0 where
   pub stops : AreCanonical (visited walk) (visited other)
   pub borders : AreCanonical (crossed walk) (crossed other)
   pub worth : worth position (visited walk) ≡ worth position (visited other)
 
-one_back : (position : Position) (walk other : List Step) → AreOne position walk other → AreOne position other walk
+one_back : (position : Position) (walk other : List WalkStep) → AreOne position walk other → AreOne position other walk
 one_back position walk other one =
     record {
       stops = canonical_back (visited walk) (visited other) one.stops;
@@ -81,36 +81,36 @@ one_back position walk other one =
     }
 
 -- the latest step of a walk
-record HasLatest (walk : List Step) : Type 0 where
-  pub last : Step
-  pub rest : List Step
+record HasLatest (walk : List WalkStep) : Type 0 where
+  pub last : WalkStep
+  pub rest : List WalkStep
   pub is : walk ≡ last ∷ rest
 
-latest_of : (later : List Step) (step : Step) (before : List Step) → HasLatest (onto later (step ∷ before))
+latest_of : (later : List WalkStep) (step : WalkStep) (before : List WalkStep) → HasLatest (onto later (step ∷ before))
 latest_of [] step before = record { last = step; rest = before; is = refl }
 latest_of (next ∷ later) step before = latest_of later next (step ∷ before)
 
-starts_on : (later : List Step) (step : Step) (before : List Step) (at : Spot) → Starts (step ∷ before) at
+starts_on : (later : List WalkStep) (step : WalkStep) (before : List WalkStep) (at : Spot) → Starts (step ∷ before) at
     → Starts (onto later (step ∷ before)) at
 starts_on [] step before at starts = starts
 starts_on (next ∷ later) step before at starts = starts_on later next (step ∷ before) at starts
 
-returning_put : (xs ys : List Step) → returning (xs ++ ys) ≡ returning xs ++ returning ys
+returning_put : (xs ys : List WalkStep) → returning (xs ++ ys) ≡ returning xs ++ returning ys
 returning_put [] ys = refl
 returning_put (step ∷ xs) ys = ap (λ rest. flipped step ∷ rest) (returning_put xs ys)
 
 -- a walk turned about is its beginning turned about, after its later part turned about
-turned_put : (later : List Step) (last : Step) (before walk : List Step) → onto (returning later) [] ≡ walk
+turned_put : (later : List WalkStep) (last : WalkStep) (before walk : List WalkStep) → onto (returning later) [] ≡ walk
     → onto (returning (later ++ last ∷ before)) [] ≡ onto (returning before) (flipped last ∷ walk)
 turned_put later last before walk is =
-    ap (λ (steps : List Step). onto steps []) (returning_put later (last ∷ before))
+    ap (λ (steps : List WalkStep). onto steps []) (returning_put later (last ∷ before))
     ∙ onto_append (returning later) (returning (last ∷ before)) []
-    ∙ ap (λ (done : List Step). onto (returning before) (flipped last ∷ done)) is
+    ∙ ap (λ (done : List WalkStep). onto (returning before) (flipped last ∷ done)) is
 
 module _ (position : Position) (company : Company) (lawful : IsLawful position) (kinds : List Kind) (task : Task)
     (describes : Describes position company kinds task) where
   -- a walk turned about is one with it
-  pub one_turned : (most : ℕ) (others : List ℕ) (step : Step) (before : List Step)
+  pub one_turned : (most : ℕ) (others : List ℕ) (step : WalkStep) (before : List WalkStep)
       → (turned : Turned position lawful company most others step before)
       → AreOne position (step ∷ before) (turned.last ∷ turned.rest)
   one_turned most others step before turned =
@@ -164,17 +164,17 @@ module _ (position : Position) (company : Company) (lawful : IsLawful position) 
       (train : assigned.next < length task.trains.items) (most_is : get_or task.trains.items assigned.next 0 ≡ most)
       (total : ℕ) where
     -- what comes after a run that is finished
-    abbrev Done : List Step → Type 0
+    abbrev Done : List WalkStep → Type 0
     Done walk =
         (after : Assigned) → after.next ≡ assigned.next + 1 → after.total ≡ assigned.total + earned position walk
         → after.kind ≡ most → after.cap ≡ earned position walk → Used (crossed walk ++ others) after
         → CanFinish task (between after) total
 
-    abbrev MayEarn : List Step → Type 0
+    abbrev MayEarn : List WalkStep → Type 0
     MayEarn walk = may_earn assigned.kind assigned.cap most (earned position walk) ≡ true
 
     -- the first step of a run from a token
-    begin_run : (step : Step) (home : Stop) → stop_of (entered_at step) ≡ Some home → HasToken position home company
+    begin_run : (step : WalkStep) (home : Stop) → stop_of (entered_at step) ≡ Some home → HasToken position home company
         → (index : ℕ) (segment : Segment) → LeadsFrom task (spot_number (entered_at step)) index segment
         → IsSegmentOf step segment → Holds position company most others (step ∷ [])
         → AreAhead task (spot_number (entered_at step)) (visited (step ∷ []))
@@ -223,7 +223,7 @@ module _ (position : Position) (company : Company) (lawful : IsLawful position) 
         some_left (other ∷ stops) stop few = omega arith
 
     -- a run that has been gone over is finished
-    finish_here : (walk : List Step) (last : Spot) (after : Assigned) (done : PartialRun) → after.next ≡ assigned.next
+    finish_here : (walk : List WalkStep) (last : Spot) (after : Assigned) (done : PartialRun) → after.next ≡ assigned.next
         → after.total ≡ assigned.total → after.kind ≡ assigned.kind → after.cap ≡ assigned.cap → done.most ≡ most
         → Tells task position company most others last (visited walk) (crossed walk) after done → EndsAt walk last
         → EndsAtStop walk → MayEarn walk → Done walk → CanFinish task (partial after done) total
@@ -242,13 +242,13 @@ module _ (position : Position) (company : Company) (lawful : IsLawful position) 
         }))
 
     -- what some steps are for the walk whose first they are
-    ahead_first : (later : List Step) (step : Step) (before : List Step) (home : ℕ)
+    ahead_first : (later : List WalkStep) (step : WalkStep) (before : List WalkStep) (home : ℕ)
         → AreAhead task home (visited (onto later (step ∷ before))) → AreAhead task home (visited (step ∷ before))
     ahead_first later step before home ahead spot stop there among =
         ahead spot stop there (visited_first later step before stop among)
 
     -- a run that begins at its token
-    one_branch : (step : Step) (later : List Step) (home : Stop) → stop_of (entered_at step) ≡ Some home
+    one_branch : (step : WalkStep) (later : List WalkStep) (home : Stop) → stop_of (entered_at step) ≡ Some home
         → HasToken position home company → AreAhead task (spot_number (entered_at step))
         (visited (onto later (step ∷ []))) → Holds position company most others (onto later (step ∷ []))
         → EndsAtStop (onto later (step ∷ [])) → MayEarn (onto later (step ∷ [])) → Done (onto later (step ∷ []))
@@ -270,8 +270,8 @@ module _ (position : Position) (company : Company) (lawful : IsLawful position) 
 
     -- a run along one branch from its token, and then along another; the first branch, turned
     -- about, comes before the second
-    two_branches : (first : Step) (along_first : List Step) (last : Step) (before : List Step) (second : Step)
-        (along_second : List Step) (home : Stop) → AreOne position (onto along_first (first ∷ [])) (last ∷ before)
+    two_branches : (first : WalkStep) (along_first : List WalkStep) (last : WalkStep) (before : List WalkStep) (second : WalkStep)
+        (along_second : List WalkStep) (home : Stop) → AreOne position (onto along_first (first ∷ [])) (last ∷ before)
         → stop_of (entered_at first) ≡ Some home → stop_of (left_at last) ≡ Some home → HasToken position home company
         → (i j : ℕ) (p q : Segment) → LeadsFrom task (spot_number (entered_at first)) i p → IsSegmentOf first p
         → LeadsFrom task (spot_number (entered_at first)) j q → IsSegmentOf second q → i ≤ j
@@ -352,17 +352,17 @@ module _ (position : Position) (company : Company) (lawful : IsLawful position) 
             ((among_both stop (listed (stop_of (left_at second))) (visited (last ∷ before))).1 (inr among)))
 
     -- the same for a walk that is one with another
-    done_one : (walk other : List Step) → AreOne position walk other → Done walk → Done other
+    done_one : (walk other : List WalkStep) → AreOne position walk other → Done walk → Done other
     done_one walk other one rest after next_is total_is kind_is cap_is used_after =
         rest after next_is (omega (arith, total_is, one.worth)) kind_is (cap_is ∙ sym one.worth)
         (used_canonical (crossed other) (crossed walk) others
         (canonical_back (crossed walk) (crossed other) one.borders) after used_after)
 
-    may_one : (walk other : List Step) → AreOne position walk other → MayEarn walk → MayEarn other
+    may_one : (walk other : List WalkStep) → AreOne position walk other → MayEarn walk → MayEarn other
     may_one walk other one may = subst (λ (v : ℕ). may_earn assigned.kind assigned.cap most v ≡ true) one.worth may
 
     -- a walk that is to be a run of the train
-    record IsRun (home : Stop) (walk : List Step) : Type 0 where
+    record IsRun (home : Stop) (walk : List WalkStep) : Type 0 where
       pub holds : Holds position company most others walk
       pub ends : EndsAtStop walk
       pub token : HasToken position home company
@@ -370,12 +370,12 @@ module _ (position : Position) (company : Company) (lawful : IsLawful position) 
       pub may : MayEarn walk
       pub rest : Done walk
 
-    ahead_at : (at : Spot) (home : Stop) → stop_of at ≡ Some home → (walk : List Step) → IsRun home walk
+    ahead_at : (at : Spot) (home : Stop) → stop_of at ≡ Some home → (walk : List WalkStep) → IsRun home walk
         → AreAhead task (spot_number at) (visited walk)
     ahead_at at home there walk run = subst (λ (n : ℕ). AreAhead task n (visited walk))
         (sym (stop_number at home there)) run.ahead
 
-    run_turned : (home : Stop) (step : Step) (before : List Step) → IsRun home (step ∷ before)
+    run_turned : (home : Stop) (step : WalkStep) (before : List WalkStep) → IsRun home (step ∷ before)
         → IsRun home (onto (returning (step ∷ before)) [])
     run_turned home step before run =
         let turned : Turned position lawful company most others step before =
@@ -393,21 +393,21 @@ module _ (position : Position) (company : Company) (lawful : IsLawful position) 
         })
 
     -- its token is where it begins
-    from_start : (home : Stop) (step : Step) (later : List Step) → IsRun home (onto later (step ∷ []))
+    from_start : (home : Stop) (step : WalkStep) (later : List WalkStep) → IsRun home (onto later (step ∷ []))
         → stop_of (entered_at step) ≡ Some home → CanFinish task (between assigned) total
     from_start home step later run there =
         one_branch step later home there run.token (ahead_at (entered_at step) home there (onto later (step ∷ [])) run)
         run.holds run.ends run.may run.rest
 
     -- its token is where it ends
-    from_end : (home : Stop) (step : Step) (before : List Step) → IsRun home (step ∷ before)
+    from_end : (home : Stop) (step : WalkStep) (before : List WalkStep) → IsRun home (step ∷ before)
         → stop_of (left_at step) ≡ Some home → CanFinish task (between assigned) total
     from_end home step before run there =
         from_start home (flipped step) (returning before) (run_turned home step before run)
         (ap stop_of (flip_enters step) ∙ there)
 
     -- the branch by which it came is gone along first
-    came_first : (home : Stop) (last : Step) (before : List Step) (step : Step) (later : List Step)
+    came_first : (home : Stop) (last : WalkStep) (before : List WalkStep) (step : WalkStep) (later : List WalkStep)
         → IsRun home (onto later (step ∷ last ∷ before)) → stop_of (left_at last) ≡ Some home
         → (i j : ℕ) (p q : Segment) → LeadsFrom task (spot_number (entered_at (flipped last))) i p
         → IsSegmentOf (flipped last) p → LeadsFrom task (spot_number (entered_at (flipped last))) j q
@@ -431,7 +431,7 @@ module _ (position : Position) (company : Company) (lawful : IsLawful position) 
         run.holds run.ends run.may run.rest
 
     -- the branch by which it leaves is gone along first
-    left_first : (home : Stop) (last : Step) (before : List Step) (step : Step) (later : List Step)
+    left_first : (home : Stop) (last : WalkStep) (before : List WalkStep) (step : WalkStep) (later : List WalkStep)
         → IsRun home (onto later (step ∷ last ∷ before)) → stop_of (left_at last) ≡ Some home
         → stop_of (entered_at step) ≡ Some home → (i j : ℕ) (p q : Segment)
         → LeadsFrom task (spot_number (entered_at step)) i p → IsSegmentOf step p
@@ -443,7 +443,7 @@ module _ (position : Position) (company : Company) (lawful : IsLawful position) 
         let under = some.rest in
         let back = last ∷ before in
         let whole : onto later (step ∷ back) ≡ top ∷ under ++ back =
-        onto_put later (step ∷ []) back ∙ ap (λ (w : List Step). w ++ back) some.is in
+        onto_put later (step ∷ []) back ∙ ap (λ (w : List WalkStep). w ++ back) some.is in
         let run_whole : IsRun home (top ∷ under ++ back) = subst (IsRun home) whole run in
         let starts : begins_at top under ≡ entered_at step =
         subst (λ w. Starts w (entered_at step)) some.is (starts_on later step [] (entered_at step) refl) in
@@ -470,7 +470,7 @@ module _ (position : Position) (company : Company) (lawful : IsLawful position) 
         run_back.holds run_back.ends run_back.may run_back.rest
 
     -- its token is inside
-    from_inside : (home : Stop) (last : Step) (before : List Step) (step : Step) (later : List Step)
+    from_inside : (home : Stop) (last : WalkStep) (before : List WalkStep) (step : WalkStep) (later : List WalkStep)
         → IsRun home (onto later (step ∷ last ∷ before)) → stop_of (left_at last) ≡ Some home
         → CanFinish task (between assigned) total
     from_inside home last before step later run there =
@@ -498,7 +498,7 @@ module _ (position : Position) (company : Company) (lawful : IsLawful position) 
         ]
 
     -- a run of the train
-    pub run_by : (walk : List Step) → Holds position company most others walk → EndsAtStop walk
+    pub run_by : (walk : List WalkStep) → Holds position company most others walk → EndsAtStop walk
         → HasSuch (λ stop. HasToken position stop company) (visited walk) → MayEarn walk → Done walk
         → CanFinish task (between assigned) total
     run_by walk holds ends own may rest =

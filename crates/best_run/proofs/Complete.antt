@@ -4,13 +4,13 @@ use Rattle.std.proofs.Common.{List, [], ◌∷◌, ◌++◌, length, get_or, ref
 use Rattle.std.proofs.lemmas.Bool.{lt-ltb}
 use Rattle.map_tables.specs.declared.hex.Hex.{Hex}
 use Rattle.map_tables.specs.declared.place.Stop.{Stop}
-use Rattle.map_tables.specs.declared.track.End.{End}
-use Rattle.map_tables.specs.declared.track.End.TheVariants.{Side as AtSide, Stop as AtStop}
+use Rattle.map_tables.specs.declared.track.TrackEnd.{TrackEnd}
+use Rattle.map_tables.specs.declared.track.TrackEnd.TheVariants.{Side as AtSide, Stop as AtStop}
 use Rattle.reach.specs.Position.{Position, IsAmong, IsFull, is_red}
 use Rattle.reach.specs.Search.{spot_number}
 use Rattle.reach.specs.Walk.{AreJoined, across_end, entered_at, stop_at_end, left_at, stop_of}
 use Rattle.reach.specs.declared.walk.Spot.{Spot}
-use Rattle.reach.specs.declared.walk.Step.{Step}
+use Rattle.reach.specs.declared.walk.WalkStep.{WalkStep}
 use Rattle.tables.specs.declared.rolling_stock.Kind.{Kind}
 use Rattle.tables.specs.declared.roster.Company.{Company}
 use Rattle.legal_runs.specs.Legal.{AreDistinct, EndsAtStop, border_at, crossed, earned, listed, visited}
@@ -46,18 +46,18 @@ next_stop at next stop there joined =
       | inr over ↦ absurd (no_stop at.hex at.end stop next there over)
     ]
   where
-    no_stop : (hex : Hex) (end : End) (stop : Stop) (next : Spot) → stop_at_end hex end ≡ Some stop
+    no_stop : (hex : Hex) (end : TrackEnd) (stop : Stop) (next : Spot) → stop_at_end hex end ≡ Some stop
         → across_end hex end ≡ Some next → ⊥
     no_stop hex (AtSide side) stop next is over = cc
     no_stop hex (AtStop number) stop next is over = cc
 
 -- a walk is where its latest step is left
-abbrev pub EndsAt : List Step → Spot → Type 0
+abbrev pub EndsAt : List WalkStep → Spot → Type 0
 EndsAt [] at = ⊥
 EndsAt (step ∷ before) at = left_at step ≡ at
 
 -- what is visited at the beginning of a walk is visited by it
-pub visited_first : (later : List Step) (step : Step) (before : List Step) (stop : Stop)
+pub visited_first : (later : List WalkStep) (step : WalkStep) (before : List WalkStep) (stop : Stop)
     → IsAmong stop (visited (step ∷ before)) → IsAmong stop (visited (onto later (step ∷ before)))
 visited_first [] step before stop among = among
 visited_first (next ∷ later) step before stop among =
@@ -89,7 +89,7 @@ module _ (position : Position) (company : Company) (kinds : List Kind) (task : T
 
   -- the next step of a walk that holds, by its segment
   pub record CanGo (at : Spot) (stops : List Stop) (borders : List ℕ) (assigned : Assigned) (run : PartialRun)
-      (step : Step) (segment : Segment) : Type 0 where
+      (step : WalkStep) (segment : Segment) : Type 0 where
     pub taken : can_take task run assigned.used segment ≡ true
     pub tells : TellsHere (left_at step) (listed (stop_of (left_at step)) ++ stops)
         (border_at (entered_at step).hex (entered_at step).end ++ borders) (using assigned segment)
@@ -97,7 +97,7 @@ module _ (position : Position) (company : Company) (kinds : List Kind) (task : T
 
   -- the borders of a step are free
   step_free : (at : Spot) (stops : List Stop) (borders : List ℕ) (assigned : Assigned) (run : PartialRun)
-      → TellsHere at stops borders assigned run → (step : Step) (segment : Segment) → IsSegmentOf step segment
+      → TellsHere at stops borders assigned run → (step : WalkStep) (segment : Segment) → IsSegmentOf step segment
       → AreDistinct (border_at (entered_at step).hex (entered_at step).end ++ borders)
       → ((border : ℕ) → IsAmong border (border_at (entered_at step).hex (entered_at step).end ++ borders)
       → ¬ IsAmong border others) → misses assigned.used segment.borders.items ≡ true
@@ -113,7 +113,7 @@ module _ (position : Position) (company : Company) (kinds : List Kind) (task : T
 
   -- so the step can be taken
   by_left : (at : Spot) (stops : List Stop) (borders : List ℕ) (assigned : Assigned) (run : PartialRun)
-      → TellsHere at stops borders assigned run → (step : Step) (segment : Segment) → IsSegmentOf step segment
+      → TellsHere at stops borders assigned run → (step : WalkStep) (segment : Segment) → IsSegmentOf step segment
       → misses assigned.used segment.borders.items ≡ true → (found : Option Stop) → stop_of (left_at step) ≡ found
       → AreDistinct (listed found ++ stops) → length (listed found ++ stops) ≤ most
       → AreAhead task run.home (listed found) → CanGo at stops borders assigned run step segment
@@ -154,7 +154,7 @@ module _ (position : Position) (company : Company) (kinds : List Kind) (task : T
       }
 
   pub can_go : (at : Spot) (stops : List Stop) (borders : List ℕ) (assigned : Assigned) (run : PartialRun)
-      → TellsHere at stops borders assigned run → (step : Step) (segment : Segment) → IsSegmentOf step segment
+      → TellsHere at stops borders assigned run → (step : WalkStep) (segment : Segment) → IsSegmentOf step segment
       → AreDistinct (listed (stop_of (left_at step)) ++ stops)
       → length (listed (stop_of (left_at step)) ++ stops) ≤ most
       → AreDistinct (border_at (entered_at step).hex (entered_at step).end ++ borders)
@@ -186,7 +186,7 @@ module _ (position : Position) (company : Company) (kinds : List Kind) (task : T
       )
 
   -- where a walk that ends at a stop is, there is one
-  pub ends_at_stop : (walk : List Step) (at : Spot) → EndsAt walk at → EndsAtStop walk → (number : ℕ)
+  pub ends_at_stop : (walk : List WalkStep) (at : Spot) → EndsAt walk at → EndsAtStop walk → (number : ℕ)
       → number ≡ spot_number at → stop_in (node_at task number) ≡ true
   ends_at_stop [] at at_end ends number is = absurd at_end
   ends_at_stop (step ∷ before) at at_end ends number is =
@@ -196,7 +196,7 @@ module _ (position : Position) (company : Company) (kinds : List Kind) (task : T
       subst (λ (n : ℕ). stop_in (node_at task n) ≡ true) (sym is) node.stops
 
   -- a run that has been gone over is finished, if what comes after it can be finished
-  pub finish_run : (walk : List Step) (at : Spot) (assigned : Assigned) (run : PartialRun) (total : ℕ)
+  pub finish_run : (walk : List WalkStep) (at : Spot) (assigned : Assigned) (run : PartialRun) (total : ℕ)
       → TellsHere at (visited walk) (crossed walk) assigned run → EndsAt walk at → EndsAtStop walk
       → may_earn assigned.kind assigned.cap run.most (earned position walk) ≡ true
       → CanFinish task (between (with_run_finished assigned run)) total → CanFinish task (partial assigned run) total
@@ -214,7 +214,7 @@ module _ (position : Position) (company : Company) (kinds : List Kind) (task : T
       )
 
   -- the steps to the end of a walk, if what comes after them can be finished
-  pub walk_on : (later : List Step) (step : Step) (before : List Step) (assigned : Assigned) (run : PartialRun)
+  pub walk_on : (later : List WalkStep) (step : WalkStep) (before : List WalkStep) (assigned : Assigned) (run : PartialRun)
       (total : ℕ) → TellsHere (left_at step) (visited (step ∷ before)) (crossed (step ∷ before)) assigned run
       → Holds position company most others (onto later (step ∷ before))
       → AreAhead task run.home (visited (onto later (step ∷ before)))

@@ -5,7 +5,7 @@ use Rattle.reach.proofs.Collected.{none_marked}
 use Rattle.reach.specs.Lawful.{IsLawful}
 use Rattle.reach.specs.Position.{Position, IsAmong}
 use Rattle.reach.specs.Walk.{IsWalk}
-use Rattle.reach.specs.declared.walk.Step.{Step}
+use Rattle.reach.specs.declared.walk.WalkStep.{WalkStep}
 use Rattle.tables.specs.Train.{stops_of}
 use Rattle.tables.specs.declared.rolling_stock.Kind.{Kind}
 use Rattle.legal_runs.specs.Legal.{AreAtMost, AreDistinct, crossed, visited}
@@ -37,7 +37,7 @@ marked_count used (first ∷ borders) whole fit distinct free =
     not_true true none = absurd (none refl)
     not_true false none = refl
 
-few_crossed : (steps : List Step) → AreDistinct (crossed steps) → length (crossed steps) ≤ 279
+few_crossed : (steps : List WalkStep) → AreDistinct (crossed steps) → length (crossed steps) ≤ 279
 few_crossed steps distinct =
     let count : length (crossed steps) ≤ unused (replicate 279 false) =
     marked_count (replicate 279 false) (crossed steps) (length_replicate 279 false)
@@ -50,7 +50,7 @@ by_most : (most : Option ℕ) (count : ℕ) → AreAtMost most count → count �
 by_most (Some most) count at_most few = at_most
 by_most None count at_most few = omega (arith, few)
 
-pub few_stops : (position : Position) → IsLawful position → (kind : Kind) (steps : List Step) → IsWalk position steps
+pub few_stops : (position : Position) → IsLawful position → (kind : Kind) (steps : List WalkStep) → IsWalk position steps
     → AreDistinct (crossed steps) → AreAtMost (stops_of kind) (length (visited steps))
     → length (visited steps) ≤ most_of (stops_of kind)
 few_stops position lawful kind steps walk distinct at_most =

@@ -3,7 +3,7 @@ use Rattle.std.proofs.Common.{◌≡◌, ℕ, ◌≤◌, true, inl, inr, List, [
 use Rattle.std.proofs.Common.{arith, length-append}
 use Rattle.reach.specs.Position.{Position, IsAmong, IsFull, is_red}
 use Rattle.reach.specs.Walk.{BeginsAt, IsWalk, PassesOnly, entered_at, left_at, stop_of}
-use Rattle.reach.specs.declared.walk.Step.{Step}
+use Rattle.reach.specs.declared.walk.WalkStep.{WalkStep}
 use Rattle.tables.specs.declared.roster.Company.{Company}
 use Rattle.legal_runs.specs.Legal.{AreDistinct, border_at, crossed, listed, visited}
 use Rattle.legal_runs.proofs.Marks.{among_both}
@@ -33,7 +33,7 @@ distinct_apart (y ∷ first) second distinct x here there =
     ]
 
 -- what is kept of a walk from stop to stop, step by step
-pub record Holds (position : Position) (company : Company) (most : ℕ) (others : List ℕ) (steps : List Step) : Type
+pub record Holds (position : Position) (company : Company) (most : ℕ) (others : List ℕ) (steps : List WalkStep) : Type
     0 where
   pub walk : IsWalk position steps
   pub begins : BeginsAt (λ stop. Unit {0}) steps
@@ -45,8 +45,8 @@ pub record Holds (position : Position) (company : Company) (most : ℕ) (others 
   pub full : PassesOnly (λ stop. ¬ IsFull position stop company) steps
 
 -- one step fewer
-holds_before : (position : Position) (company : Company) (most : ℕ) (others : List ℕ) (next step : Step)
-    (before : List Step) → Holds position company most others (next ∷ step ∷ before)
+holds_before : (position : Position) (company : Company) (most : ℕ) (others : List ℕ) (next step : WalkStep)
+    (before : List WalkStep) → Holds position company most others (next ∷ step ∷ before)
     → Holds position company most others (step ∷ before)
 holds_before position company most others next step before holds =
     record {
@@ -63,8 +63,8 @@ holds_before position company most others next step before holds =
     }
 
 -- a beginning
-pub holds_first : (position : Position) (company : Company) (most : ℕ) (others : List ℕ) (later : List Step)
-    (step : Step) (before : List Step) → Holds position company most others (onto later (step ∷ before))
+pub holds_first : (position : Position) (company : Company) (most : ℕ) (others : List ℕ) (later : List WalkStep)
+    (step : WalkStep) (before : List WalkStep) → Holds position company most others (onto later (step ∷ before))
     → Holds position company most others (step ∷ before)
 holds_first position company most others [] step before holds = holds
 holds_first position company most others (next ∷ later) step before holds =

@@ -6,7 +6,7 @@ use Rattle.std.specs.Global.{Global}
 use Rattle.std.specs.List.{AllByRecursion}
 use Rattle.std.proofs.lemmas.Grind.{reverse_onto}
 use Rattle.std.proofs.lemmas.List.{append_assoc, map-append, reverse-append}
-use Rattle.reach.specs.declared.walk.Step.{Step}
+use Rattle.reach.specs.declared.walk.WalkStep.{WalkStep}
 use Rattle.tables.specs.declared.rolling_stock.Kind.{Kind}
 use Rattle.legal_runs.specs.Set.{TrainRun}
 use Rattle.legal_runs.specs.Written.{places_of}
@@ -15,7 +15,7 @@ use Rattle.best_run.specs.declared.move_path.Mark.{Mark}
 use Rattle.best_run.specs.MovePath.{CanBeClaimed, IsWalkRead, after_walk, runs_of_marks, steps_of, turned_about}
 use Rattle.best_run.specs.MovePath.{turned_step, walk_of_marks, with_run, written}
 
-reversed_map : (xs : List Step) → reverse (map turned_step xs) ≡ map turned_step (reverse xs)
+reversed_map : (xs : List WalkStep) → reverse (map turned_step xs) ≡ map turned_step (reverse xs)
 reversed_map [] = refl
 reversed_map (x ∷ xs) =
     reverse_onto (map turned_step xs) (turned_step x) []
@@ -24,22 +24,22 @@ reversed_map (x ∷ xs) =
     ∙ ap (map turned_step) (sym (reverse_onto xs x []))
 
 -- a walk turned about in one order of its steps is turned about in the other
-pub about_reversed : (walk : List Step) → reverse (turned_about walk) ≡ turned_about (reverse walk)
+pub about_reversed : (walk : List WalkStep) → reverse (turned_about walk) ≡ turned_about (reverse walk)
 about_reversed walk = reversed_map (reverse walk)
 
 -- this many steps of a walk are taken the other way
-abbrev pub turned_before : ℕ → List Step → List Step
+abbrev pub turned_before : ℕ → List WalkStep → List WalkStep
 turned_before n steps = map turned_step (take n steps) ++ drop n steps
 
 pub turned_more :
-    (all walk : List Step) (i : ℕ) (d : Step) → i < length all → walk ≡ turned_before i all →
+    (all walk : List WalkStep) (i : ℕ) (d : WalkStep) → i < length all → walk ≡ turned_before i all →
     set walk i (turned_step (get_or walk i d)) ≡ turned_before (i + 1) all
 turned_more all walk i d low is =
-    subst (λ (w : List Step). set w i (turned_step (get_or w i d)) ≡ turned_before (i + 1) all) (sym is)
+    subst (λ (w : List WalkStep). set w i (turned_step (get_or w i d)) ≡ turned_before (i + 1) all) (sym is)
     (by_place all i low ∙ ap (λ (n : ℕ). turned_before n all) (sym (add-one i)))
   where
     by_place :
-        (xs : List Step) (n : ℕ) → n < length xs →
+        (xs : List WalkStep) (n : ℕ) → n < length xs →
         set (turned_before n xs) n (turned_step (get_or (turned_before n xs) n d)) ≡ turned_before (suc n) xs
     by_place [] n less = absurd (omega (arith, less))
     by_place (x ∷ xs) zero less = refl
@@ -51,7 +51,7 @@ last_read all rest mark is = ap reverse is ∙ reverse-append rest (mark ∷ [])
 
 -- the runs of some trains begin with that of the first one, if it runs
 next_read :
-    (kinds : List Kind) (i : ℕ) (d : Kind) (old new : List Mark) (walk : Option (Vec Step Global)) → i < length kinds
+    (kinds : List Kind) (i : ℕ) (d : Kind) (old new : List Mark) (walk : Option (Vec WalkStep Global)) → i < length kinds
     → IsWalkRead old new walk →
     runs_of_marks (drop i kinds) [] (reverse old) ≡ with_run (get_or kinds i d) (steps_of walk)
     (runs_of_marks (drop (i + 1) kinds) [] (reverse new))
@@ -61,40 +61,40 @@ next_read kinds i d old new walk low read =
     ap (λ (ks : List Kind). runs_of_marks ks [] (reverse old)) (drop-cons kinds i d low)
     ∙ ap (λ (ks : List Kind). with_run kind (walk_of_marks [] (reverse old))
     (runs_of_marks ks [] (after_walk (reverse old)))) later
-    ∙ ap (λ (w : Option (List Step)). with_run kind w (runs_of_marks (drop (i + 1) kinds) []
+    ∙ ap (λ (w : Option (List WalkStep)). with_run kind w (runs_of_marks (drop (i + 1) kinds) []
     (after_walk (reverse old)))) (sym read.walk_is)
     ∙ ap (λ (ms : List Mark). with_run kind (steps_of walk) (runs_of_marks (drop (i + 1) kinds) [] ms)) (sym read.after)
 
 -- where the first of them runs, it can be written out, and so can the others
 pub can_next :
-    (kinds : List Kind) (i : ℕ) (d : Kind) (old new : List Mark) (walk : Option (Vec Step Global))
-    (steps : Vec Step Global) → i < length kinds →
+    (kinds : List Kind) (i : ℕ) (d : Kind) (old new : List Mark) (walk : Option (Vec WalkStep Global))
+    (steps : Vec WalkStep Global) → i < length kinds →
     IsWalkRead old new walk → walk ≡ Some steps → AllByRecursion CanBeClaimed
     (runs_of_marks (drop i kinds) [] (reverse old)) →
     CanBeClaimed (record { kind = get_or kinds i d; steps = steps.items })
     × AllByRecursion CanBeClaimed (runs_of_marks (drop (i + 1) kinds) [] (reverse new))
 can_next kinds i d old new walk steps low read is can =
     let later = runs_of_marks (drop (i + 1) kinds) [] (reverse new) in
-    subst (λ (w : Option (Vec Step Global)). AllByRecursion CanBeClaimed
+    subst (λ (w : Option (Vec WalkStep Global)). AllByRecursion CanBeClaimed
     (with_run (get_or kinds i d) (steps_of w) later)) is
     (subst (AllByRecursion CanBeClaimed) (next_read kinds i d old new walk low read) can)
 
 -- where it does not, the others can
 pub can_pass :
-    (kinds : List Kind) (i : ℕ) (d : Kind) (old new : List Mark) (walk : Option (Vec Step Global)) → i < length kinds
+    (kinds : List Kind) (i : ℕ) (d : Kind) (old new : List Mark) (walk : Option (Vec WalkStep Global)) → i < length kinds
     → IsWalkRead old new walk →
     walk ≡ None → AllByRecursion CanBeClaimed (runs_of_marks (drop i kinds) [] (reverse old)) →
     AllByRecursion CanBeClaimed (runs_of_marks (drop (i + 1) kinds) [] (reverse new))
 can_pass kinds i d old new walk low read is can =
     let later = runs_of_marks (drop (i + 1) kinds) [] (reverse new) in
-    subst (λ (w : Option (Vec Step Global)). AllByRecursion CanBeClaimed
+    subst (λ (w : Option (Vec WalkStep Global)). AllByRecursion CanBeClaimed
     (with_run (get_or kinds i d) (steps_of w) later)) is
     (subst (AllByRecursion CanBeClaimed) (next_read kinds i d old new walk low read) can)
 
 -- the first of them is claimed before the others
 pub claims_next :
-    (kinds : List Kind) (i : ℕ) (d : Kind) (old new : List Mark) (walk : Option (Vec Step Global))
-    (steps : Vec Step Global)
+    (kinds : List Kind) (i : ℕ) (d : Kind) (old new : List Mark) (walk : Option (Vec WalkStep Global))
+    (steps : Vec WalkStep Global)
     (runs all : List ClaimedRun) → i < length kinds → IsWalkRead old new walk → walk ≡ Some steps →
     runs ++ written (runs_of_marks (drop i kinds) [] (reverse old)) ≡ all →
     (runs ++ record { kind = get_or kinds i d; run = places_of steps.items } ∷ [])
@@ -102,17 +102,17 @@ pub claims_next :
 claims_next kinds i d old new walk steps runs all low read is so_far =
     let later = runs_of_marks (drop (i + 1) kinds) [] (reverse new) in
     append_assoc runs (record { kind = get_or kinds i d; run = places_of steps.items } ∷ []) (written later)
-    ∙ ap (λ (w : Option (Vec Step Global)). runs ++ written (with_run (get_or kinds i d) (steps_of w) later)) (sym is)
+    ∙ ap (λ (w : Option (Vec WalkStep Global)). runs ++ written (with_run (get_or kinds i d) (steps_of w) later)) (sym is)
     ∙ ap (λ (runs_read : List TrainRun). runs ++ written runs_read) (sym (next_read kinds i d old new walk low read))
     ∙ so_far
 
 pub claims_pass :
-    (kinds : List Kind) (i : ℕ) (d : Kind) (old new : List Mark) (walk : Option (Vec Step Global))
+    (kinds : List Kind) (i : ℕ) (d : Kind) (old new : List Mark) (walk : Option (Vec WalkStep Global))
     (runs all : List ClaimedRun) → i < length kinds →
     IsWalkRead old new walk → walk ≡ None → runs ++ written (runs_of_marks (drop i kinds) [] (reverse old)) ≡ all →
     runs ++ written (runs_of_marks (drop (i + 1) kinds) [] (reverse new)) ≡ all
 claims_pass kinds i d old new walk runs all low read is so_far =
     let later = runs_of_marks (drop (i + 1) kinds) [] (reverse new) in
-    ap (λ (w : Option (Vec Step Global)). runs ++ written (with_run (get_or kinds i d) (steps_of w) later)) (sym is)
+    ap (λ (w : Option (Vec WalkStep Global)). runs ++ written (with_run (get_or kinds i d) (steps_of w) later)) (sym is)
     ∙ ap (λ (runs_read : List TrainRun). runs ++ written runs_read) (sym (next_read kinds i d old new walk low read))
     ∙ so_far

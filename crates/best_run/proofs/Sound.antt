@@ -8,14 +8,14 @@ use Rattle.std.specs.List.{AllByRecursion}
 use Rattle.std.proofs.lemmas.Bool.{ltb-true}
 use Rattle.map_tables.specs.declared.hex.Hex.{Hex}
 use Rattle.map_tables.specs.declared.place.Stop.{Stop}
-use Rattle.map_tables.specs.declared.track.End.{End}
-use Rattle.map_tables.specs.declared.track.End.TheVariants.{Side as AtSide, Stop as AtStop}
+use Rattle.map_tables.specs.declared.track.TrackEnd.{TrackEnd}
+use Rattle.map_tables.specs.declared.track.TrackEnd.TheVariants.{Side as AtSide, Stop as AtStop}
 use Rattle.reach.specs.Lawful.{IsLawful}
 use Rattle.reach.specs.Position.{Position, HasToken, IsAmong, IsFull, is_red}
 use Rattle.reach.specs.Search.{spot_number}
 use Rattle.reach.specs.Walk.{AreJoined, BeginsAt, IsTrack, across, begins_at, entered_at, left_at, stop_of}
 use Rattle.reach.specs.declared.walk.Spot.{Spot}
-use Rattle.reach.specs.declared.walk.Step.{Step}
+use Rattle.reach.specs.declared.walk.WalkStep.{WalkStep}
 use Rattle.reach.proofs.Spots.{are_one, back}
 use Rattle.tables.specs.Train.{stops_of}
 use Rattle.tables.specs.declared.rolling_stock.Kind.{Kind}
@@ -58,19 +58,19 @@ not_set true fails is = let wrong : false ≡ true = fails in cc
 not_set false fails is = cc
 
 -- one border at most is at an end
-end_once : (hex : Hex) (end : End) → AreDistinct (border_at hex end ++ [])
+end_once : (hex : Hex) (end : TrackEnd) → AreDistinct (border_at hex end ++ [])
 end_once hex (AtSide side) = ((λ none. none), tt)
 end_once hex (AtStop number) = tt
 
 -- a border at an end before others that it is none of
-end_before : (hex : Hex) (end : End) (borders : List ℕ)
+end_before : (hex : Hex) (end : TrackEnd) (borders : List ℕ)
     → ((border : ℕ) → IsAmong border (border_at hex end) → ¬ IsAmong border borders) → AreDistinct borders
     → AreDistinct (border_at hex end ++ borders)
 end_before hex (AtSide side) borders new once = ((λ among. new (border_of hex side) (inl refl) among), once)
 end_before hex (AtStop number) borders new once = once
 
 -- a walk from a stop visits one
-some_visited : (step : Step) (before : List Step) → BeginsAt (λ stop. Unit {0}) (step ∷ before)
+some_visited : (step : WalkStep) (before : List WalkStep) → BeginsAt (λ stop. Unit {0}) (step ∷ before)
     → 1 ≤ length (first_stop before step ++ visited before)
 some_visited step [] begins =
     let one : listed (stop_of (entered_at step)) ++ [] ≡ begins.0 ∷ [] = ap (λ o. listed o ++ []) begins.1 in
@@ -98,10 +98,10 @@ two_at_least Six = omega arith
 two_at_least Diesel = omega arith
 
 -- a walk turned about is its steps, each the other way, the last one first
-turned_walk : (steps : List Step) → turned_about steps ≡ onto (returning steps) []
+turned_walk : (steps : List WalkStep) → turned_about steps ≡ onto (returning steps) []
 turned_walk steps = all_turned steps []
   where
-    all_turned : (steps done : List Step) → map turned_step (reverse_aux steps done)
+    all_turned : (steps done : List WalkStep) → map turned_step (reverse_aux steps done)
         ≡ onto (returning steps) (map turned_step done)
     all_turned [] done = refl
     all_turned (step ∷ before) done = all_turned before (step ∷ done)
@@ -114,7 +114,7 @@ module _ (position : Position) (company : Company) (lawful : IsLawful position) 
 
   -- what a segment that is taken says of its step
   record Went (most : ℕ) (others : List ℕ) (stops : List Stop) (borders : List ℕ) (assigned : Assigned)
-      (run : PartialRun) (step : Step) (segment : Segment) : Type 0 where
+      (run : PartialRun) (step : WalkStep) (segment : Segment) : Type 0 where
     pub tells : TellsHere most others (left_at step) (listed (stop_of (left_at step)) ++ stops)
         (border_at (entered_at step).hex (entered_at step).end ++ borders) (using assigned segment)
         (along task run segment)
@@ -126,7 +126,7 @@ module _ (position : Position) (company : Company) (lawful : IsLawful position) 
         → ¬ IsAmong border others
 
   went_by : (most : ℕ) (others : List ℕ) (at : Spot) (stops : List Stop) (borders : List ℕ) (assigned : Assigned)
-      (run : PartialRun) → TellsHere most others at stops borders assigned run → (step : Step) (segment : Segment)
+      (run : PartialRun) → TellsHere most others at stops borders assigned run → (step : WalkStep) (segment : Segment)
       → IsSegmentOf step segment → can_take task run assigned.used segment ≡ true → (found : Option Stop)
       → stop_of (left_at step) ≡ found → Went most others stops borders assigned run step segment
   went_by most others at stops borders assigned run tells step segment is taken None side =
@@ -224,7 +224,7 @@ module _ (position : Position) (company : Company) (lawful : IsLawful position) 
   -- the first of some runs is that of the next train
   pub record RunEarns (others : List ℕ) (kind : Kind) (left : List Kind) (assigned : Assigned) (total : ℕ)
       (read : List TrainRun) : Type 0 where
-    pub steps : List Step
+    pub steps : List WalkStep
     pub legal : RunsLegally position company (record { kind = kind; steps = steps })
     pub avoids : Avoids others (record { kind = kind; steps = steps })
     pub runs : List TrainRun
@@ -250,7 +250,7 @@ module _ (position : Position) (company : Company) (lawful : IsLawful position) 
       }
 
   -- a run that has not turned back began where its walk does
-  abbrev pub BeginsHome : PartialRun → Step → List Step → Type 0
+  abbrev pub BeginsHome : PartialRun → WalkStep → List WalkStep → Type 0
   BeginsHome run step before = run.turned ≡ false → run.home ≡ spot_number (begins_at step before)
 
   -- from a state on some marks give such runs
@@ -260,7 +260,7 @@ module _ (position : Position) (company : Company) (lawful : IsLawful position) 
       → drop assigned.next task.trains.items ≡ most_of_all left
       → RunsEarn others left assigned total (runs_of_marks left [] marks)
   SoundFrom (partial assigned run) total marks =
-      (others : List ℕ) (kind : Kind) (left : List Kind) (step : Step) (before : List Step)
+      (others : List ℕ) (kind : Kind) (left : List Kind) (step : WalkStep) (before : List WalkStep)
       → TellsHere (most_of (stops_of kind)) others (left_at step) (visited (step ∷ before)) (crossed (step ∷ before))
       assigned run → Holds position company (most_of (stops_of kind)) others (step ∷ before)
       → HasSuch (λ stop. HasToken position stop company) (visited (step ∷ before)) → BeginsHome run step before
@@ -400,13 +400,13 @@ module _ (position : Position) (company : Company) (lawful : IsLawful position) 
       (such_later (λ stop. HasToken position stop company) (listed (stop_of (left_at next))) (visited (step ∷ before))
       own) home trains
       in
-      let runs : Step → List TrainRun = λ last. runs_of_marks (kind ∷ left) (last ∷ step ∷ before) marks in
+      let runs : WalkStep → List TrainRun = λ last. runs_of_marks (kind ∷ left) (last ∷ step ∷ before) marks in
       keep_assigned others kind left assigned segment total (runs segment.step)
-      (subst (λ (last : Step). RunEarns others kind left (using assigned segment) total (runs last))
+      (subst (λ (last : WalkStep). RunEarns others kind left (using assigned segment) total (runs last))
       (sym from.segment_is.step_is) read)
 
   -- where a run is at a stop, its walk ends at one
-  ends_there : (step : Step) (before : List Step) (number : ℕ) → number ≡ spot_number (left_at step)
+  ends_there : (step : WalkStep) (before : List WalkStep) (number : ℕ) → number ≡ spot_number (left_at step)
       → stop_in (node_at task number) ≡ true → (found : Option Stop) → stop_of (left_at step) ≡ found
       → EndsAtStop (step ∷ before)
   ends_there step before number is stops None side =
@@ -437,7 +437,7 @@ module _ (position : Position) (company : Company) (lawful : IsLawful position) 
       (visited (step ∷ before)) (crossed (step ∷ before)) assigned run tells (left_at turned.last) (visited walk)
       (crossed walk) at_home one.stops one.worth one.borders in
       let about : turned_about (step ∷ before) ≡ walk = turned_walk (step ∷ before) ∙ turned.is in
-      subst (λ (steps : List Step). RunEarns others kind left assigned total
+      subst (λ (steps : List WalkStep). RunEarns others kind left assigned total
       (runs_of_marks (kind ∷ left) steps (Go segment.step ∷ marks))) (sym about)
       (has_gone assigned (turned_back run) index segment total marks
       (record { passes = may.passes; leads = may.leads; taken = may.taken }) rest others kind left turned.last
@@ -459,7 +459,7 @@ module _ (position : Position) (company : Company) (lawful : IsLawful position) 
       (stop, same, sym number_is ∙ one_number spot next stop there same)
 
   -- the first step of a run holds
-  first_holds : (most : ℕ) (others : List ℕ) (assigned : Assigned) (run : PartialRun) (step : Step) (segment : Segment)
+  first_holds : (most : ℕ) (others : List ℕ) (assigned : Assigned) (run : PartialRun) (step : WalkStep) (segment : Segment)
       (stop : Stop) → stop_of (entered_at step) ≡ Some stop → IsTrack position step
       → Went most others (stop ∷ []) [] assigned run step segment → Holds position company most others (step ∷ [])
   first_holds most others assigned run step segment stop there track went =
@@ -547,10 +547,10 @@ module _ (position : Position) (company : Company) (lawful : IsLawful position) 
       subst (HasSuch (λ s. HasToken position s company)) (sym visits)
       (such_later (λ s. HasToken position s company) (listed (stop_of (left_at step))) (stop ∷ [])
       (inl (node.own.0 may.token))) in
-      let runs : Step → List TrainRun = λ first. runs_of_marks (kind ∷ left) (first ∷ []) marks in
+      let runs : WalkStep → List TrainRun = λ first. runs_of_marks (kind ∷ left) (first ∷ []) marks in
       set_more others kind left assigned total (runs segment.step)
       (keep_assigned others kind left assigned segment total (runs segment.step)
-      (subst (λ (first : Step). RunEarns others kind left (using assigned segment) total (runs first))
+      (subst (λ (first : WalkStep). RunEarns others kind left (using assigned segment) total (runs first))
       (sym from.segment_is.step_is)
       (rest others kind left step [] tells_next (first_holds most others assigned (begun task assigned number index)
       step segment stop entered.1 from.track went) own (λ once. entered.2) next.2)))

@@ -9,7 +9,7 @@ use Rattle.reach.specs.Position.{Position, HasToken, IsAmong, IsFull, is_red}
 use Rattle.reach.specs.Search.{spot_number}
 use Rattle.reach.specs.Walk.{BeginsAt, GoesOn, IsWalk, PassesBy, PassesOnly, entered_at, left_at, stop_of}
 use Rattle.reach.specs.declared.walk.Spot.{Spot}
-use Rattle.reach.specs.declared.walk.Step.{Step}
+use Rattle.reach.specs.declared.walk.WalkStep.{WalkStep}
 use Rattle.reach.proofs.Collected.{none_marked}
 use Rattle.reach.proofs.Spots.{stop_number}
 use Rattle.tables.specs.declared.rolling_stock.Kind.{Kind}
@@ -130,7 +130,7 @@ find_first passes (stop ∷ stops) = by_test (find_first passes stops) (passes s
         ]
 
 -- each stop that is visited lies at a spot
-spot_of : (steps : List Step) (stop : Stop) → IsAmong stop (visited steps) → (spot : Spot) × (stop_of spot ≡ Some stop)
+spot_of : (steps : List WalkStep) (stop : Stop) → IsAmong stop (visited steps) → (spot : Spot) × (stop_of spot ≡ Some stop)
 spot_of [] stop among = absurd among
 spot_of (step ∷ before) stop among =
     elim ((among_both stop (listed (stop_of (left_at step))) (first_stop before step ++ visited before)).0 among) [
@@ -138,7 +138,7 @@ spot_of (step ∷ before) stop among =
       | inr rest ↦ by_first before (λ earlier. spot_of before stop earlier) rest
     ]
   where
-    by_first : (before : List Step) → (IsAmong stop (visited before) → (spot : Spot) × (stop_of spot ≡ Some stop))
+    by_first : (before : List WalkStep) → (IsAmong stop (visited before) → (spot : Spot) × (stop_of spot ≡ Some stop))
         → IsAmong stop (first_stop before step ++ visited before) → (spot : Spot) × (stop_of spot ≡ Some stop)
     by_first [] earlier rest =
         elim ((among_both stop (listed (stop_of (entered_at step))) []).0 rest) [
@@ -171,7 +171,7 @@ such_later P (stop ∷ first) stops has = inr (such_later P first stops has)
 module _ (position : Position) (company : Company) (kinds : List Kind) (task : Task)
     (describes : Describes position company kinds task) where
   -- the token from which a run is gone over
-  pub record HasHome (steps : List Step) : Type 0 where
+  pub record HasHome (steps : List WalkStep) : Type 0 where
     pub stop : Stop
     pub among : IsAmong stop (visited steps)
     pub token : HasToken position stop company
@@ -185,7 +185,7 @@ module _ (position : Position) (company : Company) (kinds : List Kind) (task : T
       subst (λ (n : ℕ). (own_in (node_at task n) ≡ true) ↔ HasToken position stop company)
       (stop_number spot stop there) node.own
 
-  pub find_home : (steps : List Step) → HasSuch (λ stop. HasToken position stop company) (visited steps) → HasHome steps
+  pub find_home : (steps : List WalkStep) → HasSuch (λ stop. HasToken position stop company) (visited steps) → HasHome steps
   find_home steps has =
       elim (find_first (λ stop. own_in (node_at task (number_of stop))) (visited steps)) [
         | inl first ↦
@@ -212,30 +212,30 @@ module _ (position : Position) (company : Company) (kinds : List Kind) (task : T
       ]
 
 -- a walk that ends at a stop, that begins there, or that comes by
-pub record EndsThere (stop : Stop) (walk : List Step) : Type 0 where
-  pub step : Step
-  pub before : List Step
+pub record EndsThere (stop : Stop) (walk : List WalkStep) : Type 0 where
+  pub step : WalkStep
+  pub before : List WalkStep
   pub is : step ∷ before ≡ walk
   pub there : stop_of (left_at step) ≡ Some stop
 
-pub record BeginsThere (stop : Stop) (walk : List Step) : Type 0 where
-  pub step : Step
-  pub later : List Step
+pub record BeginsThere (stop : Stop) (walk : List WalkStep) : Type 0 where
+  pub step : WalkStep
+  pub later : List WalkStep
   pub is : onto later (step ∷ []) ≡ walk
   pub there : stop_of (entered_at step) ≡ Some stop
 
-pub record ComesBy (stop : Stop) (walk : List Step) : Type 0 where
-  pub last : Step
-  pub before : List Step
-  pub step : Step
-  pub later : List Step
+pub record ComesBy (stop : Stop) (walk : List WalkStep) : Type 0 where
+  pub last : WalkStep
+  pub before : List WalkStep
+  pub step : WalkStep
+  pub later : List WalkStep
   pub is : onto later (step ∷ last ∷ before) ≡ walk
   pub there : stop_of (left_at last) ≡ Some stop
 
-abbrev pub IsCut : Stop → List Step → Type 0
+abbrev pub IsCut : Stop → List WalkStep → Type 0
 IsCut stop walk = EndsThere stop walk ⊎ (BeginsThere stop walk ⊎ ComesBy stop walk)
 
-pub cut : (stop : Stop) (steps later : List Step) → IsAmong stop (visited steps) → IsCut stop (onto later steps)
+pub cut : (stop : Stop) (steps later : List WalkStep) → IsAmong stop (visited steps) → IsCut stop (onto later steps)
 cut stop [] later among = absurd among
 cut stop (step ∷ before) later among =
     elim ((among_both stop (listed (stop_of (left_at step))) (first_stop before step ++ visited before)).0 among) [
@@ -243,12 +243,12 @@ cut stop (step ∷ before) later among =
       | inr rest ↦ by_before before (λ earlier. cut stop before (step ∷ later) earlier) rest
     ]
   where
-    by_later : (later : List Step) → stop_of (left_at step) ≡ Some stop → IsCut stop (onto later (step ∷ before))
+    by_later : (later : List WalkStep) → stop_of (left_at step) ≡ Some stop → IsCut stop (onto later (step ∷ before))
     by_later [] there = inl (record { step = step; before = before; is = refl; there = there })
     by_later (next ∷ later) there = inr (inr (record
         { last = step; before = before; step = next; later = later; is = refl; there = there }))
 
-    by_before : (before : List Step) → (IsAmong stop (visited before) → IsCut stop (onto later (step ∷ before)))
+    by_before : (before : List WalkStep) → (IsAmong stop (visited before) → IsCut stop (onto later (step ∷ before)))
         → IsAmong stop (first_stop before step ++ visited before) → IsCut stop (onto later (step ∷ before))
     by_before [] earlier rest =
         elim ((among_both stop (listed (stop_of (entered_at step))) []).0 rest) [
@@ -273,14 +273,14 @@ pub onto_put : {A : Type 0} (xs ys zs : List A) → onto xs (ys ++ zs) ≡ onto 
 onto_put [] ys zs = refl
 onto_put (x ∷ xs) ys zs = onto_put xs (x ∷ ys) zs
 
-crossed_put : (later before : List Step) → crossed (later ++ before) ≡ crossed later ++ crossed before
+crossed_put : (later before : List WalkStep) → crossed (later ++ before) ≡ crossed later ++ crossed before
 crossed_put [] before = refl
 crossed_put (step ∷ later) before =
     ap (λ (bs : List ℕ). border_at (entered_at step).hex (entered_at step).end ++ bs) (crossed_put later before)
     ∙ sym (append_together (border_at (entered_at step).hex (entered_at step).end) (crossed later) (crossed before))
 
 -- the part of a walk from a stop on begins there
-visited_put : (step : Step) (later : List Step) (last : Step) (before : List Step) (home : Stop)
+visited_put : (step : WalkStep) (later : List WalkStep) (last : WalkStep) (before : List WalkStep) (home : Stop)
     → stop_of (left_at last) ≡ Some home → BeginsAt (λ stop. stop ≡ home) (step ∷ later)
     → visited (step ∷ later ++ last ∷ before) ≡ visited (step ∷ later) ++ (first_stop before last ++ visited before)
 visited_put step [] last before home there begins =
@@ -303,28 +303,28 @@ visited_put step (earlier ∷ later) last before home there begins =
     ap (λ (stops : List Stop). here ++ stops) (visited_put earlier later last before home there begins)
     ∙ sym (append_together here (visited (earlier ∷ later)) rest)
 
-walk_part : (position : Position) (later before : List Step) → IsWalk position (later ++ before) → IsWalk position later
+walk_part : (position : Position) (later before : List WalkStep) → IsWalk position (later ++ before) → IsWalk position later
 walk_part position [] before walk = tt
 walk_part position (step ∷ later) before walk = (walk.0, by_later later walk.1, walk_part position later before walk.2)
   where
-    by_later : (later : List Step) → GoesOn (later ++ before) step → GoesOn later step
+    by_later : (later : List WalkStep) → GoesOn (later ++ before) step → GoesOn later step
     by_later [] goes = tt
     by_later (earlier ∷ later) goes = goes
 
-passes_part : (P : Stop → Type 0) (later before : List Step) → PassesOnly P (later ++ before) → PassesOnly P later
+passes_part : (P : Stop → Type 0) (later before : List WalkStep) → PassesOnly P (later ++ before) → PassesOnly P later
 passes_part P [] before passes = tt
 passes_part P (step ∷ later) before passes = (by_later later passes.0, passes_part P later before passes.1)
   where
-    by_later : (later : List Step) → PassesBy P (later ++ before) step → PassesBy P later step
+    by_later : (later : List WalkStep) → PassesBy P (later ++ before) step → PassesBy P later step
     by_later [] by = tt
     by_later (earlier ∷ later) by = by
 
-begins_some : (step : Step) (later : List Step) (home : Stop) → BeginsAt (λ stop. stop ≡ home) (step ∷ later)
+begins_some : (step : WalkStep) (later : List WalkStep) (home : Stop) → BeginsAt (λ stop. stop ≡ home) (step ∷ later)
     → BeginsAt (λ stop. Unit {0}) (step ∷ later)
 begins_some step later home begins = (begins.0, begins.1, tt)
 
-pub holds_part : (position : Position) (company : Company) (most : ℕ) (others : List ℕ) (step : Step)
-    (later : List Step) (last : Step) (before : List Step) (home : Stop) → stop_of (left_at last) ≡ Some home
+pub holds_part : (position : Position) (company : Company) (most : ℕ) (others : List ℕ) (step : WalkStep)
+    (later : List WalkStep) (last : WalkStep) (before : List WalkStep) (home : Stop) → stop_of (left_at last) ≡ Some home
     → BeginsAt (λ stop. stop ≡ home) (step ∷ later)
     → Holds position company most others (step ∷ later ++ last ∷ before)
     → Holds position company most others (step ∷ later)

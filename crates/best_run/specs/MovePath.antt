@@ -5,7 +5,7 @@ use Rattle.std.specs.Prelude.{◌≡◌, ◌≤◌, not, Option, Some, None, Vec
 use Rattle.std.specs.Prelude.{reverse}
 use Rattle.std.specs.Global.{Global}
 use Rattle.std.specs.List.{AllByRecursion}
-use Rattle.reach.specs.declared.walk.Step.{Step}
+use Rattle.reach.specs.declared.walk.WalkStep.{WalkStep}
 use Rattle.tables.specs.declared.rolling_stock.Kind.{Kind}
 use Rattle.legal_runs.specs.Set.{TrainRun}
 use Rattle.legal_runs.specs.Written.{places_of}
@@ -19,7 +19,7 @@ abbrev pub marks_in : MovePath → List Mark
 marks_in move_path = reverse move_path.marks.items
 
 -- the marks of some steps
-abbrev pub go_along : List Step → List Mark
+abbrev pub go_along : List WalkStep → List Mark
 go_along steps = map (λ step. Go step) steps
 
 -- unless an allocation has failed, some marks have come before the others
@@ -28,15 +28,15 @@ pub record IsWritten (marks : List Mark) (old new : MovePath) : Type 0 where
   pub marks_are : new.refused ≡ None → marks_in new ≡ marks ++ marks_in old
 
 -- a walk from its other end: each step is taken the other way over its link, the last one first
-abbrev pub turned_step : Step → Step
+abbrev pub turned_step : WalkStep → WalkStep
 turned_step step = record { link = step.link; turned = not step.turned }
 
-abbrev pub turned_about : List Step → List Step
+abbrev pub turned_about : List WalkStep → List WalkStep
 turned_about steps = map turned_step (reverse steps)
 
 -- the walk of the next train that some marks give, whose steps so far are known, the latest first;
 -- none if the train does not run
-abbrev pub walk_of_marks : List Step → List Mark → Option (List Step)
+abbrev pub walk_of_marks : List WalkStep → List Mark → Option (List WalkStep)
 walk_of_marks walk [] = None
 walk_of_marks walk (Pass ∷ marks) = None
 walk_of_marks walk (Go step ∷ marks) = walk_of_marks (step ∷ walk) marks
@@ -52,12 +52,12 @@ after_walk (Turn ∷ marks) = after_walk marks
 after_walk (Finish ∷ marks) = marks
 
 -- a train's run, if it runs, before those of others
-abbrev pub with_run : Kind → Option (List Step) → List TrainRun → List TrainRun
+abbrev pub with_run : Kind → Option (List WalkStep) → List TrainRun → List TrainRun
 with_run kind None runs = runs
 with_run kind (Some steps) runs = record { kind = kind; steps = steps } ∷ runs
 
 -- the runs of some trains that some marks give, given the first one's steps so far
-abbrev pub runs_of_marks : List Kind → List Step → List Mark → List TrainRun
+abbrev pub runs_of_marks : List Kind → List WalkStep → List Mark → List TrainRun
 runs_of_marks [] walk marks = []
 runs_of_marks (kind ∷ kinds) walk marks =
     with_run kind (walk_of_marks walk marks) (runs_of_marks kinds [] (after_walk marks))
@@ -85,11 +85,11 @@ abbrev pub IsRead : List Kind → MovePath → List ClaimedRun → Type 0
 IsRead kinds move_path runs = runs ≡ written (runs_in kinds move_path)
 
 -- the steps of a walk, if there is one
-abbrev pub steps_of : Option (Vec Step Global) → Option (List Step)
-steps_of walk = option_map (λ (steps : Vec Step Global). steps.items) walk
+abbrev pub steps_of : Option (Vec WalkStep Global) → Option (List WalkStep)
+steps_of walk = option_map (λ (steps : Vec WalkStep Global). steps.items) walk
 
 -- the marks of the next train are read and removed; both lists of marks are from the last to the
 -- first
-pub record IsWalkRead (old new : List Mark) (walk : Option (Vec Step Global)) : Type 0 where
+pub record IsWalkRead (old new : List Mark) (walk : Option (Vec WalkStep Global)) : Type 0 where
   pub walk_is : steps_of walk ≡ walk_of_marks [] (reverse old)
   pub after : reverse new ≡ after_walk (reverse old)

@@ -4,22 +4,22 @@ ghost use Rattle.best_run.specs.MovePath.{CanBeRead, IsRead, IsWalkRead, turned_
 
 use crate::move_path::{Mark, MovePath};
 use legal_runs::{ClaimedRun, ClaimedRuns, write_run};
-use reach::Step;
+use reach::WalkStep;
 use std::alloc::{AllocError, Global};
 use tables::Kind;
 
 /// Returns a step, taken the other way over its link.
-fn turned_step(step: Step) -> Step
+fn turned_step(step: WalkStep) -> WalkStep
     ensures { result ≡ turned_step step }
 {
-    Step {
+    WalkStep {
         link: step.link,
         turned: !step.turned,
     }
 }
 
 /// Reverses a walk: each step is taken the other way over its link, the last one first.
-fn turn_about(walk: &mut [Step])
+fn turn_about(walk: &mut [WalkStep])
     ensures { walk.new ≡ turned_about walk.old }
 {
     walk.reverse();
@@ -30,7 +30,7 @@ fn turn_about(walk: &mut [Step])
 
 /// Reads the marks of the next train, and removes them. Returns the walk that it runs, the latest
 /// step first, or `None` if it does not run. Fails only if allocation fails.
-fn read_walk(alloc: Global, marks: &mut Vec<Mark>) -> Result<Option<Vec<Step>>, AllocError>
+fn read_walk(alloc: Global, marks: &mut Vec<Mark>) -> Result<Option<Vec<WalkStep>>, AllocError>
     ensures { IfOk result (IsWalkRead marks.old.items marks.new.items) }
 {
     let mut walk = Vec::new(alloc);

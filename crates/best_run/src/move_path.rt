@@ -3,7 +3,7 @@
 ghost use Rattle.std.specs.Prelude.{◌≡◌, [], ◌∷◌, ◌++◌, None, Some};
 ghost use Rattle.best_run.specs.MovePath.{IsWritten, go_along, marks_in};
 
-use reach::Step;
+use reach::WalkStep;
 use std::alloc::{AllocError, Global};
 
 /// The mark of a move.
@@ -12,7 +12,7 @@ pub(crate) enum Mark {
     /// The next train does not run.
     Pass,
     /// Its run takes a step; with the first one it begins.
-    Go(Step),
+    Go(WalkStep),
     /// It turns back to where it began.
     Turn,
     /// It is finished.
@@ -67,7 +67,7 @@ impl MovePath {
 
     /// Writes the marks of some steps, one after another, before the others. If allocation fails,
     /// the error is kept.
-    pub(crate) fn write_steps(&mut self, steps: &[Step])
+    pub(crate) fn write_steps(&mut self, steps: &[WalkStep])
         ensures { IsWritten (go_along steps.now) self.old self.new }
     {
         for step in steps.iter().rev() {

@@ -21,9 +21,9 @@ use Rattle.map_tables.specs.Tile.{printed, tile_index_of}
 use Rattle.map_tables.specs.declared.hex.Hex.TheVariants.{E11, H10, H12}
 use Rattle.map_tables.specs.declared.place.StopNumber.TheVariants.{First}
 use Rattle.map_tables.specs.declared.side.Side.TheVariants.{West, East}
-use Rattle.map_tables.specs.declared.track.End.TheVariants.{Side as AtSide, Stop as AtStop}
+use Rattle.map_tables.specs.declared.track.TrackEnd.TheVariants.{Side as AtSide, Stop as AtStop}
 use Rattle.reach.specs.Reached.{IsWalkOf}
-use Rattle.reach.specs.declared.walk.Step.{Step}
+use Rattle.reach.specs.declared.walk.WalkStep.{WalkStep}
 use Rattle.tables.specs.Rules.{first_broken}
 use Rattle.tables.specs.declared.roster.Company.TheVariants.{Erie, Pennsylvania}
 use Rattle.tables.specs.declared.rolling_stock.Kind.TheVariants.{Two, Three}
@@ -48,10 +48,10 @@ unfolding position_of tile_on index_of groups plain_hexes print_of printed hexes
 connected = record { piece = inr (First, inl (refl, inl refl)) }
 
 -- the Pennsylvania leaves its home to the west, and reaches the city from the east
-out_of_home : Step
+out_of_home : WalkStep
 out_of_home = record { link = record { hex = H12; a = AtSide West; b = AtStop First }; turned = true }
 
-into_city : Step
+into_city : WalkStep
 into_city = record { link = record { hex = H10; a = AtSide East; b = AtStop First }; turned = false }
 
 walk : IsWalkOf (position_of pennsylvania_at_home) Pennsylvania (into_city ∷ out_of_home ∷ [])

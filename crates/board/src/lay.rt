@@ -20,7 +20,7 @@ use crate::fault::LayFault;
 use crate::powers::is_dh_lay;
 use board_state::{OnMap, has_bad_side, is_open, is_wrong_kind, same_hex};
 use map_tables::{
-    Colour, End, Hex, Lay, LayRule, Link, TileNo, hex_kind, laid_links, printed_colour,
+    Colour, Hex, Lay, LayRule, Link, TileNo, TrackEnd, hex_kind, laid_links, printed_colour,
     private_hexes, terrain_cost, tile,
 };
 use reach::reaches_hex;
@@ -223,13 +223,13 @@ fn link_order(link: Link) -> usize
 }
 
 /// Returns the place of an end in the order of a hex's ends.
-fn end_order(end: End) -> usize
+fn end_order(end: TrackEnd) -> usize
     ensures place { result ≡ end_order end }
     ensures few { result < 8 }
 {
     match end {
-        End::Side(side) => side.number(),
-        End::Stop(number) => 6 + number.index(),
+        TrackEnd::Side(side) => side.number(),
+        TrackEnd::Stop(number) => 6 + number.index(),
     }
 }
 

@@ -8,7 +8,7 @@ use Rattle.map_tables.specs.Print.{groups, plain_hexes, print_of, printed_links_
 use Rattle.map_tables.specs.declared.hex.Hex.{Hex}
 use Rattle.map_tables.specs.declared.hex.Hex.TheVariants.{A9, I1}
 use Rattle.map_tables.specs.declared.place.StopNumber.TheVariants.{Second}
-use Rattle.map_tables.specs.declared.track.End.TheVariants.{Stop as AtStop}
+use Rattle.map_tables.specs.declared.track.TrackEnd.TheVariants.{Stop as AtStop}
 use Rattle.map_tables.specs.declared.track.Link.{Link}
 use Rattle.reach.specs.Lawful.{PartsHaveOneStop}
 use Rattle.reach.specs.Position.{InHex, IsAmong}

@@ -8,8 +8,8 @@ ghost use Rattle.map_tables.specs.Place.{stop_of};
 use crate::fault::BoardFault;
 use crate::stop_facts::{slots_at, taken_at};
 use map_tables::{
-    End, Hex, HexKind, Lay, Place, Side, TileKind, hex_kind, laid_links, neighbour, printed_links,
-    printed_stops, tile,
+    Hex, HexKind, Lay, Place, Side, TileKind, TrackEnd, hex_kind, laid_links, neighbour,
+    printed_links, printed_stops, tile,
 };
 use tables::{Company, rules};
 
@@ -103,15 +103,15 @@ pub fn has_bad_side(lay: Lay) -> bool
 }
 
 /// Returns whether an end of track in a hex is a bad side.
-fn is_bad_end(hex: Hex, end: End) -> bool
+fn is_bad_end(hex: Hex, end: TrackEnd) -> bool
     ensures { result ≡ is_bad_end hex end }
 {
     match end {
-        End::Side(side) => match neighbour(hex, side) {
+        TrackEnd::Side(side) => match neighbour(hex, side) {
             Some(other) => is_shut(other, side.facing()),
             None => true,
         },
-        End::Stop(_) => false,
+        TrackEnd::Stop(_) => false,
     }
 }
 
@@ -143,11 +143,11 @@ fn has_print_at(hex: Hex, side: Side) -> bool
 }
 
 /// Returns whether an end is this side.
-fn is_side(side: Side, end: End) -> bool
+fn is_side(side: Side, end: TrackEnd) -> bool
     ensures { result ≡ is_side side end }
 {
     match end {
-        End::Side(other) => other.number() == side.number(),
-        End::Stop(_) => false,
+        TrackEnd::Side(other) => other.number() == side.number(),
+        TrackEnd::Stop(_) => false,
     }
 }

@@ -10,14 +10,14 @@ use Rattle.map_tables.specs.declared.hex.Hex.{Hex}
 use Rattle.map_tables.specs.declared.hex.Hex.TheVariants.{A9, A11, I1, J2}
 use Rattle.map_tables.specs.declared.place.Stop.{Stop}
 use Rattle.map_tables.specs.declared.side.Side.{Side}
-use Rattle.map_tables.specs.declared.track.End.{End}
-use Rattle.map_tables.specs.declared.track.End.TheVariants.{Side as AtSide, Stop as AtStop}
+use Rattle.map_tables.specs.declared.track.TrackEnd.{TrackEnd}
+use Rattle.map_tables.specs.declared.track.TrackEnd.TheVariants.{Side as AtSide, Stop as AtStop}
 use Rattle.map_tables.specs.declared.track.Link.{Link}
 use Rattle.reach.specs.Lawful.{IsLawful}
 use Rattle.reach.specs.Position.{Position, IsAmong, links_of}
 use Rattle.reach.specs.Walk.{IsTrack, across, entered_at, spot_at, stop_at_end, stop_of}
 use Rattle.reach.specs.declared.walk.Spot.{Spot}
-use Rattle.reach.specs.declared.walk.Step.{Step}
+use Rattle.reach.specs.declared.walk.WalkStep.{WalkStep}
 use Rattle.reach.proofs.Collected.{lies_there, own_hex}
 use Rattle.legal_runs.specs.Fault.{has_border}
 use Rattle.legal_runs.specs.Legal.{border_at, border_of}
@@ -57,23 +57,23 @@ pub among_node_if : (b : Bool) (node : Node) → b ≡ true → IsAmong node (no
 among_node_if true node is = inl refl
 among_node_if false node is = absurd cc
 
-module _ (test : Step → Bool) (node : Node) (steps : List Step) where
+module _ (test : WalkStep → Bool) (node : Node) (steps : List WalkStep) where
   pub with_steps_among :
       (made : Node) → IsAmong made (with_steps test node steps) →
-      (step : Step) × IsAmong step steps × (test step ≡ true) × (with_step node step ≡ made)
+      (step : WalkStep) × IsAmong step steps × (test step ≡ true) × (with_step node step ≡ made)
   with_steps_among made among =
-      let found = for_each_among (λ (step : Step). node_if (test step) (with_step node step)) steps made among in
+      let found = for_each_among (λ (step : WalkStep). node_if (test step) (with_step node step)) steps made among in
       let parts = node_if_among (test found.0) (with_step node found.0) made found.2 in
       (found.0, found.1, parts.0, parts.1)
 
-  pub among_with_steps : (step : Step) → IsAmong step steps → test step ≡ true
+  pub among_with_steps : (step : WalkStep) → IsAmong step steps → test step ≡ true
       → IsAmong (with_step node step) (with_steps test node steps)
   among_with_steps step among passes =
-      among_for_each (λ (step : Step). node_if (test step) (with_step node step)) steps step (with_step node step)
+      among_for_each (λ (step : WalkStep). node_if (test step) (with_step node step)) steps step (with_step node step)
       among (among_node_if (test step) (with_step node step) passes)
 
 -- a step enters a link where it should
-pub ways_are : (end : End) (link : Link) (step : Step) → IsAmong step (steps_by end link)
+pub ways_are : (end : TrackEnd) (link : Link) (step : WalkStep) → IsAmong step (steps_by end link)
     → (step.link ≡ link) × ((entered_at step).end ≡ end)
 ways_are end link step among =
     by_tests (end_order link.a == end_order end) (end_order link.b == end_order end) refl refl among
@@ -84,14 +84,14 @@ ways_are end link step among =
         ∷ [] else (if c then record { link = link; turned = true } ∷ [] else [])) →
         (step.link ≡ link) × ((entered_at step).end ≡ end)
     by_tests true c is also (inl here) = (
-      ap (λ (s : Step). s.link) (sym here),
-      ap (λ (s : Step). (entered_at s).end) (sym here)
+      ap (λ (s : WalkStep). s.link) (sym here),
+      ap (λ (s : WalkStep). (entered_at s).end) (sym here)
           ∙ same_end link.a end (eqb-true (end_order link.a) (end_order end) is),
     )
     by_tests true c is also (inr none) = absurd none
     by_tests false true is also (inl here) = (
-      ap (λ (s : Step). s.link) (sym here),
-      ap (λ (s : Step). (entered_at s).end) (sym here)
+      ap (λ (s : WalkStep). s.link) (sym here),
+      ap (λ (s : WalkStep). (entered_at s).end) (sym here)
           ∙ same_end link.b end (eqb-true (end_order link.b) (end_order end) also),
     )
     by_tests false true is also (inr none) = absurd none
@@ -99,16 +99,16 @@ ways_are end link step among =
 
 way_itself :
     (link : Link) (turned : Bool) → Ordered link →
-    IsAmong (let step : Step = record { link = link; turned = turned } in step)
+    IsAmong (let step : WalkStep = record { link = link; turned = turned } in step)
     (steps_by (if turned then link.b else link.a) link)
 way_itself link false facts =
-    subst (λ (b : Bool). IsAmong (let step : Step = record { link = link; turned = false } in step)
+    subst (λ (b : Bool). IsAmong (let step : WalkStep = record { link = link; turned = false } in step)
     (if b then record { link = link; turned = false }
     ∷ [] else (if end_order link.b == end_order link.a then record { link = link; turned = true } ∷ [] else [])))
     (sym (eq-eqb (end_order link.a) (end_order link.a) refl)) (inl refl)
 way_itself link true facts =
-    let step : Step = record { link = link; turned = true } in
-    let other : Step = record { link = link; turned = false } in
+    let step : WalkStep = record { link = link; turned = true } in
+    let other : WalkStep = record { link = link; turned = false } in
     let differ : (end_order link.a == end_order link.b) ≡ false =
     eqb_not (end_order link.a) (end_order link.b) (λ same. omega (arith, facts.rising, same)) in
     subst (λ (b : Bool). IsAmong step (if b then other
@@ -138,7 +138,7 @@ among_its_hexes A11 = inr (inl refl)
 among_its_hexes hex = inl refl
 
 -- a border of a hex that was not crossed
-pub record LeadsOver (borders : List ℕ) (hex : Hex) (end : End) : Type 0 where
+pub record LeadsOver (borders : List ℕ) (hex : Hex) (end : TrackEnd) : Type 0 where
   pub side : Side
   pub next : Hex
   pub at_side : end ≡ AtSide side
@@ -161,7 +161,7 @@ there_is : {A : Type 0} (found : Option A) → is_some found ≡ true → (thing
 there_is None is = absurd cc
 there_is (Some thing) is = (thing, refl)
 
-pub leads_over : (borders : List ℕ) (hex : Hex) (end : End) → is_free_end borders hex end ≡ true
+pub leads_over : (borders : List ℕ) (hex : Hex) (end : TrackEnd) → is_free_end borders hex end ≡ true
     → LeadsOver borders hex end
 leads_over borders hex (AtSide side) is =
     let parts : (is_some (neighbour_of hex side) ≡ true) × (not (has_border (border_of hex side) borders) ≡ true) =
@@ -181,10 +181,10 @@ leads_over borders hex (AtSide side) is =
     }
 leads_over borders hex (AtStop number) is = absurd cc
 
-pub over_leads : (borders : List ℕ) (hex : Hex) (end : End) → LeadsOver borders hex end
+pub over_leads : (borders : List ℕ) (hex : Hex) (end : TrackEnd) → LeadsOver borders hex end
     → is_free_end borders hex end ≡ true
 over_leads borders hex end over =
-    subst (λ (e : End). is_free_end borders hex e ≡ true) (sym over.at_side)
+    subst (λ (e : TrackEnd). is_free_end borders hex e ≡ true) (sym over.at_side)
     (true_both (is_some (neighbour_of hex over.side)) (not (has_border (border_of hex over.side) borders))
     (ap is_some over.beside)
     (to_not (has_border (border_of hex over.side) borders)
@@ -192,7 +192,7 @@ over_leads borders hex end over =
 
 -- a border is that of both its sides
 pub border_both :
-    (position : Position) → IsLawful position → (hex : Hex) (end : End) (spot : Spot)
+    (position : Position) → IsLawful position → (hex : Hex) (end : TrackEnd) (spot : Spot)
     → across (spot_at hex end) ≡ Some spot →
     border_at hex end ≡ border_at spot.hex spot.end
 border_both position lawful hex (AtStop number) spot is = absurd cc
@@ -210,11 +210,11 @@ border_both position lawful hex (AtSide side) spot is = by_next (neighbour_of he
 
 module _ (position : Position) (lawful : IsLawful position) where
   -- a step that enters a link at an end in a hex
-  pub record IsWay (hex : Hex) (end : End) (step : Step) : Type 0 where
+  pub record IsWay (hex : Hex) (end : TrackEnd) (step : WalkStep) : Type 0 where
     pub track : IsTrack position step
     pub enters : entered_at step ≡ spot_at hex end
 
-  pub step_is : (hex : Hex) (end : End) (step : Step) → IsAmong step (steps_at position hex end) → IsWay hex end step
+  pub step_is : (hex : Hex) (end : TrackEnd) (step : WalkStep) → IsAmong step (steps_at position hex end) → IsWay hex end step
   step_is hex end step among =
       let found = for_each_among (steps_by end) (links_of position hex) step among in
       let is = ways_are end found.0 step found.2 in
@@ -226,18 +226,18 @@ module _ (position : Position) (lawful : IsLawful position) where
             ∙ ap (spot_at hex) is.1;
       }
 
-  pub step_there : (step : Step) → IsTrack position step
+  pub step_there : (step : WalkStep) → IsTrack position step
       → IsAmong step (steps_at position step.link.hex (entered_at step).end)
   step_there step track =
       among_for_each (steps_by (entered_at step).end) (links_of position step.link.hex) step.link step track
       (way_itself step.link step.turned (ordered position lawful step track))
 
   -- a step that leaves a stop
-  pub record Leaves (stop : Stop) (step : Step) : Type 0 where
+  pub record Leaves (stop : Stop) (step : WalkStep) : Type 0 where
     pub track : IsTrack position step
     pub from_stop : stop_of (entered_at step) ≡ Some stop
 
-  pub leaves_stop : (stop : Stop) → joined_stop_of stop ≡ stop → (step : Step)
+  pub leaves_stop : (stop : Stop) → joined_stop_of stop ≡ stop → (step : WalkStep)
       → IsAmong step (steps_from position stop) → Leaves stop step
   leaves_stop stop names step among =
       let found = for_each_among (λ (hex : Hex). steps_at position hex (AtStop stop.number)) (hexes_of stop.hex) step
@@ -250,7 +250,7 @@ module _ (position : Position) (lawful : IsLawful position) where
       }
 
   by_its_end :
-      (stop : Stop) (step : Step) → IsTrack position step → (end : End) → (entered_at step).end ≡ end
+      (stop : Stop) (step : WalkStep) → IsTrack position step → (end : TrackEnd) → (entered_at step).end ≡ end
       → stop_at_end step.link.hex end ≡ Some stop →
       IsAmong step (steps_from position stop)
   by_its_end stop step track (AtSide side) enters is = absurd cc
@@ -259,8 +259,8 @@ module _ (position : Position) (lawful : IsLawful position) where
       subst (λ (s : Stop). IsAmong step (steps_from position s)) named
       (among_for_each (λ (hex : Hex). steps_at position hex (AtStop number)) (hexes_of (joined_hex step.link.hex))
       step.link.hex step (among_its_hexes step.link.hex)
-      (subst (λ (e : End). IsAmong step (steps_at position step.link.hex e)) enters (step_there step track)))
+      (subst (λ (e : TrackEnd). IsAmong step (steps_at position step.link.hex e)) enters (step_there step track)))
 
-  pub stop_left : (stop : Stop) (step : Step) → IsTrack position step → stop_of (entered_at step) ≡ Some stop
+  pub stop_left : (stop : Stop) (step : WalkStep) → IsTrack position step → stop_of (entered_at step) ≡ Some stop
       → IsAmong step (steps_from position stop)
   stop_left stop step track is = by_its_end stop step track (entered_at step).end refl is

@@ -10,14 +10,14 @@ use Rattle.map_tables.specs.declared.place.Stop.{Stop}
 use Rattle.map_tables.specs.declared.place.StopNumber.TheVariants.{First}
 use Rattle.map_tables.specs.declared.side.Side.{Side}
 use Rattle.map_tables.specs.declared.side.Side.TheVariants.{SouthWest}
-use Rattle.map_tables.specs.declared.track.End.{End}
-use Rattle.map_tables.specs.declared.track.End.TheVariants.{Side as AtSide, Stop as AtStop}
+use Rattle.map_tables.specs.declared.track.TrackEnd.{TrackEnd}
+use Rattle.map_tables.specs.declared.track.TrackEnd.TheVariants.{Side as AtSide, Stop as AtStop}
 use Rattle.map_tables.specs.declared.track.Link.{Link}
 use Rattle.reach.specs.Lawful.{IsLawful}
 use Rattle.reach.specs.Position.{IsAmong, Position, links_of}
 use Rattle.reach.specs.Walk.{entered_at, spot_at}
 use Rattle.reach.specs.declared.walk.Spot.{Spot}
-use Rattle.reach.specs.declared.walk.Step.{Step}
+use Rattle.reach.specs.declared.walk.WalkStep.{WalkStep}
 use Rattle.tables.specs.declared.rolling_stock.Kind.{Kind}
 use Rattle.tables.specs.declared.rolling_stock.Kind.TheVariants.{Two}
 use Rattle.legal_runs.specs.Legal.{listed}
@@ -50,7 +50,7 @@ beyond_it side beyond (Some other) is = let there : spot_at other (AtSide (facin
     cc in ap (λ (s : Spot). Some s.hex) (sym there)
 
 -- steps of two lists
-steps_both : (test : Step → Bool) (node : Node) (first second : List Step)
+steps_both : (test : WalkStep → Bool) (node : Node) (first second : List WalkStep)
     → with_steps test node (first ++ second) ≡ with_steps test node first ++ with_steps test node second
 steps_both test node [] second = refl
 steps_both test node (step ∷ first) second =
@@ -59,30 +59,30 @@ steps_both test node (step ∷ first) second =
     (with_steps test node second))
 
 -- one step, or none
-pub one_step : (test : Step → Bool) (node : Node) (step : Step)
+pub one_step : (test : WalkStep → Bool) (node : Node) (step : WalkStep)
     → with_steps test node (step ∷ []) ≡ node_if (test step) (with_step node step)
 one_step test node step = append-nil (node_if (test step) (with_step node step))
 
 -- the step into a link, if there is one
 pub step_found :
-    (test : Step → Bool) (node : Node) (end : End) (link : Link) (found : Option Step) (step : Step)
+    (test : WalkStep → Bool) (node : Node) (end : TrackEnd) (link : Link) (found : Option WalkStep) (step : WalkStep)
     → found ≡ Some step → listed found ≡ steps_by end link →
     node_if (test step) (with_step node step) ≡ with_steps test node (steps_by end link)
 step_found test node end link found step is ways =
-    sym (one_step test node step) ∙ (ap (λ (o : Option Step). with_steps test node (listed o)) (sym is)
+    sym (one_step test node step) ∙ (ap (λ (o : Option WalkStep). with_steps test node (listed o)) (sym is)
     ∙ ap (with_steps test node) ways)
 
-pub no_step_found : (test : Step → Bool) (node : Node) (end : End) (link : Link) (found : Option Step) → found ≡ None
+pub no_step_found : (test : WalkStep → Bool) (node : Node) (end : TrackEnd) (link : Link) (found : Option WalkStep) → found ≡ None
     → listed found ≡ steps_by end link → with_steps test node (steps_by end link) ≡ []
 no_step_found test node end link found is ways = ap (with_steps test node) (sym ways ∙ ap listed is)
 
 pub step_enters :
-    (position : Position) → IsLawful position → (at : Spot) (link : Link) (found : Option Step) (step : Step)
+    (position : Position) → IsLawful position → (at : Spot) (link : Link) (found : Option WalkStep) (step : WalkStep)
     → IsAmong link (links_of position at.hex) →
     found ≡ Some step → listed found ≡ steps_by at.end link → entered_at step ≡ at
 step_enters position lawful at link found step among is ways =
     let here : IsAmong step (steps_by at.end link) =
-    subst (λ (l : List Step). IsAmong step l) (sym (ap listed is) ∙ ways) (inl refl) in
+    subst (λ (l : List WalkStep). IsAmong step l) (sym (ap listed is) ∙ ways) (inl refl) in
     (step_is position lawful at.hex at.end step (among_for_each (steps_by at.end) (links_of position at.hex) link step
     among here)).enters
 
@@ -103,7 +103,7 @@ pub two_hexes : (position : Position) (stop : Stop) (other : Hex) → twin_of st
     ++ steps_at position stop.hex (AtStop stop.number)
 two_hexes position stop other is =
     ap (for_each (λ (hex : Hex). steps_at position hex (AtStop stop.number))) (both stop.hex other is)
-    ∙ ap (λ (l : List Step). steps_at position other (AtStop stop.number) ++ l)
+    ∙ ap (λ (l : List WalkStep). steps_at position other (AtStop stop.number) ++ l)
     (append-nil (steps_at position stop.hex (AtStop stop.number)))
   where
     both : (hex other : Hex) → twin_of hex ≡ Some other → hexes_of hex ≡ other ∷ hex ∷ []
@@ -112,7 +112,7 @@ two_hexes position stop other is =
     both hex other so = absurd cc
 
 pub hexes_steps :
-    (position : Position) (test : Step → Bool) (node : Node) (stop : Stop) (other : Hex)
+    (position : Position) (test : WalkStep → Bool) (node : Node) (stop : Stop) (other : Hex)
     → twin_of stop.hex ≡ Some other →
     with_steps test node (steps_from position stop)
     ≡ with_steps test node (steps_at position other (AtStop stop.number))
@@ -150,7 +150,7 @@ module _ {S : Type 0} (decides : S → ℕ → Bool → Decision → S → Type 
   over_none s nodes none = subst (λ (l : List Node). Over s l true s) (sym none) (at_end s)
 
   -- the steps that are made of some things
-  module _ {A : Type 0} (make : A → List Step) (test : Step → Bool) (node : Node) (things : List A) where
+  module _ {A : Type 0} (make : A → List WalkStep) (test : WalkStep → Bool) (node : Node) (things : List A) where
     abbrev nodes_from : ℕ → List Node
     nodes_from index = with_steps test node (for_each make (drop index things))
 

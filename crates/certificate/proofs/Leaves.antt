@@ -7,7 +7,7 @@ use Rattle.reach.specs.Lawful.{IsLawful}
 use Rattle.reach.specs.Position.{Position, IsAmong}
 use Rattle.reach.specs.Reached.{IsReach, Reaching, ReachesStop}
 use Rattle.reach.specs.Walk.{TouchesStop, entered_at, left_at}
-use Rattle.reach.specs.declared.walk.Step.{Step}
+use Rattle.reach.specs.declared.walk.WalkStep.{WalkStep}
 use Rattle.reach.proofs.Spots.{names_itself}
 use Rattle.tables.specs.Train.{same_kind}
 use Rattle.tables.specs.declared.rolling_stock.Kind.{Kind}
@@ -55,7 +55,7 @@ same_number k trains =
     omega (arith, two, three, four, five, six, diesel, kind_by_kind k trains)
 
 -- a stop that is touched has its own name
-touched_named : (stop : Stop) (steps : List Step) → TouchesStop stop steps → joined_stop_of stop ≡ stop
+touched_named : (stop : Stop) (steps : List WalkStep) → TouchesStop stop steps → joined_stop_of stop ≡ stop
 touched_named stop [] touches = absurd touches
 touched_named stop (step ∷ before) (inl (inl is)) = names_itself (entered_at step) stop is
 touched_named stop (step ∷ before) (inl (inr is)) = names_itself (left_at step) stop is

@@ -9,14 +9,14 @@ use Rattle.std.proofs.lemmas.Bool.{ltb-true, ltb-false}
 use Rattle.map_tables.specs.Place.{joined_stop_of}
 use Rattle.map_tables.specs.declared.hex.Hex.{Hex}
 use Rattle.map_tables.specs.declared.place.Stop.{Stop}
-use Rattle.map_tables.specs.declared.track.End.{End}
-use Rattle.map_tables.specs.declared.track.End.TheVariants.{Side as AtSide, Stop as AtStop}
+use Rattle.map_tables.specs.declared.track.TrackEnd.{TrackEnd}
+use Rattle.map_tables.specs.declared.track.TrackEnd.TheVariants.{Side as AtSide, Stop as AtStop}
 use Rattle.reach.specs.Lawful.{IsLawful}
 use Rattle.reach.specs.Position.{Position, HasToken, IsAmong, IsFull, is_red}
 use Rattle.reach.specs.Walk.{AreJoined, BeginsAt, IsTrack, IsWalk, PassesOnly, across, entered_at, left_at, stop_at_end}
 use Rattle.reach.specs.Walk.{stop_of}
 use Rattle.reach.specs.declared.walk.Spot.{Spot}
-use Rattle.reach.specs.declared.walk.Step.{Step}
+use Rattle.reach.specs.declared.walk.WalkStep.{WalkStep}
 use Rattle.reach.proofs.Spots.{back, names_itself}
 use Rattle.tables.specs.Train.{stops_of}
 use Rattle.tables.specs.declared.rolling_stock.Kind.{Kind}
@@ -38,13 +38,13 @@ use Rattle.legal_runs.proofs.Tests.{has_token_is, is_full_is}
 use Rattle.legal_runs.proofs.TwoTrain.{no_border}
 
 -- a train that has visited this many stops has room: for one more where its head is at a border
-abbrev pub HasRoom : Kind → ℕ → End → Type 0
+abbrev pub HasRoom : Kind → ℕ → TrackEnd → Type 0
 HasRoom kind count (AtSide side) = AreAtMost (stops_of kind) (suc count)
 HasRoom kind count (AtStop number) = AreAtMost (stops_of kind) count
 
 -- a run that is begun keeps all that a legal run must keep, so far
-pub record IsRunBegun (position : Position) (company : Company) (kind : Kind) (borders : List ℕ) (step : Step)
-    (before : List Step) : Type 0 where
+pub record IsRunBegun (position : Position) (company : Company) (kind : Kind) (borders : List ℕ) (step : WalkStep)
+    (before : List WalkStep) : Type 0 where
   pub walk : IsWalk position (step ∷ before)
   pub begins : BeginsAt (λ stop. Unit {0}) (step ∷ before)
   pub stops : AreDistinct (visited (step ∷ before))
@@ -54,17 +54,17 @@ pub record IsRunBegun (position : Position) (company : Company) (kind : Kind) (b
   pub no_full : PassesOnly (λ stop. ¬ IsFull position stop company) (step ∷ before)
   pub room : HasRoom kind (length (visited (step ∷ before))) (left_at step).end
 
-abbrev pub IsBegun : Position → Company → Kind → List ℕ → List Step → Type 0
+abbrev pub IsBegun : Position → Company → Kind → List ℕ → List WalkStep → Type 0
 IsBegun position company kind borders [] = Unit {0}
 IsBegun position company kind borders (step ∷ before) = IsRunBegun position company kind borders step before
 
-abbrev pub IsInHand : Position → Company → List ℕ → List Step → List Kind → Type 0
+abbrev pub IsInHand : Position → Company → List ℕ → List WalkStep → List Kind → Type 0
 IsInHand position company borders begun [] = begun ≡ []
 IsInHand position company borders begun (kind ∷ later) = IsBegun position company kind borders begun
 
 -- what holds at a node, where these are all trains
 pub record IsGood (position : Position) (company : Company) (all : List Kind) (assigned : List TrainRun)
-    (begun : List Step) (trains : List Kind) : Type 0 where
+    (begun : List WalkStep) (trains : List Kind) : Type 0 where
   pub legal : AllByRecursion (RunsLegally position company) assigned
   pub apart : AreApart assigned
   pub taken : (kind : Kind) → in_number kind (trains_that_run assigned) + in_number kind trains ≤ in_number kind all
@@ -100,36 +100,36 @@ room_left (Some most) count is = by_test (ltb count most) refl is
     by_test false less is = absurd cc
 
 -- a stop at an end is no side
-stop_none : (hex : Hex) (end : End) (borders : List ℕ) → LeadsOver borders hex end → stop_at_end hex end ≡ None
+stop_none : (hex : Hex) (end : TrackEnd) (borders : List ℕ) → LeadsOver borders hex end → stop_at_end hex end ≡ None
 stop_none hex end borders over = ap (stop_at_end hex) over.at_side
 
 room_over :
-    (kind : Kind) (count : ℕ) (hex : Hex) (end : End) (borders : List ℕ) → LeadsOver borders hex end
+    (kind : Kind) (count : ℕ) (hex : Hex) (end : TrackEnd) (borders : List ℕ) → LeadsOver borders hex end
     → AreAtMost (stops_of kind) (suc count) →
     HasRoom kind count end
 room_over kind count hex end borders over fit = subst (HasRoom kind count) (sym over.at_side) fit
 
 room_at_stop :
-    (kind : Kind) (count : ℕ) (hex : Hex) (end : End) (stop : Stop) → stop_at_end hex end ≡ Some stop
+    (kind : Kind) (count : ℕ) (hex : Hex) (end : TrackEnd) (stop : Stop) → stop_at_end hex end ≡ Some stop
     → AreAtMost (stops_of kind) count →
     HasRoom kind count end
 room_at_stop kind count hex (AtSide side) stop is fit = absurd cc
 room_at_stop kind count hex (AtStop number) stop is fit = fit
 
 stop_had_room :
-    (kind : Kind) (count : ℕ) (hex : Hex) (end : End) (stop : Stop) → stop_at_end hex end ≡ Some stop
+    (kind : Kind) (count : ℕ) (hex : Hex) (end : TrackEnd) (stop : Stop) → stop_at_end hex end ≡ Some stop
     → HasRoom kind count end →
     AreAtMost (stops_of kind) count
 stop_had_room kind count hex (AtSide side) stop is room = absurd cc
 stop_had_room kind count hex (AtStop number) stop is room = room
 
-side_had_room : (kind : Kind) (count : ℕ) (hex : Hex) (end : End) → stop_at_end hex end ≡ None
+side_had_room : (kind : Kind) (count : ℕ) (hex : Hex) (end : TrackEnd) → stop_at_end hex end ≡ None
     → HasRoom kind count end → AreAtMost (stops_of kind) (suc count)
 side_had_room kind count hex (AtSide side) is room = room
 side_had_room kind count hex (AtStop number) is room = absurd cc
 
 -- the border at an end that leads over it
-over_border : (hex : Hex) (end : End) (borders : List ℕ) (over : LeadsOver borders hex end)
+over_border : (hex : Hex) (end : TrackEnd) (borders : List ℕ) (over : LeadsOver borders hex end)
     → border_at hex end ≡ border_of hex over.side ∷ []
 over_border hex end borders over = ap (border_at hex) over.at_side
 
@@ -178,7 +178,7 @@ none_begun position company borders (kind ∷ later) = tt
 
 -- a run shares no border with assigned ones whose borders are free of its own
 shares_none :
-    (steps : List Step) (runs : List TrainRun) → ((border : ℕ) → IsAmong border (crossed steps)
+    (steps : List WalkStep) (runs : List TrainRun) → ((border : ℕ) → IsAmong border (crossed steps)
     → ¬ IsAmong border (run_borders runs)) →
     AllByRecursion (λ (other : TrainRun). ShareNoBorder steps other.steps) runs
 shares_none steps [] free = tt
@@ -191,7 +191,7 @@ shares_none steps (run ∷ runs) free = (
 module _ (position : Position) (lawful : IsLawful position) (company : Company) (reached : List Stop)
     (named : (stop : Stop) → IsAmong stop reached → joined_stop_of stop ≡ stop) (all : List Kind) where
   -- a choice is good, and its bound no greater
-  pub record IsGoodChoice (assigned : List TrainRun) (begun : List Step) (trains : List Kind) (child : Node) : Type
+  pub record IsGoodChoice (assigned : List TrainRun) (begun : List WalkStep) (trains : List Kind) (child : Node) : Type
       0 where
     pub good : IsGoodNode position company all child
     pub falls : bound position reached child ≤ bound position reached (node_of assigned begun trains)
@@ -212,14 +212,14 @@ module _ (position : Position) (lawful : IsLawful position) (company : Company) 
         }
 
     -- a run that leaves a stop
-    first_visited : (stop : Stop) (step : Step) → stop_of (entered_at step) ≡ Some stop
+    first_visited : (stop : Stop) (step : WalkStep) → stop_of (entered_at step) ≡ Some stop
         → stop_of (left_at step) ≡ None → visited (step ∷ []) ≡ stop ∷ []
     first_visited stop step enters leaves =
         ap (λ (l : Option Stop). listed l ++ (listed (stop_of (entered_at step)) ++ [])) leaves
         ∙ ap (λ (e : Option Stop). listed e ++ []) enters
 
     first_gone :
-        (stop : Stop) (step : Step) → stop_of (entered_at step) ≡ Some stop →
+        (stop : Stop) (step : WalkStep) → stop_of (entered_at step) ≡ Some stop →
         (over : LeadsOver (taken_borders (node_of assigned [] (kind ∷ later))) (left_at step).hex (left_at step).end) →
         gone_over (step ∷ []) ≡ border_of (left_at step).hex over.side ∷ []
     first_gone stop step enters over =
@@ -229,7 +229,7 @@ module _ (position : Position) (lawful : IsLawful position) (company : Company) 
         (no_border (entered_at step).hex (entered_at step).end stop enters)
 
     set_out :
-        IsGood position company all assigned [] (kind ∷ later) → (stop : Stop) → IsAmong stop reached → (step : Step) →
+        IsGood position company all assigned [] (kind ∷ later) → (stop : Stop) → IsAmong stop reached → (step : WalkStep) →
         Leaves position lawful stop step → LeadsOver (run_borders assigned) (left_at step).hex (left_at step).end →
         IsGoodChoice assigned [] (kind ∷ later) (node_of assigned (step ∷ []) (kind ∷ later))
     set_out good stop there step leaves over =
@@ -282,16 +282,16 @@ module _ (position : Position) (lawful : IsLawful position) (company : Company) 
         (set_out good from.0 from.1 found.0 (leaves_stop position lawful from.0 (named from.0 from.1) found.0 from.2)
         (leads_over (run_borders assigned) (left_at found.0).hex (left_at found.0).end found.2))
 
-    module _ (step : Step) (before : List Step) (good : IsGood position company all assigned (step ∷ before)
+    module _ (step : WalkStep) (before : List WalkStep) (good : IsGood position company all assigned (step ∷ before)
         (kind ∷ later)) where
-      abbrev run : List Step
+      abbrev run : List WalkStep
       run = step ∷ before
 
       abbrev so_far : IsRunBegun position company kind (run_borders assigned) step before
       so_far = good.in_hand
 
       -- a step that goes on: it crosses the border at the head, and passes what it may
-      record GoesFurther (next : Step) : Type 0 where
+      record GoesFurther (next : WalkStep) : Type 0 where
         track : IsTrack position next
         joined : AreJoined (left_at step) (entered_at next)
         over : crossed (next ∷ run) ≡ gone_over run
@@ -301,7 +301,7 @@ module _ (position : Position) (lawful : IsLawful position) (company : Company) 
 
       -- over a border
       went_over :
-          (next : Step) → GoesFurther next → LeadsOver (gone_over run ++ run_borders assigned) (left_at next).hex
+          (next : WalkStep) → GoesFurther next → LeadsOver (gone_over run ++ run_borders assigned) (left_at next).hex
           (left_at next).end →
           IsGoodChoice assigned run (kind ∷ later) (node_of assigned (next ∷ run) (kind ∷ later))
       went_over next on over =
@@ -342,7 +342,7 @@ module _ (position : Position) (lawful : IsLawful position) (company : Company) 
 
       -- to a new stop
       came_to :
-          (next : Step) → GoesFurther next → (stop : Stop) → stop_of (left_at next) ≡ Some stop
+          (next : WalkStep) → GoesFurther next → (stop : Stop) → stop_of (left_at next) ≡ Some stop
           → IsNew reached (visited run) stop →
           IsGoodChoice assigned run (kind ∷ later) (node_of assigned (next ∷ run) (kind ∷ later))
       came_to next on stop is new =
@@ -381,7 +381,7 @@ module _ (position : Position) (lawful : IsLawful position) (company : Company) 
 
       -- from a border
       from_side :
-          (spot : Spot) → stop_of (left_at step) ≡ None → across (left_at step) ≡ Some spot → (next : Step) →
+          (spot : Spot) → stop_of (left_at step) ≡ None → across (left_at step) ≡ Some spot → (next : WalkStep) →
           IsWay position lawful spot.hex spot.end next → GoesFurther next
       from_side spot none is next way =
           let there : (across spot ≡ Some (left_at step)) × (stop_of spot ≡ None) =
@@ -424,7 +424,7 @@ module _ (position : Position) (lawful : IsLawful position) (company : Company) 
       through_stop :
           (stop : Stop) → stop_of (left_at step) ≡ Some stop → is_red position stop ≡ false
           → is_full position company stop ≡ false →
-          is_used_up (stops_of kind) (length (visited run)) ≡ false → (next : Step) → Leaves position lawful stop next
+          is_used_up (stops_of kind) (length (visited run)) ≡ false → (next : WalkStep) → Leaves position lawful stop next
           → GoesFurther next
       through_stop stop is not_red not_full used next leaves =
           record {
@@ -529,7 +529,7 @@ module _ (position : Position) (lawful : IsLawful position) (company : Company) 
 
   -- each choice at a good node is good
   pub choice_good :
-      (assigned : List TrainRun) (begun : List Step) (trains : List Kind)
+      (assigned : List TrainRun) (begun : List WalkStep) (trains : List Kind)
       → IsGood position company all assigned begun trains → (child : Node) →
       IsAmong child (choices_at position company reached assigned begun trains)
       → IsGoodChoice assigned begun trains child

@@ -10,14 +10,14 @@ use Rattle.map_tables.specs.declared.hex.Hex.{Hex}
 use Rattle.map_tables.specs.declared.place.Stop.{Stop}
 use Rattle.map_tables.specs.declared.place.StopNumber.{StopNumber}
 use Rattle.map_tables.specs.declared.side.Side.{Side}
-use Rattle.map_tables.specs.declared.track.End.{End}
-use Rattle.map_tables.specs.declared.track.End.TheVariants.{Side as AtSide, Stop as AtStop}
+use Rattle.map_tables.specs.declared.track.TrackEnd.{TrackEnd}
+use Rattle.map_tables.specs.declared.track.TrackEnd.TheVariants.{Side as AtSide, Stop as AtStop}
 use Rattle.reach.specs.Lawful.{IsLawful}
 use Rattle.reach.specs.Position.{Position, is_red, value_of}
 use Rattle.reach.specs.Reached.{stop_order}
 use Rattle.reach.specs.Walk.{across, across_end, entered_at, left_at, spot_at, stop_at_end, stop_of}
 use Rattle.reach.specs.declared.walk.Spot.{Spot}
-use Rattle.reach.specs.declared.walk.Step.{Step}
+use Rattle.reach.specs.declared.walk.WalkStep.{WalkStep}
 use Rattle.reach.proofs.Spots.{order_low}
 use Rattle.tables.specs.Train.{stops_of}
 use Rattle.tables.specs.declared.rolling_stock.Kind.{Kind}
@@ -39,7 +39,7 @@ use Rattle.certificate.proofs.Walking.{crossed_more, none_visited, one_fewer, on
 use Rattle.certificate.proofs.Walking.{visited_more}
 
 -- a run sets out from a stop
-pub out_continues : (start : Stop) (step : Step) → stop_of (entered_at step) ≡ Some start
+pub out_continues : (start : Stop) (step : WalkStep) → stop_of (entered_at step) ≡ Some start
     → Continues [] (start ∷ []) step
 out_continues start step is =
     record {
@@ -53,7 +53,7 @@ out_continues start step is =
 
 -- it goes on from a stop
 pub stop_continues :
-    (before : List Step) (last : Step) (stop : Stop) (step : Step) → stop_of (left_at last) ≡ Some stop
+    (before : List WalkStep) (last : WalkStep) (stop : Stop) (step : WalkStep) → stop_of (left_at last) ≡ Some stop
     → stop_of (entered_at step) ≡ Some stop →
     Continues (last ∷ before) (visited (last ∷ before)) step
 stop_continues before last stop step left is =
@@ -70,7 +70,7 @@ stop_continues before last stop step left is =
 
 -- it goes on from a border
 pub border_continues :
-    (position : Position) → IsLawful position → (before : List Step) (last : Step) (beyond : Spot) (step : Step)
+    (position : Position) → IsLawful position → (before : List WalkStep) (last : WalkStep) (beyond : Spot) (step : WalkStep)
     → across (left_at last) ≡ Some beyond → entered_at step ≡ beyond →
     Continues (last ∷ before) (visited (last ∷ before)) step
 border_continues position lawful before last beyond step over is =
@@ -85,7 +85,7 @@ border_continues position lawful before last beyond step over is =
     }
 
 -- tests of a step
-pub no_beyond : (borders : List ℕ) (hex : Hex) (end : End) → across_end hex end ≡ None
+pub no_beyond : (borders : List ℕ) (hex : Hex) (end : TrackEnd) → across_end hex end ≡ None
     → is_free_end borders hex end ≡ false
 no_beyond borders hex (AtSide side) none = by_next (neighbour_of hex side) none
   where
@@ -100,13 +100,13 @@ both_false : (a b : Bool) → b ≡ true → (a && not b) ≡ false
 both_false true b is = ap not is
 both_false false b is = refl
 
-pub not_free : (borders : List ℕ) (hex : Hex) (end : End) (side : Side) → end ≡ AtSide side
+pub not_free : (borders : List ℕ) (hex : Hex) (end : TrackEnd) (side : Side) → end ≡ AtSide side
     → has_border (border_of hex side) borders ≡ true → is_free_end borders hex end ≡ false
 not_free borders hex end side is used =
     ap (is_free_end borders hex) is ∙ both_false (is_some (neighbour_of hex side))
     (has_border (border_of hex side) borders) used
 
-pub is_free : (borders : List ℕ) (hex : Hex) (end : End) (side : Side) (beyond : Spot) → end ≡ AtSide side
+pub is_free : (borders : List ℕ) (hex : Hex) (end : TrackEnd) (side : Side) (beyond : Spot) → end ≡ AtSide side
     → across_end hex end ≡ Some beyond → has_border (border_of hex side) borders ≡ false
     → is_free_end borders hex end ≡ true
 is_free borders hex end side beyond is over free =
@@ -119,22 +119,22 @@ is_free borders hex end side beyond is over free =
     by_next (Some other) same = ap not free
 
 -- a step to no stop may be taken where it leads over a border
-pub takes_over : (reached : List Stop) (node : Node) (end : End) (step : Step) → stop_of (left_at step) ≡ None
+pub takes_over : (reached : List Stop) (node : Node) (end : TrackEnd) (step : WalkStep) → stop_of (left_at step) ≡ None
     → may_take reached node end step ≡ goes_over (taken_borders node) step
 takes_over reached node (AtSide side) step none =
     ap (λ (o : Option Stop). is_new_stop reached (visited node.begun) o || goes_over (taken_borders node) step) none
 takes_over reached node (AtStop number) step none = refl
 
-to_stop : (borders : List ℕ) (hex : Hex) (end : End) (stop : Stop) → stop_at_end hex end ≡ Some stop
+to_stop : (borders : List ℕ) (hex : Hex) (end : TrackEnd) (stop : Stop) → stop_at_end hex end ≡ Some stop
     → is_free_end borders hex end ≡ false
 to_stop borders hex (AtSide side) stop is = cc
 to_stop borders hex (AtStop number) stop is = refl
 
 -- from a stop no step is taken to a stop
-pub takes_no_stop : (reached : List Stop) (node : Node) (end : End) (number : StopNumber) (step : Step) (stop : Stop)
+pub takes_no_stop : (reached : List Stop) (node : Node) (end : TrackEnd) (number : StopNumber) (step : WalkStep) (stop : Stop)
     → end ≡ AtStop number → stop_of (left_at step) ≡ Some stop → may_take reached node end step ≡ false
 takes_no_stop reached node end number step stop at is =
-    ap (λ (e : End). may_take reached node e step) at
+    ap (λ (e : TrackEnd). may_take reached node e step) at
     ∙ to_stop (taken_borders node) (left_at step).hex (left_at step).end stop is
 
 or_false : (a b : Bool) → b ≡ false → (a || b) ≡ a
@@ -143,11 +143,11 @@ or_false false b is = is
 
 -- from a border one is taken to a reached stop that is not in the run
 pub takes_stop :
-    (reached : List Stop) (node : Node) (end : End) (side : Side) (step : Step) (stop : Stop) → end ≡ AtSide side
+    (reached : List Stop) (node : Node) (end : TrackEnd) (side : Side) (step : WalkStep) (stop : Stop) → end ≡ AtSide side
     → stop_of (left_at step) ≡ Some stop →
     may_take reached node end step ≡ (has_stop stop reached && not (has_stop stop (visited node.begun)))
 takes_stop reached node end side step stop at is =
-    ap (λ (e : End). may_take reached node e step) at
+    ap (λ (e : TrackEnd). may_take reached node e step) at
     ∙ (ap (λ (o : Option Stop). is_new_stop reached (visited node.begun) o || goes_over (taken_borders node) step) is
     ∙ or_false (has_stop stop reached && not (has_stop stop (visited node.begun)))
     (goes_over (taken_borders node) step) (to_stop (taken_borders node) (left_at step).hex (left_at step).end stop
@@ -165,11 +165,11 @@ pub seen_false : (a b : Bool) → b ≡ true → (a && not b) ≡ false
 seen_false a b is = both_false a b is
 
 module _ (position : Position) (tree : Tree) (begun : Begun) (used marks : List Bool) (assigned : List TrainRun)
-    (steps : List Step) (stops : List Stop) (at_node : IsOnRun position tree begun used marks assigned steps
+    (steps : List WalkStep) (stops : List Stop) (at_node : IsOnRun position tree begun used marks assigned steps
     stops) where
   -- over a border
   pub on_run_over :
-      (step : Step) (side : Side) → Continues steps stops step → stop_of (left_at step) ≡ None
+      (step : WalkStep) (side : Side) → Continues steps stops step → stop_of (left_at step) ≡ None
       → (left_at step).end ≡ AtSide side →
       border_of (left_at step).hex side < length used →
       IsOnRun position tree begun (set used (border_of (left_at step).hex side) true) marks assigned (step ∷ steps)
@@ -178,7 +178,7 @@ module _ (position : Position) (tree : Tree) (begun : Begun) (used marks : List 
       let border : ℕ = border_of (left_at step).hex side in
       let same : visited (step ∷ steps) ≡ stops = continues.visits ∙ ap (λ (o : Option Stop). listed o ++ stops) none in
       let over : gone_over (step ∷ steps) ≡ border ∷ gone_over steps =
-      continues.crosses ∙ ap (λ (e : End). border_at (left_at step).hex e ++ gone_over steps) at in
+      continues.crosses ∙ ap (λ (e : TrackEnd). border_at (left_at step).hex e ++ gone_over steps) at in
       subst (λ (all : List Stop). IsOnRun position tree begun (set used border true) marks assigned (step ∷ steps) all)
       (sym same)
       (record {
@@ -196,7 +196,7 @@ module _ (position : Position) (tree : Tree) (begun : Begun) (used marks : List 
 
   -- to a stop
   pub on_run_at_stop :
-      (step : Step) (stop : Stop) (here : Begun) → Continues steps stops step → stop_of (left_at step) ≡ Some stop
+      (step : WalkStep) (stop : Stop) (here : Begun) → Continues steps stops step → stop_of (left_at step) ≡ Some stop
       → stop_order stop < length marks →
       here.kind ≡ begun.kind → here.next ≡ begun.next → here.later ≡ begun.later
       → here.value ≡ capped (begun.value + value_of position stop) →
@@ -229,7 +229,7 @@ module _ (position : Position) (tree : Tree) (begun : Begun) (used marks : List 
         own = own ∙ ap (λ (b : Bool). has_token position tree.company stop || b) at_node.own;
       })
 
-  pub two_stops : (step : Step) (stop : Stop) → Continues steps stops step → stop_of (left_at step) ≡ Some stop
+  pub two_stops : (step : WalkStep) (stop : Stop) → Continues steps stops step → stop_of (left_at step) ≡ Some stop
       → 2 ≤ length (visited (step ∷ steps))
   two_stops step stop continues is =
       let same : visited (step ∷ steps) ≡ stop ∷ stops =
@@ -237,7 +237,7 @@ module _ (position : Position) (tree : Tree) (begun : Begun) (used marks : List 
       omega (arith, ap length same, at_node.some)
 
 -- the node is the same after a stop more
-pub same_node : (tree : Tree) (here begun : Begun) (assigned : List TrainRun) (steps : List Step)
+pub same_node : (tree : Tree) (here begun : Begun) (assigned : List TrainRun) (steps : List WalkStep)
     → here.kind ≡ begun.kind → here.next ≡ begun.next
     → node_at tree here assigned steps ≡ node_at tree begun assigned steps
 same_node tree here begun assigned steps kind next =
@@ -245,7 +245,7 @@ same_node tree here begun assigned steps kind next =
     ∙ ap (λ (n : ℕ). node_of assigned steps (begun.kind ∷ drop n (trains_of_tree tree))) next
 
 -- the children with the head at a border
-is_beyond : (hex : Hex) (end : End) (beyond : Spot) → across_end hex end ≡ Some beyond
+is_beyond : (hex : Hex) (end : TrackEnd) (beyond : Spot) → across_end hex end ≡ Some beyond
     → (side : Side) × (beyond.end ≡ AtSide side)
 is_beyond hex (AtSide side) beyond is = by_next (neighbour_of hex side) is
   where
@@ -257,7 +257,7 @@ is_beyond hex (AtSide side) beyond is = by_next (neighbour_of hex side) is
 is_beyond hex (AtStop number) beyond is = absurd cc
 
 pub children_at_border :
-    (position : Position) (tree : Tree) (begun : Begun) (assigned : List TrainRun) (steps : List Step) (step : Step)
+    (position : Position) (tree : Tree) (begun : Begun) (assigned : List TrainRun) (steps : List WalkStep) (step : WalkStep)
     (beyond : Spot) →
     stop_of (left_at step) ≡ None → across (left_at step) ≡ Some beyond →
     children position tree.company (reached_in tree) (node_at tree begun assigned (step ∷ steps))
@@ -269,15 +269,15 @@ children_at_border position tree begun assigned steps step beyond none over =
     let far = is_beyond (left_at step).hex (left_at step).end beyond over in
     ap (from_head position tree.company (reached_in tree) node begun.kind later (left_at step)) none
     ∙ (ap (from_border position tree.company (reached_in tree) node) over
-    ∙ ap (λ (e : End). with_steps (may_take (reached_in tree) node e) node (steps_at position beyond.hex beyond.end))
+    ∙ ap (λ (e : TrackEnd). with_steps (may_take (reached_in tree) node e) node (steps_at position beyond.hex beyond.end))
     (sym far.1))
 
 -- the children with the head at a stop
-abbrev pub with_run : Begun → List TrainRun → List Step → List TrainRun
+abbrev pub with_run : Begun → List TrainRun → List WalkStep → List TrainRun
 with_run begun assigned steps = record { kind = begun.kind; steps = steps } ∷ assigned
 
 pub children_at_stop :
-    (position : Position) (tree : Tree) (begun : Begun) (assigned : List TrainRun) (steps : List Step) (step : Step)
+    (position : Position) (tree : Tree) (begun : Begun) (assigned : List TrainRun) (steps : List WalkStep) (step : WalkStep)
     (stop : Stop) →
     stop_of (left_at step) ≡ Some stop →
     children position tree.company (reached_in tree) (node_at tree begun assigned (step ∷ steps))
@@ -293,7 +293,7 @@ two_is count true is two = absurd (let low : count < 2 = ltb-true count 2 is in 
 two_is count false is two = refl
 
 pub finishing_is :
-    (position : Position) (tree : Tree) (begun : Begun) (assigned : List TrainRun) (steps : List Step) (own : Bool)
+    (position : Position) (tree : Tree) (begun : Begun) (assigned : List TrainRun) (steps : List WalkStep) (own : Bool)
     → 2 ≤ length (visited steps) →
     own ≡ list_any (has_token position tree.company) (visited steps) →
     finishing position tree.company (reached_in tree) (node_at tree begun assigned steps) begun.kind
@@ -307,7 +307,7 @@ finishing_is position tree begun assigned steps own two is =
     ∙ ap (λ (b : Bool). node_if b node) (sym is)
 
 module _ (position : Position) (tree : Tree) (begun : Begun) (used marks : List Bool) (assigned : List TrainRun)
-    (before : List Step) (step : Step) (stop : Stop)
+    (before : List WalkStep) (step : WalkStep) (stop : Stop)
     (at_node : IsOnRun position tree begun used marks assigned (step ∷ before) (visited (step ∷ before)))
     (at : stop_of (left_at step) ≡ Some stop) where
   pub is_last : is_last_stop position tree.company (reached_in tree) (node_at tree begun assigned (step ∷ before))
@@ -381,7 +381,7 @@ node_out position tree value place assigned kind begun at_node low is train next
 -- the marks are as they were
 pub same_state :
     (position : Position) (tree : Tree) (begun : Begun) (used marks others seen : List Bool) (assigned : List TrainRun)
-    (steps : List Step) (stops : List Stop) →
+    (steps : List WalkStep) (stops : List Stop) →
     others ≡ used → seen ≡ marks → IsOnRun position tree begun used marks assigned steps stops
     → IsOnRun position tree begun others seen assigned steps stops
 same_state position tree begun used marks others seen assigned steps stops same also at_node =

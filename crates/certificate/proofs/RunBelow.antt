@@ -8,14 +8,14 @@ use Rattle.map_tables.specs.Border.{neighbour_of}
 use Rattle.map_tables.specs.declared.hex.Hex.{Hex}
 use Rattle.map_tables.specs.declared.place.Stop.{Stop}
 use Rattle.map_tables.specs.declared.side.Side.{Side}
-use Rattle.map_tables.specs.declared.track.End.{End}
-use Rattle.map_tables.specs.declared.track.End.TheVariants.{Side as AtSide, Stop as AtStop}
+use Rattle.map_tables.specs.declared.track.TrackEnd.{TrackEnd}
+use Rattle.map_tables.specs.declared.track.TrackEnd.TheVariants.{Side as AtSide, Stop as AtStop}
 use Rattle.reach.specs.Lawful.{IsLawful}
 use Rattle.reach.specs.Position.{Position, HasToken, IsAmong, IsFull, is_red}
 use Rattle.reach.specs.Reached.{ReachesStop}
 use Rattle.reach.specs.Walk.{AreJoined, IsTrack, across, across_end, entered_at, left_at, stop_at_end, stop_of}
 use Rattle.reach.specs.declared.walk.Spot.{Spot}
-use Rattle.reach.specs.declared.walk.Step.{Step}
+use Rattle.reach.specs.declared.walk.WalkStep.{WalkStep}
 use Rattle.reach.proofs.Spots.{back}
 use Rattle.tables.specs.Train.{stops_of}
 use Rattle.tables.specs.declared.rolling_stock.Kind.{Kind}
@@ -57,13 +57,13 @@ distinct_after (Some stop) stops distinct = distinct.1
 
 -- a train that has visited a listed stop and others has room for one more than the others
 fit_after :
-    (kind : Kind) (hex : Hex) (end : End) (stops : List Stop)
+    (kind : Kind) (hex : Hex) (end : TrackEnd) (stops : List Stop)
     → HasRoom kind (length (listed (stop_at_end hex end) ++ stops)) end →
     AreAtMost (stops_of kind) (suc (length stops))
 fit_after kind hex (AtSide side) stops room = room
 fit_after kind hex (AtStop number) stops room = room
 
-room_for : (kind : Kind) (count : ℕ) (end : End) → AreAtMost (stops_of kind) (suc count) → HasRoom kind count end
+room_for : (kind : Kind) (count : ℕ) (end : TrackEnd) → AreAtMost (stops_of kind) (suc count) → HasRoom kind count end
 room_for kind count (AtSide side) fit = fit
 room_for kind count (AtStop number) fit = fewer_fit (stops_of kind) count fit
 
@@ -85,11 +85,11 @@ module _ (position : Position) (lawful : IsLawful position) (company : Company) 
   abbrev base : Node
   base = node_of assigned [] (kind ∷ later)
 
-  abbrev at : List Step → Node
+  abbrev at : List WalkStep → Node
   at begun = node_of assigned begun (kind ∷ later)
 
   -- a run so far that can be finished as it is meant
-  record IsPrefix (step : Step) (before : List Step) : Type 0 where
+  record IsPrefix (step : WalkStep) (before : List WalkStep) : Type 0 where
     begun : IsRunBegun position company kind (run_borders assigned) step before
     onward : stop_of (left_at step) ≡ None → (spot : Spot) × (across (left_at step) ≡ Some spot)
     there : (stop : Stop) → IsAmong stop (visited (step ∷ before)) → IsAmong stop reached
@@ -101,13 +101,13 @@ module _ (position : Position) (lawful : IsLawful position) (company : Company) 
   joint_over spot other (inr over) = sym (border_both position lawful spot.hex spot.end other over)
 
   joint_crossed :
-      (step earlier : Step) (more : List Step) → AreJoined (left_at earlier) (entered_at step) →
+      (step earlier : WalkStep) (more : List WalkStep) → AreJoined (left_at earlier) (entered_at step) →
       crossed (step ∷ earlier ∷ more) ≡ gone_over (earlier ∷ more)
   joint_crossed step earlier more joined =
       ap (λ (l : List ℕ). l ++ crossed (earlier ∷ more)) (joint_over (left_at earlier) (entered_at step) joined)
 
   -- one step less
-  shorter : (step earlier : Step) (more : List Step) → IsPrefix step (earlier ∷ more) → IsPrefix earlier more
+  shorter : (step earlier : WalkStep) (more : List WalkStep) → IsPrefix step (earlier ∷ more) → IsPrefix earlier more
   shorter step earlier more prefix =
       let begun = prefix.begun in
       let joined : AreJoined (left_at earlier) (entered_at step) = begun.walk.1 in
@@ -140,7 +140,7 @@ module _ (position : Position) (lawful : IsLawful position) (company : Company) 
       goes_on (inr over) none = (entered_at step, over)
 
   -- where a step does not lead to a stop it leads over a border
-  record Over (hex : Hex) (end : End) : Type 0 where
+  record Over (hex : Hex) (end : TrackEnd) : Type 0 where
     side : Side
     next : Hex
     at_side : end ≡ AtSide side
@@ -158,13 +158,13 @@ module _ (position : Position) (lawful : IsLawful position) (company : Company) 
       across_none hex side beside = rw beside refl
   over_found (Some next) hex side beside spot is = record { side = side; next = next; at_side = refl; beside = beside }
 
-  over_by : (hex : Hex) (end : End) (spot : Spot) → across_end hex end ≡ Some spot → Over hex end
+  over_by : (hex : Hex) (end : TrackEnd) (spot : Spot) → across_end hex end ≡ Some spot → Over hex end
   over_by hex (AtSide side) spot is = over_found (neighbour_of hex side) hex side refl spot is
   over_by hex (AtStop number) spot is = absurd cc
 
   -- and the border is free
   over_free :
-      (step : Step) (before : List Step) → IsPrefix step before → (borders : List ℕ) →
+      (step : WalkStep) (before : List WalkStep) → IsPrefix step before → (borders : List ℕ) →
       ((border : ℕ) → IsAmong border borders → IsAmong border (crossed (step ∷ before))
       ⊎ IsAmong border (run_borders assigned)) →
       stop_of (left_at step) ≡ None → LeadsOver borders (left_at step).hex (left_at step).end
@@ -174,7 +174,7 @@ module _ (position : Position) (lawful : IsLawful position) (company : Company) 
       over_by (left_at step).hex (left_at step).end spot.0 spot.1 in
       let begun = prefix.begun in
       let gone : gone_over (step ∷ before) ≡ border_of (left_at step).hex over.side ∷ crossed (step ∷ before) =
-      ap (λ (e : End). border_at (left_at step).hex e ++ crossed (step ∷ before)) over.at_side in
+      ap (λ (e : TrackEnd). border_at (left_at step).hex e ++ crossed (step ∷ before)) over.at_side in
       let once : AreDistinct (border_of (left_at step).hex over.side ∷ crossed (step ∷ before)) =
       subst (λ (l : List ℕ). AreDistinct l) gone begun.once in
       let free : ¬ IsAmong (border_of (left_at step).hex over.side) (run_borders assigned) =
@@ -192,12 +192,12 @@ module _ (position : Position) (lawful : IsLawful position) (company : Company) 
       }
 
   -- a step that enters at a stop leads over a border
-  from_stop_over : (step : Step) → IsTrack position step → (stop : Stop) → stop_of (entered_at step) ≡ Some stop
+  from_stop_over : (step : WalkStep) → IsTrack position step → (stop : Stop) → stop_of (entered_at step) ≡ Some stop
       → stop_of (left_at step) ≡ None
   from_stop_over step track stop is = by_ends (entered_at step).end (left_at step).end refl refl is
     where
       by_ends :
-          (enters leaves : End) → (entered_at step).end ≡ enters → (left_at step).end ≡ leaves
+          (enters leaves : TrackEnd) → (entered_at step).end ≡ enters → (left_at step).end ≡ leaves
           → stop_at_end step.link.hex enters ≡ Some stop →
           stop_at_end step.link.hex (left_at step).end ≡ None
       by_ends (AtSide side) leaves e l is = absurd cc
@@ -206,7 +206,7 @@ module _ (position : Position) (lawful : IsLawful position) (company : Company) 
           (ordered position lawful step track) e l)
 
   -- the first step
-  first_child : (step : Step) → IsPrefix step [] → IsAmong (at (step ∷ [])) (children position company reached base)
+  first_child : (step : WalkStep) → IsPrefix step [] → IsAmong (at (step ∷ [])) (children position company reached base)
   first_child step prefix =
       let begun = prefix.begun in
       let stop : Stop = begun.begins.0 in
@@ -223,8 +223,8 @@ module _ (position : Position) (lawful : IsLawful position) (company : Company) 
       (over_free step [] prefix (run_borders assigned) (λ border here. inr here) none)))
 
   -- a later one
-  module _ (step earlier : Step) (more : List Step) (prefix : IsPrefix step (earlier ∷ more)) where
-    abbrev run : List Step
+  module _ (step earlier : WalkStep) (more : List WalkStep) (prefix : IsPrefix step (earlier ∷ more)) where
+    abbrev run : List WalkStep
     run = earlier ∷ more
 
     -- what was crossed before it
@@ -308,7 +308,7 @@ module _ (position : Position) (lawful : IsLawful position) (company : Company) 
 
   -- all the way
   run_begun :
-      (start : Node) → IsBelow position company reached start base → (step : Step) (before : List Step)
+      (start : Node) → IsBelow position company reached start base → (step : WalkStep) (before : List WalkStep)
       → IsPrefix step before →
       IsBelow position company reached start (at (step ∷ before))
   run_begun start below step [] prefix =
@@ -318,17 +318,17 @@ module _ (position : Position) (lawful : IsLawful position) (company : Company) 
       (run_begun start below earlier more (shorter step earlier more prefix))
       (later_child step earlier more prefix (joint step earlier more prefix))
     where
-      joint : (step earlier : Step) (more : List Step) → IsPrefix step (earlier ∷ more)
+      joint : (step earlier : WalkStep) (more : List WalkStep) → IsPrefix step (earlier ∷ more)
           → AreJoined (left_at earlier) (entered_at step)
       joint step earlier more prefix = let begun = prefix.begun in begun.walk.1
 
   -- and assigned
-  abbrev done : List Step → Node
+  abbrev done : List WalkStep → Node
   done steps = node_of (record { kind = kind; steps = steps } ∷ assigned) [] later
 
   module _ (exactly : (stop : Stop) → ReachesStop position company stop → IsAmong stop reached) where
     whole :
-        (step : Step) (before : List Step) → IsLegalRun position company kind [] (step ∷ before) →
+        (step : WalkStep) (before : List WalkStep) → IsLegalRun position company kind [] (step ∷ before) →
         ((border : ℕ) → IsAmong border (crossed (step ∷ before)) → ¬ IsAmong border (run_borders assigned))
         → IsPrefix step before
     whole step before legal free =
@@ -351,13 +351,13 @@ module _ (position : Position) (lawful : IsLawful position) (company : Company) 
               legal.no_full_inside legal.own_token stop among);
         }
       where
-        at_its_end : (end : End) → stop_at_end step.link.hex end ≡ Some legal.ends.0
+        at_its_end : (end : TrackEnd) → stop_at_end step.link.hex end ≡ Some legal.ends.0
             → HasRoom kind (length (visited (step ∷ before))) end
         at_its_end (AtSide side) is = absurd cc
         at_its_end (AtStop number) is = legal.most
 
     pub run_below :
-        (start : Node) → IsBelow position company reached start base → (steps : List Step)
+        (start : Node) → IsBelow position company reached start base → (steps : List WalkStep)
         → IsLegalRun position company kind [] steps →
         ((border : ℕ) → IsAmong border (crossed steps) → ¬ IsAmong border (run_borders assigned))
         → IsBelow position company reached start (done steps)

@@ -7,7 +7,7 @@ use Rattle.map_tables.specs.declared.place.Stop.{Stop}
 use Rattle.reach.specs.Lawful.{IsLawful}
 use Rattle.reach.specs.Position.{Position, IsAmong}
 use Rattle.reach.specs.Reached.{ReachesStop}
-use Rattle.reach.specs.declared.walk.Step.{Step}
+use Rattle.reach.specs.declared.walk.WalkStep.{WalkStep}
 use Rattle.tables.specs.Train.{same_kind}
 use Rattle.tables.specs.declared.rolling_stock.Kind.{Kind}
 use Rattle.tables.specs.declared.rolling_stock.Kind.TheVariants.{Two, Three, Four, Five, Six, Diesel}
@@ -85,7 +85,7 @@ number_out k run (first ∷ others) rest (inr later) =
     ≡ of_kind k run.kind + in_number k (trains_that_run l)) later.2
     (omega (arith, found))
 
-turned_round : (steps others : List Step) → ShareNoBorder steps others → ShareNoBorder others steps
+turned_round : (steps others : List WalkStep) → ShareNoBorder steps others → ShareNoBorder others steps
 turned_round steps others apart border there here = apart border here there
 
 apart_out :
@@ -110,7 +110,7 @@ apart_out run (first ∷ others) rest (inr later) apart =
 -- a run of a train of a kind is found, or there is none
 abbrev Found : Kind → List TrainRun → Type 0
 Found kind runs =
-    ((steps : List Step) × (rest : List TrainRun) × TakenOut (record { kind = kind; steps = steps }) runs rest)
+    ((steps : List WalkStep) × (rest : List TrainRun) × TakenOut (record { kind = kind; steps = steps }) runs rest)
     ⊎ (in_number kind (trains_that_run runs) ≡ 0)
 
 found_run : (kind : Kind) (runs : List TrainRun) → Found kind runs

@@ -5,8 +5,8 @@ use Rattle.std.proofs.Common.{ap, sym, ◌∙◌, arith}
 use Rattle.std.proofs.lemmas.Bool.{eq-eqb, ne_eqb, ltb-false, ltb-true}
 use Rattle.std.proofs.lemmas.List.{set-set, set-get_or, length-set, drop_all, drop_more}
 use Rattle.map_tables.specs.declared.place.Stop.{Stop}
-use Rattle.map_tables.specs.declared.track.End.{End}
-use Rattle.map_tables.specs.declared.track.End.TheVariants.{Side as AtSide, Stop as AtStop}
+use Rattle.map_tables.specs.declared.track.TrackEnd.{TrackEnd}
+use Rattle.map_tables.specs.declared.track.TrackEnd.TheVariants.{Side as AtSide, Stop as AtStop}
 use Rattle.reach.specs.Reached.{stop_order}
 use Rattle.certificate.specs.Ranking.{most_of}
 use Rattle.certificate.specs.Tree.{is_used_up, still_to_come}
@@ -17,7 +17,7 @@ use Rattle.reach.proofs.Collected.{none_marked}
 use Rattle.legal_runs.proofs.Kept.{mark_more}
 
 -- a step that is entered at a border may reach a stop
-abbrev pub end_rank : End → ℕ
+abbrev pub end_rank : TrackEnd → ℕ
 end_rank (AtSide side) = 50
 end_rank (AtStop number) = 0
 
@@ -127,6 +127,6 @@ sum_end items index sum before all high low earns =
     ap (λ (l : List Group). earned_from l before) (drop_all index items high) in
     omega arith
 
-pub rank_low : (end : End) → end_rank end ≤ 50
+pub rank_low : (end : TrackEnd) → end_rank end ≤ 50
 rank_low (AtSide side) = omega arith
 rank_low (AtStop number) = omega arith

@@ -11,7 +11,7 @@ use Rattle.map_tables.specs.declared.hex.Hex.TheVariants.{H10, H12}
 use Rattle.map_tables.specs.declared.place.Stop.{Stop}
 use Rattle.map_tables.specs.declared.place.StopNumber.TheVariants.{First}
 use Rattle.map_tables.specs.declared.side.Side.TheVariants.{East, West}
-use Rattle.map_tables.specs.declared.track.End.TheVariants.{Side as AtSide, Stop as AtStop}
+use Rattle.map_tables.specs.declared.track.TrackEnd.TheVariants.{Side as AtSide, Stop as AtStop}
 use Rattle.reach.specs.Position.{InHex, Position, empty_hex}
 use Rattle.tables.specs.declared.rolling_stock.Kind.TheVariants.{Two}
 use Rattle.tables.specs.declared.roster.Company.TheVariants.{Pennsylvania}

@@ -21,13 +21,13 @@ use Rattle.map_tables.specs.Track.{end_order}
 use Rattle.map_tables.specs.declared.hex.Hex.{Hex}
 use Rattle.map_tables.specs.declared.hex.Hex.TheVariants.{A9, A11, I1, J2}
 use Rattle.map_tables.specs.declared.place.Stop.{Stop}
-use Rattle.map_tables.specs.declared.track.End.{End}
-use Rattle.map_tables.specs.declared.track.End.TheVariants.{Side as AtSide, Stop as AtStop}
+use Rattle.map_tables.specs.declared.track.TrackEnd.{TrackEnd}
+use Rattle.map_tables.specs.declared.track.TrackEnd.TheVariants.{Side as AtSide, Stop as AtStop}
 use Rattle.map_tables.specs.declared.track.Link.{Link}
 use Rattle.reach.specs.Position.{Position, IsAmong, is_red, links_of, value_of}
 use Rattle.reach.specs.Walk.{across, left_at, stop_of}
 use Rattle.reach.specs.declared.walk.Spot.{Spot}
-use Rattle.reach.specs.declared.walk.Step.{Step}
+use Rattle.reach.specs.declared.walk.WalkStep.{WalkStep}
 use Rattle.tables.specs.Train.{same_kind, stops_of}
 use Rattle.tables.specs.declared.rolling_stock.Kind.{Kind}
 use Rattle.tables.specs.declared.rolling_stock.Kind.TheVariants.{Two, Three, Four, Five, Six, Diesel}
@@ -40,11 +40,11 @@ use Rattle.legal_runs.specs.Set.{TrainRun, revenue_of}
 -- left
 pub record Node : Type 0 where
   pub assigned : List TrainRun
-  pub begun : List Step
+  pub begun : List WalkStep
   pub trains : List Kind
 
 -- a node with these assigned runs, this run begun and these trains
-abbrev pub node_of : List TrainRun → List Step → List Kind → Node
+abbrev pub node_of : List TrainRun → List WalkStep → List Kind → Node
 node_of assigned begun trains = record { assigned = assigned; begun = begun; trains = trains }
 
 -- what each of some things has, one after the other
@@ -67,13 +67,13 @@ abbrev pub root_of : List Kind → Node
 root_of trains = node_of [] [] (greatest_first trains)
 
 -- the step into a link at one of its ends
-abbrev pub steps_by : End → Link → List Step
+abbrev pub steps_by : TrackEnd → Link → List WalkStep
 steps_by end link =
     if end_order link.a == end_order end then record { link = link; turned = false } ∷ [] else
     (if end_order link.b == end_order end then record { link = link; turned = true } ∷ [] else [])
 
 -- the steps that enter a link at an end in a hex, in the order of the links
-abbrev pub steps_at : Position → Hex → End → List Step
+abbrev pub steps_at : Position → Hex → TrackEnd → List WalkStep
 steps_at position hex end = for_each (steps_by end) (links_of position hex)
 
 -- the hexes in which a stop lies
@@ -83,7 +83,7 @@ hexes_of A11 = A9 ∷ A11 ∷ []
 hexes_of hex = hex ∷ []
 
 -- the steps that leave a stop
-abbrev pub steps_from : Position → Stop → List Step
+abbrev pub steps_from : Position → Stop → List WalkStep
 steps_from position stop = for_each (λ hex. steps_at position hex (AtStop stop.number)) (hexes_of stop.hex)
 
 -- the borders that some runs cross
@@ -92,7 +92,7 @@ run_borders [] = []
 run_borders (run ∷ runs) = crossed run.steps ++ run_borders runs
 
 -- the borders that a run has crossed, with the one at which its head is
-abbrev pub gone_over : List Step → List ℕ
+abbrev pub gone_over : List WalkStep → List ℕ
 gone_over [] = []
 gone_over (step ∷ before) = border_at (left_at step).hex (left_at step).end ++ crossed (step ∷ before)
 
@@ -101,12 +101,12 @@ abbrev pub taken_borders : Node → List ℕ
 taken_borders node = gone_over node.begun ++ run_borders node.assigned
 
 -- an end of a hex is a side at a border that was not crossed
-abbrev pub is_free_end : List ℕ → Hex → End → Bool
+abbrev pub is_free_end : List ℕ → Hex → TrackEnd → Bool
 is_free_end borders hex (AtSide side) = is_some (neighbour_of hex side) && not (has_border (border_of hex side) borders)
 is_free_end borders hex (AtStop number) = false
 
 -- a step leads over such a border
-abbrev pub goes_over : List ℕ → Step → Bool
+abbrev pub goes_over : List ℕ → WalkStep → Bool
 goes_over borders step = is_free_end borders (left_at step).hex (left_at step).end
 
 -- a stop is reached, and not in a run
@@ -115,12 +115,12 @@ is_new_stop reached stops (Some stop) = has_stop stop reached && not (has_stop s
 is_new_stop reached stops None = false
 
 -- a step leads to such a stop, or over a border that was not crossed
-abbrev pub leads_on : List Stop → Node → Step → Bool
+abbrev pub leads_on : List Stop → Node → WalkStep → Bool
 leads_on reached node step =
     is_new_stop reached (visited node.begun) (stop_of (left_at step)) || goes_over (taken_borders node) step
 
 -- with one more step of the run
-abbrev pub with_step : Node → Step → Node
+abbrev pub with_step : Node → WalkStep → Node
 with_step node step = node_of node.assigned (step ∷ node.begun) node.trains
 
 -- a node, if a test passes
@@ -129,7 +129,7 @@ node_if true node = node ∷ []
 node_if false node = []
 
 -- each step that passes a test
-abbrev pub with_steps : (Step → Bool) → Node → List Step → List Node
+abbrev pub with_steps : (WalkStep → Bool) → Node → List WalkStep → List Node
 with_steps test node steps = for_each (λ step. node_if (test step) (with_step node step)) steps
 
 -- a train has used up its stops
@@ -175,7 +175,7 @@ module _ (position : Position) (company : Company) (reached : List Stop) where
   from_head node kind later head None = from_border node (across head)
 
   -- the choices at a node, in order
-  abbrev pub choices_at : List TrainRun → List Step → List Kind → List Node
+  abbrev pub choices_at : List TrainRun → List WalkStep → List Kind → List Node
   choices_at assigned begun [] = []
   choices_at assigned [] (kind ∷ later) = node_of assigned [] later ∷ setting_out (node_of assigned [] (kind ∷ later))
   choices_at assigned (step ∷ before) (kind ∷ later) =
@@ -238,7 +238,7 @@ may_all_earn position reached [] = 0
 may_all_earn position reached (kind ∷ later) = may_earn position reached kind [] + may_all_earn position reached later
 
 -- what a train in hand earns and may earn, and those after it
-abbrev pub may_come : Position → List Stop → List Step → List Kind → ℕ
+abbrev pub may_come : Position → List Stop → List WalkStep → List Kind → ℕ
 may_come position reached begun [] = 0
 may_come position reached begun (kind ∷ later) =
     worth position (visited begun) + (may_earn position reached kind (visited begun)

@@ -7,13 +7,13 @@ use Rattle.std.specs.List.{list_any}
 use Rattle.map_tables.specs.Place.{joined_stop_of}
 use Rattle.map_tables.specs.declared.place.Stop.{Stop}
 use Rattle.map_tables.specs.declared.side.Side.{Side}
-use Rattle.map_tables.specs.declared.track.End.{End}
-use Rattle.map_tables.specs.declared.track.End.TheVariants.{Side as AtSide, Stop as AtStop}
+use Rattle.map_tables.specs.declared.track.TrackEnd.{TrackEnd}
+use Rattle.map_tables.specs.declared.track.TrackEnd.TheVariants.{Side as AtSide, Stop as AtStop}
 use Rattle.reach.specs.Lawful.{IsLawful}
 use Rattle.reach.specs.Position.{Position, IsAmong}
 use Rattle.reach.specs.Reached.{stop_order}
 use Rattle.reach.specs.Walk.{entered_at, left_at, stop_of}
-use Rattle.reach.specs.declared.walk.Step.{Step}
+use Rattle.reach.specs.declared.walk.WalkStep.{WalkStep}
 use Rattle.tables.specs.Train.{stops_of}
 use Rattle.tables.specs.declared.rolling_stock.Kind.{Kind}
 use Rattle.legal_runs.specs.Fault.{has_border, has_stop, has_token}
@@ -94,7 +94,7 @@ pub record IsBetweenRuns (position : Position) (tree : Tree) (value : ℕ) (assi
 
 -- a run is begun that has visited these stops, the first of them also before its first step
 pub record IsOnRun (position : Position) (tree : Tree) (begun : Begun) (used marks : List Bool)
-    (assigned : List TrainRun) (steps : List Step) (stops : List Stop) : Type 0 where
+    (assigned : List TrainRun) (steps : List WalkStep) (stops : List Stop) : Type 0 where
   pub tree_is : IsTree position tree
   pub crossed : AreCrossed used (gone_over steps ++ run_borders assigned)
   pub seen : AreVisited marks stops
@@ -106,13 +106,13 @@ pub record IsOnRun (position : Position) (tree : Tree) (begun : Begun) (used mar
   pub own : begun.own_token ≡ list_any (has_token position tree.company) stops
 
 -- a step goes on from these steps, which have visited these stops
-pub record Continues (steps : List Step) (stops : List Stop) (step : Step) : Type 0 where
+pub record Continues (steps : List WalkStep) (stops : List Stop) (step : WalkStep) : Type 0 where
   pub visits : visited (step ∷ steps) ≡ listed (stop_of (left_at step)) ++ stops
   pub crosses : gone_over (step ∷ steps) ≡ border_at (left_at step).hex (left_at step).end ++ gone_over steps
   pub same : (side : Side) → (entered_at step).end ≡ AtSide side → visited steps ≡ stops
 
 -- the node there
-abbrev pub node_at : Tree → Begun → List TrainRun → List Step → Node
+abbrev pub node_at : Tree → Begun → List TrainRun → List WalkStep → Node
 node_at tree begun assigned steps = node_of assigned steps (begun.kind ∷ drop begun.next (trains_of_tree tree))
 
 -- the node at which the trains from a place on have not begun
@@ -120,7 +120,7 @@ abbrev pub node_from : Tree → List TrainRun → ℕ → Node
 node_from tree assigned place = node_of assigned [] (drop place (trains_of_tree tree))
 
 -- a step may be taken that is entered at an end: from a border or from a stop
-abbrev pub may_take : List Stop → Node → End → Step → Bool
+abbrev pub may_take : List Stop → Node → TrackEnd → WalkStep → Bool
 may_take reached node (AtSide side) step = leads_on reached node step
 may_take reached node (AtStop number) step = goes_over (taken_borders node) step
 

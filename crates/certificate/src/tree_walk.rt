@@ -8,7 +8,7 @@ ghost use Rattle.map_tables.specs.declared.place.Stop.{Stop};
 ghost use Rattle.reach.specs.Position.{IsAmong, Position, is_red, links_of, value_of};
 ghost use Rattle.reach.specs.Reached.{stop_order};
 ghost use Rattle.reach.specs.Walk.{across, entered_at, left_at, stop_of};
-ghost use Rattle.reach.specs.declared.walk.Step.{Step};
+ghost use Rattle.reach.specs.declared.walk.WalkStep.{WalkStep};
 ghost use Rattle.legal_runs.specs.Fault.{has_token, is_full};
 ghost use Rattle.legal_runs.specs.Legal.{listed, visited};
 ghost use Rattle.legal_runs.specs.Set.{TrainRun, revenue_of};
@@ -22,8 +22,8 @@ ghost use Rattle.certificate.specs.Walking.{trains_of_tree};
 use crate::decider::{Decider, Decision};
 use crate::tree::Tree;
 use legal_runs::{Used, border_to, has_token, is_full, worth};
-use map_tables::{End, Hex, Link, Stop};
-use reach::{Network, Spot, Step, StopMarks, twin};
+use map_tables::{Hex, Link, Stop, TrackEnd};
+use reach::{Network, Spot, StopMarks, WalkStep, twin};
 use tables::{Company, Kind};
 
 /// A run that is begun, and the trains after it.
@@ -79,17 +79,17 @@ impl Begun {
 }
 
 /// Returns the step that enters a link at an end.
-fn step_into(link: Link, end: End) -> Option<Step>
+fn step_into(link: Link, end: TrackEnd) -> Option<WalkStep>
     ensures { listed result ≡ steps_by end link }
 {
     if link.a == end {
-        return Some(Step {
+        return Some(WalkStep {
             link,
             turned: false,
         });
     }
     if link.b == end {
-        return Some(Step { link, turned: true });
+        return Some(WalkStep { link, turned: true });
     }
     None
 }
@@ -97,7 +97,7 @@ fn step_into(link: Link, end: End) -> Option<Step>
 /// Decides at a node where a run is begun.
 fn ask<D: Decider>(tree: &Tree, begun: &Begun, seen: &StopMarks, decider: &mut D) -> Decision
     ensures { (position : Position) (crossed : List Bool) (assigned : List TrainRun)
-        (steps : List Step) →
+        (steps : List WalkStep) →
         IsOnRun position tree.now begun.now crossed seen.now assigned steps (visited steps) →
         let node = node_at tree.now begun.now assigned steps in
         let amount = capped (bound position (reached_in tree.now) node) in
@@ -226,9 +226,9 @@ fn leave<N: Network, D: Decider>(
     seen: &mut StopMarks,
     decider: &mut D,
 ) -> bool
-    ensures walks { (assigned : List TrainRun) (steps : List Step) (stops : List Stop) →
+    ensures walks { (assigned : List TrainRun) (steps : List WalkStep) (stops : List Stop) →
         IsOnRun (N.position network.now) tree.now begun.now used.old seen.old assigned steps stops →
-        ((step : Step) → stop_of (entered_at step) ≡ Some stop → Continues steps stops step) →
+        ((step : WalkStep) → stop_of (entered_at step) ≡ Some stop → Continues steps stops step) →
         joined_stop_of stop ≡ stop →
         let position = N.position network.now in
         let node = node_at tree.now begun.now assigned steps in
@@ -237,7 +237,7 @@ fn leave<N: Network, D: Decider>(
     ensures used { used.new ≡ used.old }
     ensures seen { seen.new ≡ seen.old }
 {
-    let end = End::Stop(stop.number);
+    let end = TrackEnd::Stop(stop.number);
     let hex = stop.hex;
     let Some(other) = twin(hex) else {
         return follow(network, tree, Spot { hex, end }, begun, used, seen, decider);
@@ -260,9 +260,9 @@ fn follow<N: Network, D: Decider>(
     seen: &mut StopMarks,
     decider: &mut D,
 ) -> bool
-    ensures walks { (assigned : List TrainRun) (steps : List Step) (stops : List Stop) →
+    ensures walks { (assigned : List TrainRun) (steps : List WalkStep) (stops : List Stop) →
         IsOnRun (N.position network.now) tree.now begun.now used.old seen.old assigned steps stops →
-        ((step : Step) → entered_at step ≡ at → Continues steps stops step) →
+        ((step : WalkStep) → entered_at step ≡ at → Continues steps stops step) →
         let position = N.position network.now in
         let node = node_at tree.now begun.now assigned steps in
         let test = may_take (reached_in tree.now) node at.end in
@@ -292,10 +292,10 @@ fn take<N: Network, D: Decider>(
     seen: &mut StopMarks,
     decider: &mut D,
 ) -> bool
-    ensures walks { (assigned : List TrainRun) (steps : List Step) (stops : List Stop) →
+    ensures walks { (assigned : List TrainRun) (steps : List WalkStep) (stops : List Stop) →
         IsOnRun (N.position network.now) tree.now begun.now used.old seen.old assigned steps stops →
         IsAmong link (links_of (N.position network.now) at.hex) →
-        ((step : Step) → entered_at step ≡ at → Continues steps stops step) →
+        ((step : WalkStep) → entered_at step ≡ at → Continues steps stops step) →
         let node = node_at tree.now begun.now assigned steps in
         let test = may_take (reached_in tree.now) node at.end in
         let nodes = with_steps test node (steps_by at.end link) in
@@ -311,7 +311,7 @@ fn take<N: Network, D: Decider>(
     let Some(stop) = left.stop() else {
         return cross(network, tree, left, begun, used, seen, decider);
     };
-    let End::Side(_) = at.end else {
+    let TrackEnd::Side(_) = at.end else {
         return true;
     };
     if !tree.reaches(stop) {
@@ -334,8 +334,8 @@ fn arrive<N: Network, D: Decider>(
     seen: &mut StopMarks,
     decider: &mut D,
 ) -> bool
-    ensures walks { (assigned : List TrainRun) (steps : List Step) (stops : List Stop) →
-        (step : Step) →
+    ensures walks { (assigned : List TrainRun) (steps : List WalkStep) (stops : List Stop) →
+        (step : WalkStep) →
         IsOnRun (N.position network.now) tree.now begun.now used.old seen.old assigned steps stops →
         Continues steps stops step → stop_of (left_at step) ≡ Some stop →
         let node = node_at tree.now begun.now assigned steps in
@@ -363,8 +363,8 @@ fn cross<N: Network, D: Decider>(
     seen: &mut StopMarks,
     decider: &mut D,
 ) -> bool
-    ensures walks { (assigned : List TrainRun) (steps : List Step) (stops : List Stop) →
-        (step : Step) →
+    ensures walks { (assigned : List TrainRun) (steps : List WalkStep) (stops : List Stop) →
+        (step : WalkStep) →
         IsOnRun (N.position network.now) tree.now begun.now used.old seen.old assigned steps stops →
         Continues steps stops step → left_at step ≡ head → stop_of head ≡ None →
         let node = node_at tree.now begun.now assigned steps in
@@ -377,7 +377,7 @@ fn cross<N: Network, D: Decider>(
     let Some(beyond) = head.across() else {
         return true;
     };
-    let End::Side(side) = head.end else {
+    let TrackEnd::Side(side) = head.end else {
         return true;
     };
     let number = border_to(head.hex, side, Some(beyond.hex));
@@ -402,7 +402,7 @@ fn at_border<N: Network, D: Decider>(
     seen: &mut StopMarks,
     decider: &mut D,
 ) -> bool
-    ensures walks { (assigned : List TrainRun) (before : List Step) (step : Step) →
+    ensures walks { (assigned : List TrainRun) (before : List WalkStep) (step : WalkStep) →
         let steps = step ∷ before in let stops = visited steps in
         IsOnRun (N.position network.now) tree.now begun.now used.old seen.old assigned steps stops →
         stop_of (left_at step) ≡ None → across (left_at step) ≡ Some beyond →
@@ -430,7 +430,7 @@ fn at_stop<N: Network, D: Decider>(
     seen: &mut StopMarks,
     decider: &mut D,
 ) -> bool
-    ensures walks { (assigned : List TrainRun) (before : List Step) (step : Step) →
+    ensures walks { (assigned : List TrainRun) (before : List WalkStep) (step : WalkStep) →
         let steps = step ∷ before in let stops = visited steps in
         IsOnRun (N.position network.now) tree.now begun.now used.old seen.old assigned steps stops →
         2 ≤ length stops → stop_of (left_at step) ≡ Some stop →
@@ -465,7 +465,7 @@ fn pass<N: Network, D: Decider>(
     seen: &mut StopMarks,
     decider: &mut D,
 ) -> bool
-    ensures walks { (assigned : List TrainRun) (before : List Step) (step : Step) →
+    ensures walks { (assigned : List TrainRun) (before : List WalkStep) (step : WalkStep) →
         let steps = step ∷ before in let stops = visited steps in
         IsOnRun (N.position network.now) tree.now begun.now used.old seen.old assigned steps stops →
         stop_of (left_at step) ≡ Some stop →

@@ -1,7 +1,7 @@
 //! Track by the map alone: over which sides it may not lead, and between which hexes it may.
 
 use board_state::is_open;
-use map_tables::{End, Hex, Lay, Side, hex_kind, laid_links, neighbour, printed_links};
+use map_tables::{Hex, Lay, Side, TrackEnd, hex_kind, laid_links, neighbour, printed_links};
 
 /// Returns the first side of a tile to which its track may not lead, because the map ends there,
 /// the border is closed, or a grey or red hex there has no track to it; `None` if there is no such
@@ -10,7 +10,7 @@ pub fn bad_side(lay: Lay) -> Option<Side> {
     for link in laid_links(lay).as_slice() {
         for end in &[link.a, link.b] {
             match end {
-                End::Side(side) if is_bad(lay.hex, *side) => return Some(*side),
+                TrackEnd::Side(side) if is_bad(lay.hex, *side) => return Some(*side),
                 _ => {}
             }
         }
@@ -29,7 +29,7 @@ fn is_bad(hex: Hex, side: Side) -> bool {
 /// Returns whether the print of a hex has track at a side.
 fn has_track_at(hex: Hex, side: Side) -> bool {
     for link in printed_links(hex).as_slice() {
-        if link.a == End::Side(side) || link.b == End::Side(side) {
+        if link.a == TrackEnd::Side(side) || link.b == TrackEnd::Side(side) {
             return true;
         }
     }

@@ -3,7 +3,7 @@
 use board::Board;
 use desk_base::Piece::{Bytes, Column, Number, Words};
 use desk_base::{fill, push};
-use map_tables::{End, Hex, HexKind, Link, Place, Side, hex_kind, neighbour};
+use map_tables::{Hex, HexKind, Link, Place, Side, TrackEnd, hex_kind, neighbour};
 use reach::Network;
 use std::alloc::AllocError;
 use tables::Money;
@@ -82,7 +82,7 @@ fn beyond(hex: Hex, side: Side) -> Option<Hex> {
 fn push_track(out: &mut Vec<u8>, board: &Board, hex: Hex, side: Side) -> Result<(), AllocError> {
     let mut before = "";
     for link in board.links(hex).as_slice() {
-        if let Some(end) = other_end(link, End::Side(side)) {
+        if let Some(end) = other_end(link, TrackEnd::Side(side)) {
             fill(out, before, &[])?;
             push_end(out, hex, end)?;
             before = " ";
@@ -93,7 +93,7 @@ fn push_track(out: &mut Vec<u8>, board: &Board, hex: Hex, side: Side) -> Result<
 }
 
 /// Returns the end of a link that is not this one; `None` if this is none of its ends.
-fn other_end(link: &Link, end: End) -> Option<End> {
+fn other_end(link: &Link, end: TrackEnd) -> Option<TrackEnd> {
     if link.a == end {
         Some(link.b)
     } else if link.b == end {
@@ -104,10 +104,10 @@ fn other_end(link: &Link, end: End) -> Option<End> {
 }
 
 /// Adds an end of track in a hex: a stop as a run names it, or the number of a side.
-fn push_end(out: &mut Vec<u8>, hex: Hex, end: End) -> Result<(), AllocError> {
+fn push_end(out: &mut Vec<u8>, hex: Hex, end: TrackEnd) -> Result<(), AllocError> {
     match end {
-        End::Side(side) => push(out, &[Number(side.number() as Money)]),
-        End::Stop(number) => {
+        TrackEnd::Side(side) => push(out, &[Number(side.number() as Money)]),
+        TrackEnd::Stop(number) => {
             let place = Place {
                 hex,
                 stop: Some(number),
@@ -124,7 +124,7 @@ fn closed_by(board: &Board, hex: Hex, side: Side) -> &'static str {
         .links(hex)
         .as_slice()
         .iter()
-        .any(|link| other_end(link, End::Side(side)).is_some());
+        .any(|link| other_end(link, TrackEnd::Side(side)).is_some());
     match hex_kind(hex) {
         HexKind::Grey if !has_track => ", closed: it is grey",
         HexKind::Red if !has_track => ", closed: it is red",

@@ -2,14 +2,14 @@
 
 use board::Board;
 use desk_base::side_towards;
-use map_tables::{End, Hex, Link, Place, Stop, neighbour};
+use map_tables::{Hex, Link, Place, Stop, TrackEnd, neighbour};
 use reach::Network;
 
 /// Returns the first two hexes between which a run breaks, because no track leads from the place in
 /// the first to the place in the second; `None` if it breaks nowhere.
 pub(crate) fn break_of(board: &Board, places: &[Place]) -> Option<(Hex, Hex)> {
     let first = places.first()?;
-    let (mut hex, mut end) = (first.hex, End::Stop(first.stop?));
+    let (mut hex, mut end) = (first.hex, TrackEnd::Stop(first.stop?));
     for place in places.get(1..)? {
         let next = end_at(board, hex, end, *place);
         let Some(there) = next else {
@@ -22,24 +22,24 @@ pub(crate) fn break_of(board: &Board, places: &[Place]) -> Option<(Hex, Hex)> {
 
 /// Returns the end of track at which a train is in the hex of a place, if it comes from this end in
 /// another hex; `None` if no track leads it there.
-fn end_at(board: &Board, hex: Hex, end: End, place: Place) -> Option<End> {
+fn end_at(board: &Board, hex: Hex, end: TrackEnd, place: Place) -> Option<TrackEnd> {
     let side = side_towards(hex, place.hex)?;
-    if !is_linked(board, hex, end, End::Side(side)) {
+    if !is_linked(board, hex, end, TrackEnd::Side(side)) {
         return None;
     }
-    let border = End::Side(side.facing());
+    let border = TrackEnd::Side(side.facing());
     let Some(number) = place.stop else {
         return Some(border);
     };
-    if is_linked(board, place.hex, border, End::Stop(number)) {
-        Some(End::Stop(number))
+    if is_linked(board, place.hex, border, TrackEnd::Stop(number)) {
+        Some(TrackEnd::Stop(number))
     } else {
         None
     }
 }
 
 /// Returns whether two ends of track in a hex are joined.
-fn is_linked(board: &Board, hex: Hex, one: End, other: End) -> bool {
+fn is_linked(board: &Board, hex: Hex, one: TrackEnd, other: TrackEnd) -> bool {
     board.links(hex).as_slice().iter().any(|link| (link.a == one && link.b == other)
         || (link.a == other && link.b == one))
 }
@@ -51,14 +51,14 @@ pub(crate) fn hexes_behind(hex: Hex, link: &Link) -> [Option<Hex>; 2] {
 }
 
 /// Returns the hex behind an end of track in a hex.
-fn hex_behind(hex: Hex, end: End) -> Option<Hex> {
+fn hex_behind(hex: Hex, end: TrackEnd) -> Option<Hex> {
     match end {
-        End::Side(side) => neighbour(hex, side),
-        End::Stop(_) => None,
+        TrackEnd::Side(side) => neighbour(hex, side),
+        TrackEnd::Stop(_) => None,
     }
 }
 
 /// Returns whether a link touches a stop.
 pub(crate) fn touches(link: &Link, stop: Stop) -> bool {
-    link.a == End::Stop(stop.number) || link.b == End::Stop(stop.number)
+    link.a == TrackEnd::Stop(stop.number) || link.b == TrackEnd::Stop(stop.number)
 }

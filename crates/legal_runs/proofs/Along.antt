@@ -5,12 +5,12 @@ use Rattle.std.proofs.Common.{drop-cons, length-take, length-drop}
 use Rattle.std.proofs.lemmas.List.{drop_all, take_all}
 use Rattle.map_tables.specs.declared.place.Place.{Place}
 use Rattle.map_tables.specs.declared.place.StopNumber.{StopNumber}
-use Rattle.map_tables.specs.declared.track.End.{End}
-use Rattle.map_tables.specs.declared.track.End.TheVariants.{Side as AtSide, Stop as AtStop}
+use Rattle.map_tables.specs.declared.track.TrackEnd.{TrackEnd}
+use Rattle.map_tables.specs.declared.track.TrackEnd.TheVariants.{Side as AtSide, Stop as AtStop}
 use Rattle.reach.specs.Position.{Position}
 use Rattle.reach.specs.Walk.{spot_at}
 use Rattle.reach.specs.declared.walk.Spot.{Spot}
-use Rattle.reach.specs.declared.walk.Step.{Step}
+use Rattle.reach.specs.declared.walk.WalkStep.{WalkStep}
 use Rattle.legal_runs.specs.Named.{arrived, beginning, leg_to, made_along, travelled, with_leg, with_second}
 use Rattle.legal_runs.specs.declared.leg.Leg.{Leg}
 
@@ -18,7 +18,7 @@ use Rattle.legal_runs.specs.declared.leg.Leg.{Leg}
 pub rest_short : (places : List Place) → length places ≤ 280 → length (take (length places - 1) (drop 1 places)) ≤ 280
 rest_short places short = omega (arith, length-take {A = Place}, length-drop {A = Place})
 
-module _ {A : Type 0} (make : A → Step → A) (position : Position) where
+module _ {A : Type 0} (make : A → WalkStep → A) (position : Position) where
   -- from the stop of the first place
   pub begun_along : (places : List Place) (d : Place) (number : StopNumber) (made : A) → 2 ≤ length places
       → (get_or places 0 d).stop ≡ Some number → travelled make position
@@ -60,9 +60,9 @@ module _ {A : Type 0} (make : A → Step → A) (position : Position) where
   at_end at made places i over = ap (travelled make position at made) (drop_all i places over)
 
 -- what is made of a walk step by step is what is made along its places
-module _ {A B : Type 0} (make : A → Step → A) (also : B → Step → B) (of : A → B)
-    (alike : (made : A) (step : Step) → also (of made) step ≡ of (make made step)) (position : Position) where
-  second_alike : (made : A) (second : Option Step)
+module _ {A B : Type 0} (make : A → WalkStep → A) (also : B → WalkStep → B) (of : A → B)
+    (alike : (made : A) (step : WalkStep) → also (of made) step ≡ of (make made step)) (position : Position) where
+  second_alike : (made : A) (second : Option WalkStep)
       → with_second also (of made) second ≡ of (with_second make made second)
   second_alike made None = refl
   second_alike made (Some step) = alike made step
@@ -71,7 +71,7 @@ module _ {A B : Type 0} (make : A → Step → A) (also : B → Step → B) (of 
   leg_alike made leg = ap (λ b. with_second also b leg.second) (alike made leg.first)
       ∙ second_alike (make made leg.first) leg.second
 
-  arrived_alike : (end : End) (made : A) → arrived end (of made) ≡ option_map of (arrived end made)
+  arrived_alike : (end : TrackEnd) (made : A) → arrived end (of made) ≡ option_map of (arrived end made)
   arrived_alike (AtSide side) made = refl
   arrived_alike (AtStop number) made = refl
 

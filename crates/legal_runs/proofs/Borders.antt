@@ -7,8 +7,8 @@ use Rattle.map_tables.specs.Side.{facing_of, number_of}
 use Rattle.map_tables.specs.declared.hex.Hex.{Hex}
 use Rattle.map_tables.specs.declared.side.Side.{Side}
 use Rattle.map_tables.specs.declared.side.Side.TheVariants.{SouthWest, West, NorthWest, NorthEast, East, SouthEast}
-use Rattle.map_tables.specs.declared.track.End.{End}
-use Rattle.map_tables.specs.declared.track.End.TheVariants.{Side as AtSide, Stop as AtStop}
+use Rattle.map_tables.specs.declared.track.TrackEnd.{TrackEnd}
+use Rattle.map_tables.specs.declared.track.TrackEnd.TheVariants.{Side as AtSide, Stop as AtStop}
 use Rattle.reach.specs.Walk.{across, spot_at}
 use Rattle.reach.specs.declared.walk.Spot.{Spot}
 use Rattle.reach.proofs.Hexes.{facing_twice, same_index, same_side}
@@ -88,7 +88,7 @@ faced hex next East is back = ap (border_beyond 1) is
 faced hex next SouthEast is back = ap (border_beyond 2) is
 
 -- the number of the border at an end
-abbrev number_at : Hex → End → ℕ
+abbrev number_at : Hex → TrackEnd → ℕ
 number_at hex (AtSide side) = border_of hex side
 number_at hex (AtStop number) = 0
 

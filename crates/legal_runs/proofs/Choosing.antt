@@ -13,7 +13,7 @@ use Rattle.map_tables.specs.declared.place.StopNumber.{StopNumber}
 use Rattle.map_tables.specs.declared.place.StopNumber.TheVariants.{First, Second}
 use Rattle.reach.specs.Lawful.{IsLawful}
 use Rattle.reach.specs.Position.{Position, IsAmong}
-use Rattle.reach.specs.declared.walk.Step.{Step}
+use Rattle.reach.specs.declared.walk.WalkStep.{WalkStep}
 use Rattle.reach.proofs.Lists.{among_at}
 use Rattle.reach.proofs.Decided.{Decided, both_decided, most_decided}
 use Rattle.tables.specs.Train.{kinds}
@@ -194,7 +194,7 @@ module _ (position : Position) (company : Company) where
   legal_by kind list is =
       let run : NameLegalRun position company kind [] list =
       (legal_where_unbroken position company kind [] list).0 is in
-      subst (λ (steps : List Step). IsLegalRun position company kind [] steps) (sym (ap steps_of run.1)) run.2
+      subst (λ (steps : List WalkStep). IsLegalRun position company kind [] steps) (sym (ap steps_of run.1)) run.2
 
   among_kept :
       (fault : Option RunRule) (run other : TrainRun) (runs : List TrainRun) → IsAmong other (kept fault run runs) →
@@ -278,7 +278,7 @@ module _ (position : Position) (company : Company) where
       let unbroken : run_fault position company run.kind [] written.0 ≡ None =
       (legal_where_unbroken position company run.kind [] written.0).1 (run.steps, written.1.name_it, legal) in
       let steps : named_steps position written.0 ≡ run.steps = ap steps_of written.1.name_it in
-      subst (λ (s : List Step). IsAmong (let made : TrainRun = record { kind = run.kind; steps = s } in made)
+      subst (λ (s : List WalkStep). IsAmong (let made : TrainRun = record { kind = run.kind; steps = s } in made)
       (legal_runs kinds 280)) steps
       (legal_here kinds 280 run.kind written.0 (kind_among run.kind) written.1.most unbroken)
 

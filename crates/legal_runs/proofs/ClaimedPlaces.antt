@@ -10,12 +10,12 @@ use Rattle.map_tables.specs.declared.hex.Hex.{Hex}
 use Rattle.map_tables.specs.declared.place.Place.{Place}
 use Rattle.map_tables.specs.declared.place.StopNumber.{StopNumber}
 use Rattle.map_tables.specs.declared.side.Side.{Side}
-use Rattle.map_tables.specs.declared.track.End.{End}
-use Rattle.map_tables.specs.declared.track.End.TheVariants.{Side as AtSide, Stop as AtStop}
+use Rattle.map_tables.specs.declared.track.TrackEnd.{TrackEnd}
+use Rattle.map_tables.specs.declared.track.TrackEnd.TheVariants.{Side as AtSide, Stop as AtStop}
 use Rattle.reach.specs.Position.{Position, links_of}
 use Rattle.reach.specs.Walk.{entered_at, spot_at}
 use Rattle.reach.specs.declared.walk.Spot.{Spot}
-use Rattle.reach.specs.declared.walk.Step.{Step}
+use Rattle.reach.specs.declared.walk.WalkStep.{WalkStep}
 use Rattle.tables.specs.declared.rolling_stock.Kind.{Kind}
 use Rattle.tables.specs.declared.roster.Company.{Company}
 use Rattle.legal_runs.specs.Claim.{NameRuns}
@@ -30,16 +30,16 @@ use Rattle.legal_runs.proofs.Counting.{no_more}
 use Rattle.legal_runs.proofs.Kept.{crossed_low}
 
 -- a border is crossed to enter a step at a side
-over_border : End → ℕ
+over_border : TrackEnd → ℕ
 over_border (AtSide side) = 1
 over_border (AtStop number) = 0
 
-border_counted : (hex : Hex) (end : End) → length (border_at hex end) ≡ over_border end
+border_counted : (hex : Hex) (end : TrackEnd) → length (border_at hex end) ≡ over_border end
 unfolding over_border
 border_counted hex (AtSide side) = refl
 border_counted hex (AtStop number) = refl
 
-step_counted : (before : List Step) (step : Step) (from : End) → (entered_at step).end ≡ from
+step_counted : (before : List WalkStep) (step : WalkStep) (from : TrackEnd) → (entered_at step).end ≡ from
     → length (crossed (step ∷ before)) ≡ over_border from + length (crossed before)
 step_counted before step from enters =
     length-append (border_at (entered_at step).hex (entered_at step).end) (crossed before)
@@ -47,19 +47,19 @@ step_counted before step from enters =
     ∙ ap over_border enters)
 
 -- a step between two ends is entered at the first
-over_by : (hex : Hex) (from to : End) (turned : Bool) → let step : Step =
+over_by : (hex : Hex) (from to : TrackEnd) (turned : Bool) → let step : WalkStep =
     cond turned (record { link = record { hex = hex; a = to; b = from }; turned = true })
     (record { link = record { hex = hex; a = from; b = to }; turned = false }) in (entered_at step).end ≡ from
 over_by hex from to true = refl
 over_by hex from to false = refl
 
-found_by : (over step : Step) (from : End) (found : Bool) → (entered_at over).end ≡ from
+found_by : (over step : WalkStep) (from : TrackEnd) (found : Bool) → (entered_at over).end ≡ from
     → cond found (Some over) None ≡ Some step → (entered_at step).end ≡ from
 found_by over step from true enters is = let same : over ≡ step =
-    cc in subst (λ (s : Step). (entered_at s).end ≡ from) same enters
+    cc in subst (λ (s : WalkStep). (entered_at s).end ≡ from) same enters
 found_by over step from false enters is = absurd cc
 
-enters : (position : Position) (hex : Hex) (from to : End) (step : Step)
+enters : (position : Position) (hex : Hex) (from to : TrackEnd) (step : WalkStep)
     → step_between position hex from to ≡ Some step → (entered_at step).end ≡ from
 unfolding step_between
 enters position hex from to step is =
@@ -68,10 +68,10 @@ enters position hex from to step is =
     (over_by hex from to (ltb (end_order to) (end_order from))) is
 
 -- a leg leads over one more border, which is crossed once a step is entered after it
-record IsCounted (made : List Step) (from : ℕ) (leg : Leg) : Type 0 where
+record IsCounted (made : List WalkStep) (from : ℕ) (leg : Leg) : Type 0 where
   counted : over_border leg.at.end + length (crossed (with_leg taken made leg)) ≡ 1 + (from + length (crossed made))
 
-by_stop : (position : Position) (made : List Step) (from : End) (first : Step) (hex : Hex) (side : Side)
+by_stop : (position : Position) (made : List WalkStep) (from : TrackEnd) (first : WalkStep) (hex : Hex) (side : Side)
     (stop : Option StopNumber) (leg : Leg) →
     (entered_at first).end ≡ from → leg_by_stop position first hex side stop ≡ Some leg
     → IsCounted made (over_border from) leg
@@ -84,7 +84,7 @@ by_stop position made from first hex side None leg enters_first is =
 by_stop position made from first hex side (Some number) leg enters_first is =
     by_second (step_between position hex (AtSide side) (AtStop number)) refl is
   where
-    by_second : (found : Option Step) → step_between position hex (AtSide side) (AtStop number) ≡ found
+    by_second : (found : Option WalkStep) → step_between position hex (AtSide side) (AtStop number) ≡ found
         → option_map (λ second. let there : Leg = record
         { first = first; second = Some second; at = spot_at hex (AtStop number) } in there) found ≡ Some leg
         → IsCounted made (over_border from) leg
@@ -107,7 +107,7 @@ by_stop position made from first hex side (Some number) leg enters_first is =
           );
         })
 
-by_first : (position : Position) (made : List Step) (at : Spot) (side : Side) (place : Place) (first : Option Step)
+by_first : (position : Position) (made : List WalkStep) (at : Spot) (side : Side) (place : Place) (first : Option WalkStep)
     (leg : Leg) →
     step_between position at.hex at.end (AtSide side) ≡ first → leg_from position side place first ≡ Some leg
     → IsCounted made (over_border at.end) leg
@@ -116,26 +116,26 @@ by_first position made at side place (Some first) leg found is =
     by_stop position made at.end first place.hex (facing_of side) place.stop leg
     (enters position at.hex at.end (AtSide side) first found) is
 
-by_side : (position : Position) (made : List Step) (at : Spot) (place : Place) (side : Option Side) (leg : Leg)
+by_side : (position : Position) (made : List WalkStep) (at : Spot) (place : Place) (side : Option Side) (leg : Leg)
     → leg_over position at place side ≡ Some leg → IsCounted made (over_border at.end) leg
 by_side position made at place None leg is = absurd cc
 by_side position made at place (Some side) leg is =
     by_first position made at side place (step_between position at.hex at.end (AtSide side)) leg refl is
 
-leg_counted : (position : Position) (made : List Step) (at : Spot) (place : Place) (leg : Leg)
+leg_counted : (position : Position) (made : List WalkStep) (at : Spot) (place : Place) (leg : Leg)
     → leg_to position at place ≡ Some leg → IsCounted made (over_border at.end) leg
 unfolding leg_to
 leg_counted position made at place leg is = by_side position made at place (side_towards at.hex place.hex) leg is
 
 -- a train crosses a border to each place but its first
-arrives : (hex : Hex) (end : End) (made all : List Step) → arrived end made ≡ Some all
+arrives : (hex : Hex) (end : TrackEnd) (made all : List WalkStep) → arrived end made ≡ Some all
     → length (crossed all) ≡ over_border end + length (crossed made)
 unfolding over_border
 arrives hex (AtSide side) made all is = absurd cc
 arrives hex (AtStop number) made all is = let same : made ≡ all =
-    cc in omega (arith, ap (λ (steps : List Step). length (crossed steps)) same)
+    cc in omega (arith, ap (λ (steps : List WalkStep). length (crossed steps)) same)
 
-places_counted : (position : Position) (at : Spot) (made all : List Step) (places : List Place)
+places_counted : (position : Position) (at : Spot) (made all : List WalkStep) (places : List Place)
     → travelled taken position at made places ≡ Some all →
     length (crossed all) ≡ (over_border at.end + length (crossed made)) + length places
 places_counted position at made all [] is = omega (arith, arrives at.hex at.end made all is)
@@ -156,7 +156,7 @@ places_counted position at made all (place ∷ places) is =
     by_leg None later found is = absurd cc
     by_leg (Some leg) later found is = later leg found is
 
-run_counted : (position : Position) (stop : Option StopNumber) (place : Place) (places : List Place) (all : List Step)
+run_counted : (position : Position) (stop : Option StopNumber) (place : Place) (places : List Place) (all : List WalkStep)
     → place.stop ≡ stop →
     option_and_then (λ at. travelled taken position at [] places)
     (option_map (λ number. spot_at place.hex (AtStop number)) stop) ≡ Some all
@@ -167,7 +167,7 @@ run_counted position (Some number) place places all has is =
     omega (arith, places_counted position (spot_at place.hex (AtStop number)) [] all places is)
 
 -- one place names no run
-one_place : (position : Position) (stop : Option StopNumber) (place : Place) (all : List Step) →
+one_place : (position : Position) (stop : Option StopNumber) (place : Place) (all : List WalkStep) →
     option_and_then (λ at. travelled taken position at [] [])
     (option_map (λ number. spot_at place.hex (AtStop number)) stop) ≡ Some all → EndsAtStop all → ⊥
 one_place position None place all is ends = absurd cc
@@ -175,7 +175,7 @@ one_place position (Some number) place all is ends = let same : [] ≡ all = cc 
 
 -- so a legal run has 2 to 280 places
 has_places : (position : Position) (company : Company) (kind : Kind) (used : List ℕ) (run : List Place)
-    (steps : List Step) → walk_named position run ≡ Some steps → IsLegalRun position company kind used steps
+    (steps : List WalkStep) → walk_named position run ≡ Some steps → IsLegalRun position company kind used steps
     → HasPlaces run
 has_places position company kind used [] steps named legal = absurd cc
 has_places position company kind used (place ∷ []) steps named legal =

@@ -6,12 +6,12 @@ use Rattle.std.specs.List.{AllByRecursion}
 use Rattle.map_tables.specs.declared.hex.Hex.{Hex}
 use Rattle.map_tables.specs.declared.place.Stop.{Stop}
 use Rattle.map_tables.specs.declared.place.StopNumber.{StopNumber}
-use Rattle.map_tables.specs.declared.track.End.{End}
-use Rattle.map_tables.specs.declared.track.End.TheVariants.{Side as AtSide, Stop as AtStop}
+use Rattle.map_tables.specs.declared.track.TrackEnd.{TrackEnd}
+use Rattle.map_tables.specs.declared.track.TrackEnd.TheVariants.{Side as AtSide, Stop as AtStop}
 use Rattle.reach.specs.Lawful.{IsLawful}
 use Rattle.reach.specs.Position.{Position}
 use Rattle.reach.specs.Walk.{IsWalk, entered_at, left_at, stop_at_end}
-use Rattle.reach.specs.declared.walk.Step.{Step}
+use Rattle.reach.specs.declared.walk.WalkStep.{WalkStep}
 use Rattle.tables.specs.declared.rolling_stock.Kind.{Kind}
 use Rattle.tables.specs.declared.roster.Company.{Company}
 use Rattle.legal_runs.proofs.Joined.{distinct_borders, neither}
@@ -30,11 +30,11 @@ worth_low position lawful [] = omega arith
 worth_low position lawful (stop ∷ stops) = omega (arith, worth_low position lawful stops, lawful.values stop)
 
 -- a step that is not from a stop to a stop
-abbrev LeavesStops : End → End → Type 0
+abbrev LeavesStops : TrackEnd → TrackEnd → Type 0
 LeavesStops enters leaves = (n m : StopNumber) → enters ≡ AtStop n → leaves ≡ AtStop m → ⊥
 
 -- the first step of a walk visits at most one stop more than it crosses borders
-first_step : (hex : Hex) (enters leaves : End) → LeavesStops enters leaves
+first_step : (hex : Hex) (enters leaves : TrackEnd) → LeavesStops enters leaves
     → length (listed (stop_at_end hex leaves) ++ (listed (stop_at_end hex enters) ++ []))
     ≤ length (border_at hex enters ++ []) + 1
 first_step hex (AtSide from) (AtSide to) apart = omega arith
@@ -43,7 +43,7 @@ first_step hex (AtStop n) (AtSide to) apart = omega arith
 first_step hex (AtStop n) (AtStop m) apart = absurd (apart n m refl refl)
 
 -- a later one visits a stop only where it crosses a border
-later_step : (hex : Hex) (enters leaves : End) (stops : List Stop) (borders : List ℕ) → LeavesStops enters leaves
+later_step : (hex : Hex) (enters leaves : TrackEnd) (stops : List Stop) (borders : List ℕ) → LeavesStops enters leaves
     → length stops ≤ length borders + 1 → length (listed (stop_at_end hex leaves) ++ ([] ++ stops))
     ≤ length (border_at hex enters ++ borders) + 1
 later_step hex (AtSide from) (AtSide to) stops borders apart few = omega arith
@@ -52,7 +52,7 @@ later_step hex (AtStop n) (AtSide to) stops borders apart few = omega arith
 later_step hex (AtStop n) (AtStop m) stops borders apart few = absurd (apart n m refl refl)
 
 -- so a walk visits at most one stop more than it crosses borders
-pub few_visited : (position : Position) → IsLawful position → (steps : List Step) → IsWalk position steps
+pub few_visited : (position : Position) → IsLawful position → (steps : List WalkStep) → IsWalk position steps
     → length (visited steps) ≤ length (crossed steps) + 1
 few_visited position lawful [] walk = omega arith
 few_visited position lawful (step ∷ []) walk =
@@ -86,7 +86,7 @@ marks_used used (border ∷ borders) low once =
     omega (arith, mark_used (marked used borders) border here free, marks_used used borders low.1 parts.0)
 
 -- a legal run earns at most 160 dollars for each border that it uses
-legal_earns : (position : Position) (company : Company) (kind : Kind) (used : List Bool) (steps : List Step)
+legal_earns : (position : Position) (company : Company) (kind : Kind) (used : List Bool) (steps : List WalkStep)
     → length used ≡ 279 → IsLawful position → IsLegalRun position company kind (borders_used used) steps
     → earned position steps + 160 * unused (marked used (crossed steps)) ≤ 160 * unused used
 legal_earns position company kind used steps whole lawful run =
@@ -106,5 +106,5 @@ earn_by_borders position company kind used places whole lawful unbroken =
     let run : NameLegalRun position company kind (borders_used used) places =
     (legal_where_unbroken position company kind (borders_used used) places).0 unbroken in
     let named : named_steps position places ≡ run.0 = ap steps_of run.1 in
-    subst (λ (steps : List Step). earned position steps + 160 * unused (marked used (crossed steps))
+    subst (λ (steps : List WalkStep). earned position steps + 160 * unused (marked used (crossed steps))
     ≤ 160 * unused used) (sym named) (legal_earns position company kind used run.0 whole lawful run.2)

@@ -7,7 +7,7 @@ use Rattle.std.proofs.lemmas.Bool.{and_parts, le-leb, leb-true}
 use Rattle.std.proofs.lemmas.List.Recursion.{is_count_by}
 use Rattle.std.proofs.lemmas.List.{length-replicate}
 use Rattle.reach.specs.Position.{Position, IsAmong}
-use Rattle.reach.specs.declared.walk.Step.{Step}
+use Rattle.reach.specs.declared.walk.WalkStep.{WalkStep}
 use Rattle.reach.proofs.Collected.{none_marked}
 use Rattle.tables.specs.Train.{kinds, same_kind}
 use Rattle.tables.specs.declared.rolling_stock.Kind.{Kind}
@@ -52,16 +52,16 @@ both_each P Q R (run ∷ runs) makes one two = (makes run one.0 two.0, both_each
 abbrev IsFreeOf : List ℕ → TrainRun → Type 0
 IsFreeOf used run = (border : ℕ) → IsAmong border (crossed run.steps) → ¬ IsAmong border used
 
-abbrev run_of : Kind → List Step → TrainRun
+abbrev run_of : Kind → List WalkStep → TrainRun
 run_of kind steps = record { kind = kind; steps = steps }
 
 module _ (position : Position) (company : Company) where
   -- legal over used borders, and free of them
-  alone : (kind : Kind) (used : List ℕ) (steps : List Step) → IsLegalRun position company kind used steps
+  alone : (kind : Kind) (used : List ℕ) (steps : List WalkStep) → IsLegalRun position company kind used steps
       → RunsLegally position company (run_of kind steps)
   alone kind used steps run = legal_over position company kind used [] (λ border none. absurd none) steps run
 
-  free_of : (kind : Kind) (used : List ℕ) (steps : List Step) → IsLegalRun position company kind used steps
+  free_of : (kind : Kind) (used : List ℕ) (steps : List WalkStep) → IsLegalRun position company kind used steps
       → IsFreeOf used (run_of kind steps)
   free_of kind used steps run = all_among (λ border. ¬ IsAmong border used) (crossed steps) run.no_used_border
 
@@ -91,7 +91,7 @@ module _ (position : Position) (company : Company) where
     earn : revenue_of position runs ≡ left
 
   one_more :
-      (first : ClaimedRun) (later : List ClaimedRun) (used : List ℕ) (left : ℕ) (steps : List Step) →
+      (first : ClaimedRun) (later : List ClaimedRun) (used : List ℕ) (left : ℕ) (steps : List WalkStep) →
       named_steps position first.run ≡ steps → NameRuns position (first ∷ []) (run_of first.kind steps ∷ []) →
       IsLegalRun position company first.kind used steps → earned position steps ≤ left →
       AreItsRuns later (crossed steps ++ used) (left - earned position steps) → AreItsRuns (first ∷ later) used left
@@ -120,11 +120,11 @@ module _ (position : Position) (company : Company) where
   its_runs [] used marks left are legal = record
       { runs = []; named = tt; legal = tt; apart = tt; free = tt; earn = sym legal }
   its_runs (first ∷ later) used marks left are legal =
-      let steps : List Step = named_steps position first.run in
+      let steps : List WalkStep = named_steps position first.run in
       let same : steps ≡ legal.0.0 = ap steps_of legal.0.1 in
       let run : IsLegalRun position company first.kind (borders_used marks) steps =
-      subst (λ (s : List Step). IsLegalRun position company first.kind (borders_used marks) s) (sym same) legal.0.2 in
-      one_more first later used left steps refl (refl, legal.0.1 ∙ ap (λ (s : List Step). Some s) (sym same), tt)
+      subst (λ (s : List WalkStep). IsLegalRun position company first.kind (borders_used marks) s) (sym same) legal.0.2 in
+      one_more first later used left steps refl (refl, legal.0.1 ∙ ap (λ (s : List WalkStep). Some s) (sym same), tt)
       ((legal_by_marks position company first.kind used marks steps are).0 run) legal.1
       (its_runs later (crossed steps ++ used) (marked marks (crossed steps)) (left - earned position steps)
       (crossed_used used marks steps are) legal.2)
@@ -139,7 +139,7 @@ module _ (position : Position) (company : Company) where
   in_turn [] (run ∷ runs) used marks left are named legal apart free earn = absurd named
   in_turn (first ∷ later) [] used marks left are named legal apart free earn = absurd named
   in_turn (first ∷ later) (run ∷ runs) used marks left are named legal apart free earn =
-      let steps : List Step = named_steps position first.run in
+      let steps : List WalkStep = named_steps position first.run in
       let same : steps ≡ run.steps = ap steps_of named.1 in
       let here : IsLegalRun position company first.kind (borders_used marks) run.steps =
       subst (λ (k : Kind). IsLegalRun position company k (borders_used marks) run.steps) (sym named.0)
@@ -149,7 +149,7 @@ module _ (position : Position) (company : Company) where
       let free_later : AllByRecursion (IsFreeOf (crossed steps ++ used)) runs =
       both_each (λ other. ShareNoBorder run.steps other.steps) (IsFreeOf used) (IsFreeOf (crossed steps ++ used)) runs
       (λ other apart_from free_from border there among. elim ((among_both border (crossed steps) used).0 among) [
-        | inl mine ↦ apart_from border (subst (λ (s : List Step). IsAmong border (crossed s)) same mine) there
+        | inl mine ↦ apart_from border (subst (λ (s : List WalkStep). IsAmong border (crossed s)) same mine) there
         | inr before ↦ free_from border there before
       ]) apart.0 free.1 in (
         (run.steps, named.1, here),

@@ -11,7 +11,7 @@ use Rattle.map_tables.specs.declared.place.StopNumber.{StopNumber}
 use Rattle.reach.specs.Position.{IsAmong}
 use Rattle.reach.specs.Reached.{stop_order}
 use Rattle.reach.specs.Walk.{PassesBy, PassesOnly, entered_at, stop_of}
-use Rattle.reach.specs.declared.walk.Step.{Step}
+use Rattle.reach.specs.declared.walk.WalkStep.{WalkStep}
 use Rattle.reach.proofs.Hexes.{same_index, same_stop_index, stop_index_low}
 use Rattle.reach.proofs.Lists.{among_found, found_among}
 use Rattle.tables.specs.Train.{stops_of}
@@ -108,20 +108,20 @@ module _ (P : Stop → Type 0) (test : Stop → Bool) (exact : (stop : Stop) →
   such_none None = (λ h. tt, λ h. refl)
   such_none (Some stop) = fails (test stop) (exact stop)
 
-  by_none : (before : List Step) (step : Step) → (goes_through test before step ≡ false)
+  by_none : (before : List WalkStep) (step : WalkStep) → (goes_through test before step ≡ false)
       ↔ PassesBy (λ s. ¬ P s) before step
   by_none [] step = (λ h. tt, λ h. refl)
   by_none (earlier ∷ before) step = such_none (stop_of (entered_at step))
 
   -- no such stop is passed
-  pub passes_none : (steps : List Step) → passes test steps ≡ false → PassesOnly (λ s. ¬ P s) steps
+  pub passes_none : (steps : List WalkStep) → passes test steps ≡ false → PassesOnly (λ s. ¬ P s) steps
   passes_none [] h = tt
   passes_none (step ∷ before) h =
       let parts : (passes test before ≡ false) × (goes_through test before step ≡ false) =
       neither (passes test before) (goes_through test before step) h in
       ((by_none before step).0 parts.1, passes_none before parts.0)
 
-  pub none_passes : (steps : List Step) → PassesOnly (λ s. ¬ P s) steps → passes test steps ≡ false
+  pub none_passes : (steps : List WalkStep) → PassesOnly (λ s. ¬ P s) steps → passes test steps ≡ false
   none_passes [] h = refl
   none_passes (step ∷ before) h =
       both_fail (passes test before) (goes_through test before step) (none_passes before h.1)

@@ -10,12 +10,12 @@ use Rattle.map_tables.specs.Side.{number_of}
 use Rattle.map_tables.specs.declared.hex.Hex.{Hex}
 use Rattle.map_tables.specs.declared.place.Stop.{Stop}
 use Rattle.map_tables.specs.declared.side.Side.{Side}
-use Rattle.map_tables.specs.declared.track.End.{End}
-use Rattle.map_tables.specs.declared.track.End.TheVariants.{Side as AtSide, Stop as AtStop}
+use Rattle.map_tables.specs.declared.track.TrackEnd.{TrackEnd}
+use Rattle.map_tables.specs.declared.track.TrackEnd.TheVariants.{Side as AtSide, Stop as AtStop}
 use Rattle.reach.specs.Position.{IsAmong, Position, is_red, value_of}
 use Rattle.reach.specs.Reached.{stop_order}
 use Rattle.reach.specs.Walk.{entered_at, left_at, stop_of}
-use Rattle.reach.specs.declared.walk.Step.{Step}
+use Rattle.reach.specs.declared.walk.WalkStep.{WalkStep}
 use Rattle.reach.proofs.Hexes.{index_low, side_low}
 use Rattle.reach.proofs.Collected.{none_marked}
 use Rattle.reach.proofs.Spots.{order_low}
@@ -92,7 +92,7 @@ marked_is used (other ∷ borders) border low =
     ∙ or_inside (eqb other border) (has_border border (borders_used used)) (has_border border borders)
 
 -- whether a walk has a step
-abbrev pub has_begun : List Step → Bool
+abbrev pub has_begun : List WalkStep → Bool
 has_begun [] = false
 has_begun (step ∷ before) = true
 
@@ -185,7 +185,7 @@ module _ (position : Position) (company : Company) (used : List Bool) where
   }
 
   -- the side at which a step is entered
-  side_keeps : 279 ≤ length used → (tally : Tally) (hex : Hex) (end : End) (begun : Bool) (stops : List Stop)
+  side_keeps : 279 ≤ length used → (tally : Tally) (hex : Hex) (end : TrackEnd) (begun : Bool) (stops : List Stop)
       (borders : List ℕ) (full red : Bool) → Keeps tally begun stops borders full red
       → Keeps (entering_side tally hex end) begun stops (border_at hex end ++ borders) full red
   side_keeps whole tally hex (AtSide side) begun stops borders full red kept =
@@ -251,7 +251,7 @@ module _ (position : Position) (company : Company) (used : List Bool) where
   }
 
   -- a step entered, the first of a walk or a later one
-  entered_keeps : 279 ≤ length used → (before : List Step) (step : Step) (tally : Tally)
+  entered_keeps : 279 ≤ length used → (before : List WalkStep) (step : WalkStep) (tally : Tally)
       → Keeps tally (has_begun before) (visited before) (crossed before) (passes (is_full position company) before)
       (passes (is_red position) before) → Keeps (entering position company tally (entered_at step)) (has_begun before)
       (first_stop before step ++ visited before) (crossed (step ∷ before))
@@ -284,7 +284,7 @@ module _ (position : Position) (company : Company) (used : List Bool) where
     red_is = refl;
   }
 
-  step_keeps : 279 ≤ length used → (before : List Step) (step : Step)
+  step_keeps : 279 ≤ length used → (before : List WalkStep) (step : WalkStep)
       → Keeps (tally_of position company used before) (has_begun before) (visited before) (crossed before)
       (passes (is_full position company) before) (passes (is_red position) before)
       → Keeps (counted position company (tally_of position company used before) step) true (visited (step ∷ before))
@@ -303,19 +303,19 @@ module _ (position : Position) (company : Company) (used : List Bool) where
       (entered_keeps whole before step tally kept))
 
   -- the tally of a walk keeps what the tests find in it
-  pub tally_keeps : 279 ≤ length used → (steps : List Step)
+  pub tally_keeps : 279 ≤ length used → (steps : List WalkStep)
       → Keeps (tally_of position company used steps) (has_begun steps) (visited steps) (crossed steps)
       (passes (is_full position company) steps) (passes (is_red position) steps)
   tally_keeps whole [] = none_keeps
   tally_keeps whole (step ∷ before) = step_keeps whole before step (tally_keeps whole before)
 
-low_before : (bound : ℕ) (hex : Hex) (end : End) (borders : List ℕ) → 279 ≤ bound
+low_before : (bound : ℕ) (hex : Hex) (end : TrackEnd) (borders : List ℕ) → 279 ≤ bound
     → AllByRecursion (λ b. b < bound) borders → AllByRecursion (λ b. b < bound) (border_at hex end ++ borders)
 low_before bound hex (AtSide side) borders whole low = (omega (arith, border_low hex side), low)
 low_before bound hex (AtStop number) borders whole low = low
 
 -- the borders that a walk crosses have low numbers
-pub crossed_low : (bound : ℕ) (steps : List Step) → 279 ≤ bound → AllByRecursion (λ b. b < bound) (crossed steps)
+pub crossed_low : (bound : ℕ) (steps : List WalkStep) → 279 ≤ bound → AllByRecursion (λ b. b < bound) (crossed steps)
 crossed_low bound [] whole = tt
 crossed_low bound (step ∷ before) whole =
     low_before bound (entered_at step).hex (entered_at step).end (crossed before) whole (crossed_low bound before whole)
@@ -374,7 +374,7 @@ crossed_used used marks steps are =
         )
 
 -- to the marked borders those were added that the walk crosses
-pub crossed_added : (marks : List Bool) (steps : List Step) → length marks ≡ 279
+pub crossed_added : (marks : List Bool) (steps : List WalkStep) → length marks ≡ 279
     → AreAdded (crossed steps) (borders_used marks) (borders_used (marked marks (crossed steps)))
 crossed_added marks steps whole border =
     let now : MarksAre (crossed steps ++ borders_used marks) (marked marks (crossed steps)) =

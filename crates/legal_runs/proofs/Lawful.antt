@@ -6,7 +6,7 @@ use Rattle.std.specs.List.{list_any}
 use Rattle.map_tables.specs.declared.place.Place.{Place}
 use Rattle.map_tables.specs.declared.place.Stop.{Stop}
 use Rattle.reach.specs.Position.{Position, HasToken, IsFull, is_red}
-use Rattle.reach.specs.declared.walk.Step.{Step}
+use Rattle.reach.specs.declared.walk.WalkStep.{WalkStep}
 use Rattle.tables.proofs.Rules.{not_broken}
 use Rattle.tables.specs.Rules.{AreKept, Rule, first_broken}
 use Rattle.tables.specs.declared.rolling_stock.Kind.{Kind}
@@ -38,12 +38,12 @@ red_is_red position stop = (λ h. h, λ h. h)
 
 module _ (position : Position) (company : Company) (kind : Kind) (used : List ℕ) where
   -- a walk from a stop to a stop that breaks no rule is a legal run
-  legal : (steps : List Step) → IsWhole position steps
+  legal : (steps : List WalkStep) → IsWhole position steps
       → first_broken (rules_of_walk position company kind used steps) ≡ None
       → IsLegalRun position company kind used steps
   legal [] whole h = cc
   legal (step ∷ before) whole h =
-      let steps : List Step = step ∷ before in
+      let steps : List WalkStep = step ∷ before in
       let kept = not_broken code_of_run_rule (rules_of_walk position company kind used steps) h in
       let number = number_is kind (length (visited steps)) (kept WrongNumber) in
       let borders = borders_distinct used (crossed steps) (kept BorderTwice) in
@@ -66,7 +66,7 @@ module _ (position : Position) (company : Company) (kind : Kind) (used : List �
       }
 
   -- a legal run breaks no rule
-  unbroken : (steps : List Step) → IsLegalRun position company kind used steps
+  unbroken : (steps : List WalkStep) → IsLegalRun position company kind used steps
       → first_broken (rules_of_walk position company kind used steps) ≡ None
   unbroken steps run =
       none_found (rules_of_walk position company kind used steps) (
@@ -92,13 +92,13 @@ module _ (position : Position) (company : Company) (kind : Kind) (used : List �
         ),
       )
 
-  by_walk : (places : List Place) (walk : Option (List Step)) → walk_named position places ≡ walk
+  by_walk : (places : List Place) (walk : Option (List WalkStep)) → walk_named position places ≡ walk
       → first_broken (ruling NoTrack (is_none walk) ∷ rules_of_walk position company kind used (steps_of walk)) ≡ None
       → NameLegalRun position company kind used places
   by_walk places None is h = cc
   by_walk places (Some steps) is h = (steps, is, legal steps (named_is_whole position places steps is) h)
 
-  by_run : (walk : Option (List Step)) (steps : List Step) → walk ≡ Some steps
+  by_run : (walk : Option (List WalkStep)) (steps : List WalkStep) → walk ≡ Some steps
       → IsLegalRun position company kind used steps → first_broken
       (ruling NoTrack (is_none walk) ∷ rules_of_walk position company kind used (steps_of walk)) ≡ None
   by_run walk steps is run =

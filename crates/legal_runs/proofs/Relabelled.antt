@@ -5,7 +5,7 @@ use Rattle.std.proofs.Common.{length, get_or, refl, ap, sym, ◌∙◌, subst, a
 use Rattle.std.specs.List.{AllByRecursion}
 use Rattle.std.proofs.lemmas.Bool.{eqb-true}
 use Rattle.reach.specs.Position.{Position}
-use Rattle.reach.specs.declared.walk.Step.{Step}
+use Rattle.reach.specs.declared.walk.WalkStep.{WalkStep}
 use Rattle.tables.specs.Train.{kinds, place_of_kind, same_kind, stops_of}
 use Rattle.tables.specs.declared.rolling_stock.Kind.{Kind}
 use Rattle.tables.specs.declared.rolling_stock.Kind.TheVariants.{Two, Three, Four, Five, Six, Diesel}
@@ -19,7 +19,7 @@ use Rattle.legal_runs.specs.Set.{revenue_of, trains_that_run}
 abbrev pub of_kind : Kind → Kind → ℕ
 of_kind kind train = if same_kind train kind then 1 else 0
 
-abbrev run_of : Kind → List Step → TrainRun
+abbrev run_of : Kind → List WalkStep → TrainRun
 run_of kind steps = record { kind = kind; steps = steps }
 
 -- a run is that of another train where a test says so; otherwise one of the later ones
@@ -46,7 +46,7 @@ earns_same position kind other (run ∷ runs) = by_test (same_kind run.kind kind
 
 -- what holds of the walks of runs holds of them then
 all_steps :
-    (P : List Step → Type 0) (kind other : Kind) (runs : List TrainRun)
+    (P : List WalkStep → Type 0) (kind other : Kind) (runs : List TrainRun)
     → AllByRecursion (λ (run : TrainRun). P run.steps) runs →
     AllByRecursion (λ (run : TrainRun). P run.steps) (relabelled kind other runs)
 all_steps P kind other [] holds = tt

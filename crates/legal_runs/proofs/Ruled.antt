@@ -3,7 +3,7 @@ use Rattle.std.proofs.Common.{◌≡◌, ℕ, ◌≤◌, Bool, not, Option, Some
 use Rattle.std.proofs.Common.{refl, ap, sym, ◌∙◌}
 use Rattle.map_tables.specs.declared.place.Place.{Place}
 use Rattle.reach.specs.Position.{Position}
-use Rattle.reach.specs.declared.walk.Step.{Step}
+use Rattle.reach.specs.declared.walk.WalkStep.{WalkStep}
 use Rattle.tables.specs.Rules.{Rule, first_broken}
 use Rattle.tables.specs.declared.rolling_stock.Kind.{Kind}
 use Rattle.tables.specs.declared.roster.Company.{Company}
@@ -45,7 +45,7 @@ module _ (position : Position) (company : Company) (used : List Bool) where
       places
 
   -- no walk
-  no_walk : (kind : Kind) (walk : Option (List Step)) → option_map (tally_of position company used) walk ≡ None
+  no_walk : (kind : Kind) (walk : Option (List WalkStep)) → option_map (tally_of position company used) walk ≡ None
       → first_broken (ruling NoTrack (is_none walk) ∷ rules_of_walk position company kind (borders_used used)
       (steps_of walk)) ≡ Some NoTrack
   no_walk kind None is = refl
@@ -57,7 +57,7 @@ module _ (position : Position) (company : Company) (used : List Bool) where
   no_track kind places is = no_walk kind (walk_named position places) (sym (made_is places) ∙ is)
 
   -- the rules of a walk, by its tally
-  walk_ruled : (kind : Kind) → 279 ≤ length used → (steps : List Step)
+  walk_ruled : (kind : Kind) → 279 ≤ length used → (steps : List WalkStep)
       → first_broken (rules_of_walk position company kind (borders_used used) steps)
       ≡ tally_fault kind (tally_of position company used steps)
   walk_ruled kind whole steps =
@@ -68,7 +68,7 @@ module _ (position : Position) (company : Company) (used : List Bool) where
   some_is : (tally other : Tally) → Some tally ≡ Some other → tally ≡ other
   some_is tally other is = cc
 
-  ruled_by : (kind : Kind) → 279 ≤ length used → (walk : Option (List Step)) (tally : Tally)
+  ruled_by : (kind : Kind) → 279 ≤ length used → (walk : Option (List WalkStep)) (tally : Tally)
       → option_map (tally_of position company used) walk ≡ Some tally
       → first_broken (ruling NoTrack (is_none walk) ∷ rules_of_walk position company kind (borders_used used)
       (steps_of walk)) ≡ tally_fault kind tally
@@ -83,7 +83,7 @@ module _ (position : Position) (company : Company) (used : List Bool) where
   ruled kind whole places tally is =
       ruled_by kind whole (walk_named position places) tally (sym (made_is places) ∙ is)
 
-  earned_by : 279 ≤ length used → (walk : Option (List Step)) (tally : Tally)
+  earned_by : 279 ≤ length used → (walk : Option (List WalkStep)) (tally : Tally)
       → option_map (tally_of position company used) walk ≡ Some tally → tally.value ≡ earned position (steps_of walk)
   earned_by whole None tally is = cc
   earned_by whole (Some steps) tally is =
@@ -96,7 +96,7 @@ module _ (position : Position) (company : Company) (used : List Bool) where
       → tally.value ≡ earned position (named_steps position places)
   value_kept whole places tally is = earned_by whole (walk_named position places) tally (sym (made_is places) ∙ is)
 
-  crossed_by : 279 ≤ length used → (walk : Option (List Step)) (tally : Tally)
+  crossed_by : 279 ≤ length used → (walk : Option (List WalkStep)) (tally : Tally)
       → option_map (tally_of position company used) walk ≡ Some tally
       → tally.crossed ≡ marked used (crossed (steps_of walk))
   crossed_by whole None tally is = cc

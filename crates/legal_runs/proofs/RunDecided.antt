@@ -9,8 +9,8 @@ use Rattle.map_tables.specs.Track.{end_order}
 use Rattle.map_tables.specs.declared.hex.Hex.{Hex}
 use Rattle.map_tables.specs.declared.hex.Hex.TheVariants.{A9}
 use Rattle.map_tables.specs.declared.place.Stop.{Stop}
-use Rattle.map_tables.specs.declared.track.End.{End}
-use Rattle.map_tables.specs.declared.track.End.TheVariants.{Side as AtSide, Stop as AtStop}
+use Rattle.map_tables.specs.declared.track.TrackEnd.{TrackEnd}
+use Rattle.map_tables.specs.declared.track.TrackEnd.TheVariants.{Side as AtSide, Stop as AtStop}
 use Rattle.map_tables.specs.declared.track.Link.{Link}
 use Rattle.reach.proofs.Collected.{hexes_more, lies_there, own_hex}
 use Rattle.map_tables.proofs.HexTables.{hexes_at}
@@ -21,7 +21,7 @@ use Rattle.reach.specs.Position.{HasToken, IsAmong, Position, links_of}
 use Rattle.reach.specs.Reached.{stop_order}
 use Rattle.reach.specs.Walk.{IsTrack, across, entered_at, left_at, spot_at, stop_of}
 use Rattle.reach.specs.declared.walk.Spot.{Spot}
-use Rattle.reach.specs.declared.walk.Step.{Step}
+use Rattle.reach.specs.declared.walk.WalkStep.{WalkStep}
 use Rattle.reach.proofs.Decided.{Decided}
 use Rattle.tables.specs.declared.roster.Company.{Company}
 use Rattle.legal_runs.proofs.Fewer.{fewer_free}
@@ -50,7 +50,7 @@ spots_decided a b =
           elim (cases_eq (end_order a.end) (end_order b.end)) [
             | inr other ↦ inr (λ is. other (ap (λ (s : Spot). end_order s.end) is))
             | inl end ↦ inl (ap (λ (h : Hex). spot_at h a.end) (same_index a.hex b.hex hex)
-                ∙ ap (λ (e : End). spot_at b.hex e) (same_end a.end b.end end))
+                ∙ ap (λ (e : TrackEnd). spot_at b.hex e) (same_end a.end b.end end))
           ]
     ]
 
@@ -72,7 +72,7 @@ any_such P known (thing ∷ things) =
     ]
 
 -- whether a step by a link is such
-by_link : (P : Step → Type 0) → ((step : Step) → Decided (P step)) → (link : Link)
+by_link : (P : WalkStep → Type 0) → ((step : WalkStep) → Decided (P step)) → (link : Link)
     → Decided ((turned : Bool) × P (record { link = link; turned = turned }))
 by_link P known link =
     elim (known (record { link = link; turned = true })) [
@@ -90,8 +90,8 @@ by_link P known link =
     neither false holds fails also = also holds
 
 -- whether a step by one of some links is such
-by_links : (P : Step → Type 0) → ((step : Step) → Decided (P step)) → (links : List Link)
-    → Decided ((step : Step) × IsAmong step.link links × P step)
+by_links : (P : WalkStep → Type 0) → ((step : WalkStep) → Decided (P step)) → (links : List Link)
+    → Decided ((step : WalkStep) × IsAmong step.link links × P step)
 by_links P known links =
     elim (any_such (λ link. (turned : Bool) × P (record { link = link; turned = turned })) (by_link P known) links) [
       | inl found ↦ inl (record { link = found.0; turned = found.2.0 }, found.1, found.2.1)
@@ -108,7 +108,7 @@ crossed_fewer false marks crossed border low was is =
     subst (λ (ms : List Bool). (count_by not ms < count_by not marks) × (length ms ≡ length marks)) same
     (fewer_free marks border low was, length-set marks border true)
 
-fewer_at : (marks crossed : List Bool) (hex : Hex) (end : End) → length marks ≡ 279
+fewer_at : (marks crossed : List Bool) (hex : Hex) (end : TrackEnd) → length marks ≡ 279
     → crossing_end marks hex end ≡ Some crossed → (count_by not crossed < count_by not marks)
     × (length crossed ≡ length marks)
 fewer_at marks crossed hex (AtSide side) whole is =
@@ -118,11 +118,11 @@ fewer_at marks crossed hex (AtStop number) whole is = absurd cc
 
 module _ (position : Position) (start : Stop) where
   -- whether a step leads on over some marks
-  abbrev Known : List Bool → Step → Type 0
+  abbrev Known : List Bool → WalkStep → Type 0
   Known marks step = Decided (LeadsOn position start marks step)
 
-  module _ (marks : List Bool) (step : Step) (whole : length marks ≡ 279)
-      (deeper : (crossed : List Bool) (next : Step) → length crossed ≡ 279 → count_by not crossed < count_by not marks
+  module _ (marks : List Bool) (step : WalkStep) (whole : length marks ≡ 279)
+      (deeper : (crossed : List Bool) (next : WalkStep) → length crossed ≡ 279 → count_by not crossed < count_by not marks
       → Known crossed next) where
     -- once it is known of the steps that may follow, it is known
     by_crossing : stop_of (left_at step) ≡ None → (there : Spot) → across (left_at step) ≡ Some there
@@ -131,7 +131,7 @@ module _ (position : Position) (start : Stop) where
         closed leads)
     by_crossing none there over (Some crossed) crosses =
         let fewer = fewer_at marks crossed there.hex there.end whole crosses in
-        let known : (next : Step) → Decided (LeadsFrom position start crossed there next) = λ next.
+        let known : (next : WalkStep) → Decided (LeadsFrom position start crossed there next) = λ next.
         elim (spots_decided (entered_at next) there) [
           | inr other ↦ inr (λ leads. other leads.0)
           | inl here ↦
@@ -160,7 +160,7 @@ module _ (position : Position) (start : Stop) where
           | inr other ↦ inl ([], (stop, is, other))
         ]
 
-  known_below : (most : ℕ) (marks : List Bool) (step : Step) → length marks ≡ 279 → count_by not marks < most
+  known_below : (most : ℕ) (marks : List Bool) (step : WalkStep) → length marks ≡ 279 → count_by not marks < most
       → Known marks step
   known_below zero marks step whole few = absurd (omega arith)
   known_below (suc most) marks step whole few =
@@ -181,7 +181,7 @@ module _ (position : Position) (lawful : IsLawful position) (company : Company) 
           sym ((has_token_is position company stop).1 has) ∙ is in cc)
 
   -- whether a run begins with a step
-  leaves_decided : (step : Step) → Decided (LeavesToken position company step)
+  leaves_decided : (step : WalkStep) → Decided (LeavesToken position company step)
   leaves_decided step = by_stop (stop_of (entered_at step)) refl
     where
       by_stop : (found : Option Stop) → stop_of (entered_at step) ≡ found → Decided (LeavesToken position company step)
@@ -203,7 +203,7 @@ module _ (position : Position) (lawful : IsLawful position) (company : Company) 
 
   -- whether one begins with a step in the first hexes of the map
   abbrev Begins : ℕ → Type 0
-  Begins count = (step : Step) × (index_of step.link.hex < count) × IsTrack position step
+  Begins count = (step : WalkStep) × (index_of step.link.hex < count) × IsTrack position step
       × LeavesToken position company step
 
   begins_decided : (count : ℕ) → count ≤ 93 → Decided (Begins count)

@@ -3,8 +3,8 @@
 use Rattle.std.proofs.Common.{◌≡◌, Bool, true, false, not, ◌⊎◌, inl, inr, Option, Some, None, IfSome, List, [], ◌∷◌}
 use Rattle.std.proofs.Common.{◌++◌, refl, ap, sym, ◌∙◌, subst}
 use Rattle.map_tables.specs.declared.place.Stop.{Stop}
-use Rattle.map_tables.specs.declared.track.End.{End}
-use Rattle.map_tables.specs.declared.track.End.TheVariants.{Side as AtSide, Stop as AtStop}
+use Rattle.map_tables.specs.declared.track.TrackEnd.{TrackEnd}
+use Rattle.map_tables.specs.declared.track.TrackEnd.TheVariants.{Side as AtSide, Stop as AtStop}
 use Rattle.map_tables.specs.declared.track.Link.{Link}
 use Rattle.reach.specs.Lawful.{IsLawful}
 use Rattle.reach.specs.Position.{Position, HasToken, IsAmong, IsFull}
@@ -12,33 +12,33 @@ use Rattle.reach.specs.Reached.{IsWalkOf, ReachesStop}
 use Rattle.reach.specs.Walk.{AreJoined, IsTrack, IsWalk, PassesOnly, across, across_end, entered_at, left_at}
 use Rattle.reach.specs.Walk.{stop_at_end, stop_of}
 use Rattle.reach.specs.declared.walk.Spot.{Spot}
-use Rattle.reach.specs.declared.walk.Step.{Step}
+use Rattle.reach.specs.declared.walk.WalkStep.{WalkStep}
 use Rattle.reach.proofs.Spots.{back, names_itself}
 use Rattle.tables.specs.declared.roster.Company.{Company}
 use Rattle.legal_runs.specs.Legal.{HasSuch, first_stop, listed, visited}
 use Rattle.legal_runs.proofs.Marks.{among_both}
 
 -- a step the other way over its link
-abbrev pub flipped : Step → Step
+abbrev pub flipped : WalkStep → WalkStep
 flipped step = record { link = step.link; turned = not step.turned }
 
-pub flip_enters : (step : Step) → entered_at (flipped step) ≡ left_at step
+pub flip_enters : (step : WalkStep) → entered_at (flipped step) ≡ left_at step
 flip_enters step = by_turn step.link step.turned
   where
     by_turn :
         (link : Link) (turned : Bool) →
-        entered_at (let step : Step = record { link = link; turned = not turned } in step)
-        ≡ left_at (let step : Step = record { link = link; turned = turned } in step)
+        entered_at (let step : WalkStep = record { link = link; turned = not turned } in step)
+        ≡ left_at (let step : WalkStep = record { link = link; turned = turned } in step)
     by_turn link true = refl
     by_turn link false = refl
 
-pub flip_leaves : (step : Step) → left_at (flipped step) ≡ entered_at step
+pub flip_leaves : (step : WalkStep) → left_at (flipped step) ≡ entered_at step
 flip_leaves step = by_turn step.link step.turned
   where
     by_turn :
         (link : Link) (turned : Bool) →
-        left_at (let step : Step = record { link = link; turned = not turned } in step)
-        ≡ entered_at (let step : Step = record { link = link; turned = turned } in step)
+        left_at (let step : WalkStep = record { link = link; turned = not turned } in step)
+        ≡ entered_at (let step : WalkStep = record { link = link; turned = turned } in step)
     by_turn link true = refl
     by_turn link false = refl
 
@@ -46,7 +46,7 @@ flip_leaves step = by_turn step.link step.turned
 pub no_stop_across : (spot other : Spot) (stop : Stop) → stop_of spot ≡ Some stop → across spot ≡ Some other → ⊥
 no_stop_across spot other stop is over = by_end spot.end is over
   where
-    by_end : (end : End) → stop_at_end spot.hex end ≡ Some stop → across_end spot.hex end ≡ Some other → ⊥
+    by_end : (end : TrackEnd) → stop_at_end spot.hex end ≡ Some stop → across_end spot.hex end ≡ Some other → ⊥
     by_end (AtSide side) is over = cc
     by_end (AtStop number) is over = cc
 
@@ -77,13 +77,13 @@ module _ (position : Position) (lawful : IsLawful position) (company : Company) 
   abbrev ComesTo : Spot → Type 0
   ComesTo spot =
       ((stop : Stop) × (stop_of spot ≡ Some stop) × HasToken position stop company)
-      ⊎ ((step : Step) × (before : List Step) × IsWalkOf position company (step ∷ before)
+      ⊎ ((step : WalkStep) × (before : List WalkStep) × IsWalkOf position company (step ∷ before)
       × AreJoined (left_at step) spot)
 
   -- and goes on by that step
   comes_on :
-      (step : Step) → IsTrack position step → ComesTo (entered_at step) → IsOpen (entered_at step) →
-      (before : List Step) × IsWalkOf position company (step ∷ before)
+      (step : WalkStep) → IsTrack position step → ComesTo (entered_at step) → IsOpen (entered_at step) →
+      (before : List WalkStep) × IsWalkOf position company (step ∷ before)
   comes_on step track (inl own) open_there =
       ([], record { walk = (track, tt, tt); from_token = own; passes = (tt, tt) })
   comes_on step track (inr walk) open_there = (
@@ -116,14 +116,14 @@ module _ (position : Position) (lawful : IsLawful position) (company : Company) 
 
   -- the stop where a walk ends is reached
   left_reached :
-      (step : Step) (before : List Step) (stop : Stop) → IsWalkOf position company (step ∷ before)
+      (step : WalkStep) (before : List WalkStep) (stop : Stop) → IsWalkOf position company (step ∷ before)
       → stop_of (left_at step) ≡ Some stop →
       ReachesStop position company stop
   left_reached step before stop walk is = inr (step ∷ before, walk, inl (inr is))
 
   -- back from the end of a run all stops before it are reached
   all_back :
-      (step : Step) (before : List Step) → IsWalk position (step ∷ before)
+      (step : WalkStep) (before : List WalkStep) → IsWalk position (step ∷ before)
       → PassesOnly (λ stop. ¬ IsFull position stop company) (step ∷ before) →
       ComesTo (left_at step) → IsOpen (left_at step) → (stop : Stop)
       → IsAmong stop (first_stop before step ++ visited before) →
@@ -155,7 +155,7 @@ module _ (position : Position) (lawful : IsLawful position) (company : Company) 
       ]
     where
       at_joint :
-          AreJoined (left_at earlier) (entered_at step) → (walked : List Step)
+          AreJoined (left_at earlier) (entered_at step) → (walked : List WalkStep)
           → IsWalkOf position company (flipped step ∷ walked) →
           stop_of (left_at earlier) ≡ Some stop → ReachesStop position company stop
       at_joint (inl at) walked of_company is =
@@ -164,7 +164,7 @@ module _ (position : Position) (lawful : IsLawful position) (company : Company) 
           (no_stop_across (left_at earlier) (entered_at step) stop is over)
 
   -- a run with an own token: all its stops are reached, and the company reaches where it goes on
-  pub record IsReached (step : Step) (before : List Step) : Type 0 where
+  pub record IsReached (step : WalkStep) (before : List WalkStep) : Type 0 where
     pub stops : (stop : Stop) → IsAmong stop (visited (step ∷ before)) → ReachesStop position company stop
     pub onward : (spot : Spot) → AreJoined (left_at step) spot → ComesTo spot
 
@@ -173,7 +173,7 @@ module _ (position : Position) (lawful : IsLawful position) (company : Company) 
 
   -- by a walk that ends with its latest step
   by_walk :
-      (step : Step) (before walked : List Step) → IsWalkOf position company (step ∷ walked) →
+      (step : WalkStep) (before walked : List WalkStep) → IsWalkOf position company (step ∷ walked) →
       ((stop : Stop) → IsAmong stop (first_stop before step ++ visited before) → ReachesStop position company stop)
       → IsReached step before
   by_walk step before walked walk earlier =
@@ -188,7 +188,7 @@ module _ (position : Position) (lawful : IsLawful position) (company : Company) 
 
   -- by a token at its end
   by_token :
-      (step : Step) (before : List Step) → IsWalk position (step ∷ before)
+      (step : WalkStep) (before : List WalkStep) → IsWalk position (step ∷ before)
       → PassesOnly (λ stop. ¬ IsFull position stop company) (step ∷ before) →
       (own : Stop) → stop_of (left_at step) ≡ Some own → IsOwn own → IsReached step before
   by_token step before walk passes own is has =
@@ -210,7 +210,7 @@ module _ (position : Position) (lawful : IsLawful position) (company : Company) 
       on spot (inr over) = absurd (no_stop_across (left_at step) spot own is over)
 
   pub run_reached :
-      (step : Step) (before : List Step) → IsWalk position (step ∷ before)
+      (step : WalkStep) (before : List WalkStep) → IsWalk position (step ∷ before)
       → PassesOnly (λ stop. ¬ IsFull position stop company) (step ∷ before) →
       HasSuch IsOwn (visited (step ∷ before)) → IsReached step before
   run_reached step [] walk passes own =
@@ -246,7 +246,7 @@ module _ (position : Position) (lawful : IsLawful position) (company : Company) 
 
 -- all stops of a run with an own token are reached
 pub all_reached :
-    (position : Position) (lawful : IsLawful position) (company : Company) (steps : List Step) → IsWalk position steps →
+    (position : Position) (lawful : IsLawful position) (company : Company) (steps : List WalkStep) → IsWalk position steps →
     PassesOnly (λ stop. ¬ IsFull position stop company) steps
     → HasSuch (λ stop. HasToken position stop company) (visited steps) → (stop : Stop) →
     IsAmong stop (visited steps) → ReachesStop position company stop

@@ -3,7 +3,7 @@
 use Rattle.std.proofs.Common.{ℕ, inl, List, [], ◌∷◌, ◌++◌}
 use Rattle.std.specs.List.{AllByRecursion}
 use Rattle.reach.specs.Position.{Position, IsAmong}
-use Rattle.reach.specs.declared.walk.Step.{Step}
+use Rattle.reach.specs.declared.walk.WalkStep.{WalkStep}
 use Rattle.tables.specs.declared.rolling_stock.Kind.{Kind}
 use Rattle.tables.specs.declared.roster.Company.{Company}
 use Rattle.legal_runs.specs.Law.{LegalByMarks, RunsShareNoBorder}
@@ -29,7 +29,7 @@ share_none position company kind used first second run =
 pub legal_over :
     (position : Position) (company : Company) (kind : Kind) (used others : List ℕ)
     → ((border : ℕ) → IsAmong border others → IsAmong border used) →
-    (steps : List Step) → IsLegalRun position company kind used steps → IsLegalRun position company kind others steps
+    (steps : List WalkStep) → IsLegalRun position company kind used steps → IsLegalRun position company kind others steps
 legal_over position company kind used others makes steps run = record {
   walk = run.walk;
   begins = run.begins;

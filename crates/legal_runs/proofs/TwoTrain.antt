@@ -12,15 +12,15 @@ use Rattle.map_tables.specs.Side.{facing_of}
 use Rattle.map_tables.specs.declared.hex.Hex.{Hex}
 use Rattle.map_tables.specs.declared.place.Stop.{Stop}
 use Rattle.map_tables.specs.declared.side.Side.{Side}
-use Rattle.map_tables.specs.declared.track.End.{End}
-use Rattle.map_tables.specs.declared.track.End.TheVariants.{Side as AtSide, Stop as AtStop}
+use Rattle.map_tables.specs.declared.track.TrackEnd.{TrackEnd}
+use Rattle.map_tables.specs.declared.track.TrackEnd.TheVariants.{Side as AtSide, Stop as AtStop}
 use Rattle.map_tables.specs.declared.track.Link.{Link}
 use Rattle.reach.specs.Lawful.{IsLawful}
 use Rattle.reach.specs.Position.{Position, HasToken, IsAmong, IsFull, is_red, links_of}
 use Rattle.reach.specs.Walk.{AreJoined, IsTrack, IsWalk, PassesOnly, across, across_end, begins_at, entered_at, left_at}
 use Rattle.reach.specs.Walk.{spot_at, stop_at_end, stop_of}
 use Rattle.reach.specs.declared.walk.Spot.{Spot}
-use Rattle.reach.specs.declared.walk.Step.{Step}
+use Rattle.reach.specs.declared.walk.WalkStep.{WalkStep}
 use Rattle.reach.proofs.Lists.{among_next}
 use Rattle.reach.proofs.Marking.{set_cases, set_keeps}
 use Rattle.reach.proofs.Spots.{back}
@@ -60,12 +60,12 @@ among_marked (other ∷ borders) border low (inr later) =
     set_keeps (marked none_used borders) other border here (among_marked borders border low.1 later)
 
 -- the border at an end that is free was not crossed, and is then
-over_is : (hex : Hex) (end : End) (borders : List ℕ)
+over_is : (hex : Hex) (end : TrackEnd) (borders : List ℕ)
     → over_border (marked none_used borders) hex end ≡ marked none_used (border_at hex end ++ borders)
 over_is hex (AtSide side) borders = refl
 over_is hex (AtStop number) borders = refl
 
-distinct_over : (hex : Hex) (end : End) (borders : List ℕ) → AllByRecursion (λ b. b < 279) borders
+distinct_over : (hex : Hex) (end : TrackEnd) (borders : List ℕ) → AllByRecursion (λ b. b < 279) borders
     → IsFree (marked none_used borders) hex end → AreDistinct borders → AreDistinct (border_at hex end ++ borders)
 distinct_over hex (AtSide side) borders low free distinct = (
   λ among. let is : get_or (marked none_used borders) (border_of hex side) false ≡ true =
@@ -75,20 +75,20 @@ distinct_over hex (AtSide side) borders low free distinct = (
 )
 distinct_over hex (AtStop number) borders low free distinct = distinct
 
-free_there : (hex : Hex) (end : End) (borders : List ℕ) → stop_at_end hex end ≡ None
+free_there : (hex : Hex) (end : TrackEnd) (borders : List ℕ) → stop_at_end hex end ≡ None
     → AreDistinct (border_at hex end ++ borders) → IsFree (marked none_used borders) hex end
 free_there hex (AtSide side) borders none distinct =
     false_from_ne_true (get_or (marked none_used borders) (border_of hex side) false)
     (λ is. distinct.0 (marked_among borders (border_of hex side) is))
 free_there hex (AtStop number) borders none distinct = absurd cc
 
-pub others_distinct : (hex : Hex) (end : End) (borders : List ℕ) → AreDistinct (border_at hex end ++ borders)
+pub others_distinct : (hex : Hex) (end : TrackEnd) (borders : List ℕ) → AreDistinct (border_at hex end ++ borders)
     → AreDistinct borders
 others_distinct hex (AtSide side) borders distinct = distinct.1
 others_distinct hex (AtStop number) borders distinct = distinct
 
 -- no stop is passed at a border
-passed_none : (P : Stop → Type 0) (marks : List Bool) (hex : Hex) (end : End) → IsFree marks hex end
+passed_none : (P : Stop → Type 0) (marks : List Bool) (hex : Hex) (end : TrackEnd) → IsFree marks hex end
     → IfSome (stop_at_end hex end) P
 passed_none P marks hex (AtSide side) free = tt
 passed_none P marks hex (AtStop number) free = absurd free
@@ -96,16 +96,16 @@ passed_none P marks hex (AtStop number) free = absurd free
 none_there : (spot other : Spot) → across spot ≡ Some other → stop_of spot ≡ None
 none_there spot other over = by_end spot.end over
   where
-    by_end : (end : End) → across_end spot.hex end ≡ Some other → stop_at_end spot.hex end ≡ None
+    by_end : (end : TrackEnd) → across_end spot.hex end ≡ Some other → stop_at_end spot.hex end ≡ None
     by_end (AtSide side) over = refl
     by_end (AtStop number) over = absurd cc
 
 -- no border lies at a stop
-pub no_border : (hex : Hex) (end : End) (stop : Stop) → stop_at_end hex end ≡ Some stop → border_at hex end ≡ []
+pub no_border : (hex : Hex) (end : TrackEnd) (stop : Stop) → stop_at_end hex end ≡ Some stop → border_at hex end ≡ []
 no_border hex (AtSide side) stop is = absurd cc
 no_border hex (AtStop number) stop is = refl
 
-none_crossed : (step : Step) (stop : Stop) → stop_of (entered_at step) ≡ Some stop → crossed (step ∷ []) ≡ []
+none_crossed : (step : WalkStep) (stop : Stop) → stop_of (entered_at step) ≡ Some stop → crossed (step ∷ []) ≡ []
 none_crossed step stop is = ap (λ (borders : List ℕ). borders ++ [])
     (no_border (entered_at step).hex (entered_at step).end stop is)
 
@@ -116,7 +116,7 @@ unused (border ∷ borders) = (λ none. none, unused borders)
 
 module _ (position : Position) (company : Company) (start : Stop) where
   -- a walk that began at the stop and has passed no other
-  record Underway (step : Step) (before : List Step) : Type 0 where
+  record Underway (step : WalkStep) (before : List WalkStep) : Type 0 where
     walk : IsWalk position (step ∷ before)
     begins : stop_of (begins_at step before) ≡ Some start
     stops : (first_stop before step ++ visited before) ≡ start ∷ []
@@ -125,7 +125,7 @@ module _ (position : Position) (company : Company) (start : Stop) where
     full : PassesOnly (λ stop. ¬ IsFull position stop company) (step ∷ before)
 
   -- it reaches another stop
-  arrived : (step : Step) (before : List Step) → Underway step before → HasToken position start company
+  arrived : (step : WalkStep) (before : List WalkStep) → Underway step before → HasToken position start company
       → (stop : Stop) → stop_of (left_at step) ≡ Some stop → ¬ (stop ≡ start)
       → IsLegalRun position company Two [] (step ∷ before)
   arrived step before way token stop is other =
@@ -150,7 +150,7 @@ module _ (position : Position) (company : Company) (start : Stop) where
       }
 
   -- or goes over a border
-  further : (step : Step) (before : List Step) (next : Step) → Underway step before → IsTrack position next
+  further : (step : WalkStep) (before : List WalkStep) (next : WalkStep) → Underway step before → IsTrack position next
       → across (left_at step) ≡ Some (entered_at next)
       → IsFree (marked none_used (crossed (step ∷ before))) (entered_at next).hex (entered_at next).end
       → Underway next (step ∷ before)
@@ -168,7 +168,7 @@ module _ (position : Position) (company : Company) (start : Stop) where
         full = (passed_none (λ stop. ¬ IsFull position stop company) marks at.hex at.end free, way.full);
       }
 
-  onward : (later : List Step) (step : Step) (before : List Step) → Underway step before
+  onward : (later : List WalkStep) (step : WalkStep) (before : List WalkStep) → Underway step before
       → HasToken position start company → Continues position start (marked none_used (crossed (step ∷ before))) step
       later → CanRun position company
   onward [] step before way token leads = (step ∷ before, arrived step before way token leads.0 leads.1 leads.2)
@@ -177,7 +177,7 @@ module _ (position : Position) (company : Company) (start : Stop) where
       (subst (λ (marks : List Bool). Continues position start marks next later)
       (over_is (entered_at next).hex (entered_at next).end (crossed (step ∷ before))) leads.3)
 
-  begun : (step : Step) → IsTrack position step → stop_of (entered_at step) ≡ Some start → Underway step []
+  begun : (step : WalkStep) → IsTrack position step → stop_of (entered_at step) ≡ Some start → Underway step []
   begun step track is = record {
     walk = (track, tt, tt);
     begins = is;
@@ -188,7 +188,7 @@ module _ (position : Position) (company : Company) (start : Stop) where
   }
 
 -- what is gone over from a token is a run for a 2-train
-pub run_found : (position : Position) (company : Company) (step : Step) → IsTrack position step
+pub run_found : (position : Position) (company : Company) (step : WalkStep) → IsTrack position step
     → LeavesToken position company step → CanRun position company
 run_found position company step track leaves =
     let start : Stop = leaves.0 in
@@ -197,7 +197,7 @@ run_found position company step track leaves =
     (sym (none_crossed step start leaves.1)) leaves.3.1)
 
 -- the stop where a walk begins is visited
-start_among : (before : List Step) (step : Step) (start : Stop) → stop_of (begins_at step before) ≡ Some start
+start_among : (before : List WalkStep) (step : WalkStep) (start : Stop) → stop_of (begins_at step before) ≡ Some start
     → IsAmong start (first_stop before step ++ visited before)
 start_among [] step start is = subst (λ (found : Option Stop). IsAmong start (listed found ++ [])) (sym is) (inl refl)
 start_among (earlier ∷ before) step start is =
@@ -236,7 +236,7 @@ one_border pair spot other over = by_end spot.end over
         ap (λ (border : ℕ). border ∷ []) (faced spot.hex next side is (pair spot.hex side next is))
         ∙ ap (λ (s : Spot). border_at s.hex s.end) there
 
-    by_end : (end : End) → across_end spot.hex end ≡ Some other → border_at spot.hex end ≡ border_at other.hex other.end
+    by_end : (end : TrackEnd) → across_end spot.hex end ≡ Some other → border_at spot.hex end ≡ border_at other.hex other.end
     by_end (AtSide side) over = by_hex side (neighbour_of spot.hex side) refl over
     by_end (AtStop number) over = absurd cc
 
@@ -248,17 +248,17 @@ all_free : (borders : List ℕ) → AreFree none_used borders
 all_free [] = tt
 all_free (border ∷ borders) = (none_marked 279 border, all_free borders)
 
-first_free : (marks : List Bool) (hex : Hex) (end : End) (borders : List ℕ)
+first_free : (marks : List Bool) (hex : Hex) (end : TrackEnd) (borders : List ℕ)
     → AreFree marks (border_at hex end ++ borders) → AreFree marks (border_at hex end)
 first_free marks hex (AtSide side) borders free = (free.0, tt)
 first_free marks hex (AtStop number) borders free = tt
 
-free_at : (marks : List Bool) (hex : Hex) (end : End) → stop_at_end hex end ≡ None → AreFree marks (border_at hex end)
+free_at : (marks : List Bool) (hex : Hex) (end : TrackEnd) → stop_at_end hex end ≡ None → AreFree marks (border_at hex end)
     → IsFree marks hex end
 free_at marks hex (AtSide side) none free = free.0
 free_at marks hex (AtStop number) none free = absurd cc
 
-over_at : (marks : List Bool) (hex : Hex) (end : End) → over_border marks hex end ≡ marked marks (border_at hex end)
+over_at : (marks : List Bool) (hex : Hex) (end : TrackEnd) → over_border marks hex end ≡ marked marks (border_at hex end)
 over_at marks hex (AtSide side) = refl
 over_at marks hex (AtStop number) = refl
 
@@ -271,7 +271,7 @@ free_without marks one (border ∷ borders) none free = (
   free_without marks one borders (λ later. none (inr later)) free.1,
 )
 
-still_free : (marks : List Bool) (hex : Hex) (end : End) (borders : List ℕ)
+still_free : (marks : List Bool) (hex : Hex) (end : TrackEnd) (borders : List ℕ)
     → AreDistinct (border_at hex end ++ borders) → AreFree marks (border_at hex end ++ borders)
     → AreFree (marked marks (border_at hex end)) borders
 still_free marks hex (AtSide side) borders distinct free =
@@ -279,17 +279,17 @@ still_free marks hex (AtSide side) borders distinct free =
 still_free marks hex (AtStop number) borders distinct free = free
 
 -- a walk the other way
-abbrev pub returning : List Step → List Step
+abbrev pub returning : List WalkStep → List WalkStep
 returning [] = []
 returning (step ∷ before) = flipped step ∷ returning before
 
 module _ (position : Position) (lawful : IsLawful position) (company : Company) where
   -- from the beginning of a walk to where it is
-  ahead : (start : Stop) (before : List Step) (step : Step) (later : List Step) → HasToken position start company
+  ahead : (start : Stop) (before : List WalkStep) (step : WalkStep) (later : List WalkStep) → HasToken position start company
       → IsWalk position (step ∷ before) → stop_of (begins_at step before) ≡ Some start
       → length (first_stop before step ++ visited before) ≤ 1 → AreDistinct (crossed (step ∷ before))
       → Continues position start (marked none_used (crossed (step ∷ before))) step later
-      → (first : Step) × IsTrack position first × LeavesToken position company first
+      → (first : WalkStep) × IsTrack position first × LeavesToken position company first
   ahead start [] step later token walk begins few distinct leads = (
     step,
     walk.0,
@@ -323,7 +323,7 @@ module _ (position : Position) (lawful : IsLawful position) (company : Company) 
       )
 
   -- from the end of a walk back to its beginning
-  backwards : (own start : Stop) → ¬ (start ≡ own) → (before : List Step) (step : Step) (marks : List Bool)
+  backwards : (own start : Stop) → ¬ (start ≡ own) → (before : List WalkStep) (step : WalkStep) (marks : List Bool)
       → IsWalk position (step ∷ before) → stop_of (begins_at step before) ≡ Some start
       → length (first_stop before step ++ visited before) ≤ 1 → AreDistinct (crossed (step ∷ before))
       → AreFree marks (crossed (step ∷ before)) → Continues position own marks (flipped step) (returning before)
@@ -359,8 +359,8 @@ module _ (position : Position) (lawful : IsLawful position) (company : Company) 
       )
 
   -- each run for a 2-train is gone over from a token
-  from_token : (step : Step) (before : List Step) → IsLegalRun position company Two [] (step ∷ before)
-      → (first : Step) × IsTrack position first × LeavesToken position company first
+  from_token : (step : WalkStep) (before : List WalkStep) → IsLegalRun position company Two [] (step ∷ before)
+      → (first : WalkStep) × IsTrack position first × LeavesToken position company first
   from_token step before run =
       let stop : Stop = run.ends.0 in
       let start : Stop = run.begins.0 in
@@ -398,12 +398,12 @@ module _ (position : Position) (lawful : IsLawful position) (company : Company) 
         ]
       ]
 
-  pub run_begins : CanRun position company → (first : Step) × IsTrack position first
+  pub run_begins : CanRun position company → (first : WalkStep) × IsTrack position first
       × LeavesToken position company first
   run_begins run = by_steps run.0 run.1
     where
-      by_steps : (steps : List Step) → IsLegalRun position company Two [] steps
-          → (first : Step) × IsTrack position first × LeavesToken position company first
+      by_steps : (steps : List WalkStep) → IsLegalRun position company Two [] steps
+          → (first : WalkStep) × IsTrack position first × LeavesToken position company first
       by_steps [] run = absurd run.ends
       by_steps (step ∷ before) run = from_token step before run
 
@@ -416,22 +416,22 @@ by_no_mark : (b : Bool) (new : List Bool) → (if b then None else Some new) ≡
 by_no_mark true new is free = cc
 by_no_mark false new is free = cc
 
-crossed_by : (marks : List Bool) (hex : Hex) (end : End) (over : List Bool) → crossing_end marks hex end ≡ Some over
+crossed_by : (marks : List Bool) (hex : Hex) (end : TrackEnd) (over : List Bool) → crossing_end marks hex end ≡ Some over
     → IsFree marks hex end × (over_border marks hex end ≡ over)
 crossed_by marks hex (AtSide side) over is = by_mark (get_or marks (border_of hex side) false)
     (set marks (border_of hex side) true) over is
 crossed_by marks hex (AtStop number) over is = absurd cc
 
-not_crossed : (marks : List Bool) (hex : Hex) (end : End) → crossing_end marks hex end ≡ None → IsFree marks hex end → ⊥
+not_crossed : (marks : List Bool) (hex : Hex) (end : TrackEnd) → crossing_end marks hex end ≡ None → IsFree marks hex end → ⊥
 not_crossed marks hex (AtSide side) is free = by_no_mark (get_or marks (border_of hex side) false)
     (set marks (border_of hex side) true) is free
 not_crossed marks hex (AtStop number) is free = free
 
 -- where no step by the links before one is such, and none by that one, none is by the links up to
 -- it
-pub one_link_more : (P : Step → Type 0) (here all : List Link) → here ≡ all → (i : ℕ) (d : Link) → i < length here
-    → ((step : Step) → IsAmong step.link (take i all) → P step → ⊥)
-    → (((step : Step) × (step.link ≡ get_or here i d) × P step) → ⊥) → (step : Step)
+pub one_link_more : (P : WalkStep → Type 0) (here all : List Link) → here ≡ all → (i : ℕ) (d : Link) → i < length here
+    → ((step : WalkStep) → IsAmong step.link (take i all) → P step → ⊥)
+    → (((step : WalkStep) × (step.link ≡ get_or here i d) × P step) → ⊥) → (step : WalkStep)
     → IsAmong step.link (take (i + 1) all) → P step → ⊥
 one_link_more P here all is i d low before none step among leads =
     elim (among_next here i step.link d low (subst (λ (ls : List Link). IsAmong step.link (take (i + 1) ls)) (sym is)
@@ -441,10 +441,10 @@ one_link_more P here all is i d low before none step among leads =
     ]
 
 -- a step by a link is one of two
-pub by_turn : (P : Step → Type 0) (link : Link) (first second : Bool)
+pub by_turn : (P : WalkStep → Type 0) (link : Link) (first second : Bool)
     → (first ≡ true) ↔ P (record { link = link; turned = false })
     → (second ≡ true) ↔ P (record { link = link; turned = true }) → first ≡ false
-    → ((step : Step) × (step.link ≡ link) × P step) → second ≡ true
+    → ((step : WalkStep) × (step.link ≡ link) × P step) → second ≡ true
 by_turn P link first second forward back none found = by_step found.0.link found.0.turned found.1 found.2
   where
     by_step : (its : Link) (turned : Bool) → its ≡ link → P (record { link = its; turned = turned }) → second ≡ true
@@ -453,13 +453,13 @@ by_turn P link first second forward back none found = by_step found.0.link found
         absurd (let wrong : true ≡ false = sym (forward.1
         (subst (λ (l : Link). P (record { link = l; turned = false })) is holds)) ∙ none in cc)
 
-module _ (position : Position) (start : Stop) (marks : List Bool) (step : Step) where
+module _ (position : Position) (start : Stop) (marks : List Bool) (step : WalkStep) where
   -- a step that is left at a stop leads on where that is not the first one
   pub leads_to_stop : (stop : Stop) → stop_of (left_at step) ≡ Some stop → LeadsOn position start marks step
       → stop ≡ start → ⊥
   leads_to_stop stop is leads same = by_later leads.0 leads.1
     where
-      by_later : (later : List Step) → Continues position start marks step later → ⊥
+      by_later : (later : List WalkStep) → Continues position start marks step later → ⊥
       by_later [] here = here.2 (let one : here.0 ≡ stop =
           (let both : Some here.0 ≡ Some stop = sym here.1 ∙ is in cc) in one ∙ same)
       by_later (next ∷ later) on = no_stop_across (left_at step) (entered_at next) stop is on.1
@@ -469,18 +469,18 @@ module _ (position : Position) (start : Stop) (marks : List Bool) (step : Step) 
       → ⊥
   leads_nowhere none over leads = by_later leads.0 leads.1
     where
-      by_later : (later : List Step) → Continues position start marks step later → ⊥
+      by_later : (later : List WalkStep) → Continues position start marks step later → ⊥
       by_later [] here = let wrong : None ≡ Some here.0 = sym none ∙ here.1 in cc
       by_later (next ∷ later) on = let wrong : None ≡ Some (entered_at next) = sym over ∙ on.1 in cc
 
   module _ (none : stop_of (left_at step) ≡ None) (there : Spot) (over : across (left_at step) ≡ Some there) where
     -- and one that is left at a border leads on by a step that is entered beyond it
-    next_step : LeadsOn position start marks step → (next : Step) × IsTrack position next × (entered_at next ≡ there)
+    next_step : LeadsOn position start marks step → (next : WalkStep) × IsTrack position next × (entered_at next ≡ there)
         × IsFree marks there.hex there.end × LeadsOn position start (over_border marks there.hex there.end) next
     next_step leads = by_later leads.0 leads.1
       where
-        by_later : (later : List Step) → Continues position start marks step later
-            → (next : Step) × IsTrack position next × (entered_at next ≡ there) × IsFree marks there.hex there.end
+        by_later : (later : List WalkStep) → Continues position start marks step later
+            → (next : WalkStep) × IsTrack position next × (entered_at next ≡ there) × IsFree marks there.hex there.end
             × LeadsOn position start (over_border marks there.hex there.end) next
         by_later [] here = absurd (let wrong : None ≡ Some here.0 = sym none ∙ here.1 in cc)
         by_later (next ∷ later) on =
@@ -501,11 +501,11 @@ module _ (position : Position) (start : Stop) (marks : List Bool) (step : Step) 
     leads_over_none closed leads = not_crossed marks there.hex there.end closed (next_step leads).3
 
     pub leads_over : (crossed : List Bool) → crossing marks there ≡ Some crossed → LeadsOn position start marks step
-        → (next : Step) × IsAmong next.link (links_of position there.hex) × (entered_at next ≡ there)
+        → (next : WalkStep) × IsAmong next.link (links_of position there.hex) × (entered_at next ≡ there)
         × LeadsOn position start crossed next
     leads_over crossed crosses leads =
         let on = next_step leads in
-        let next : Step = on.0 in (
+        let next : WalkStep = on.0 in (
           next,
           subst (λ (s : Spot). IsAmong next.link (links_of position s.hex)) on.2 on.1,
           on.2,
@@ -513,7 +513,7 @@ module _ (position : Position) (start : Stop) (marks : List Bool) (step : Step) 
               (crossed_by marks there.hex there.end crossed crosses).1 on.4,
         )
 
-    pub over_leads : (crossed : List Bool) → crossing marks there ≡ Some crossed → (next : Step)
+    pub over_leads : (crossed : List Bool) → crossing marks there ≡ Some crossed → (next : WalkStep)
         → IsAmong next.link (links_of position there.hex) → entered_at next ≡ there
         → LeadsOn position start crossed next → LeadsOn position start marks step
     over_leads crossed crosses next among same leads =

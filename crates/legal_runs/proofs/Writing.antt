@@ -6,18 +6,18 @@ use Rattle.std.proofs.lemmas.List.{append-nil, append_assoc, length-append}
 use Rattle.map_tables.specs.declared.place.Place.{Place}
 use Rattle.reach.specs.Walk.{begins_at, entered_at, left_at}
 use Rattle.reach.specs.declared.walk.Spot.{Spot}
-use Rattle.reach.specs.declared.walk.Step.{Step}
+use Rattle.reach.specs.declared.walk.WalkStep.{WalkStep}
 use Rattle.legal_runs.specs.Legal.{listed}
 use Rattle.legal_runs.specs.Written.{place_at, place_over, places_of, places_over}
 
 -- the first step is last, and says where the walk begins
-begins_last : (step other : Step) (before : List Step)
+begins_last : (step other : WalkStep) (before : List WalkStep)
     → entered_at (get_or (step ∷ before) (length before) other) ≡ begins_at step before
 begins_last step other [] = refl
 begins_last step other (earlier ∷ before) = begins_last earlier other before
 
 pub begun_with :
-    (steps : List Step) (other : Step) → 2 ≤ length (places_of steps) →
+    (steps : List WalkStep) (other : WalkStep) → 2 ≤ length (places_of steps) →
     place_at (entered_at (get_or steps (length steps - 1) other)) ∷ places_over steps ≡ places_of steps
 begun_with [] other least = absurd (omega (arith, least))
 begun_with (step ∷ before) other least =
@@ -27,7 +27,7 @@ begun_with (step ∷ before) other least =
 
 -- the first step of those that are left gives their first place
 first_of_rest :
-    (rest : List Step) (step : Step) → places_over (rest ++ (step ∷ []))
+    (rest : List WalkStep) (step : WalkStep) → places_over (rest ++ (step ∷ []))
     ≡ listed (place_over (entered_at step).end (left_at step)) ++ places_over rest
 first_of_rest [] step = sym (append-nil (listed (place_over (entered_at step).end (left_at step))))
 first_of_rest (last ∷ rest) step =
@@ -37,7 +37,7 @@ first_of_rest (last ∷ rest) step =
 
 -- a step further
 pub step_further :
-    (places all : List Place) (place : Option Place) (left rest : List Step) (step : Step)
+    (places all : List Place) (place : Option Place) (left rest : List WalkStep) (step : WalkStep)
     → left ≡ rest ++ (step ∷ []) →
     place ≡ place_over (entered_at step).end (left_at step) → places ++ places_over left ≡ all
     → places ++ listed place ++ places_over rest ≡ all

@@ -21,15 +21,15 @@ use Rattle.map_tables.specs.declared.place.StopNumber.{StopNumber}
 use Rattle.map_tables.specs.declared.place.StopNumber.TheVariants.{First, Second}
 use Rattle.map_tables.specs.declared.side.Side.{Side}
 use Rattle.map_tables.specs.declared.side.Side.TheVariants.{SouthWest, West, NorthWest, NorthEast, East, SouthEast}
-use Rattle.map_tables.specs.declared.track.End.{End}
-use Rattle.map_tables.specs.declared.track.End.TheVariants.{Side as AtSide, Stop as AtStop}
+use Rattle.map_tables.specs.declared.track.TrackEnd.{TrackEnd}
+use Rattle.map_tables.specs.declared.track.TrackEnd.TheVariants.{Side as AtSide, Stop as AtStop}
 use Rattle.map_tables.specs.declared.track.Link.{Link}
 use Rattle.map_tables.proofs.Searches.{found_passes}
 use Rattle.reach.specs.Lawful.{IsLawful}
 use Rattle.reach.specs.Position.{Position, IsAmong, links_of, is_red}
 use Rattle.reach.specs.Walk.{AreJoined, BeginsAt, IsTrack, IsWalk, PassesOnly, entered_at, left_at, spot_at, stop_of}
 use Rattle.reach.specs.declared.walk.Spot.{Spot}
-use Rattle.reach.specs.declared.walk.Step.{Step}
+use Rattle.reach.specs.declared.walk.WalkStep.{WalkStep}
 use Rattle.reach.proofs.Lists.{found_among}
 use Rattle.tables.specs.declared.rolling_stock.Kind.{Kind}
 use Rattle.tables.specs.declared.roster.Company.{Company}
@@ -185,7 +185,7 @@ pub record Ordered (link : Link) : Type 0 where
   pub from_side : end_order link.a < 6
   pub rising : end_order link.a < end_order link.b
 
-pub ordered : (position : Position) → IsLawful position → (step : Step) → IsTrack position step → Ordered step.link
+pub ordered : (position : Position) → IsLawful position → (step : WalkStep) → IsTrack position step → Ordered step.link
 ordered position lawful step track =
     let links = lawful.links step.link.hex in
     let is : is_link step.link ≡ true = ordered_among (links_of position step.link.hex) step.link links.in_order
@@ -200,16 +200,16 @@ ordered position lawful step track =
 
 -- the step from where it is entered to where it is left is the step itself
 over_is :
-    (hex : Hex) (a b : End) (turned : Bool) → end_order a < end_order b →
+    (hex : Hex) (a b : TrackEnd) (turned : Bool) → end_order a < end_order b →
     step_over hex (if turned then b else a) (if turned then a else b)
     ≡ record { link = record { hex = hex; a = a; b = b }; turned = turned }
 over_is hex a b true rising =
-    ap (λ (less : Bool). let s : Step = if less then record
+    ap (λ (less : Bool). let s : WalkStep = if less then record
     { link = record { hex = hex; a = a; b = b }; turned = true } else
     record { link = record { hex = hex; a = b; b = a }; turned = false } in s)
     (lt-ltb (end_order a) (end_order b) rising)
 over_is hex a b false rising =
-    ap (λ (less : Bool). let s : Step = if less then record
+    ap (λ (less : Bool). let s : WalkStep = if less then record
     { link = record { hex = hex; a = b; b = a }; turned = true } else
     record { link = record { hex = hex; a = a; b = b }; turned = false } in s)
     (not_less (end_order b) (end_order a) (omega (arith, rising)))
@@ -225,7 +225,7 @@ link_same link other is = subst (λ (l : Link). same_link link l ≡ true) is (i
 
 -- and the position has it
 between_is :
-    (position : Position) → IsLawful position → (step : Step) → IsTrack position step →
+    (position : Position) → IsLawful position → (step : WalkStep) → IsTrack position step →
     step_between position step.link.hex (entered_at step).end (left_at step).end ≡ Some step
 unfolding step_between
 between_is position lawful step track =
@@ -235,7 +235,7 @@ between_is position lawful step track =
     over_is hex step.link.a step.link.b step.turned facts.rising in
     let found : list_any (λ link. same_link link step.link) (links_of position hex) ≡ true =
     found_among same_link link_same (links_of position hex) step.link track in
-    ap (λ (s : Step). if list_any (λ link. same_link link s.link) (links_of position hex) then Some s else None) over
+    ap (λ (s : WalkStep). if list_any (λ link. same_link link s.link) (links_of position hex) then Some s else None) over
     ∙ ap (λ b. if b then Some step else None) found
 
 -- no step leads from a stop to a stop
@@ -255,19 +255,19 @@ joined_cases _ = inl refl
 
 -- a step that comes over a border comes to one more place
 one_over :
-    (hex : Hex) (end : End) (left : Spot) (places : List Place) (borders : List ℕ) → length places ≡ length borders →
+    (hex : Hex) (end : TrackEnd) (left : Spot) (places : List Place) (borders : List ℕ) → length places ≡ length borders →
     length (places ++ listed (place_over end left)) ≡ length (border_at hex end ++ borders)
 one_over hex (AtSide side) left places borders same = omega (arith, length-append places (place_at left ∷ []), same)
 one_over hex (AtStop number) left places borders same = ap length (append-nil places) ∙ same
 
-as_many : (steps : List Step) → length (places_over steps) ≡ length (crossed steps)
+as_many : (steps : List WalkStep) → length (places_over steps) ≡ length (crossed steps)
 as_many [] = refl
 as_many (step ∷ before) =
     one_over step.link.hex (entered_at step).end (left_at step) (places_over before) (crossed before) (as_many before)
 
 module _ (position : Position) (lawful : IsLawful position) where
   -- some places lead a train to a spot by these steps
-  record Led (at : Spot) (steps : List Step) (places : List Place) : Type 0 where
+  record Led (at : Spot) (steps : List WalkStep) (places : List Place) : Type 0 where
     leads_on : (rest : List Place) → walk_named position (places ++ rest) ≡ travelled taken position at steps rest
 
   -- the first place
@@ -277,7 +277,7 @@ module _ (position : Position) (lawful : IsLawful position) where
 
   -- one more place
   led_further :
-      (at : Spot) (steps : List Step) (places : List Place) (place : Place) (leg : Leg)
+      (at : Spot) (steps : List WalkStep) (places : List Place) (place : Place) (leg : Leg)
       → leg_to position at place ≡ Some leg → Led at steps places →
       Led leg.at (with_leg taken steps leg) (places ++ (place ∷ []))
   led_further at steps places place leg is led = record {
@@ -288,7 +288,7 @@ module _ (position : Position) (lawful : IsLawful position) where
 
   -- the leg by a step to a side, over the border there, and on
   leg_by_track :
-      (from : Spot) (first : Step) (side : Side) (place : Place) → neighbour_of from.hex side ≡ Some place.hex →
+      (from : Spot) (first : WalkStep) (side : Side) (place : Place) → neighbour_of from.hex side ≡ Some place.hex →
       step_between position from.hex from.end (AtSide side) ≡ Some first →
       leg_to position from place ≡ leg_by_stop position first place.hex (facing_of side) place.stop
   unfolding leg_to
@@ -297,7 +297,7 @@ module _ (position : Position) (lawful : IsLawful position) where
       ∙ ap (leg_from position side place) found
 
   leg_through :
-      (from : Spot) (first : Step) (side : Side) (hex : Hex) → neighbour_of from.hex side ≡ Some hex →
+      (from : Spot) (first : WalkStep) (side : Side) (hex : Hex) → neighbour_of from.hex side ≡ Some hex →
       step_between position from.hex from.end (AtSide side) ≡ Some first →
       leg_to position from (record { hex = hex; stop = None })
       ≡ Some (record { first = first; second = None; at = spot_at hex (AtSide (facing_of side)) })
@@ -305,7 +305,7 @@ module _ (position : Position) (lawful : IsLawful position) where
       leg_by_track from first side (record { hex = hex; stop = None }) beside found
 
   leg_to_stop :
-      (from : Spot) (first second : Step) (side : Side) (hex : Hex) (number : StopNumber)
+      (from : Spot) (first second : WalkStep) (side : Side) (hex : Hex) (number : StopNumber)
       → neighbour_of from.hex side ≡ Some hex →
       step_between position from.hex from.end (AtSide side) ≡ Some first →
       step_between position hex (AtSide (facing_of side)) (AtStop number) ≡ Some second →
@@ -313,34 +313,34 @@ module _ (position : Position) (lawful : IsLawful position) where
       ≡ Some (record { first = first; second = Some second; at = spot_at hex (AtStop number) })
   leg_to_stop from first second side hex number beside found next =
       leg_by_track from first side (record { hex = hex; stop = Some number }) beside found
-      ∙ ap (option_map (λ (s : Step). let leg : Leg =
+      ∙ ap (option_map (λ (s : WalkStep). let leg : Leg =
       record { first = first; second = Some s; at = spot_at hex (AtStop number) } in leg)) next
 
   -- where these places of a walk lead: before the step that is left at a side, after the one left
   -- at a stop
-  abbrev NowAt : Step → List Step → List Place → End → Type 0
+  abbrev NowAt : WalkStep → List WalkStep → List Place → TrackEnd → Type 0
   NowAt step before places (AtSide side) = Led (entered_at step) before places
   NowAt step before places (AtStop number) = Led (left_at step) (step ∷ before) places
 
   -- from a stop a step leads to a side
   from_stop :
-      (step : Step) (before : List Step) (places : List Place) (number : StopNumber) → IsTrack position step
+      (step : WalkStep) (before : List WalkStep) (places : List Place) (number : StopNumber) → IsTrack position step
       → (entered_at step).end ≡ AtStop number →
-      Led (entered_at step) before places → (end : End) → (left_at step).end ≡ end → NowAt step before places end
+      Led (entered_at step) before places → (end : TrackEnd) → (left_at step).end ≡ end → NowAt step before places end
   from_stop step before places number track enters led (AtSide side) leaves = led
   from_stop step before places number track enters led (AtStop other) leaves =
       absurd (stop_to_stop step.link step.turned number other (ordered position lawful step track) enters leaves)
 
   -- the first step
   first_written :
-      (step : Step) → IsTrack position step → (end : End) → (entered_at step).end ≡ end → (stop : Stop)
+      (step : WalkStep) → IsTrack position step → (end : TrackEnd) → (entered_at step).end ≡ end → (stop : Stop)
       → stop_of (spot_at step.link.hex end) ≡ Some stop →
       NowAt step [] (place_at (spot_at step.link.hex end) ∷ listed (place_over end (left_at step))) (left_at step).end
   first_written step track (AtSide side) enters stop is = cc
   first_written step track (AtStop number) enters stop is =
       let places : List Place = place_at (spot_at step.link.hex (AtStop number)) ∷ [] in
       from_stop step [] places number track enters
-      (subst (λ (e : End). Led (spot_at step.link.hex e) [] places) (sym enters) (led_first step.link.hex number))
+      (subst (λ (e : TrackEnd). Led (spot_at step.link.hex e) [] places) (sym enters) (led_first step.link.hex number))
       (left_at step).end refl
 
   -- where a link ends at a stop, it is its second end
@@ -399,7 +399,7 @@ module _ (position : Position) (lawful : IsLawful position) where
 
   -- over a border
   beside_by :
-      (found : Option Hex) (side : Side) (other : Hex) (end : End)
+      (found : Option Hex) (side : Side) (other : Hex) (end : TrackEnd)
       → option_map (λ h. spot_at h (AtSide (facing_of side))) found ≡ Some (spot_at other end) →
       (found ≡ Some other) × (end ≡ AtSide (facing_of side))
   beside_by None side other end is = cc
@@ -408,34 +408,34 @@ module _ (position : Position) (lawful : IsLawful position) where
       (ap (λ (s : Spot). Some s.hex) spot, sym (ap (λ (s : Spot). s.end) spot))
 
   over_border :
-      (hex other : Hex) (side : Side) (end : End) → AreJoined (spot_at hex (AtSide side)) (spot_at other end) →
+      (hex other : Hex) (side : Side) (end : TrackEnd) → AreJoined (spot_at hex (AtSide side)) (spot_at other end) →
       (neighbour_of hex side ≡ Some other) × (end ≡ AtSide (facing_of side))
   over_border hex other side end (inl at) = let wrong : None ≡ Some at.0 = at.1 in cc
   over_border hex other side end (inr over) = beside_by (neighbour_of hex side) side other end over
 
   -- the step between these ends of its hex is the step itself
   between_ends :
-      (step : Step) (from to : End) → IsTrack position step → (entered_at step).end ≡ from → (left_at step).end ≡ to →
+      (step : WalkStep) (from to : TrackEnd) → IsTrack position step → (entered_at step).end ≡ from → (left_at step).end ≡ to →
       step_between position step.link.hex from to ≡ Some step
   between_ends step from to track enters leaves =
-      ap (λ (e : End). step_between position step.link.hex e to) (sym enters)
+      ap (λ (e : TrackEnd). step_between position step.link.hex e to) (sym enters)
       ∙ ap (step_between position step.link.hex (entered_at step).end) (sym leaves)
       ∙ between_is position lawful step track
 
   -- a step that goes on over a border
   over_written :
-      (step earlier : Step) (before : List Step) (places : List Place) (side : Side) → IsTrack position step
+      (step earlier : WalkStep) (before : List WalkStep) (places : List Place) (side : Side) → IsTrack position step
       → IsTrack position earlier →
       (left_at earlier).end ≡ AtSide side → neighbour_of earlier.link.hex side ≡ Some step.link.hex
       → (entered_at step).end ≡ AtSide (facing_of side) →
-      Led (entered_at earlier) before places → (end : End) → (left_at step).end ≡ end →
+      Led (entered_at earlier) before places → (end : TrackEnd) → (left_at step).end ≡ end →
       NowAt step (earlier ∷ before) (places ++ (place_at (spot_at step.link.hex end) ∷ [])) end
   over_written step earlier before places side track was leaves beside enters led (AtSide on) goes =
       let hex : Hex = step.link.hex in
       let place : Place = place_at (spot_at hex (AtSide on)) in
       let first : step_between position earlier.link.hex (entered_at earlier).end (AtSide side) ≡ Some earlier =
       between_ends earlier (entered_at earlier).end (AtSide side) was refl leaves in
-      subst (λ (e : End). Led (spot_at hex e) (earlier ∷ before) (places ++ (place ∷ []))) (sym enters)
+      subst (λ (e : TrackEnd). Led (spot_at hex e) (earlier ∷ before) (places ++ (place ∷ []))) (sym enters)
       (led_further (entered_at earlier) before places place
       (record { first = earlier; second = None; at = spot_at hex (AtSide (facing_of side)) })
       (leg_through (entered_at earlier) earlier side hex beside first) led)
@@ -446,19 +446,19 @@ module _ (position : Position) (lawful : IsLawful position) where
       between_ends earlier (entered_at earlier).end (AtSide side) was refl leaves in
       let second : step_between position hex (AtSide (facing_of side)) (AtStop number) ≡ Some step =
       between_ends step (AtSide (facing_of side)) (AtStop number) track enters goes in
-      subst (λ (e : End). Led (spot_at hex e) (step ∷ earlier ∷ before) (places ++ (place ∷ []))) (sym goes)
+      subst (λ (e : TrackEnd). Led (spot_at hex e) (step ∷ earlier ∷ before) (places ++ (place ∷ []))) (sym goes)
       (led_further (entered_at earlier) before places place
       (record { first = earlier; second = Some step; at = spot_at hex (AtStop number) })
       (leg_to_stop (entered_at earlier) earlier step side hex number beside first second) led)
 
   -- and_parts steps are joined at their ends
   joined_ends :
-      (earlier step : Step) (left entered : End) → (left_at earlier).end ≡ left → (entered_at step).end ≡ entered →
+      (earlier step : WalkStep) (left entered : TrackEnd) → (left_at earlier).end ≡ left → (entered_at step).end ≡ entered →
       AreJoined (left_at earlier) (entered_at step) → AreJoined (spot_at earlier.link.hex left)
       (spot_at step.link.hex entered)
   joined_ends earlier step left entered leaves enters joined =
-      subst (λ (e : End). AreJoined (spot_at earlier.link.hex left) (spot_at step.link.hex e)) enters
-      (subst (λ (e : End). AreJoined (spot_at earlier.link.hex e) (entered_at step)) leaves joined)
+      subst (λ (e : TrackEnd). AreJoined (spot_at earlier.link.hex left) (spot_at step.link.hex e)) enters
+      (subst (λ (e : TrackEnd). AreJoined (spot_at earlier.link.hex e) (entered_at step)) leaves joined)
 
   no_side_at_stop : (a b : Hex) (number : StopNumber) (side : Side)
       → AreJoined (spot_at a (AtStop number)) (spot_at b (AtSide side)) → ⊥
@@ -467,10 +467,10 @@ module _ (position : Position) (lawful : IsLawful position) where
 
   -- a later step
   later_written :
-      (step earlier : Step) (before : List Step) (places : List Place) → IsTrack position step
+      (step earlier : WalkStep) (before : List WalkStep) (places : List Place) → IsTrack position step
       → IsTrack position earlier →
       AreJoined (left_at earlier) (entered_at step) → IfSome (stop_of (entered_at step))
-      (λ stop. ¬ (is_red position stop ≡ true)) → (left entered : End) →
+      (λ stop. ¬ (is_red position stop ≡ true)) → (left entered : TrackEnd) →
       (left_at earlier).end ≡ left → (entered_at step).end ≡ entered → NowAt earlier before places left →
       NowAt step (earlier ∷ before) (places ++ listed (place_over entered (left_at step))) (left_at step).end
   later_written step earlier before places track was joined not_red (AtSide side) entered leaves enters led =
@@ -478,7 +478,7 @@ module _ (position : Position) (lawful : IsLawful position) where
       × ((entered_at step).end ≡ AtSide (facing_of side)) =
       over_border earlier.link.hex step.link.hex side (entered_at step).end
       (joined_ends earlier step (AtSide side) (entered_at step).end leaves refl joined) in
-      subst (λ (e : End). NowAt step (earlier ∷ before) (places ++ listed (place_over e (left_at step)))
+      subst (λ (e : TrackEnd). NowAt step (earlier ∷ before) (places ++ listed (place_over e (left_at step)))
       (left_at step).end) (sym over.1 ∙ enters)
       (over_written step earlier before places side track was leaves over.0 over.1 led (left_at step).end refl)
   later_written step earlier before places track was joined not_red (AtStop n) (AtSide side) leaves enters led =
@@ -488,7 +488,7 @@ module _ (position : Position) (lawful : IsLawful position) where
       let here : Hex = step.link.hex in
       let there : Hex = earlier.link.hex in
       let free : ¬ (is_red position (joined_stop_of (stop_at here m)) ≡ true) =
-      subst (λ (e : End). IfSome (stop_of (spot_at here e)) (λ stop. ¬ (is_red position stop ≡ true))) enters not_red in
+      subst (λ (e : TrackEnd). IfSome (stop_of (spot_at here e)) (λ stop. ¬ (is_red position stop ≡ true))) enters not_red in
       let was_second : earlier.link.b ≡ AtStop n = leaves_second earlier.link earlier.turned n
       (ordered position lawful earlier was) leaves in
       let is_second : step.link.b ≡ AtStop m = enters_second step.link step.turned m
@@ -499,13 +499,13 @@ module _ (position : Position) (lawful : IsLawful position) where
       (λ is. lawful.parts_have_one_stop here step.link track (is_second ∙ ap AtStop is)) free in
       subst (λ (list : List Place). NowAt step (earlier ∷ before) list (left_at step).end) (sym (append-nil places))
       (from_stop step (earlier ∷ before) places m track enters
-      (subst (λ (e : End). Led (spot_at here e) (earlier ∷ before) places) (sym enters)
+      (subst (λ (e : TrackEnd). Led (spot_at here e) (earlier ∷ before) places) (sym enters)
       (subst (λ (spot : Spot). Led spot (earlier ∷ before) places) (ap (spot_at there) leaves ∙ one) led))
       (left_at step).end refl)
 
   -- the places of a walk lead along it
   written :
-      (step : Step) (before : List Step) → IsWalk position (step ∷ before)
+      (step : WalkStep) (before : List WalkStep) → IsWalk position (step ∷ before)
       → BeginsAt (λ stop. Unit {0}) (step ∷ before) →
       PassesOnly (λ stop. ¬ (is_red position stop ≡ true)) (step ∷ before)
       → NowAt step before (places_of (step ∷ before)) (left_at step).end
@@ -517,8 +517,8 @@ module _ (position : Position) (lawful : IsLawful position) where
 
   -- a step that is left at a stop came over a border
   over_one :
-      (step : Step) (before : List Step) (number : StopNumber) → IsTrack position step
-      → (left_at step).end ≡ AtStop number → (end : End) →
+      (step : WalkStep) (before : List WalkStep) (number : StopNumber) → IsTrack position step
+      → (left_at step).end ≡ AtStop number → (end : TrackEnd) →
       (entered_at step).end ≡ end → 1 ≤ length (border_at step.link.hex end ++ crossed before)
   over_one step before number track leaves (AtSide side) enters = omega arith
   over_one step before number track leaves (AtStop other) enters =
@@ -526,8 +526,8 @@ module _ (position : Position) (lawful : IsLawful position) where
 
   -- at its end
   at_stop :
-      (step : Step) (before : List Step) → IsTrack position step → length (crossed (step ∷ before)) ≤ 279
-      → (end : End) → (left_at step).end ≡ end →
+      (step : WalkStep) (before : List WalkStep) → IsTrack position step → length (crossed (step ∷ before)) ≤ 279
+      → (end : TrackEnd) → (left_at step).end ≡ end →
       (stop : Stop) → stop_of (spot_at step.link.hex end) ≡ Some stop
       → NowAt step before (places_of (step ∷ before)) end →
       AreItsPlaces position (step ∷ before) (places_of (step ∷ before))
@@ -535,14 +535,14 @@ module _ (position : Position) (lawful : IsLawful position) where
   at_stop step before track few (AtStop number) leaves stop is led = record {
     name_it =
         ap (walk_named position) (sym (append-nil (places_of (step ∷ before)))) ∙ led.leads_on []
-        ∙ ap (λ (e : End). arrived e (step ∷ before)) leaves;
+        ∙ ap (λ (e : TrackEnd). arrived e (step ∷ before)) leaves;
     least = omega (arith, as_many (step ∷ before), over_one step before number track leaves (entered_at step).end refl);
     most = omega (arith, as_many (step ∷ before), few);
   }
 
 -- a walk that can be written out: it leads from a stop to a stop, passes no red stop and crosses at
 -- most 279 borders
-record CanBeWritten (position : Position) (steps : List Step) : Type 0 where
+record CanBeWritten (position : Position) (steps : List WalkStep) : Type 0 where
   walk : IsWalk position steps
   begins : BeginsAt (λ stop. Unit {0}) steps
   ends : EndsAtStop steps
@@ -551,7 +551,7 @@ record CanBeWritten (position : Position) (steps : List Step) : Type 0 where
 
 -- the places of such a walk name it, and are from 2 to 280
 walks_written :
-    (position : Position) (steps : List Step) → IsLawful position → CanBeWritten position steps →
+    (position : Position) (steps : List WalkStep) → IsLawful position → CanBeWritten position steps →
     AreItsPlaces position steps (places_of steps)
 walks_written position [] lawful walk = absurd walk.begins
 walks_written position (step ∷ before) lawful walk =
@@ -560,7 +560,7 @@ walks_written position (step ∷ before) lawful walk =
 
 -- each legal run is such a walk
 pub legal_written :
-    (position : Position) (company : Company) (kind : Kind) (used : List ℕ) (steps : List Step) → IsLawful position →
+    (position : Position) (company : Company) (kind : Kind) (used : List ℕ) (steps : List WalkStep) → IsLawful position →
     IsLegalRun position company kind used steps → AreItsPlaces position steps (places_of steps)
 legal_written position company kind used steps lawful run = walks_written position steps lawful (record {
   walk = run.walk;

@@ -8,7 +8,7 @@ use Rattle.map_tables.specs.declared.place.Stop.{Stop}
 use Rattle.reach.specs.Position.{Position, at_stop, is_red}
 use Rattle.reach.specs.Reached.{stop_order}
 use Rattle.reach.specs.Walk.{entered_at, stop_of}
-use Rattle.reach.specs.declared.walk.Step.{Step}
+use Rattle.reach.specs.declared.walk.WalkStep.{WalkStep}
 use Rattle.tables.specs.Roster.{same_company}
 use Rattle.tables.specs.Rules.{Rule, first_broken}
 use Rattle.tables.specs.Train.{stops_of}
@@ -67,17 +67,17 @@ is_such test (Some stop) = test stop
 is_such test None = false
 
 -- a step goes on from a stop that passes a test; the first step goes on from nowhere
-abbrev pub goes_through : (Stop → Bool) → List Step → Step → Bool
+abbrev pub goes_through : (Stop → Bool) → List WalkStep → WalkStep → Bool
 goes_through test [] step = false
 goes_through test (earlier ∷ before) step = is_such test (stop_of (entered_at step))
 
 -- a walk goes through a stop that passes a test
-abbrev pub passes : (Stop → Bool) → List Step → Bool
+abbrev pub passes : (Stop → Bool) → List WalkStep → Bool
 passes test [] = false
 passes test (step ∷ before) = passes test before || goes_through test before step
 
 -- the steps of a walk, if there is one
-abbrev pub steps_of : Option (List Step) → List Step
+abbrev pub steps_of : Option (List WalkStep) → List WalkStep
 steps_of (Some steps) = steps
 steps_of None = []
 
@@ -86,11 +86,11 @@ abbrev rule : RunRule → Bool → Rule RunRule
 rule code broken = record { code = code; broken = broken }
 
 -- the steps of the walk that some places name
-abbrev pub named_steps : Position → List Place → List Step
+abbrev pub named_steps : Position → List Place → List WalkStep
 named_steps position places = steps_of (walk_named position places)
 
 -- the rules of a walk
-abbrev pub rules_of_walk : Position → Company → Kind → List ℕ → List Step → List (Rule RunRule)
+abbrev pub rules_of_walk : Position → Company → Kind → List ℕ → List WalkStep → List (Rule RunRule)
 rules_of_walk position company kind used steps =
     rule WrongNumber (is_wrong_number kind (length (visited steps))) ∷
     rule StopTwice (has_stop_twice (visited steps)) ∷

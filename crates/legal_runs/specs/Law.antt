@@ -10,12 +10,12 @@ use Rattle.map_tables.specs.Border.{neighbour_of}
 use Rattle.map_tables.specs.declared.hex.Hex.{Hex}
 use Rattle.map_tables.specs.declared.place.Place.{Place}
 use Rattle.map_tables.specs.declared.side.Side.{Side}
-use Rattle.map_tables.specs.declared.track.End.TheVariants.{Side as AtSide}
+use Rattle.map_tables.specs.declared.track.TrackEnd.TheVariants.{Side as AtSide}
 use Rattle.reach.specs.Lawful.{IsLawful}
 use Rattle.reach.specs.Position.{Position, IsAmong}
 use Rattle.reach.specs.Walk.{across, spot_at}
 use Rattle.reach.specs.declared.walk.Spot.{Spot}
-use Rattle.reach.specs.declared.walk.Step.{Step}
+use Rattle.reach.specs.declared.walk.WalkStep.{WalkStep}
 use Rattle.tables.specs.declared.rolling_stock.Kind.{Kind}
 use Rattle.tables.specs.declared.roster.Company.{Company}
 use Rattle.legal_runs.specs.Fault.{named_steps, run_fault}
@@ -26,7 +26,7 @@ use Rattle.legal_runs.specs.Named.{walk_named}
 -- some places name a legal run
 abbrev pub NameLegalRun : Position → Company → Kind → List ℕ → List Place → Type 0
 NameLegalRun position company kind used places =
-    (steps : List Step) × (walk_named position places ≡ Some steps) × IsLegalRun position company kind used steps
+    (steps : List WalkStep) × (walk_named position places ≡ Some steps) × IsLegalRun position company kind used steps
 
 abbrev pub LegalWhereNoRuleIsBroken : Type 0
 LegalWhereNoRuleIsBroken =
@@ -48,20 +48,20 @@ BordersHaveOwnNumbers =
 -- after a run those borders are used that were used before it, and those that it crosses
 abbrev pub CrossedBordersAreUsed : Type 0
 CrossedBordersAreUsed =
-    (used : List ℕ) (marks : List Bool) (steps : List Step) →
+    (used : List ℕ) (marks : List Bool) (steps : List WalkStep) →
     MarksAre used marks → MarksAre (crossed steps ++ used) (marked marks (crossed steps))
 
 -- a run is legal with these borders used exactly if it is legal by their marks
 abbrev pub LegalByMarks : Type 0
 LegalByMarks =
-    (position : Position) (company : Company) (kind : Kind) (used : List ℕ) (marks : List Bool) (steps : List Step) →
+    (position : Position) (company : Company) (kind : Kind) (used : List ℕ) (marks : List Bool) (steps : List WalkStep) →
     MarksAre used marks →
     IsLegalRun position company kind (borders_used marks) steps ↔ IsLegalRun position company kind used steps
 
 -- a run that is legal after another shares no border with it
 abbrev pub RunsShareNoBorder : Type 0
 RunsShareNoBorder =
-    (position : Position) (company : Company) (kind : Kind) (used : List ℕ) (first second : List Step) →
+    (position : Position) (company : Company) (kind : Kind) (used : List ℕ) (first second : List WalkStep) →
     IsLegalRun position company kind (crossed first ++ used) second →
     AllByRecursion (λ border. ¬ IsAmong border (crossed first)) (crossed second)
 
@@ -85,7 +85,7 @@ RunsEarnByBorders =
     (marked marks (crossed (named_steps position places))) ≤ 160 * unused marks
 
 -- these places name a walk, and are as many as a run may have
-pub record AreItsPlaces (position : Position) (steps : List Step) (places : List Place) : Type 0 where
+pub record AreItsPlaces (position : Position) (steps : List WalkStep) (places : List Place) : Type 0 where
   pub name_it : walk_named position places ≡ Some steps
   pub least : 2 ≤ length places
   pub most : length places ≤ 280
@@ -93,6 +93,6 @@ pub record AreItsPlaces (position : Position) (steps : List Step) (places : List
 -- each legal run can be written out: 2 to 280 places name it
 abbrev pub EachLegalRunIsNamed : Type 0
 EachLegalRunIsNamed =
-    (position : Position) (company : Company) (kind : Kind) (used : List ℕ) (steps : List Step) →
+    (position : Position) (company : Company) (kind : Kind) (used : List ℕ) (steps : List WalkStep) →
     IsLawful position → IsLegalRun position company kind used steps →
     (places : List Place) × AreItsPlaces position steps places

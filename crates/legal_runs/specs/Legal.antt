@@ -12,11 +12,11 @@ use Rattle.map_tables.specs.Side.{number_of}
 use Rattle.map_tables.specs.declared.hex.Hex.{Hex}
 use Rattle.map_tables.specs.declared.place.Stop.{Stop}
 use Rattle.map_tables.specs.declared.side.Side.{Side}
-use Rattle.map_tables.specs.declared.track.End.{End}
-use Rattle.map_tables.specs.declared.track.End.TheVariants.{Side as AtSide, Stop as AtStop}
+use Rattle.map_tables.specs.declared.track.TrackEnd.{TrackEnd}
+use Rattle.map_tables.specs.declared.track.TrackEnd.TheVariants.{Side as AtSide, Stop as AtStop}
 use Rattle.reach.specs.Position.{Position, HasToken, IsAmong, IsFull, is_red, value_of}
 use Rattle.reach.specs.Walk.{IsWalk, BeginsAt, PassesOnly, entered_at, left_at, stop_of}
-use Rattle.reach.specs.declared.walk.Step.{Step}
+use Rattle.reach.specs.declared.walk.WalkStep.{WalkStep}
 use Rattle.tables.specs.Train.{stops_of}
 use Rattle.tables.specs.declared.rolling_stock.Kind.{Kind}
 use Rattle.tables.specs.declared.roster.Company.{Company}
@@ -27,12 +27,12 @@ listed (Some thing) = thing ∷ []
 listed None = []
 
 -- the stop at which a walk begins with this first step
-abbrev pub first_stop : List Step → Step → List Stop
+abbrev pub first_stop : List WalkStep → WalkStep → List Stop
 first_stop [] step = listed (stop_of (entered_at step))
 first_stop (earlier ∷ before) step = []
 
 -- the stops that a walk visits, the latest first: where it begins, and where its steps are left
-abbrev pub visited : List Step → List Stop
+abbrev pub visited : List WalkStep → List Stop
 visited [] = []
 visited (step ∷ before) = listed (stop_of (left_at step)) ++ (first_stop before step ++ visited before)
 
@@ -49,13 +49,13 @@ border_of hex side =
     + number_of side else border_beyond (number_of side - 3) (neighbour_of hex side)
 
 -- the border that is crossed to a side of a hex; none is crossed at a stop
-abbrev pub border_at : Hex → End → List ℕ
+abbrev pub border_at : Hex → TrackEnd → List ℕ
 border_at hex (AtSide side) = border_of hex side ∷ []
 border_at hex (AtStop number) = []
 
 -- the borders that a walk from a stop crosses, the latest first: a step that is entered at a side
 -- came over the border there
-abbrev pub crossed : List Step → List ℕ
+abbrev pub crossed : List WalkStep → List ℕ
 crossed [] = []
 crossed (step ∷ before) = border_at (entered_at step).hex (entered_at step).end ++ crossed before
 
@@ -75,13 +75,13 @@ AreAtMost (Some most) count = count ≤ most
 AreAtMost None count = Unit {0}
 
 -- the latest step of a walk is left at a stop
-abbrev pub EndsAtStop : List Step → Type 0
+abbrev pub EndsAtStop : List WalkStep → Type 0
 EndsAtStop [] = ⊥
 EndsAtStop (step ∷ before) = (stop : Stop) × (stop_of (left_at step) ≡ Some stop)
 
 -- a walk is a legal run of a train of this kind, over the borders that earlier runs have used
 pub record IsLegalRun (position : Position) (company : Company) (kind : Kind) (used : List ℕ)
-    (steps : List Step) : Type 0 where
+    (steps : List WalkStep) : Type 0 where
   pub walk : IsWalk position steps
   pub begins : BeginsAt (λ stop. Unit {0}) steps
   pub ends : EndsAtStop steps
@@ -95,7 +95,7 @@ pub record IsLegalRun (position : Position) (company : Company) (kind : Kind) (u
   pub no_full_inside : PassesOnly (λ stop. ¬ IsFull position stop company) steps
 
 -- the borders that some walks cross
-abbrev pub all_crossed : List (List Step) → List ℕ
+abbrev pub all_crossed : List (List WalkStep) → List ℕ
 all_crossed [] = []
 all_crossed (steps ∷ before) = crossed steps ++ all_crossed before
 
@@ -105,5 +105,5 @@ worth position [] = 0
 worth position (stop ∷ stops) = worth position stops + value_of position stop
 
 -- what a run earns, in dollars: the values of its stops
-abbrev pub earned : Position → List Step → ℕ
+abbrev pub earned : Position → List WalkStep → ℕ
 earned position steps = worth position (visited steps)

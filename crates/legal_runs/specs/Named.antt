@@ -13,13 +13,13 @@ use Rattle.map_tables.specs.declared.hex.Hex.{Hex}
 use Rattle.map_tables.specs.declared.place.Place.{Place}
 use Rattle.map_tables.specs.declared.place.StopNumber.{StopNumber}
 use Rattle.map_tables.specs.declared.side.Side.{Side}
-use Rattle.map_tables.specs.declared.track.End.{End}
-use Rattle.map_tables.specs.declared.track.End.TheVariants.{Side as AtSide, Stop as AtStop}
+use Rattle.map_tables.specs.declared.track.TrackEnd.{TrackEnd}
+use Rattle.map_tables.specs.declared.track.TrackEnd.TheVariants.{Side as AtSide, Stop as AtStop}
 use Rattle.map_tables.specs.declared.track.Link.{Link}
 use Rattle.reach.specs.Position.{Position, links_of}
 use Rattle.reach.specs.Walk.{spot_at}
 use Rattle.reach.specs.declared.walk.Spot.{Spot}
-use Rattle.reach.specs.declared.walk.Step.{Step}
+use Rattle.reach.specs.declared.walk.WalkStep.{WalkStep}
 use Rattle.legal_runs.specs.declared.leg.Leg.{Leg}
 
 -- whether a hex is the one that is looked for
@@ -38,21 +38,21 @@ same_link link other =
 
 -- the step from one end of a hex to another, by the link that joins the two in that order of its
 -- ends
-abbrev pub step_over : Hex → End → End → Step
+abbrev pub step_over : Hex → TrackEnd → TrackEnd → WalkStep
 step_over hex from to =
     if nat_lt (end_order to) (end_order from) then
     record { link = record { hex = hex; a = to; b = from }; turned = true } else
     record { link = record { hex = hex; a = from; b = to }; turned = false }
 
 -- the step from one end of a hex to another, if the position has the link that joins them
-unfoldable pub step_between : Position → Hex → End → End → Option Step
+unfoldable pub step_between : Position → Hex → TrackEnd → TrackEnd → Option WalkStep
 step_between position hex from to =
     let step = step_over hex from to in
     if list_any (λ link. same_link link step.link) (links_of position hex) then Some step else None
 
 -- A leg leads from where the train is over a border to the next place. It has a step to the border,
 -- and, if that place has a stop, a step on to the stop. Without a stop the train is at the border.
-abbrev pub leg_by_stop : Position → Step → Hex → Side → Option StopNumber → Option Leg
+abbrev pub leg_by_stop : Position → WalkStep → Hex → Side → Option StopNumber → Option Leg
 leg_by_stop position first hex side None =
     Some (record { first = first; second = None; at = spot_at hex (AtSide side) })
 leg_by_stop position first hex side (Some number) =
@@ -60,7 +60,7 @@ leg_by_stop position first hex side (Some number) =
     (step_between position hex (AtSide side) (AtStop number))
 
 -- the leg whose first step leaves the hex by this side, on to the place that is named next
-abbrev pub leg_from : Position → Side → Place → Option Step → Option Leg
+abbrev pub leg_from : Position → Side → Place → Option WalkStep → Option Leg
 leg_from position side place None = None
 leg_from position side place (Some first) = leg_by_stop position first place.hex (facing_of side) place.stop
 
@@ -75,21 +75,21 @@ unfoldable pub leg_to : Position → Spot → Place → Option Leg
 leg_to position at place = leg_over position at place (side_towards at.hex place.hex)
 
 -- what is made of the steps of a leg, one after the other
-abbrev pub with_second : {A : Type 0} → (A → Step → A) → A → Option Step → A
+abbrev pub with_second : {A : Type 0} → (A → WalkStep → A) → A → Option WalkStep → A
 with_second take made None = made
 with_second take made (Some step) = take made step
 
 -- what is made of both steps of a leg, one after the other
-abbrev pub with_leg : {A : Type 0} → (A → Step → A) → A → Leg → A
+abbrev pub with_leg : {A : Type 0} → (A → WalkStep → A) → A → Leg → A
 with_leg take made leg = with_second take (take made leg.first) leg.second
 
 -- a train that has arrived: it is at a stop
-abbrev pub arrived : {A : Type 0} → End → A → Option A
+abbrev pub arrived : {A : Type 0} → TrackEnd → A → Option A
 arrived (AtStop number) made = Some made
 arrived (AtSide side) made = None
 
 -- what is made of all steps of a train that goes on from a spot by these places
-abbrev pub travelled : {A : Type 0} → (A → Step → A) → Position → Spot → A → List Place → Option A
+abbrev pub travelled : {A : Type 0} → (A → WalkStep → A) → Position → Spot → A → List Place → Option A
 travelled take position at made [] = arrived at.end made
 travelled take position at made (place ∷ places) =
     option_and_then (λ leg. travelled take position leg.at (with_leg take made leg) places) (leg_to position at place)
@@ -99,15 +99,15 @@ abbrev pub beginning : Place → Option Spot
 beginning place = option_map (λ number. spot_at place.hex (AtStop number)) place.stop
 
 -- what is made of all steps of the walk that some places name
-abbrev pub made_along : {A : Type 0} → (A → Step → A) → Position → A → List Place → Option A
+abbrev pub made_along : {A : Type 0} → (A → WalkStep → A) → Position → A → List Place → Option A
 made_along take position made [] = None
 made_along take position made (place ∷ places) =
     option_and_then (λ at. travelled take position at made places) (beginning place)
 
 -- one more step of a walk, the latest first
-abbrev pub taken : List Step → Step → List Step
+abbrev pub taken : List WalkStep → WalkStep → List WalkStep
 taken before step = step ∷ before
 
 -- the walk that some places name
-abbrev pub walk_named : Position → List Place → Option (List Step)
+abbrev pub walk_named : Position → List Place → Option (List WalkStep)
 walk_named position places = made_along taken position [] places

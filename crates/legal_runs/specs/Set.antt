@@ -6,7 +6,7 @@
 use Rattle.std.specs.Prelude.{◌≡◌, ℕ, ◌+◌, ◌≤◌, ℤ, pos, if◌then◌else◌, List, [], ◌∷◌}
 use Rattle.std.specs.List.{AllByRecursion}
 use Rattle.reach.specs.Position.{Position, IsAmong}
-use Rattle.reach.specs.declared.walk.Step.{Step}
+use Rattle.reach.specs.declared.walk.WalkStep.{WalkStep}
 use Rattle.tables.specs.Train.{same_kind}
 use Rattle.tables.specs.declared.rolling_stock.Kind.{Kind}
 use Rattle.tables.specs.declared.roster.Company.{Company}
@@ -15,7 +15,7 @@ use Rattle.legal_runs.specs.Legal.{IsLegalRun, crossed, earned}
 -- a train of a kind, with the walk that it runs
 pub record TrainRun : Type 0 where
   pub kind : Kind
-  pub steps : List Step
+  pub steps : List WalkStep
 
 -- the trains that run
 abbrev pub trains_that_run : List TrainRun → List Kind
@@ -36,7 +36,7 @@ abbrev pub RunsLegally : Position → Company → TrainRun → Type 0
 RunsLegally position company run = IsLegalRun position company run.kind [] run.steps
 
 -- no border is crossed by two walks
-abbrev pub ShareNoBorder : List Step → List Step → Type 0
+abbrev pub ShareNoBorder : List WalkStep → List WalkStep → Type 0
 ShareNoBorder steps others = (border : ℕ) → IsAmong border (crossed steps) → ¬ IsAmong border (crossed others)
 
 -- no border is crossed by the walks of two of the runs

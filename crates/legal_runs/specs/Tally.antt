@@ -3,13 +3,13 @@ use Rattle.std.specs.Prelude.{ℕ, ◌+◌, Bool, true, false, ◌||◌, if◌th
 use Rattle.std.specs.Prelude.{get_or, set, replicate}
 use Rattle.map_tables.specs.declared.hex.Hex.{Hex}
 use Rattle.map_tables.specs.declared.place.Stop.{Stop}
-use Rattle.map_tables.specs.declared.track.End.{End}
-use Rattle.map_tables.specs.declared.track.End.TheVariants.{Side as AtSide, Stop as AtStop}
+use Rattle.map_tables.specs.declared.track.TrackEnd.{TrackEnd}
+use Rattle.map_tables.specs.declared.track.TrackEnd.TheVariants.{Side as AtSide, Stop as AtStop}
 use Rattle.reach.specs.Position.{Position, is_red, value_of}
 use Rattle.reach.specs.Reached.{stop_order}
 use Rattle.reach.specs.Walk.{entered_at, left_at, stop_of}
 use Rattle.reach.specs.declared.walk.Spot.{Spot}
-use Rattle.reach.specs.declared.walk.Step.{Step}
+use Rattle.reach.specs.declared.walk.WalkStep.{WalkStep}
 use Rattle.tables.specs.Rules.{Rule, first_broken}
 use Rattle.tables.specs.declared.rolling_stock.Kind.{Kind}
 use Rattle.tables.specs.declared.roster.Company.{Company}
@@ -65,7 +65,7 @@ entering_stop position company tally None = tally
 entering_stop position company tally (Some stop) =
     if tally.begun then passing position company tally stop else visiting position company tally stop
 
-abbrev pub entering_side : Tally → Hex → End → Tally
+abbrev pub entering_side : Tally → Hex → TrackEnd → Tally
 entering_side tally hex (AtSide side) = crossing tally (border_of hex side)
 entering_side tally hex (AtStop number) = tally
 
@@ -83,12 +83,12 @@ leaving position company tally spot =
     record (leaving_stop position company tally (stop_of spot)) { begun = true }
 
 -- one more step
-unfoldable pub counted : Position → Company → Tally → Step → Tally
+unfoldable pub counted : Position → Company → Tally → WalkStep → Tally
 counted position company tally step =
     leaving position company (entering position company tally (entered_at step)) (left_at step)
 
 -- all steps of a walk
-abbrev pub tally_of : Position → Company → List Bool → List Step → Tally
+abbrev pub tally_of : Position → Company → List Bool → List WalkStep → Tally
 tally_of position company used [] = no_steps used
 tally_of position company used (step ∷ before) =
     counted position company (tally_of position company used before) step

@@ -9,7 +9,7 @@ ghost use Rattle.legal_runs.specs.Tally.{counted, no_steps};
 use crate::leg::leg_to;
 use crate::tally::Tally;
 use crate::used::Used;
-use map_tables::{End, Run, RunRule};
+use map_tables::{Run, RunRule, TrackEnd};
 use reach::{Network, Spot};
 use tables::{Company, Kind, Money};
 
@@ -61,7 +61,7 @@ fn tally_of<N: Network>(network: &N, company: Company, run: &Run, used: &Used) -
     let start = places[0];
     let mut at = Spot {
         hex: start.hex,
-        end: End::Stop(start.stop?),
+        end: TrackEnd::Stop(start.stop?),
     };
     let mut tally = Tally::none(used);
     let mut links = network.links(start.hex);
@@ -71,7 +71,7 @@ fn tally_of<N: Network>(network: &N, company: Company, run: &Run, used: &Used) -
         at = leg.at;
     }
     match at.end {
-        End::Stop(_) => Some(tally),
-        End::Side(_) => None,
+        TrackEnd::Stop(_) => Some(tally),
+        TrackEnd::Side(_) => None,
     }
 }

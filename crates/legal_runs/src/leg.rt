@@ -5,15 +5,15 @@ ghost use Rattle.map_tables.specs.Track.{end_order};
 ghost use Rattle.reach.specs.Position.{links_of};
 ghost use Rattle.legal_runs.specs.Named.{is_hex, leg_to, same_link, side_towards, step_between, step_over};
 
-use map_tables::{End, Hex, Link, Links, Place, Side, neighbour};
-use reach::{Network, Spot, Step};
+use map_tables::{Hex, Link, Links, Place, Side, TrackEnd, neighbour};
+use reach::{Network, Spot, WalkStep};
 
 /// What leads a train from where it is to its next place. It is a step to the border between their
 /// hexes, and, if the place has a stop, a step on to that stop.
 #[derive(Clone, Copy)]
 pub(crate) struct Leg {
-    pub(crate) first: Step,
-    pub(crate) second: Option<Step>,
+    pub(crate) first: WalkStep,
+    pub(crate) second: Option<WalkStep>,
     /// Where the train is then: at the stop, or at the side of the hex at that border.
     pub(crate) at: Spot,
 }
@@ -34,8 +34,8 @@ pub(crate) fn leg_to<N: Network>(
         links.new.items ≡ links_of (N.position network.now) leg.at.hex) }
 {
     let side = side_towards(at.hex, place.hex)?;
-    let first = step_between(network, links, at.hex, at.end, End::Side(side))?;
-    let border = End::Side(side.facing());
+    let first = step_between(network, links, at.hex, at.end, TrackEnd::Side(side))?;
+    let border = TrackEnd::Side(side.facing());
     *links = network.links(place.hex);
     match place.stop {
         None => Some(Leg {
@@ -47,7 +47,7 @@ pub(crate) fn leg_to<N: Network>(
             },
         }),
         Some(number) => {
-            let stop = End::Stop(number);
+            let stop = TrackEnd::Stop(number);
             let second = step_between(network, links, place.hex, border, stop)?;
             Some(Leg {
                 first,
@@ -96,9 +96,9 @@ fn step_between<N: Network>(
     _network: &N,
     links: &Links,
     hex: Hex,
-    from: End,
-    to: End,
-) -> Option<Step>
+    from: TrackEnd,
+    to: TrackEnd,
+) -> Option<WalkStep>
     requires { links.now.items ≡ links_of (N.position _network.now) hex }
     ensures { result ≡ step_between (N.position _network.now) hex from to }
 {
@@ -127,11 +127,11 @@ fn same_link(link: Link, other: Link) -> bool
 }
 
 /// Returns the step from one end of a hex to another by the link that would join them.
-fn step_over(hex: Hex, from: End, to: End) -> Step
+fn step_over(hex: Hex, from: TrackEnd, to: TrackEnd) -> WalkStep
     ensures { result ≡ step_over hex from to }
 {
     if order(to) < order(from) {
-        Step {
+        WalkStep {
             link: Link {
                 hex,
                 a: to,
@@ -140,7 +140,7 @@ fn step_over(hex: Hex, from: End, to: End) -> Step
             turned: true,
         }
     } else {
-        Step {
+        WalkStep {
             link: Link {
                 hex,
                 a: from,
@@ -152,12 +152,12 @@ fn step_over(hex: Hex, from: End, to: End) -> Step
 }
 
 /// Returns the place of an end among the ends of a hex.
-pub(crate) fn order(end: End) -> usize
+pub(crate) fn order(end: TrackEnd) -> usize
     ensures value { result ≡ end_order end }
     ensures bound { result < 8 }
 {
     match end {
-        End::Side(side) => side.number(),
-        End::Stop(number) => 6 + number.index(),
+        TrackEnd::Side(side) => side.number(),
+        TrackEnd::Stop(number) => 6 + number.index(),
     }
 }

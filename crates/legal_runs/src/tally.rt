@@ -8,8 +8,8 @@ ghost use Rattle.reach.specs.Position.{value_of};
 use crate::border_numbers::{BORDERS, border};
 use crate::leg::Leg;
 use crate::used::Used;
-use map_tables::{End, RunRule, Stop};
-use reach::{Network, STOPS, Spot, Step, stop_order};
+use map_tables::{RunRule, Stop, TrackEnd};
+use reach::{Network, STOPS, Spot, WalkStep, stop_order};
 use tables::{Amount, Company, Kind, rules};
 
 /// What is kept of the steps that a train has followed.
@@ -106,7 +106,7 @@ impl Tally {
                 self.visit(network, company, stop);
             }
         }
-        if let End::Side(side) = spot.end {
+        if let TrackEnd::Side(side) = spot.end {
             self.cross(border(spot.hex, side));
         }
     }
@@ -127,7 +127,7 @@ impl Tally {
 
     /// Follows a step.
     #[tactic(auto, unfolding(crate::specs::Tally::counted))]
-    fn count<N: Network>(&mut self, network: &N, company: Company, step: Step)
+    fn count<N: Network>(&mut self, network: &N, company: Company, step: WalkStep)
         requires few { self.old.stops ≤ 9000 }
         requires low { self.old.value ≤ 80 * self.old.stops }
         ensures tally { self.new ≡ counted (N.position network.now) company self.old step }

@@ -6,13 +6,13 @@ ghost use Rattle.map_tables.specs.declared.place.StopNumber.TheVariants.{First, 
 ghost use Rattle.reach.specs.Lawful.{IsLawful};
 ghost use Rattle.reach.specs.Position.{HasToken, IsAmong, links_of};
 ghost use Rattle.reach.specs.Walk.{entered_at};
-ghost use Rattle.reach.specs.declared.walk.Step.{Step};
+ghost use Rattle.reach.specs.declared.walk.WalkStep.{WalkStep};
 ghost use Rattle.legal_runs.specs.TwoTrain.{CanRun, LeadsFrom, LeadsOn, LeavesToken, none_used};
 
 use crate::leg::order;
 use crate::used::Used;
 use map_tables::{HEXES, Hex, Link, Stop, StopNumber};
-use reach::{Network, Spot, Step, stop_order};
+use reach::{Network, Spot, WalkStep, stop_order};
 use tables::Company;
 
 /// Returns whether some run of a company is legal for a 2-train if no border is used. Track then
@@ -34,7 +34,7 @@ pub fn can_run<N: Network>(network: &N, company: Company) -> bool
 fn leaves_hex<N: Network>(network: &N, company: Company, hex: Hex) -> bool
     requires { IsLawful (N.position network.now) }
     ensures { let position = N.position network.now in
-        IsTrue result ↔ ((step : Step) × IsAmong step.link (links_of position hex)
+        IsTrue result ↔ ((step : WalkStep) × IsAmong step.link (links_of position hex)
         × LeavesToken position company step) }
 {
     has_token_in(network, company, hex) && leaves_in(network, company, hex)
@@ -62,7 +62,7 @@ fn has_token_in<N: Network>(network: &N, company: Company, hex: Hex) -> bool
 fn leaves_in<N: Network>(network: &N, company: Company, hex: Hex) -> bool
     requires { IsLawful (N.position network.now) }
     ensures { let position = N.position network.now in
-        IsTrue result ↔ ((step : Step) × IsAmong step.link (links_of position hex)
+        IsTrue result ↔ ((step : WalkStep) × IsAmong step.link (links_of position hex)
         × LeavesToken position company step) }
 {
     let links = network.links(hex);
@@ -78,18 +78,18 @@ fn leaves_in<N: Network>(network: &N, company: Company, hex: Hex) -> bool
 fn leaves_by<N: Network>(network: &N, company: Company, link: Link) -> bool
     requires { IsLawful (N.position network.now) }
     ensures { let position = N.position network.now in
-        IsTrue result ↔ ((step : Step) × (step.link ≡ link) × LeavesToken position company step) }
+        IsTrue result ↔ ((step : WalkStep) × (step.link ≡ link) × LeavesToken position company step) }
 {
-    let forward = Step {
+    let forward = WalkStep {
         link,
         turned: false,
     };
-    let back = Step { link, turned: true };
+    let back = WalkStep { link, turned: true };
     leaves(network, company, forward) || leaves(network, company, back)
 }
 
 /// Returns whether such a run begins with a step.
-fn leaves<N: Network>(network: &N, company: Company, step: Step) -> bool
+fn leaves<N: Network>(network: &N, company: Company, step: WalkStep) -> bool
     requires { IsLawful (N.position network.now) }
     ensures { IsTrue result ↔ LeavesToken (N.position network.now) company step }
 {
@@ -100,7 +100,7 @@ fn leaves<N: Network>(network: &N, company: Company, step: Step) -> bool
 }
 
 /// Returns whether a stop has a token of the company, and a step leads on from it.
-fn leaves_stop<N: Network>(network: &N, company: Company, start: Stop, step: Step) -> bool
+fn leaves_stop<N: Network>(network: &N, company: Company, start: Stop, step: WalkStep) -> bool
     requires { IsLawful (N.position network.now) }
     ensures { let position = N.position network.now in
         IsTrue result
@@ -112,7 +112,7 @@ fn leaves_stop<N: Network>(network: &N, company: Company, start: Stop, step: Ste
 /// Returns whether a step, and others after it, lead to a stop that is not the first one, over
 /// borders that are not used.
 #[cycle(track)]
-fn leads_on<N: Network>(network: &N, start: Stop, step: Step, used: &Used) -> bool
+fn leads_on<N: Network>(network: &N, start: Stop, step: WalkStep, used: &Used) -> bool
     requires { IsLawful (N.position network.now) }
     ensures { let position = N.position network.now in
         IsTrue result ↔ LeadsOn position start used.now step }
@@ -141,19 +141,19 @@ fn leads_on<N: Network>(network: &N, start: Stop, step: Step, used: &Used) -> bo
 fn leads_by_link<N: Network>(network: &N, start: Stop, link: Link, spot: Spot, used: &Used) -> bool
     requires { IsLawful (N.position network.now) }
     ensures { let leads = LeadsFrom (N.position network.now) start used.now spot in
-        IsTrue result ↔ ((step : Step) × (step.link ≡ link) × leads step) }
+        IsTrue result ↔ ((step : WalkStep) × (step.link ≡ link) × leads step) }
 {
-    let forward = Step {
+    let forward = WalkStep {
         link,
         turned: false,
     };
-    let back = Step { link, turned: true };
+    let back = WalkStep { link, turned: true };
     leads_from(network, start, forward, spot, used) || leads_from(network, start, back, spot, used)
 }
 
 /// Returns whether a step is entered at a spot and leads on.
 #[cycle(track)]
-fn leads_from<N: Network>(network: &N, start: Stop, step: Step, spot: Spot, used: &Used) -> bool
+fn leads_from<N: Network>(network: &N, start: Stop, step: WalkStep, spot: Spot, used: &Used) -> bool
     requires { IsLawful (N.position network.now) }
     ensures { let position = N.position network.now in
         IsTrue result ↔ LeadsFrom position start used.now spot step }
@@ -169,7 +169,7 @@ fn is_other(stop: Stop, start: Stop) -> bool
 }
 
 /// Returns whether a step is entered at a spot.
-fn is_entered(step: Step, spot: Spot) -> bool
+fn is_entered(step: WalkStep, spot: Spot) -> bool
     ensures { IsTrue result ↔ (entered_at step ≡ spot) }
 {
     let entered = step.entered();

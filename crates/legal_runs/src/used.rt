@@ -2,7 +2,7 @@ ghost use Rattle.std.specs.Prelude.{◌≡◌, ◌<◌, true, false, get_or, rep
 ghost use Rattle.legal_runs.specs.TwoTrain.{crossing};
 
 use crate::border_numbers::{BORDERS, border};
-use map_tables::End;
+use map_tables::TrackEnd;
 use reach::Spot;
 use std::marker::Model;
 
@@ -42,7 +42,7 @@ impl Used {
         ensures crossing { result ≡ crossing self.now spot }
         ensures fewer { IfSome result (λ over. count_by not over < count_by not self.now) }
     {
-        let End::Side(side) = spot.end else {
+        let TrackEnd::Side(side) = spot.end else {
             return None;
         };
         let number = border(spot.hex, side);

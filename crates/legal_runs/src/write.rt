@@ -3,12 +3,12 @@ ghost use Rattle.reach.specs.Walk.{entered_at, left_at};
 ghost use Rattle.legal_runs.specs.Written.{number_at, place_at, place_over, places_of};
 
 use arrayvec::ArrayVec;
-use map_tables::{End, Place, Run, StopNumber};
-use reach::{Spot, Step};
+use map_tables::{Place, Run, StopNumber, TrackEnd};
+use reach::{Spot, WalkStep};
 
 /// Writes out a run by its places, from the steps of its walk. The latest step comes first, as in
 /// the definitions. The places of each legal run are from 2 to 280, and name its walk.
-pub fn write_run(steps: &[Step]) -> Run
+pub fn write_run(steps: &[WalkStep]) -> Run
     requires least { 2 ≤ length (places_of steps.now) }
     requires most { length (places_of steps.now) ≤ 280 }
     ensures { result ≡ places_of steps.now }
@@ -25,12 +25,12 @@ pub fn write_run(steps: &[Step]) -> Run
 }
 
 /// Returns the place to which a step comes over a border; `None` if it is entered at a stop.
-fn place_over(step: Step) -> Option<Place>
+fn place_over(step: WalkStep) -> Option<Place>
     ensures { result ≡ place_over (entered_at step).end (left_at step) }
 {
     match step.entered().end {
-        End::Side(_) => Some(place_at(step.left())),
-        End::Stop(_) => None,
+        TrackEnd::Side(_) => Some(place_at(step.left())),
+        TrackEnd::Stop(_) => None,
     }
 }
 
@@ -45,11 +45,11 @@ fn place_at(spot: Spot) -> Place
 }
 
 /// Returns the number of the stop at an end, if it is one.
-fn number_at(end: End) -> Option<StopNumber>
+fn number_at(end: TrackEnd) -> Option<StopNumber>
     ensures { result ≡ number_at end }
 {
     match end {
-        End::Side(_) => None,
-        End::Stop(number) => Some(number),
+        TrackEnd::Side(_) => None,
+        TrackEnd::Stop(number) => Some(number),
     }
 }

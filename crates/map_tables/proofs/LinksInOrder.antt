@@ -7,7 +7,7 @@ use Rattle.map_tables.specs.declared.side.Rotation.{Rotation}
 use Rattle.map_tables.specs.declared.side.Rotation.TheVariants.{Zero, One, Two, Three, Four, Five}
 use Rattle.map_tables.specs.declared.tiles.TileNo.{TileNo}
 use Rattle.map_tables.specs.declared.tiles.TileNo.TheVariants.{T1}
-use Rattle.map_tables.specs.declared.track.Segment.{Segment}
+use Rattle.map_tables.specs.declared.track.TrackSegment.{TrackSegment}
 use Rattle.map_tables.specs.declared.track.Link.{Link}
 use Rattle.map_tables.specs.declared.lay.Lay.{Lay}
 use Rattle.map_tables.specs.Hex.{index_of}
@@ -22,11 +22,11 @@ are_fit : List Link → Bool
 are_fit links = are_links links && leb (length links) 6
 
 -- the links that track makes in a hex lie in that hex
-here : (hex : Hex) (track : List Segment) → LieIn hex (links_in hex track)
+here : (hex : Hex) (track : List TrackSegment) → LieIn hex (links_in hex track)
 here hex [] = tt
 here hex (s ∷ ss) = (refl, here hex ss)
 
-links_of : (hex : Hex) (track : List Segment) → are_fit (links_in hex track) ≡ true
+links_of : (hex : Hex) (track : List TrackSegment) → are_fit (links_in hex track) ≡ true
     → AreLinksOf hex (links_in hex track)
 unfolding are_fit
 links_of hex track fit =

@@ -24,8 +24,8 @@ use Rattle.map_tables.specs.declared.print.HexKind.TheVariants.{Open, Grey, Red}
 use Rattle.map_tables.specs.declared.side.Side.{Side}
 use Rattle.map_tables.specs.declared.tiles.TileKind.{TileKind}
 use Rattle.map_tables.specs.declared.tiles.TileKind.TheVariants.{Plain, Town, TwoTowns, City, CityB, CitiesNY, CitiesOO}
-use Rattle.map_tables.specs.declared.track.End.{End}
-use Rattle.map_tables.specs.declared.track.End.TheVariants.{Side as AtSide, Stop as AtNumber}
+use Rattle.map_tables.specs.declared.track.TrackEnd.{TrackEnd}
+use Rattle.map_tables.specs.declared.track.TrackEnd.TheVariants.{Side as AtSide, Stop as AtNumber}
 use Rattle.tables.specs.Roster.{companies}
 use Rattle.tables.specs.declared.roster.Company.{Company}
 
@@ -57,7 +57,7 @@ is_open Grey = false
 is_open Red = false
 
 -- whether an end is this side
-abbrev pub is_side : Side → End → Bool
+abbrev pub is_side : Side → TrackEnd → Bool
 is_side side (AtSide other) = number_of other == number_of side
 is_side side (AtNumber number) = false
 
@@ -75,7 +75,7 @@ is_shut_to None side = true
 is_shut_to (Some other) side = is_shut other (facing_of side)
 
 -- whether an end of track in a hex is a bad side
-abbrev pub is_bad_end : Hex → End → Bool
+abbrev pub is_bad_end : Hex → TrackEnd → Bool
 is_bad_end hex (AtSide side) = is_shut_to (neighbour_of hex side) side
 is_bad_end hex (AtNumber number) = false
 

@@ -104,7 +104,7 @@ use Rattle.map_tables.specs.declared.tiles.TileKind.{TileKind}
 use Rattle.map_tables.specs.declared.tiles.TileKind.TheVariants.{Plain, Town, TwoTowns, City, CityB, CitiesNY, CitiesOO}
 use Rattle.map_tables.specs.declared.tiles.Colour.{Colour}
 use Rattle.map_tables.specs.declared.tiles.Colour.TheVariants.{White, Yellow}
-use Rattle.map_tables.specs.declared.track.Segment.{Segment}
+use Rattle.map_tables.specs.declared.track.TrackSegment.{TrackSegment}
 use Rattle.map_tables.specs.declared.track.Link.{Link}
 use Rattle.map_tables.specs.Hex.{same_hex}
 use Rattle.map_tables.specs.Track.{in_order, through, city_track, two_city_track, links_in}
@@ -118,7 +118,7 @@ pub record Print : Type 0 where
   pub stops : ℕ
   pub slots : ℕ
   pub value : PrintedValue
-  pub track : List Segment
+  pub track : List TrackSegment
 
 -- the value of a stop that does not change with the phase, and of one that does
 abbrev pub always : ℕ → PrintedValue
@@ -139,7 +139,7 @@ slots_of_kind CitiesNY = 1
 slots_of_kind CitiesOO = 1
 
 -- a red area, whose stop takes no token
-abbrev pub red_of : ℕ → ℕ → List Segment → Print
+abbrev pub red_of : ℕ → ℕ → List TrackSegment → Print
 red_of before from track =
     record {
       kind = Red;
@@ -157,12 +157,12 @@ abbrev red : ℕ → ℕ → List ℕ → Print
 red before from sides = red_of before from (in_order (city_track sides))
 
 -- a grey hex
-abbrev pub grey_of : ℕ → ℕ → ℕ → List Segment → Print
+abbrev pub grey_of : ℕ → ℕ → ℕ → List TrackSegment → Print
 grey_of stops slots value track =
     record { kind = Grey; cost = 0; colour = White; stops = stops; slots = slots; value = always value; track = track }
 
 -- a grey hex with a city, and track past it
-abbrev grey_city_and_track : ℕ → List ℕ → List Segment → Print
+abbrev grey_city_and_track : ℕ → List ℕ → List TrackSegment → Print
 grey_city_and_track value sides track = grey_of 1 1 value (in_order (city_track sides ++ track))
 
 -- a grey hex with a city
@@ -174,11 +174,11 @@ abbrev grey_town : ℕ → List ℕ → Print
 grey_town value sides = grey_of 1 0 value (in_order (city_track sides))
 
 -- a grey hex with through track alone
-abbrev grey_track : List Segment → Print
+abbrev grey_track : List TrackSegment → Print
 grey_track track = grey_of 0 0 0 (in_order track)
 
 -- a hex whose print is a yellow tile
-abbrev pub yellow_of : TileKind → ℕ → ℕ → List Segment → Print
+abbrev pub yellow_of : TileKind → ℕ → ℕ → List TrackSegment → Print
 yellow_of kind cost value track =
     record {
       kind = Open kind;

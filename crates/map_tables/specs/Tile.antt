@@ -55,7 +55,7 @@ use Rattle.map_tables.specs.declared.tiles.TileKind.TheVariants.{Plain, Town, Tw
 use Rattle.map_tables.specs.declared.tiles.Colour.{Colour}
 use Rattle.map_tables.specs.declared.tiles.Colour.TheVariants.{Yellow, Green, Brown}
 use Rattle.map_tables.specs.declared.tiles.TileEntry.{TileEntry}
-use Rattle.map_tables.specs.declared.track.Segment.{Segment}
+use Rattle.map_tables.specs.declared.track.TrackSegment.{TrackSegment}
 use Rattle.map_tables.specs.Track.{in_order, through, city_track, two_city_track}
 
 -- the tiles, in the order of their numbers
@@ -186,10 +186,10 @@ entry count colour kind value slots =
 -- an entry with the tile's track
 pub record Printed : Type 0 where
   pub entry : TileEntry
-  pub track : List Segment
+  pub track : List TrackSegment
 
 -- track alone
-abbrev plain : Colour → ℕ → List Segment → Printed
+abbrev plain : Colour → ℕ → List TrackSegment → Printed
 plain colour count track = record { entry = entry count colour Plain 0 0; track = in_order track }
 
 -- a yellow town of 10, at some sides
@@ -265,5 +265,5 @@ abbrev pub entry_of : TileNo → TileEntry
 entry_of tile = (printed tile).entry
 
 -- the track of a tile that is not turned, in order
-abbrev pub tile_track_of : TileNo → List Segment
+abbrev pub tile_track_of : TileNo → List TrackSegment
 tile_track_of tile = (printed tile).track

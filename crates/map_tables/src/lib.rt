@@ -40,4 +40,4 @@ pub use run::{RUN_LEAST, RUN_MOST, Run};
 pub use side::{Rotation, Side};
 pub use text::{PLACE_TEXT_MOST, PlaceText};
 pub use tiles::{Colour, TILES, TileEntry, TileKind, TileNo, tile, tile_track};
-pub use track::{End, LINKS_MOST, Link, Links, Segment, Track, turned};
+pub use track::{LINKS_MOST, Link, Links, Track, TrackEnd, TrackSegment, turned};

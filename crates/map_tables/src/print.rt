@@ -5,7 +5,7 @@ ghost use Rattle.map_tables.specs.PrintedHex.{print_seen};
 use crate::hex::Hex;
 use crate::segments::{E_0, NE_0, NW_0, NW_NE, SE_0, SW_0, SW_1, SW_SE, SW_W, W_0, W_E};
 use crate::tiles::{Colour, TileKind};
-use crate::track::{Links, Segment, links_in};
+use crate::track::{Links, TrackSegment, links_in};
 use tables::Amount;
 
 /// What tiles a hex takes.
@@ -86,7 +86,7 @@ struct PrintedHex {
     stops: usize,
     slots: u8,
     value: PrintedValue,
-    track: &'static [Segment],
+    track: &'static [TrackSegment],
 }
 
 /// A red area, whose one stop takes no token: what the stop is worth before phase 5 and from then

@@ -6,7 +6,7 @@ use crate::segments::{
     E_0, E_1, NE_0, NE_1, NE_E, NE_SE, NW_0, NW_1, NW_E, NW_NE, SE_0, SW_0, SW_1, SW_E, SW_NE,
     SW_NW, SW_SE, SW_W, W_0, W_1, W_E, W_NE, W_NW,
 };
-use crate::track::Segment;
+use crate::track::TrackSegment;
 use tables::Amount;
 
 /// The colour of a hex. It begins white, or yellow where the map prints it so, and takes the colour
@@ -258,7 +258,7 @@ pub fn tile(tile: TileNo) -> TileEntry
 
 /// Returns the track of a tile that is not turned, in order.
 #[tactic(auto, unfolding(crate::specs::Tile::printed))]
-pub fn tile_track(tile: TileNo) -> &'static [Segment]
+pub fn tile_track(tile: TileNo) -> &'static [TrackSegment]
     ensures track { result.now ≡ tile_track_of tile }
     ensures few { length result.now ≤ 6 }
 {

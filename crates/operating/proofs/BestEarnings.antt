@@ -45,7 +45,7 @@ use Rattle.order_grammar.specs.declared.fault.Fault.{Fault}
 use Rattle.order_grammar.specs.declared.order.Order.{Order}
 use Rattle.order_grammar.specs.declared.order.Order.TheVariants as order
 use Rattle.reach.specs.Position.{Position, IsAmong}
-use Rattle.reach.specs.declared.walk.Step.{Step}
+use Rattle.reach.specs.declared.walk.WalkStep.{WalkStep}
 use Rattle.sheets.specs.Part.{Numbered}
 use Rattle.tables.specs.Train.{place_of_kind, same_kind}
 use Rattle.tables.specs.declared.rolling_stock.Kind.{Kind}
@@ -116,13 +116,13 @@ module _ (events : List Event) (company : Company) where
   held_now Diesel = omega (arith, held_by_kind Diesel)
 
 -- the walks of some runs
-abbrev walks_of : List TrainRun → List (List Step)
+abbrev walks_of : List TrainRun → List (List WalkStep)
 walks_of [] = []
 walks_of (run ∷ runs) = run.steps ∷ walks_of runs
 
 -- a walk that crosses none of the borders of some runs shares none with any of them
 apart_from :
-    (steps : List Step) (runs : List TrainRun) → ((border : ℕ) → IsAmong border (crossed steps)
+    (steps : List WalkStep) (runs : List TrainRun) → ((border : ℕ) → IsAmong border (crossed steps)
     → ¬ IsAmong border (all_crossed (walks_of runs))) →
     AllByRecursion (λ (other : TrainRun). ShareNoBorder steps other.steps) runs
 apart_from steps [] free = tt
@@ -212,7 +212,7 @@ module _ (by : Operator) (first : TurnState) where
 
   -- with one more run the set is legal
   set_more :
-      (runs : List TrainRun) (kind : Kind) (steps : List Step) → IsLegalSet there by.company trains runs →
+      (runs : List TrainRun) (kind : Kind) (steps : List WalkStep) → IsLegalSet there by.company trains runs →
       IsLegalRun there by.company kind (all_crossed (walks_of runs)) steps
       → in_number kind (trains_that_run runs) < at_least_zero (held_first kind) →
       IsLegalSet there by.company trains (record { kind = kind; steps = steps } ∷ runs)
@@ -246,7 +246,7 @@ module _ (by : Operator) (first : TurnState) where
       → judged_run now by.company kind run ≡ Ok ran →
       HaveRun runs now → IsLegalRun there by.company kind (all_crossed (walks_of runs)) (steps_now now.game.events run)
   run_legal runs now kind run ran judged have =
-      let steps : List Step = steps_now now.game.events run in
+      let steps : List WalkStep = steps_now now.game.events run in
       let used : List ℕ = all_crossed (walks_of runs) in
       let position : Position = position_now now.game.events in
       subst (λ (its : Position). IsLegalRun its by.company kind used steps) have.map_state
@@ -272,7 +272,7 @@ module _ (by : Operator) (first : TurnState) where
       judged_run now by.company kind run ≡ Ok ran → HaveRun runs now
       → HaveRun (with_run now kind run runs) (run_ruled by now line its (Ok ran))
   after_obeyed runs now line its kind run ran judged have =
-      let steps : List Step = steps_now now.game.events run in
+      let steps : List WalkStep = steps_now now.game.events run in
       let done : Runs = now.progress.runs in
       let ruled : TurnState = line_recorded by now line (Obeyed line.condition its) in
       let after : HaveRun runs ruled = after_ruling runs now line (Obeyed line.condition its) have in

@@ -13,8 +13,8 @@ use Rattle.map_tables.specs.declared.hex.Hex.TheVariants.{A9}
 use Rattle.map_tables.specs.declared.place.Stop.{Stop}
 use Rattle.map_tables.specs.declared.place.StopNumber.{StopNumber}
 use Rattle.map_tables.specs.declared.place.StopNumber.TheVariants.{First, Second}
-use Rattle.map_tables.specs.declared.track.End.{End}
-use Rattle.map_tables.specs.declared.track.End.TheVariants.{Side as AtSide, Stop as AtStop}
+use Rattle.map_tables.specs.declared.track.TrackEnd.{TrackEnd}
+use Rattle.map_tables.specs.declared.track.TrackEnd.TheVariants.{Side as AtSide, Stop as AtStop}
 use Rattle.map_tables.specs.declared.track.Link.{Link}
 use Rattle.reach.proofs.Collected.{all_tokens, none_marked, own_hex, spot_of, token_arrives}
 use Rattle.reach.proofs.Decided.{Decided, both_decided, can_enter_decided, either_decided, mark_decided, not_decided}
@@ -28,7 +28,7 @@ use Rattle.reach.specs.Search.{AllArrive, CanEnter, HasAllTokens, IsClosed, IsKe
 use Rattle.reach.specs.Search.{number_at, spot_number}
 use Rattle.reach.specs.Walk.{IsTrack, entered_at, left_at}
 use Rattle.reach.specs.declared.walk.Spot.{Spot}
-use Rattle.reach.specs.declared.walk.Step.{Step}
+use Rattle.reach.specs.declared.walk.WalkStep.{WalkStep}
 use Rattle.tables.specs.declared.roster.Company.{Company}
 
 -- one of a list is so
@@ -91,7 +91,7 @@ any_number P each =
     ]
 
 -- each end of a hex has a number under 744
-number_low : (hex : Hex) (end : End) → number_at hex end < 744
+number_low : (hex : Hex) (end : TrackEnd) → number_at hex end < 744
 number_low hex (AtSide side) = omega (arith, index_low hex, side_low side)
 number_low hex (AtStop number) =
     let joined = joined_stop_of (stop_at hex number) in omega
@@ -132,10 +132,10 @@ module _ (position : Position) (company : Company) (lawful : IsLawful position) 
       (not_decided (IsMarked marks (spot_of stop)) (mark_decided marks (spot_of stop)))))
 
   -- a step from what is marked to what is not
-  abbrev IsNewStep : List Bool → Step → Type 0
+  abbrev IsNewStep : List Bool → WalkStep → Type 0
   IsNewStep marks step = CanEnter position company marks (entered_at step) × ¬ IsMarked marks (left_at step)
 
-  step_decided : (marks : List Bool) (step : Step) → Decided (IsNewStep marks step)
+  step_decided : (marks : List Bool) (step : WalkStep) → Decided (IsNewStep marks step)
   step_decided marks step =
       both_decided (CanEnter position company marks (entered_at step)) (¬ IsMarked marks (left_at step))
       (can_enter_decided position company marks (entered_at step))
@@ -179,7 +179,7 @@ module _ (position : Position) (company : Company) (lawful : IsLawful position) 
       }
 
   -- the end of a step is
-  by_step : (old : List Bool) → length old ≡ 744 → AllArrive position company old → (step : Step)
+  by_step : (old : List Bool) → length old ≡ 744 → AllArrive position company old → (step : WalkStep)
       → IsTrack position step → IsNewStep old step →
       Further position company old
   by_step old long arrive step track is =

@@ -24,7 +24,7 @@ use Rattle.operating.specs.declared.completed_runs.Runs.{Runs}
 use Rattle.order_grammar.specs.declared.fault.Fault.{Fault}
 use Rattle.order_grammar.specs.declared.order.Order.{Order}
 use Rattle.order_grammar.specs.declared.order.Order.TheVariants as order
-use Rattle.reach.specs.declared.walk.Step.{Step}
+use Rattle.reach.specs.declared.walk.WalkStep.{WalkStep}
 use Rattle.sheets.specs.Part.{Numbered}
 use Rattle.tables.specs.declared.rolling_stock.Kind.{Kind}
 
@@ -40,13 +40,13 @@ after_best by turn line (Some rule) new leads = ap marks_in leads
 after_best by turn line None new leads = ap marks_in leads.2
 
 -- these walks cross the borders that are marked
-abbrev AreWalks : List (List Step) → TurnState → Type 0
+abbrev AreWalks : List (List WalkStep) → TurnState → Type 0
 AreWalks walks turn = MarksAre (all_crossed walks) (marks_in turn)
 
 -- a run that is obeyed marks its own
 after_run :
     (by : Operator) (turn : TurnState) (line : Numbered) (its : Order) (kind : Kind) (run : List Place)
-    (before : List (List Step)) (judged : Result CompletedRun RunRule) →
+    (before : List (List WalkStep)) (judged : Result CompletedRun RunRule) →
     judged_run turn by.company kind run ≡ judged → AreWalks before turn →
     AreWalks (walk_if_ran (steps_now turn.game.events run) judged ++ before) (run_ruled by turn line its judged)
 after_run by turn line its kind run before (Err rule) is are = are
@@ -56,13 +56,13 @@ after_run by turn line its kind run before (Ok ran) is are =
     (crossed_used (all_crossed before) (marks_in turn) (steps_now turn.game.events run) are)
 
 -- the marks that an order leaves
-left_as : (before : List (List Step)) (turn new : TurnState) → marks_in new ≡ marks_in turn → AreWalks before turn
+left_as : (before : List (List WalkStep)) (turn new : TurnState) → marks_in new ≡ marks_in turn → AreWalks before turn
     → AreWalks before new
 left_as before turn new same are = subst (λ (marks : List Bool). MarksAre (all_crossed before) marks) (sym same) are
 
 -- after an order
 after_order :
-    (by : Operator) (turn : TurnState) (line : Numbered) (before : List (List Step)) (its : Order) (new : TurnState)
+    (by : Operator) (turn : TurnState) (line : Numbered) (before : List (List WalkStep)) (its : Order) (new : TurnState)
     → OrderLeads by turn line its new →
     AreWalks before turn → AreWalks (walk_ordered by.company turn its ++ before) new
 after_order by turn line before (order.Run kind run) new leads are =
@@ -77,7 +77,7 @@ after_order by turn line before other new leads are =
 
 -- after an order whose condition is checked
 after_asked :
-    (by : Operator) (turn : TurnState) (line : Numbered) (before : List (List Step)) (its : Order) (held : Bool)
+    (by : Operator) (turn : TurnState) (line : Numbered) (before : List (List WalkStep)) (its : Order) (held : Bool)
     (new : TurnState) →
     AskedLeads by turn line its held new → AreWalks before turn
     → AreWalks (walk_asked by.company turn its held ++ before) new
@@ -86,7 +86,7 @@ after_asked by turn line before its false new leads are = after_order by turn li
 
 -- after a line
 after_line :
-    (by : Operator) (turn : TurnState) (line : Numbered) (before : List (List Step)) (reading : Result Order Fault)
+    (by : Operator) (turn : TurnState) (line : Numbered) (before : List (List WalkStep)) (reading : Result Order Fault)
     (new : TurnState) →
     ReadingLeads by turn line reading new → AreWalks before turn
     → AreWalks (walk_obeyed by.company turn line reading ++ before) new
@@ -96,11 +96,11 @@ after_line by turn line before (Ok its) new leads are =
 
 -- after some lines
 after_lines :
-    (by : Operator) (turn : TurnState) (before : List (List Step)) (lines : List Numbered) (new : TurnState)
-    (all : List (List Step)) →
+    (by : Operator) (turn : TurnState) (before : List (List WalkStep)) (lines : List Numbered) (new : TurnState)
+    (all : List (List WalkStep)) →
     AreWalks before turn → LinesRun by turn before lines new all → AreWalks all new
 after_lines by turn before [] new all are ran =
-    subst (λ (walks : List (List Step)). AreWalks walks new) (sym ran.1)
+    subst (λ (walks : List (List WalkStep)). AreWalks walks new) (sym ran.1)
     (left_as before turn new (ap marks_in ran.0) are)
 after_lines by turn before (line ∷ lines) new all are ran =
     after_lines by ran.0 (walk_obeyed by.company turn line line.reading ++ before) lines new all

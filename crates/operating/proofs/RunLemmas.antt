@@ -25,7 +25,7 @@ use Rattle.operating.specs.TurnState.{TurnState}
 use Rattle.operating.specs.declared.completed_runs.CompletedRun.{CompletedRun}
 use Rattle.reach.specs.Lawful.{IsLawful}
 use Rattle.reach.specs.Position.{Position}
-use Rattle.reach.specs.declared.walk.Step.{Step}
+use Rattle.reach.specs.declared.walk.WalkStep.{WalkStep}
 use Rattle.tables.proofs.Rules.{not_broken}
 use Rattle.tables.specs.Rules.{first_broken}
 use Rattle.tables.specs.declared.rolling_stock.Kind.{Kind}
@@ -57,7 +57,7 @@ judged_legal turn company kind run ran is =
     fault judged in
     let legal : NameLegalRun position company kind used run =
     (legal_where_unbroken position company kind used run).0 unbroken in
-    subst (λ (steps : List Step). IsLegalRun position company kind used steps) (sym (ap steps_of legal.1)) legal.2
+    subst (λ (steps : List WalkStep). IsLegalRun position company kind used steps) (sym (ap steps_of legal.1)) legal.2
 
 -- what is done is what the run does
 done_is : (ran done : CompletedRun) (found : Option RunRule) → ran_unless ran found ≡ Ok done → done ≡ ran

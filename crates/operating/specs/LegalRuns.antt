@@ -16,35 +16,35 @@ use Rattle.operating.specs.declared.completed_runs.CompletedRun.{CompletedRun}
 use Rattle.order_grammar.specs.declared.fault.Fault.{Fault}
 use Rattle.order_grammar.specs.declared.order.Order.{Order}
 use Rattle.order_grammar.specs.declared.order.Order.TheVariants as order
-use Rattle.reach.specs.declared.walk.Step.{Step}
+use Rattle.reach.specs.declared.walk.WalkStep.{WalkStep}
 use Rattle.sheets.specs.Part.{Numbered}
 use Rattle.tables.specs.declared.rolling_stock.Kind.{Kind}
 use Rattle.tables.specs.declared.roster.Company.{Company}
 
 -- the walk of a run, if it is obeyed
-abbrev pub walk_if_ran : List Step → Result CompletedRun RunRule → List (List Step)
+abbrev pub walk_if_ran : List WalkStep → Result CompletedRun RunRule → List (List WalkStep)
 walk_if_ran steps (Ok ran) = steps ∷ []
 walk_if_ran steps (Err rule) = []
 
 -- the walk of the run that is ordered, if one is and it breaks no rule
-abbrev pub walk_ordered : Company → TurnState → Order → List (List Step)
+abbrev pub walk_ordered : Company → TurnState → Order → List (List WalkStep)
 walk_ordered company turn (order.Run kind run) =
     walk_if_ran (steps_now turn.game.events run) (judged_run turn company kind run)
 walk_ordered company turn other = []
 
 -- there is none if the condition of the order is not met
-abbrev pub walk_asked : Company → TurnState → Order → Bool → List (List Step)
+abbrev pub walk_asked : Company → TurnState → Order → Bool → List (List WalkStep)
 walk_asked company turn its true = []
 walk_asked company turn its false = walk_ordered company turn its
 
 -- the walk of the run that this line with this reading orders, if it orders one and is obeyed
-abbrev pub walk_obeyed : Company → TurnState → Numbered → Result Order Fault → List (List Step)
+abbrev pub walk_obeyed : Company → TurnState → Numbered → Result Order Fault → List (List WalkStep)
 walk_obeyed company turn line (Ok its) = walk_asked company turn its (is_held turn.game.events line.condition its)
 walk_obeyed company turn line (Err fault) = []
 
 -- Lines of a company's orders lead from a turn to new, one after another. The walks of their obeyed
 -- runs are added to the walks before them, which makes all.
-abbrev pub LinesRun : Operator → TurnState → List (List Step) → List Numbered → TurnState → List (List Step) → Type 0
+abbrev pub LinesRun : Operator → TurnState → List (List WalkStep) → List Numbered → TurnState → List (List WalkStep) → Type 0
 LinesRun by turn before [] new all = (new ≡ turn) × (all ≡ before)
 LinesRun by turn before (line ∷ lines) new all =
     (next : TurnState) × LineLeads by turn line next × LinesRun by next
@@ -54,7 +54,7 @@ LinesRun by turn before (line ∷ lines) new all =
 -- borders that the runs obeyed before it in the turn have left free.
 abbrev pub ObeyedRunsAreLegal : Type 0
 ObeyedRunsAreLegal =
-    (by : Operator) (game : Game) (lines : List Numbered) (turn : TurnState) (before : List (List Step)) (kind : Kind)
+    (by : Operator) (game : Game) (lines : List Numbered) (turn : TurnState) (before : List (List WalkStep)) (kind : Kind)
     (run : List Place) (ran : CompletedRun) →
     LinesRun by (begun game by.company) [] lines turn before →
     judged_run turn by.company kind run ≡ Ok ran →

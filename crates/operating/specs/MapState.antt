@@ -7,7 +7,7 @@ use Rattle.events.specs.declared.event.Event.{Event}
 use Rattle.legal_runs.specs.Fault.{named_steps}
 use Rattle.map_tables.specs.declared.place.Place.{Place}
 use Rattle.reach.specs.Position.{Position}
-use Rattle.reach.specs.declared.walk.Step.{Step}
+use Rattle.reach.specs.declared.walk.WalkStep.{WalkStep}
 use Rattle.totals.specs.Operating.{lays_of, tokens_of}
 use Rattle.totals.specs.Trains.{phase_of}
 
@@ -20,7 +20,7 @@ abbrev pub position_now : List Event → Position
 position_now events = position_of (map_state_now events)
 
 -- the walk that some places name now
-abbrev pub steps_now : List Event → List Place → List Step
+abbrev pub steps_now : List Event → List Place → List WalkStep
 steps_now events run = named_steps (position_now events) run
 
 -- a list begins with another

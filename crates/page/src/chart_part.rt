@@ -3,7 +3,7 @@
 use crate::signs::put_words;
 use desk::company_at;
 use history::GameView;
-use picture::Piece::{At, Letter, Number, Words};
+use picture::PagePiece::{At, Letter, Number, Words};
 use picture::{Attr, Point, Tag, Writer};
 use tables::{Company, Money, Square, Zone, par_square, price, square, zone};
 

@@ -8,7 +8,7 @@ use crate::table_forms::{
 use desk::{before_in_stack, earnings_of, operates, tokens_left, trains_left};
 use history::{GameView, Holder, Party};
 use map_tables::{home, private_hexes};
-use picture::Piece::{Hex, Letter, Name, Number, Place, Round, Words};
+use picture::PagePiece::{Hex, Letter, Name, Number, Place, Round, Words};
 use picture::{Tag, Writer};
 use tables::{Company, Kind, Money, Private, Seat, face, price, revenue, rusts, train};
 

@@ -4,10 +4,10 @@ use crate::scene::Scene;
 use crate::tokens::{is_kept, private_in, tokens_at};
 use history::Holder;
 use map_tables::{
-    End, Hex, HexKind, Link, Stop, StopNumber, TileKind, hex_kind, printed_value, terrain_cost,
-    tile,
+    Hex, HexKind, Link, Stop, StopNumber, TileKind, TrackEnd, hex_kind, printed_value,
+    terrain_cost, tile,
 };
-use picture::Piece::{Hex as Named, Number, Place, Words};
+use picture::PagePiece::{Hex as Named, Number, Place, Words};
 use picture::{Look, Shade, Stops, Tag, Writer};
 use tables::{Company, Money, Private};
 
@@ -107,8 +107,8 @@ fn put_links(out: &mut Writer, look: &Look) {
     let mut before = "; track ";
     for link in look.links.as_slice() {
         if let Link {
-            a: End::Side(from),
-            b: End::Side(to),
+            a: TrackEnd::Side(from),
+            b: TrackEnd::Side(to),
             ..
         } = link
         {
@@ -154,7 +154,7 @@ fn put_stop(out: &mut Writer, scene: &Scene, look: &Look, number: StopNumber) {
 fn put_sides(out: &mut Writer, look: &Look, stop: StopNumber) {
     let mut before = " sides ";
     for link in look.links.as_slice() {
-        if let (End::Side(side), End::Stop(its)) = (link.a, link.b) {
+        if let (TrackEnd::Side(side), TrackEnd::Stop(its)) = (link.a, link.b) {
             if its.index() == stop.index() {
                 out.put(&[Words(before), Number(side.number() as Money)]);
                 before = " ";
@@ -198,7 +198,7 @@ fn put_private(out: &mut Writer, scene: &Scene, private: Private) {
             Words("; barred by "),
             Words(private.code()),
             Words(" of "),
-            picture::Piece::Name(scene.name(seat)),
+            picture::PagePiece::Name(scene.name(seat)),
         ]),
         Some(Holder::Company(_)) => {}
         None if !view.is_sold(private) => {

@@ -10,7 +10,7 @@ use crate::table_forms::{
 };
 use crate::tiles_part::begin_section;
 use crate::worth_history::Entry;
-use picture::Piece::{Name, Number, Round, Words};
+use picture::PagePiece::{Name, Number, Round, Words};
 use picture::{Attr, Point, Tag, Writer, letter};
 use tables::{Company, Money, Seat};
 

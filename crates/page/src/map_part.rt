@@ -8,7 +8,7 @@ use crate::signs::{put_legend, put_signs};
 use crate::tokens::{markers_in, private_in};
 use history::Holder;
 use map_tables::{Hex, Lay, printed_value, terrain_cost};
-use picture::Piece::{Hex as Named, Number, Round, Words};
+use picture::PagePiece::{Hex as Named, Number, Round, Words};
 use picture::{
     Attr, Look, Point, Shade, Stops, Tag, Writer, cost_point, draw_stops, draw_track, kind_point,
     private_point, value_point,
@@ -213,7 +213,7 @@ fn put_private(
     let corner = place.minus(Point { x: half, y: 8 });
     out.path(
         around,
-        &[Words("M"), picture::Piece::Point(corner), Words(rest)],
+        &[Words("M"), picture::PagePiece::Point(corner), Words(rest)],
     );
     out.label(within, place.down(4), &[Words(private.code())]);
 }

@@ -9,7 +9,7 @@ use crate::table_forms::{
 };
 use desk::purse_of;
 use history::{Holder, Shareholder};
-use picture::Piece::{Name, Number, Words};
+use picture::PagePiece::{Name, Number, Words};
 use picture::{Tag, Writer};
 use tables::{Company, Money, Private, Seat, price};
 

@@ -7,7 +7,7 @@ use crate::signs::put_line_colour;
 use crate::table_forms::{begin_table, put_company, put_head};
 use history::History;
 use map_tables::{Hex, Side, neighbour};
-use picture::Piece::{At, Number, Place, Point as To, Round, Words};
+use picture::PagePiece::{At, Number, Place, Point as To, Round, Words};
 use picture::{Attr, Point, Tag, Way, Writer, put_way, towards, way_across};
 use std::alloc::{AllocError, Global};
 use tables::{Amount, Money};
@@ -158,7 +158,7 @@ enum Room {
 
 /// Where the tag of a route stands.
 #[derive(Clone, Copy)]
-struct Spot {
+struct WriterPlace {
     border: Point,
     room: Room,
 }
@@ -191,17 +191,17 @@ pub(crate) fn put_tags(
 
 /// Returns where the tag of a route stands: the first border without a tag that has room for the
 /// sum, or else the first without a tag, or the first.
-fn spot_for(tagged: &Tagged, history: &History, route: &Route) -> Option<Spot> {
-    let mut found: Option<Spot> = None;
+fn spot_for(tagged: &Tagged, history: &History, route: &Route) -> Option<WriterPlace> {
+    let mut found: Option<WriterPlace> = None;
     for visit in &route.visits {
         if let Some(border) = border_of(visit) {
             let room = room_at(history, visit);
             let is_free = !tagged.has(border);
             if let (Room::Left | Room::Right, true) = (room, is_free) {
-                return Some(Spot { border, room });
+                return Some(WriterPlace { border, room });
             }
             if found.is_none() || is_free {
-                found = Some(Spot {
+                found = Some(WriterPlace {
                     border,
                     room: Room::Nowhere,
                 });
@@ -247,7 +247,7 @@ fn last_border(route: &Route) -> Option<Point> {
 }
 
 /// Adds the company of a route at a border, with the sum where there is room.
-fn put_tag(out: &mut Writer, route: &Route, spot: Spot) {
+fn put_tag(out: &mut Writer, route: &Route, spot: WriterPlace) {
     let place = spot.border.down(lane_of(route));
     let width = 12 + 8 * digits_of(route.sum);
     match spot.room {

@@ -1,6 +1,6 @@
 //! The signs that pictures of a page refer to, and the legend of the map.
 
-use picture::Piece::{At, Words};
+use picture::PagePiece::{At, Words};
 use picture::{Attr, Point, Tag, Writer, letter};
 use tables::Company;
 
@@ -163,7 +163,7 @@ pub(crate) fn put_legend(out: &mut Writer) {
     out.path("leg", &[Words("M0-90L78-45V45L0 90-78 45V-45z")]);
     for (number, (tick, place)) in SIDES.iter().enumerate() {
         out.path("tick", &[Words(tick)]);
-        out.label("big", *place, &[picture::Piece::Number(number as i128)]);
+        out.label("big", *place, &[picture::PagePiece::Number(number as i128)]);
     }
     out.label("lg", Point { x: 0, y: 6 }, &[Words("sides")]);
     put_words(out, -126, 118, "Rotation r adds r to the number of each");

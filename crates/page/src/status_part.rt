@@ -2,8 +2,8 @@
 
 use crate::scene::Scene;
 use history::Party;
-use picture::Piece::{Name, Number, Round, Words};
-use picture::{Attr, Piece, Tag, Writer};
+use picture::PagePiece::{Name, Number, Round, Words};
+use picture::{Attr, PagePiece, Tag, Writer};
 use rounds::End;
 use tables::{Kind, Money, Seat, certificate_limit, limit};
 
@@ -89,7 +89,7 @@ fn colours_of(phase: Kind) -> &'static str {
 }
 
 /// Adds an item of the list.
-fn put_item(out: &mut Writer, words: &'static str, pieces: &[Piece]) {
+fn put_item(out: &mut Writer, words: &'static str, pieces: &[PagePiece]) {
     out.begin(Tag::Item);
     out.element(Tag::Small, &[Words(words)]);
     out.put(&[Words(" ")]);

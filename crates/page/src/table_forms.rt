@@ -1,7 +1,7 @@
 //! Forms of tables: their heads and their cells.
 
-use picture::Piece::{Number, Words};
-use picture::{Attr, Piece, Point, Tag, Writer};
+use picture::PagePiece::{Number, Words};
+use picture::{Attr, PagePiece, Point, Tag, Writer};
 use tables::{Company, Money};
 
 /// Begins a table of a name, and of a class if there is one.
@@ -53,7 +53,7 @@ pub(crate) fn end_head(out: &mut Writer) {
 }
 
 /// Adds the heading of a column.
-pub(crate) fn put_heading(out: &mut Writer, class: &'static str, pieces: &[Piece]) {
+pub(crate) fn put_heading(out: &mut Writer, class: &'static str, pieces: &[PagePiece]) {
     begin_heading(out, class);
     out.within();
     out.put(pieces);
@@ -79,7 +79,7 @@ pub(crate) fn begin_row(out: &mut Writer, class: &'static str) {
 }
 
 /// Adds the heading of a row.
-pub(crate) fn put_row_head(out: &mut Writer, pieces: &[Piece]) {
+pub(crate) fn put_row_head(out: &mut Writer, pieces: &[PagePiece]) {
     out.begin(Tag::Heading);
     out.value(Attr::Scope, &[Words("row")]);
     out.within();

@@ -8,8 +8,8 @@ use crate::style::STYLE;
 use crate::table_forms::{begin_row, begin_table, put_caption, put_head, put_row_head};
 use desk::{tile_on, tiles_left};
 use history::History;
-use map_tables::{Colour, End, Hex, Lay, Rotation, Side, TileNo, tile};
-use picture::Piece::{Hex as Named, Number, Words};
+use map_tables::{Colour, Hex, Lay, Rotation, Side, TileNo, TrackEnd, tile};
+use picture::PagePiece::{Hex as Named, Number, Words};
 use picture::{Attr, Look, Marker, Point, Ring, Tag, Writer, draw_stops, draw_track, on_ring};
 use std::alloc::{AllocError, Global};
 use tables::Money;
@@ -72,10 +72,10 @@ fn leads_to(look: &Look, side: Side) -> bool {
 }
 
 /// Returns whether an end is a side.
-fn is_side(end: End, side: Side) -> bool {
+fn is_side(end: TrackEnd, side: Side) -> bool {
     match end {
-        End::Side(its) => its.number() == side.number(),
-        End::Stop(_) => false,
+        TrackEnd::Side(its) => its.number() == side.number(),
+        TrackEnd::Stop(_) => false,
     }
 }
 

@@ -18,7 +18,7 @@ use crate::tiles_part::{begin_section, put_laid, put_tiles_left};
 use crate::worth_history::{Entry, play_to, thinned};
 use desk::{all_in_order, stood_now};
 use desk_base::DeskFault;
-use picture::Piece::{Round as Named, Words};
+use picture::PagePiece::{Round as Named, Words};
 use picture::{Attr, Tag, Writer};
 use rounds::Play;
 use sheets::{Sheets, collect};

@@ -7,8 +7,8 @@ use Rattle.picture.specs.Tags.{name_of_tag}
 use Rattle.picture.specs.Written.{open_names, read_by, is_plain, is_apart}
 use Rattle.picture.specs.declared.tag.Tag.{Tag}
 use Rattle.picture.specs.declared.tag.Tag.TheVariants.{Html, Head, Title, Style, Body, Header, H1, H2, H3, Paragraph, Nav, Anchor, Main, Listing, Item, Small, Bold, Section, Svg, Desc, Defs, Path, Circle, Group, Text, TextSpan, Use, Polyline, Table, Caption, TableHead, TableBody, Row, Heading, Cell, Division, Span}
-use Rattle.picture.specs.declared.writer.Spot.{Spot}
-use Rattle.picture.specs.declared.writer.Spot.TheVariants.{Between, Naming, Valued}
+use Rattle.picture.specs.declared.writer.WriterPlace.{WriterPlace}
+use Rattle.picture.specs.declared.writer.WriterPlace.TheVariants.{Between, Naming, Valued}
 
 -- the reader goes on from what it has found
 pub on_from : (text more : List ℕ) (found : Read) → reading text ≡ found → reading (text ++ more) ≡ fold step found more
@@ -141,7 +141,7 @@ no_mark : (a b : Bool) → (not a && not b) ≡ true → b ≡ false
 no_mark a b h = grind arith
 
 -- a byte that has no meaning in tags leaves the reader where it is
-stays : (names : List (List ℕ)) (spot : Spot) (byte : ℕ) → is_apart spot ≡ true → is_plain byte ≡ true →
+stays : (names : List (List ℕ)) (spot : WriterPlace) (byte : ℕ) → is_apart spot ≡ true → is_plain byte ≡ true →
     step (read_by names spot) byte ≡ read_by names spot
 stays names Between byte apart plain = second (byte == 60) (no_tag (byte == 60) (byte == 34) plain) (read_at names (naming [])) (read_at names between)
 stays names (Naming tag) byte apart plain = grind arith
@@ -151,7 +151,7 @@ stays names (Valued tag) byte apart plain =
     ∙ second (byte == 60) (no_tag (byte == 60) (byte == 34) plain) (read_at names lost) (read_at names (valued (name_of_tag tag)))
 
 -- behind such a byte
-pub plain_kept : (text : List ℕ) (names : List (List ℕ)) (spot : Spot) (byte : ℕ) → is_apart spot ≡ true → is_plain byte ≡ true →
+pub plain_kept : (text : List ℕ) (names : List (List ℕ)) (spot : WriterPlace) (byte : ℕ) → is_apart spot ≡ true → is_plain byte ≡ true →
     reading text ≡ read_by names spot → reading (text ++ byte ∷ []) ≡ read_by names spot
 plain_kept text names spot byte apart plain h =
     on_from text (byte ∷ []) (read_by names spot) h ∙ stays names spot byte apart plain

@@ -1,6 +1,6 @@
 -- The ends of a link: the middle of its side, or the place of its stop.
-use Rattle.map_tables.specs.declared.track.End.{End}
-use Rattle.map_tables.specs.declared.track.End.TheVariants.{Side, Stop}
+use Rattle.map_tables.specs.declared.track.TrackEnd.{TrackEnd}
+use Rattle.map_tables.specs.declared.track.TrackEnd.TheVariants.{Side, Stop}
 use Rattle.map_tables.specs.declared.place.StopNumber.TheVariants.{First, Second}
 use Rattle.map_tables.specs.declared.track.Link.{Link}
 use Rattle.picture.specs.declared.curve.Curve.{Curve}
@@ -8,7 +8,7 @@ use Rattle.picture.specs.declared.point.Point.{Point}
 use Rattle.picture.specs.Points.{border_point}
 
 -- the point of an end, where stop 0 and stop 1 of the hex have these places
-abbrev pub end_point : Point × Point → End → Point
+abbrev pub end_point : Point × Point → TrackEnd → Point
 end_point places (Side side) = border_point side
 end_point places (Stop First) = places.0
 end_point places (Stop Second) = places.1

@@ -6,28 +6,28 @@ use Rattle.std.specs.Prelude.{◌≡◌, ℕ, List, [], ◌∷◌, ◌++◌, Boo
 use Rattle.picture.specs.Tags.{is_void}
 
 -- where in the text the reader is
-pub data Spot : Type 0 where
+pub data WriterPlace : Type 0 where
   -- between tags
-  between : Spot
+  between : WriterPlace
   -- behind the `<` of a tag and this much of its name
-  naming : List ℕ → Spot
+  naming : List ℕ → WriterPlace
   -- in the start tag of an element of this name, behind the name
-  inside : List ℕ → Spot
+  inside : List ℕ → WriterPlace
   -- in a value of that start tag
-  valued : List ℕ → Spot
+  valued : List ℕ → WriterPlace
   -- behind the `/` that ends an element with its start tag
-  ending : Spot
+  ending : WriterPlace
   -- in an end tag, behind this much of its name
-  closing : List ℕ → Spot
+  closing : List ℕ → WriterPlace
   -- behind what is no such text
-  lost : Spot
+  lost : WriterPlace
 
 -- the names of the open elements, and where the reader is
 pub record Read : Type 0 where
   pub open_names : List (List ℕ)
-  pub spot : Spot
+  pub spot : WriterPlace
 
-abbrev pub read_at : List (List ℕ) → Spot → Read
+abbrev pub read_at : List (List ℕ) → WriterPlace → Read
 read_at names spot = record { open_names = names; spot = spot }
 
 -- behind the start tag of an element
@@ -64,7 +64,7 @@ valued_then names name byte =
     else read_at names (valued name)
 
 -- the next step of the reader, by a byte
-abbrev pub step_at : List (List ℕ) → Spot → ℕ → Read
+abbrev pub step_at : List (List ℕ) → WriterPlace → ℕ → Read
 step_at names between byte = if byte == 60 then read_at names (naming []) else read_at names between
 step_at names (naming name) byte = named names name byte
 step_at names (inside name) byte = inside_then names name byte

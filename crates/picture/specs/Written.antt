@@ -5,21 +5,21 @@ use Rattle.std.specs.declared.alloc.AllocError.{AllocError}
 use Rattle.picture.specs.Reading.{Read, read_at, reading, between, naming, valued}
 use Rattle.picture.specs.Tags.{name_of_tag}
 use Rattle.picture.specs.declared.tag.Tag.{Tag}
-use Rattle.picture.specs.declared.writer.Spot.{Spot}
-use Rattle.picture.specs.declared.writer.Spot.TheVariants.{Between, Naming, Valued}
+use Rattle.picture.specs.declared.writer.WriterPlace.{WriterPlace}
+use Rattle.picture.specs.declared.writer.WriterPlace.TheVariants.{Between, Naming, Valued}
 
 -- the names of open elements, the innermost first
 abbrev pub open_names : List Tag → List (List ℕ)
 open_names tags = fold (λ names tag. name_of_tag tag ∷ names) [] tags
 
 -- what the reader is to find, by the open elements and the spot of the writer
-abbrev pub read_by : List (List ℕ) → Spot → Read
+abbrev pub read_by : List (List ℕ) → WriterPlace → Read
 read_by names Between = read_at names between
 read_by names (Naming tag) = read_at names (naming (name_of_tag tag))
 read_by names (Valued tag) = read_at names (valued (name_of_tag tag))
 
 -- as long as no allocation has failed, the reader finds that
-abbrev pub IsRead : List ℕ → List Tag → Spot → Option AllocError → Type 0
+abbrev pub IsRead : List ℕ → List Tag → WriterPlace → Option AllocError → Type 0
 IsRead text tags spot fault = fault ≡ None → reading text ≡ read_by (open_names tags) spot
 
 -- whether a byte has no meaning in tags: it is no `<`, 60, and no quotation mark, 34
@@ -31,7 +31,7 @@ abbrev pub plain_of : ℕ → List ℕ
 plain_of byte = if is_plain byte then byte ∷ [] else []
 
 -- whether the writer is between tags or in a value
-abbrev pub is_apart : Spot → Bool
+abbrev pub is_apart : WriterPlace → Bool
 is_apart Between = true
 is_apart (Naming tag) = false
 is_apart (Valued tag) = true

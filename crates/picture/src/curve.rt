@@ -6,7 +6,7 @@ use crate::bend::{Bend, bend_between, is_clockwise};
 use crate::look::Look;
 use crate::point::{Point, Ring, border_point, on_ring};
 use arrayvec::ArrayVec;
-use map_tables::{End, LINKS_MOST, Link, Side, StopNumber};
+use map_tables::{LINKS_MOST, Link, Side, StopNumber, TrackEnd};
 
 /// How a curve goes from its first point to its last.
 #[derive(Clone, Copy, Default)]
@@ -59,16 +59,17 @@ pub fn towards(look: &Look, side: Side, stop: StopNumber) -> Point {
 }
 
 /// Returns a link between two ends as a curve, where the stops have these places.
-fn curve_of(look: &Look, places: (Point, Point), a: End, b: End) -> Curve
+fn curve_of(look: &Look, places: (Point, Point), a: TrackEnd, b: TrackEnd) -> Curve
     ensures from { result.from ≡ end_point places a }
     ensures to { result.to ≡ end_point places b }
 {
     let way = match (a, b) {
-        (End::Side(from), End::Side(to)) => way_across(from, to),
-        (End::Side(side), End::Stop(stop)) | (End::Stop(stop), End::Side(side)) => {
+        (TrackEnd::Side(from), TrackEnd::Side(to)) => way_across(from, to),
+        (TrackEnd::Side(side), TrackEnd::Stop(stop))
+        | (TrackEnd::Stop(stop), TrackEnd::Side(side)) => {
             Way::Towards(towards(look, side, stop))
         }
-        (End::Stop(_), End::Stop(_)) => Way::Line,
+        (TrackEnd::Stop(_), TrackEnd::Stop(_)) => Way::Line,
     };
     Curve {
         from: end_point(places, a),
@@ -98,12 +99,12 @@ fn curves_of(look: &Look, places: (Point, Point), links: &[Link]) -> Curves
 }
 
 /// Returns the point of an end of a link: the middle of its side, or the place of its stop.
-pub fn end_point(places: (Point, Point), end: End) -> Point
+pub fn end_point(places: (Point, Point), end: TrackEnd) -> Point
     ensures { result ≡ end_point places end }
 {
     match end {
-        End::Side(side) => border_point(side),
-        End::Stop(StopNumber::First) => places.0,
-        End::Stop(StopNumber::Second) => places.1,
+        TrackEnd::Side(side) => border_point(side),
+        TrackEnd::Stop(StopNumber::First) => places.0,
+        TrackEnd::Stop(StopNumber::Second) => places.1,
     }
 }

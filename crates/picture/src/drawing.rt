@@ -2,7 +2,7 @@
 
 use crate::curve::{Curve, Way, track_of};
 use crate::look::{Look, Stops};
-use crate::piece::Piece::{At, Number, Point as To, Words};
+use crate::piece::PagePiece::{At, Number, Point as To, Words};
 use crate::point::Point;
 use crate::strands::{ENDS, end_number, strands};
 use crate::tag::{Attr, Tag};

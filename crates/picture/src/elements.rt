@@ -1,7 +1,7 @@
 //! Elements that pages are made of, each as a call.
 
-use crate::piece::Piece;
-use crate::piece::Piece::{At, Words};
+use crate::piece::PagePiece;
+use crate::piece::PagePiece::{At, Words};
 use crate::point::Point;
 use crate::tag::{Attr, Tag};
 use crate::writer::Writer;
@@ -17,7 +17,7 @@ pub fn letter(company: Company) -> &'static str {
 
 impl Writer {
     /// Adds a value to the start tag of the element that was begun last.
-    pub fn value(&mut self, attr: Attr, pieces: &[Piece]) {
+    pub fn value(&mut self, attr: Attr, pieces: &[PagePiece]) {
         self.attr(attr);
         self.put(pieces);
     }
@@ -29,7 +29,7 @@ impl Writer {
     }
 
     /// Adds an element with a text.
-    pub fn element(&mut self, tag: Tag, pieces: &[Piece]) {
+    pub fn element(&mut self, tag: Tag, pieces: &[PagePiece]) {
         self.begin(tag);
         self.within();
         self.put(pieces);
@@ -37,7 +37,7 @@ impl Writer {
     }
 
     /// Adds an element of a class with a text.
-    pub fn element_as(&mut self, tag: Tag, class: &'static str, pieces: &[Piece]) {
+    pub fn element_as(&mut self, tag: Tag, class: &'static str, pieces: &[PagePiece]) {
         self.begin_as(tag, class);
         self.within();
         self.put(pieces);
@@ -51,7 +51,7 @@ impl Writer {
     }
 
     /// Adds a text of a class at a point.
-    pub fn label(&mut self, class: &'static str, place: Point, pieces: &[Piece]) {
+    pub fn label(&mut self, class: &'static str, place: Point, pieces: &[PagePiece]) {
         self.begin_as(Tag::Text, class);
         self.place_at(place);
         self.within();
@@ -76,7 +76,7 @@ impl Writer {
     }
 
     /// Adds a path of a class by its data.
-    pub fn path(&mut self, class: &'static str, data: &[Piece]) {
+    pub fn path(&mut self, class: &'static str, data: &[PagePiece]) {
         self.begin_as(Tag::Path, class);
         self.value(Attr::D, data);
         self.end();

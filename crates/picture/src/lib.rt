@@ -35,7 +35,7 @@ pub use drawing::{Marker, draw_stops, draw_track, put_way};
 pub use elements::letter;
 pub use labels::{cost_point, kind_point, private_point, value_point};
 pub use look::{Look, Shade, Stops};
-pub use piece::Piece;
+pub use piece::PagePiece;
 pub use point::{Point, Ring, border_point, on_ring};
 pub use tag::{Attr, Tag};
 pub use writer::Writer;

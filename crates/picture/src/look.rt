@@ -6,7 +6,7 @@ ghost use Rattle.map_tables.specs.Print.{printed_links_of};
 use crate::bend::{Bend, bend_between};
 use crate::point::{Point, Ring, on_ring};
 use map_tables::{
-    Colour, End, Hex, HexKind, Lay, Link, Links, Side, StopNumber, TileKind, TileNo, hex_kind,
+    Colour, Hex, HexKind, Lay, Link, Links, Side, StopNumber, TileKind, TileNo, TrackEnd, hex_kind,
     laid_links, printed_colour, printed_links, printed_slots, printed_stops, printed_value, tile,
 };
 use tables::Amount;
@@ -234,7 +234,7 @@ fn beside(place: Point, other: Point) -> Point {
 /// Returns the side from which a link leads to a stop; `None` where it does not.
 fn side_to(link: &Link, stop: StopNumber) -> Option<Side> {
     match (link.a, link.b) {
-        (End::Side(side), End::Stop(its)) if its.index() == stop.index() => Some(side),
+        (TrackEnd::Side(side), TrackEnd::Stop(its)) if its.index() == stop.index() => Some(side),
         _ => None,
     }
 }

@@ -10,7 +10,7 @@ use tables::{Money, Round};
 
 /// A piece of a text or of a value.
 #[derive(Clone, Copy)]
-pub enum Piece<'a> {
+pub enum PagePiece<'a> {
     /// Constant words.
     Words(&'static str),
     /// The name of a player. Only its letters and digits are written.
@@ -33,18 +33,18 @@ pub enum Piece<'a> {
 }
 
 /// Adds a piece where a writer is.
-pub(crate) fn put_piece(out: &mut Writer, piece: Piece) {
+pub(crate) fn put_piece(out: &mut Writer, piece: PagePiece) {
     out.settle();
     match piece {
-        Piece::Words(words) => put_bytes(out, words.as_bytes()),
-        Piece::Name(name) => put_name(out, name),
-        Piece::Letter(letter) => put_name(out, &[letter]),
-        Piece::Number(number) => put_number(out, number),
-        Piece::At(number) => put_small(out, number),
-        Piece::Point(point) => put_point(out, point),
-        Piece::Round(round) => put_round(out, round),
-        Piece::Hex(hex) => put_bytes(out, hex.text().as_slice()),
-        Piece::Place(place) => put_bytes(out, place.text().as_slice()),
+        PagePiece::Words(words) => put_bytes(out, words.as_bytes()),
+        PagePiece::Name(name) => put_name(out, name),
+        PagePiece::Letter(letter) => put_name(out, &[letter]),
+        PagePiece::Number(number) => put_number(out, number),
+        PagePiece::At(number) => put_small(out, number),
+        PagePiece::Point(point) => put_point(out, point),
+        PagePiece::Round(round) => put_round(out, round),
+        PagePiece::Hex(hex) => put_bytes(out, hex.text().as_slice()),
+        PagePiece::Place(place) => put_bytes(out, place.text().as_slice()),
     }
 }
 

@@ -1,7 +1,7 @@
 //! Which links of a hex hang together.
 ghost use Rattle.std.specs.Prelude.{◌<◌};
 
-use map_tables::{End, Link};
+use map_tables::{Link, TrackEnd};
 
 /// How many ends the links of a hex may have: six sides and two stops.
 pub const ENDS: usize = 8;
@@ -24,11 +24,11 @@ pub fn strands(links: &[Link]) -> [usize; ENDS] {
 }
 
 /// Returns the number of an end: that of its side, or 6 and the number of its stop.
-pub(crate) fn end_number(end: End) -> usize
+pub(crate) fn end_number(end: TrackEnd) -> usize
     ensures { result < 8 }
 {
     match end {
-        End::Side(side) => side.number(),
-        End::Stop(stop) => 6 + stop.index(),
+        TrackEnd::Side(side) => side.number(),
+        TrackEnd::Stop(stop) => 6 + stop.index(),
     }
 }

@@ -2,9 +2,9 @@
 ghost use Rattle.std.specs.Prelude.{◌≡◌, ◌++◌, ◌-◌, [], ◌∷◌, IfOk, length, true};
 ghost use Rattle.picture.specs.Reading.{IsWellFormed};
 ghost use Rattle.picture.specs.Written.{IsRead, is_apart, is_plain, plain_of};
-ghost use Rattle.picture.specs.declared.writer.Spot.TheVariants.{Between};
+ghost use Rattle.picture.specs.declared.writer.WriterPlace.TheVariants.{Between};
 
-use crate::piece::{Piece, put_piece};
+use crate::piece::{PagePiece, put_piece};
 use crate::tag::{Attr, Tag};
 use std::alloc::{AllocError, Global};
 
@@ -14,7 +14,7 @@ const PROLOGUE: &str = "<!DOCTYPE html>\n<html lang=\"en\">\n<head>\n<meta chars
 
 /// Where a writer is.
 #[derive(Clone, Copy)]
-pub enum Spot {
+pub enum WriterPlace {
     /// Between tags.
     Between,
     /// Behind the name in the start tag of this element.
@@ -30,7 +30,7 @@ pub struct Writer {
     text: Vec<u8>,
     /// The open elements whose start tags have ended.
     stack: Vec<Tag>,
-    spot: Spot,
+    spot: WriterPlace,
     fault: Option<AllocError>,
     ghost read: { IsRead text.items stack.items spot fault },
 }
@@ -47,7 +47,7 @@ impl Writer {
         Writer {
             text,
             stack,
-            spot: Spot::Between,
+            spot: WriterPlace::Between,
             fault,
         }
     }
@@ -58,19 +58,19 @@ impl Writer {
         self.within();
         add(&mut self.text, &mut self.fault, "<");
         add(&mut self.text, &mut self.fault, tag.name());
-        self.spot = Spot::Naming(tag);
+        self.spot = WriterPlace::Naming(tag);
     }
 
     /// Begins a value in the start tag of the element that was begun last. It does nothing where
     /// that tag has ended.
     pub fn attr(&mut self, attr: Attr) {
         match self.spot {
-            Spot::Between => {}
-            Spot::Naming(tag) => {
+            WriterPlace::Between => {}
+            WriterPlace::Naming(tag) => {
                 add(&mut self.text, &mut self.fault, attr.opening());
-                self.spot = Spot::Valued(tag);
+                self.spot = WriterPlace::Valued(tag);
             }
-            Spot::Valued(_) => {
+            WriterPlace::Valued(_) => {
                 add(&mut self.text, &mut self.fault, "\"");
                 add(&mut self.text, &mut self.fault, attr.opening());
             }
@@ -83,22 +83,22 @@ impl Writer {
         ensures before { self.new.fault ≡ None → self.old.fault ≡ None }
     {
         match self.spot {
-            Spot::Between => {}
-            Spot::Naming(tag) => {
+            WriterPlace::Between => {}
+            WriterPlace::Naming(tag) => {
                 add(&mut self.text, &mut self.fault, ">");
                 keep(&mut self.stack, &mut self.fault, tag);
             }
-            Spot::Valued(tag) => {
+            WriterPlace::Valued(tag) => {
                 add(&mut self.text, &mut self.fault, "\">");
                 keep(&mut self.stack, &mut self.fault, tag);
             }
         }
-        self.spot = Spot::Between;
+        self.spot = WriterPlace::Between;
     }
 
     /// Adds pieces to the value in which the writer is, or else to the children of the innermost
     /// open element.
-    pub fn put(&mut self, pieces: &[Piece]) {
+    pub fn put(&mut self, pieces: &[PagePiece]) {
         for piece in pieces {
             put_piece(self, *piece);
         }
@@ -123,7 +123,7 @@ impl Writer {
         ensures same { is_apart self.old.spot ≡ true → self.new.text.items ≡ self.old.text.items }
         ensures before { self.new.fault ≡ None → self.old.fault ≡ None }
     {
-        if let Spot::Naming(_) = self.spot {
+        if let WriterPlace::Naming(_) = self.spot {
             self.within();
         }
     }
@@ -147,13 +147,13 @@ impl Writer {
     /// Ends the innermost open element.
     pub fn end(&mut self) {
         match self.spot {
-            Spot::Naming(tag) if tag.is_sole() => {
+            WriterPlace::Naming(tag) if tag.is_sole() => {
                 add(&mut self.text, &mut self.fault, "/>");
-                self.spot = Spot::Between;
+                self.spot = WriterPlace::Between;
             }
-            Spot::Valued(tag) if tag.is_sole() => {
+            WriterPlace::Valued(tag) if tag.is_sole() => {
                 add(&mut self.text, &mut self.fault, "\"/>");
-                self.spot = Spot::Between;
+                self.spot = WriterPlace::Between;
             }
             _ => {
                 self.within();

@@ -10,8 +10,8 @@ use Rattle.map_tables.specs.Place.{joined_stop_of, stop_at, stop_index_of}
 use Rattle.map_tables.specs.declared.hex.Hex.{Hex}
 use Rattle.map_tables.specs.declared.place.Stop.{Stop}
 use Rattle.map_tables.specs.declared.place.StopNumber.TheVariants.{First, Second}
-use Rattle.map_tables.specs.declared.track.End.{End}
-use Rattle.map_tables.specs.declared.track.End.TheVariants.{Side as AtSide, Stop as AtStop}
+use Rattle.map_tables.specs.declared.track.TrackEnd.{TrackEnd}
+use Rattle.map_tables.specs.declared.track.TrackEnd.TheVariants.{Side as AtSide, Stop as AtStop}
 use Rattle.map_tables.specs.declared.track.Link.{Link}
 use Rattle.reach.specs.Lawful.{IsLawful}
 use Rattle.reach.specs.Position.{Position, HasToken, IsAmong, links_of}
@@ -123,7 +123,7 @@ tokens_added position company old waited hex index is so_far between waits first
     new waiting second)
 
 token_at : (position : Position) (company : Company) (marks : List Bool) → TokensBefore position company marks 186
-    → (hex : Hex) (end : End) (stop : Stop) → stop_at_end hex end ≡ Some stop → HasToken position stop company
+    → (hex : Hex) (end : TrackEnd) (stop : Stop) → stop_at_end hex end ≡ Some stop → HasToken position stop company
     → IsMarked marks (spot_at hex end)
 token_at position company marks tokens hex (AtSide side) stop is token =
     absurd (let nowhere : None ≡ Some stop = is in cc)

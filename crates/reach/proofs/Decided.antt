@@ -7,8 +7,8 @@ use Rattle.std.specs.List.{list_any}
 use Rattle.map_tables.specs.Place.{joined_stop_of, stop_at}
 use Rattle.map_tables.specs.declared.hex.Hex.{Hex}
 use Rattle.map_tables.specs.declared.place.Stop.{Stop}
-use Rattle.map_tables.specs.declared.track.End.{End}
-use Rattle.map_tables.specs.declared.track.End.TheVariants.{Side as AtSide, Stop as AtStop}
+use Rattle.map_tables.specs.declared.track.TrackEnd.{TrackEnd}
+use Rattle.map_tables.specs.declared.track.TrackEnd.TheVariants.{Side as AtSide, Stop as AtStop}
 use Rattle.reach.proofs.Lists.{among_found, found_among}
 use Rattle.reach.specs.Position.{HasToken, IsAmong, IsFull, Position, at_stop}
 use Rattle.reach.specs.Search.{CanEnter, CanEnterAt, IsMarked, spot_number}
@@ -99,7 +99,7 @@ across_decided marks (Some spot) =
     (sym same) any.2) (mark_decided marks spot)
 
 -- a link may be entered at an end
-pub enter_decided : (position : Position) (company : Company) (marks : List Bool) (hex : Hex) (end : End)
+pub enter_decided : (position : Position) (company : Company) (marks : List Bool) (hex : Hex) (end : TrackEnd)
     → Decided (CanEnterAt position company marks hex end)
 enter_decided position company marks hex (AtSide side) = across_decided marks (across_end hex (AtSide side))
 enter_decided position company marks hex (AtStop number) =

@@ -9,8 +9,8 @@ use Rattle.map_tables.specs.contracts.track.LinkPartialEq.TheImpl.{ghosts as lin
 use Rattle.map_tables.specs.declared.hex.Hex.{Hex}
 use Rattle.map_tables.specs.declared.place.Stop.{Stop}
 use Rattle.map_tables.specs.declared.place.StopNumber.{StopNumber}
-use Rattle.map_tables.specs.declared.track.End.{End}
-use Rattle.map_tables.specs.declared.track.End.TheVariants.{Side as AtSide, Stop as AtStop}
+use Rattle.map_tables.specs.declared.track.TrackEnd.{TrackEnd}
+use Rattle.map_tables.specs.declared.track.TrackEnd.TheVariants.{Side as AtSide, Stop as AtStop}
 use Rattle.map_tables.specs.declared.track.Link.{Link}
 
 -- two tests
@@ -39,18 +39,18 @@ stop_same a b is =
     (true_same number_type a.number b.number (ap (λ (s : Stop). s.number) is))
 
 -- ends that compare alike are one
-pub same_end : (a b : End) → end_ghosts.eq a b ≡ true → a ≡ b
+pub same_end : (a b : TrackEnd) → end_ghosts.eq a b ≡ true → a ≡ b
 same_end (AtSide side) (AtSide other) alike = ap AtSide (same_true side_type tt side other alike)
 same_end (AtStop number) (AtStop other) alike = ap AtStop (same_true number_type tt number other alike)
 same_end (AtSide side) (AtStop number) alike = cc
 same_end (AtStop number) (AtSide side) alike = cc
 
-end_itself : (a : End) → end_ghosts.eq a a ≡ true
+end_itself : (a : TrackEnd) → end_ghosts.eq a a ≡ true
 end_itself (AtSide side) = true_same side_type side side refl
 end_itself (AtStop number) = true_same number_type number number refl
 
 -- and one end compares alike
-pub end_same : (a b : End) → a ≡ b → end_ghosts.eq a b ≡ true
+pub end_same : (a b : TrackEnd) → a ≡ b → end_ghosts.eq a b ≡ true
 end_same a b is = ap (end_ghosts.eq a) (sym is) ∙ end_itself a
 
 -- links that compare alike are one
@@ -63,8 +63,8 @@ same_link a b alike =
     let each : (first ≡ true) × (second ≡ true) = both first second ends.1 in
     ap (λ (h : Hex). let l : Link = record { hex = h; a = a.a; b = a.b } in l)
     (same_true hex_type tt a.hex b.hex ends.0)
-    ∙ (ap (λ (e : End). let l : Link = record { hex = b.hex; a = e; b = a.b } in l) (same_end a.a b.a each.0)
-    ∙ ap (λ (e : End). let l : Link = record { hex = b.hex; a = b.a; b = e } in l) (same_end a.b b.b each.1))
+    ∙ (ap (λ (e : TrackEnd). let l : Link = record { hex = b.hex; a = e; b = a.b } in l) (same_end a.a b.a each.0)
+    ∙ ap (λ (e : TrackEnd). let l : Link = record { hex = b.hex; a = b.a; b = e } in l) (same_end a.b b.b each.1))
 
 link_itself : (a : Link) → link_ghosts.eq a a ≡ true
 link_itself a =

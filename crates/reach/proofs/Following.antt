@@ -5,15 +5,15 @@ use Rattle.std.proofs.Common.{sym, ◌∙◌, subst}
 use Rattle.map_tables.specs.Place.{joined_stop_of, stop_at}
 use Rattle.map_tables.specs.declared.hex.Hex.{Hex}
 use Rattle.map_tables.specs.declared.place.Stop.{Stop}
-use Rattle.map_tables.specs.declared.track.End.{End}
-use Rattle.map_tables.specs.declared.track.End.TheVariants.{Side as AtSide, Stop as AtStop}
+use Rattle.map_tables.specs.declared.track.TrackEnd.{TrackEnd}
+use Rattle.map_tables.specs.declared.track.TrackEnd.TheVariants.{Side as AtSide, Stop as AtStop}
 use Rattle.reach.specs.Lawful.{IsLawful}
 use Rattle.reach.specs.Position.{Position, HasToken, IsFull}
 use Rattle.reach.specs.Reached.{IsWalkOf}
 use Rattle.reach.specs.Search.{spot_number, IsMarked, CanEnterAt, CanEnter, Arrives, AllArrive, IsClosed, HasAllTokens}
 use Rattle.reach.specs.Walk.{spot_at, entered_at, left_at, stop_at_end, stop_of, across, AreJoined, IsTrack}
 use Rattle.reach.specs.declared.walk.Spot.{Spot}
-use Rattle.reach.specs.declared.walk.Step.{Step}
+use Rattle.reach.specs.declared.walk.WalkStep.{WalkStep}
 use Rattle.reach.proofs.Spots.{are_one, stop_number, back}
 use Rattle.tables.specs.declared.roster.Company.{Company}
 
@@ -25,15 +25,15 @@ record HasTokenAt (position : Position) (company : Company) (spot : Spot) : Type
 
 -- a walk of the company reaches a spot, and may go on there
 record Comes (position : Position) (company : Company) (spot : Spot) : Type 0 where
-  pub step : Step
-  pub before : List Step
+  pub step : WalkStep
+  pub before : List WalkStep
   pub walk : IsWalkOf position company (step ∷ before)
   pub joined : AreJoined (left_at step) spot
   pub may_pass : IfSome (stop_of spot) (λ stop. ¬ IsFull position stop company)
 
 module _ (position : Position) (company : Company) (lawful : IsLawful position) where
   -- where marks say that a link may be entered, a walk begins or comes
-  enter_at : (marks : List Bool) → AllArrive position company marks → (hex : Hex) (end : End)
+  enter_at : (marks : List Bool) → AllArrive position company marks → (hex : Hex) (end : TrackEnd)
       → CanEnterAt position company marks hex end → HasTokenAt position company (spot_at hex end)
       ⊎ Comes position company (spot_at hex end)
   enter_at marks arrive hex (AtStop number) can =
@@ -66,8 +66,8 @@ module _ (position : Position) (company : Company) (lawful : IsLawful position) 
       ]
 
   -- a step from there is the latest of a walk
-  go_on : (step : Step) → IsTrack position step → HasTokenAt position company (entered_at step)
-      ⊎ Comes position company (entered_at step) → (before : List Step) × IsWalkOf position company (step ∷ before)
+  go_on : (step : WalkStep) → IsTrack position step → HasTokenAt position company (entered_at step)
+      ⊎ Comes position company (entered_at step) → (before : List WalkStep) × IsWalkOf position company (step ∷ before)
   go_on step track (inl here) =
       ([], record { walk = (track, tt, tt); from_token = (here.stop, here.is, here.token); passes = (tt, tt) })
   go_on step track (inr came) = (
@@ -80,9 +80,9 @@ module _ (position : Position) (company : Company) (lawful : IsLawful position) 
   )
 
   -- a walk takes a step that marks say it may take
-  pub walk_by : (marks : List Bool) → AllArrive position company marks → (step : Step) → IsTrack position step
+  pub walk_by : (marks : List Bool) → AllArrive position company marks → (step : WalkStep) → IsTrack position step
       → CanEnter position company marks (entered_at step)
-      → (before : List Step) × IsWalkOf position company (step ∷ before)
+      → (before : List WalkStep) × IsWalkOf position company (step ∷ before)
   walk_by marks arrive step track can =
       go_on step track (enter_at marks arrive (entered_at step).hex (entered_at step).end can)
 
@@ -93,7 +93,7 @@ module _ (position : Position) (company : Company) (lawful : IsLawful position) 
   arrives_same spot other same (inr came) = inr (came.0, came.1, came.2, came.3 ∙ same)
 
   -- marks where a link may be entered from
-  pub enter_joined : (marks : List Bool) (from : Spot) → IsMarked marks from → (hex : Hex) (end : End)
+  pub enter_joined : (marks : List Bool) (from : Spot) → IsMarked marks from → (hex : Hex) (end : TrackEnd)
       → AreJoined from (spot_at hex end) → IfSome (stop_at_end hex end) (λ stop. ¬ IsFull position stop company)
       → CanEnterAt position company marks hex end
   enter_joined marks from is_marked hex (AtStop number) (inl both) may_pass = (
@@ -110,7 +110,7 @@ module _ (position : Position) (company : Company) (lawful : IsLawful position) 
       (back position lawful from (spot_at hex (AtStop number)) crosses).1 in cc)
 
   -- where there is a token a walk may begin
-  enter_token : (marks : List Bool) → HasAllTokens position company marks → (hex : Hex) (end : End) (stop : Stop)
+  enter_token : (marks : List Bool) → HasAllTokens position company marks → (hex : Hex) (end : TrackEnd) (stop : Stop)
       → stop_at_end hex end ≡ Some stop → HasToken position stop company → CanEnterAt position company marks hex end
   enter_token marks tokens hex (AtSide side) stop is token = absurd (let nowhere : None ≡ Some stop = is in cc)
   enter_token marks tokens hex (AtStop number) stop is token =
@@ -122,7 +122,7 @@ module _ (position : Position) (company : Company) (lawful : IsLawful position) 
 
   -- the latest link of each walk may be entered, where what is marked has all tokens and is closed
   pub may_enter : (marks : List Bool) → HasAllTokens position company marks
-      → IsClosed position company (IsTrack position) marks → (step : Step) (before : List Step)
+      → IsClosed position company (IsTrack position) marks → (step : WalkStep) (before : List WalkStep)
       → IsWalkOf position company (step ∷ before) → CanEnter position company marks (entered_at step)
   may_enter marks tokens closed step [] walk =
       enter_token marks tokens (entered_at step).hex (entered_at step).end walk.from_token.0 walk.from_token.1

@@ -7,8 +7,8 @@ use Rattle.map_tables.specs.Place.{joined_hex, joined_stop_of, stop_at, stop_ind
 use Rattle.map_tables.specs.declared.hex.Hex.{Hex}
 use Rattle.map_tables.specs.declared.hex.Hex.TheVariants.{A9, A11, I1, J2}
 use Rattle.map_tables.specs.declared.place.Stop.{Stop}
-use Rattle.map_tables.specs.declared.track.End.{End}
-use Rattle.map_tables.specs.declared.track.End.TheVariants.{Side as AtSide, Stop as AtStop}
+use Rattle.map_tables.specs.declared.track.TrackEnd.{TrackEnd}
+use Rattle.map_tables.specs.declared.track.TrackEnd.TheVariants.{Side as AtSide, Stop as AtStop}
 use Rattle.map_tables.specs.declared.track.Link.{Link}
 use Rattle.reach.specs.Lawful.{IsLawful}
 use Rattle.reach.specs.Position.{Position, IsAmong, IsFull, links_of}
@@ -16,7 +16,7 @@ use Rattle.reach.specs.Search.{spot_number, twin_of, IsMarked, IsMarkedStop, IsE
 use Rattle.reach.specs.Search.{CanEnterAt, CanTakeAll, AreTaken, GoesOnAt, LeadsTo, AreLookedAt, WasFollowed, Spreads}
 use Rattle.reach.specs.Walk.{spot_at, stop_at_end, across_end, stop_of, across, entered_at, left_at, IsTrack}
 use Rattle.reach.specs.declared.walk.Spot.{Spot}
-use Rattle.reach.specs.declared.walk.Step.{Step}
+use Rattle.reach.specs.declared.walk.WalkStep.{WalkStep}
 use Rattle.reach.proofs.Marking.{waits_before, waits_cases}
 use Rattle.reach.proofs.Spots.{are_one, stop_number, back}
 use Rattle.tables.specs.declared.roster.Company.{Company}
@@ -34,7 +34,7 @@ twin_joined A11 twin is = let same : A9 ≡ twin = cc in subst (λ h. joined_hex
 twin_joined hex twin is = cc
 
 -- an end at a stop lies in one of the hexes of the stop
-in_hexes : (stop : Stop) (hex : Hex) (end : End) → stop_at_end hex end ≡ Some stop
+in_hexes : (stop : Stop) (hex : Hex) (end : TrackEnd) → stop_at_end hex end ≡ Some stop
     → (hex ≡ stop.hex) ⊎ (twin_of stop.hex ≡ Some hex)
 in_hexes stop hex (AtSide side) is = cc
 in_hexes stop hex (AtStop number) is =
@@ -46,7 +46,7 @@ in_hexes stop hex (AtStop number) is =
     ]
 
 -- a step is entered at a stop by any name of it
-entered_there : (stop : Stop) (hex : Hex) → joined_hex hex ≡ stop.hex → (step : Step)
+entered_there : (stop : Stop) (hex : Hex) → joined_hex hex ≡ stop.hex → (step : WalkStep)
     → stop_of (entered_at step) ≡ Some stop → IsEnteredAt (spot_at hex (AtStop stop.number)) step
 entered_there stop hex joined step there =
     stop_number (entered_at step) stop there ∙ sym
@@ -57,7 +57,7 @@ pub own_hex_named : (stop : Stop) → joined_stop_of stop ≡ stop → joined_he
 own_hex_named stop named = ap (λ (s : Stop). s.hex) named
 
 -- at a stop there is no border
-no_border : (hex : Hex) (end : End) (stop : Stop) → stop_at_end hex end ≡ Some stop → across_end hex end ≡ None
+no_border : (hex : Hex) (end : TrackEnd) (stop : Stop) → stop_at_end hex end ≡ Some stop → across_end hex end ≡ None
 no_border hex (AtSide side) stop is = cc
 no_border hex (AtStop number) stop is = refl
 
@@ -72,7 +72,7 @@ module _ (position : Position) (company : Company) where
   )
 
   -- where a walk goes on at a stop that lies in one hex, it takes a link of that
-  pub goes_on_in : (stop : Stop) → joined_stop_of stop ≡ stop → twin_of stop.hex ≡ None → (step : Step)
+  pub goes_on_in : (stop : Stop) → joined_stop_of stop ≡ stop → twin_of stop.hex ≡ None → (step : WalkStep)
       → IsTrack position step → GoesOnAt position company stop (entered_at step)
       → IsAmong step.link (links_of position stop.hex) × IsEnteredAt (spot_at stop.hex (AtStop stop.number)) step
   goes_on_in stop named none step track on =
@@ -87,7 +87,7 @@ module _ (position : Position) (company : Company) where
 
   -- and at one that lies in two hexes, a link of one of them
   pub goes_on_in_both : (stop : Stop) → joined_stop_of stop ≡ stop → (twin : Hex) → twin_of stop.hex ≡ Some twin
-      → (step : Step) → IsTrack position step → GoesOnAt position company stop (entered_at step)
+      → (step : WalkStep) → IsTrack position step → GoesOnAt position company stop (entered_at step)
       → (IsAmong step.link (links_of position stop.hex) × IsEnteredAt (spot_at stop.hex (AtStop stop.number)) step)
       ⊎ (IsAmong step.link (links_of position twin) × IsEnteredAt (spot_at twin (AtStop stop.number)) step)
   goes_on_in_both stop named twin twin_is step track on =
@@ -122,7 +122,7 @@ module _ (position : Position) (company : Company) where
       }
 
   -- a walk that has arrived at a side goes on across it
-  pub goes_across : (from at : Spot) → stop_of from ≡ None → across from ≡ Some at → (step : Step)
+  pub goes_across : (from at : Spot) → stop_of from ≡ None → across from ≡ Some at → (step : WalkStep)
       → IsTrack position step → LeadsTo position company from (entered_at step)
       → IsAmong step.link (links_of position at.hex) × IsEnteredAt at step
   goes_across from at side is step track leads =
@@ -183,7 +183,7 @@ module _ (position : Position) (company : Company) where
       }
 
   -- where a link may be entered, a walk has arrived that leads there
-  arrived_from : IsLawful position → (marks : List Bool) (hex : Hex) (end : End)
+  arrived_from : IsLawful position → (marks : List Bool) (hex : Hex) (end : TrackEnd)
       → CanEnterAt position company marks hex end → (from : Spot) × IsMarked marks from
       × LeadsTo position company from (spot_at hex end)
   arrived_from lawful marks hex (AtSide side) can = (
@@ -206,7 +206,7 @@ module _ (position : Position) (company : Company) where
 
   -- once nothing waits, all steps that may be taken were followed
   all_followed : IsLawful position → (marks : List Bool) (links : Link → Type 0)
-      → AreLookedAt position company marks [] links → (step : Step) → IsTrack position step
+      → AreLookedAt position company marks [] links → (step : WalkStep) → IsTrack position step
       → CanEnter position company marks (entered_at step) → WasFollowed marks links step
   all_followed lawful marks links looked step track can =
       let came : (from : Spot) × IsMarked marks from × LeadsTo position company from (entered_at step) =

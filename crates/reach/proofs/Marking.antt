@@ -7,8 +7,8 @@ use Rattle.std.proofs.lemmas.List.{set-get_or}
 use Rattle.std.proofs.lemmas.List.Sums.{sum_by-set}
 use Rattle.std.proofs.lemmas.Bool.{cases_eq}
 use Rattle.map_tables.specs.declared.hex.Hex.{Hex}
-use Rattle.map_tables.specs.declared.track.End.{End}
-use Rattle.map_tables.specs.declared.track.End.TheVariants.{Side as AtSide, Stop as AtStop}
+use Rattle.map_tables.specs.declared.track.TrackEnd.{TrackEnd}
+use Rattle.map_tables.specs.declared.track.TrackEnd.TheVariants.{Side as AtSide, Stop as AtStop}
 use Rattle.reach.specs.Lawful.{IsLawful}
 use Rattle.map_tables.specs.declared.track.Link.{Link}
 use Rattle.reach.specs.Position.{Position, IsFull}
@@ -17,7 +17,7 @@ use Rattle.reach.specs.Search.{KeepsAsMany, CanEnter, CanEnterAt, CanTake, CanTa
 use Rattle.reach.specs.Search.{WasFollowed, Spreads}
 use Rattle.reach.specs.Walk.{spot_at, entered_at, left_at, IsTrack}
 use Rattle.reach.specs.declared.walk.Spot.{Spot}
-use Rattle.reach.specs.declared.walk.Step.{Step}
+use Rattle.reach.specs.declared.walk.WalkStep.{WalkStep}
 use Rattle.reach.proofs.Following.{walk_by, arrives_same}
 use Rattle.reach.proofs.Reaching.{entered_either}
 use Rattle.reach.proofs.Spots.{are_one}
@@ -124,8 +124,8 @@ wait_on spot old waited new waiting wait marking =
 
 module _ (position : Position) (company : Company) where
   -- no steps
-  spreads_same : (P : Step → Type 0) (marks : List Bool) (waiting : List Spot) (first links : Link → Type 0)
-      → KeepsAsMany first links → ((step : Step) → ¬ P step)
+  spreads_same : (P : WalkStep → Type 0) (marks : List Bool) (waiting : List Spot) (first links : Link → Type 0)
+      → KeepsAsMany first links → ((step : WalkStep) → ¬ P step)
       → Spreads position company P marks waiting first marks waiting links
   spreads_same P marks waiting first links same none =
       record {
@@ -142,13 +142,13 @@ module _ (position : Position) (company : Company) where
         grown = omega arith;
       }
 
-  pub spreads_none : (P : Step → Type 0) (marks : List Bool) (waiting : List Spot) (links : Link → Type 0)
-      → ((step : Step) → ¬ P step) → Spreads position company P marks waiting links marks waiting links
+  pub spreads_none : (P : WalkStep → Type 0) (marks : List Bool) (waiting : List Spot) (links : Link → Type 0)
+      → ((step : WalkStep) → ¬ P step) → Spreads position company P marks waiting links marks waiting links
   spreads_none P marks waiting links none =
       spreads_same P marks waiting links links (λ link. (λ is. is, λ is. is)) none
 
   enters_still : (old new : List Bool) → ((spot : Spot) → IsMarked old spot → IsMarked new spot)
-      → (hex : Hex) (end : End) → CanEnterAt position company old hex end → CanEnterAt position company new hex end
+      → (hex : Hex) (end : TrackEnd) → CanEnterAt position company old hex end → CanEnterAt position company new hex end
   enters_still old new kept hex (AtSide side) can = (can.0, can.1, kept can.0 can.2)
   enters_still old new kept hex (AtStop number) can = (kept (spot_at hex (AtStop number)) can.0, can.1)
 
@@ -170,7 +170,7 @@ module _ (position : Position) (company : Company) where
       )
 
   -- and the link of a step that may be taken
-  takes_more : (step : Step) → IsTrack position step → (marks : List Bool) (first links : Link → Type 0)
+  takes_more : (step : WalkStep) → IsTrack position step → (marks : List Bool) (first links : Link → Type 0)
       → IsKept step.link first links → CanEnter position company marks (entered_at step)
       → CanTakeAll position company marks first → CanTakeAll position company marks links
   takes_more step track marks first links more can taken link is =
@@ -181,7 +181,7 @@ module _ (position : Position) (company : Company) where
       ]
 
   -- a step that may be taken, and leads to what is marked
-  spreads_old : (step : Step) → IsTrack position step
+  spreads_old : (step : WalkStep) → IsTrack position step
       → (marks : List Bool) (waiting : List Spot) (first links : Link → Type 0) → IsKept step.link first links
       → CanEnter position company marks (entered_at step) → IsMarked marks (left_at step)
       → Spreads position company (λ taken. taken ≡ step) marks waiting first marks waiting links
@@ -192,7 +192,7 @@ module _ (position : Position) (company : Company) where
         arrive = λ arrive. arrive;
         stay = more.stay;
         taken = λ taken. takes_more step track marks first links more can taken;
-        followed = λ taken is. subst (λ (s : Step). WasFollowed marks links s) (sym is) (was, more.here);
+        followed = λ taken is. subst (λ (s : WalkStep). WasFollowed marks links s) (sym is) (was, more.here);
         fresh = λ spot is. inl is;
         still = λ spot waits. waits;
         known = λ spot waits. inl waits;
@@ -201,7 +201,7 @@ module _ (position : Position) (company : Company) where
       }
 
   -- a step that may be taken, and leads to what is not marked
-  spreads_new : IsLawful position → (step : Step) → IsTrack position step
+  spreads_new : IsLawful position → (step : WalkStep) → IsTrack position step
       → (old : List Bool) (waited : List Spot) (first links : Link → Type 0) → IsKept step.link first links
       → spot_number (left_at step) < length old → CanEnter position company old (entered_at step)
       → get_or old (spot_number (left_at step)) false ≡ false
@@ -217,7 +217,7 @@ module _ (position : Position) (company : Company) where
         kept = keeps;
         arrive = λ arrive spot is. elim (set_cases old n (spot_number spot) is) [
           | inl same ↦ arrives_same position company lawful (left_at step) spot same
-              (let by : (before : List Step) × _ = walk_by position company lawful old arrive step track can in inr
+              (let by : (before : List WalkStep) × _ = walk_by position company lawful old arrive step track can in inr
               (step, by.0, by.1, refl))
           | inr before ↦ arrive spot before
         ];
@@ -225,7 +225,7 @@ module _ (position : Position) (company : Company) where
         taken = λ taken. takes_more step track (set old n true) first links kept
             (can_still old (set old n true) keeps (entered_at step) can)
             (takes_still old (set old n true) keeps first taken);
-        followed = λ taken is. subst (λ (s : Step). WasFollowed (set old n true) links s) (sym is)
+        followed = λ taken is. subst (λ (s : WalkStep). WasFollowed (set old n true) links s) (sym is)
             (get_or-set_same old n true false low, kept.here);
         fresh = λ spot is. elim (set_cases old n (spot_number spot) is) [
           | inl same ↦ inr (waits_end waited (left_at step) spot same)
@@ -242,7 +242,7 @@ module _ (position : Position) (company : Company) where
       }
 
   -- a step that may be taken marks where it is left, and its link is kept
-  spreads_step : IsLawful position → (step : Step) → IsTrack position step
+  spreads_step : IsLawful position → (step : WalkStep) → IsTrack position step
       → (old : List Bool) (waited : List Spot) (first : Link → Type 0) (new : List Bool) (waiting : List Spot)
       (links : Link → Type 0) → IsKept step.link first links → CanEnter position company old (entered_at step)
       → IsMarking (left_at step) old waited new waiting
@@ -261,10 +261,10 @@ module _ (position : Position) (company : Company) where
       ]
 
   -- steps after others
-  pub spreads_on : (P Q R : Step → Type 0) (a : List Bool) (u : List Spot) (x : Link → Type 0) (b : List Bool)
+  pub spreads_on : (P Q R : WalkStep → Type 0) (a : List Bool) (u : List Spot) (x : Link → Type 0) (b : List Bool)
       (v : List Spot) (y : Link → Type 0) (c : List Bool) (w : List Spot) (z : Link → Type 0)
       → Spreads position company P a u x b v y → Spreads position company Q b v y c w z
-      → ((step : Step) → R step → P step ⊎ Q step) → Spreads position company R a u x c w z
+      → ((step : WalkStep) → R step → P step ⊎ Q step) → Spreads position company R a u x c w z
   spreads_on P Q R a u x b v y c w z first next either =
       record {
         length_kept = next.length_kept ∙ first.length_kept;
@@ -292,8 +292,8 @@ module _ (position : Position) (company : Company) where
       }
 
   -- fewer steps
-  pub spreads_fewer : (P R : Step → Type 0) (a : List Bool) (u : List Spot) (x : Link → Type 0) (b : List Bool)
-      (v : List Spot) (y : Link → Type 0) → Spreads position company P a u x b v y → ((step : Step) → R step → P step)
+  pub spreads_fewer : (P R : WalkStep → Type 0) (a : List Bool) (u : List Spot) (x : Link → Type 0) (b : List Bool)
+      (v : List Spot) (y : Link → Type 0) → Spreads position company P a u x b v y → ((step : WalkStep) → R step → P step)
       → Spreads position company R a u x b v y
   spreads_fewer P R a u x b v y spreads within =
       record {
@@ -310,7 +310,7 @@ module _ (position : Position) (company : Company) where
         grown = spreads.grown;
       }
 
-  enters_same : (marks : List Bool) (hex : Hex) (end : End) (other : Hex) (other_end : End)
+  enters_same : (marks : List Bool) (hex : Hex) (end : TrackEnd) (other : Hex) (other_end : TrackEnd)
       → number_at hex end ≡ number_at other other_end → CanEnterAt position company marks hex end
       → CanEnterAt position company marks other other_end
   enters_same marks hex (AtSide side) other (AtSide other_side) same can =
@@ -327,13 +327,13 @@ module _ (position : Position) (company : Company) where
       absurd (let apart : _ = (are_one (spot_at hex (AtStop number)) (spot_at other (AtSide side)) same).0 in cc)
 
   -- a step is followed from a spot where links may be entered
-  pub spreads_followed : IsLawful position → (step : Step) → IsTrack position step
+  pub spreads_followed : IsLawful position → (step : WalkStep) → IsTrack position step
       → (at : Spot) (old : List Bool) (waited : List Spot) (first : Link → Type 0) (new : List Bool)
       (waiting : List Spot) (links : Link → Type 0) → CanEnter position company old at
       → IsFollowed step at old waited first new waiting links
       → Spreads position company (λ taken. (taken ≡ step) × IsEnteredAt at taken) old waited first new waiting links
   spreads_followed lawful step track at old waited first new waiting links can followed =
-      let P : Step → Type 0 = λ taken. (taken ≡ step) × IsEnteredAt at taken in
+      let P : WalkStep → Type 0 = λ taken. (taken ≡ step) × IsEnteredAt at taken in
       elim (cases_eq (spot_number (entered_at step)) (spot_number at)) [
         | inl same ↦ spreads_fewer (λ taken. taken ≡ step) P old waited first new waiting links
             (spreads_step lawful step track old waited first new waiting links (followed.link same)
@@ -345,5 +345,5 @@ module _ (position : Position) (company : Company) where
             subst (λ m. Spreads position company P old waited first m waiting links) (sym unchanged.0)
             (subst (λ w. Spreads position company P old waited first old w links) (sym unchanged.1)
             (spreads_same P old waited first links unchanged.2
-            (λ taken is. apart (subst (λ (s : Step). IsEnteredAt at s) is.0 is.1))))
+            (λ taken is. apart (subst (λ (s : WalkStep). IsEnteredAt at s) is.0 is.1))))
       ]

@@ -8,8 +8,8 @@ use Rattle.map_tables.specs.declared.hex.Hex.{Hex}
 use Rattle.map_tables.specs.declared.place.StopNumber.TheVariants.{First, Second}
 use Rattle.map_tables.specs.declared.side.Side.{Side}
 use Rattle.map_tables.specs.declared.side.Side.TheVariants.{SouthWest, West, NorthWest, NorthEast, East, SouthEast}
-use Rattle.map_tables.specs.declared.track.End.{End}
-use Rattle.map_tables.specs.declared.track.End.TheVariants.{Side as AtSide, Stop as AtStop}
+use Rattle.map_tables.specs.declared.track.TrackEnd.{TrackEnd}
+use Rattle.map_tables.specs.declared.track.TrackEnd.TheVariants.{Side as AtSide, Stop as AtStop}
 use Rattle.map_tables.specs.declared.track.Link.{Link}
 use Rattle.reach.specs.Lawful.{IsLawful}
 use Rattle.reach.specs.Pieces.{HasEnd, ReachesIn}
@@ -23,7 +23,7 @@ use Rattle.reach.proofs.Spots.{eights}
 use Rattle.tables.specs.declared.roster.Company.{Company}
 
 -- an end of a hex by its number
-end_at : ℕ → End
+end_at : ℕ → TrackEnd
 end_at zero = AtSide SouthWest
 end_at (suc zero) = AtSide West
 end_at (suc (suc zero)) = AtSide NorthWest
@@ -48,7 +48,7 @@ end_number hex (suc (suc (suc (suc (suc (suc (suc zero))))))) own low = ap (λ h
 end_number hex (suc (suc (suc (suc (suc (suc (suc (suc n)))))))) own low = absurd (omega arith)
 
 -- a marked end of a hex has a number
-has_number : (marks : List Bool) (hex : Hex) (end : End) → joined_hex hex ≡ hex → IsMarked marks (spot_at hex end)
+has_number : (marks : List Bool) (hex : Hex) (end : TrackEnd) → joined_hex hex ≡ hex → IsMarked marks (spot_at hex end)
     → HasEnd marks hex
 has_number marks hex (AtSide side) own marked = (number_of side, omega (arith, side_low side), marked)
 has_number marks hex (AtStop number) own marked = (
@@ -58,7 +58,7 @@ has_number marks hex (AtStop number) own marked = (
 )
 
 -- a spot with the number of a side lies in its hex
-side_there : (hex other : Hex) (side : Side) (end : End) → number_at other end ≡ 8 * index_of hex + number_of side
+side_there : (hex other : Hex) (side : Side) (end : TrackEnd) → number_at other end ≡ 8 * index_of hex + number_of side
     → other ≡ hex
 side_there hex other side (AtSide from) same =
     same_index other hex (eights (index_of other) (index_of hex) (number_of from) (number_of side)
@@ -86,7 +86,7 @@ module _ (position : Position) (company : Company) (lawful : IsLawful position) 
       )
 
   -- a marked end of the hex is that of a piece that is reached
-  by_end : (end : End) → IsMarked marks (spot_at hex end) → ReachesIn position company hex
+  by_end : (end : TrackEnd) → IsMarked marks (spot_at hex end) → ReachesIn position company hex
   by_end (AtSide side) marked = by_side side (arrive (spot_at hex (AtSide side)) marked)
   by_end (AtStop number) marked =
       inr (

@@ -4,8 +4,8 @@ use Rattle.std.proofs.Common.{subst}
 use Rattle.map_tables.specs.Place.{joined_stop_of}
 use Rattle.map_tables.specs.declared.hex.Hex.{Hex}
 use Rattle.map_tables.specs.declared.place.Stop.{Stop}
-use Rattle.map_tables.specs.declared.track.End.{End}
-use Rattle.map_tables.specs.declared.track.End.TheVariants.{Side as AtSide, Stop as AtStop}
+use Rattle.map_tables.specs.declared.track.TrackEnd.{TrackEnd}
+use Rattle.map_tables.specs.declared.track.TrackEnd.TheVariants.{Side as AtSide, Stop as AtStop}
 use Rattle.map_tables.specs.declared.track.Link.{Link}
 use Rattle.reach.specs.Lawful.{IsLawful}
 use Rattle.reach.specs.Position.{Position, HasToken, IsAmong, links_of}
@@ -14,7 +14,7 @@ use Rattle.reach.specs.Search.{IsMarked, IsMarkedStop, AreMarkedStops, CanEnterA
 use Rattle.reach.specs.Search.{AllArrive, AreTaken, IsClosed, HasAllTokens}
 use Rattle.reach.specs.Walk.{spot_at, entered_at, left_at, stop_at_end, stop_of, IsTrack, TouchesLink, TouchesStop}
 use Rattle.reach.specs.declared.walk.Spot.{Spot}
-use Rattle.reach.specs.declared.walk.Step.{Step}
+use Rattle.reach.specs.declared.walk.WalkStep.{WalkStep}
 use Rattle.reach.proofs.Following.{walk_by, may_enter}
 use Rattle.reach.proofs.Spots.{are_one, stop_number, names_itself}
 use Rattle.tables.specs.declared.roster.Company.{Company}
@@ -31,7 +31,7 @@ marked_stop marks spot stop is is_marked =
     )
 
 -- a stop where a link may be entered is marked
-entered_stop : (position : Position) (company : Company) (marks : List Bool) (hex : Hex) (end : End) (stop : Stop)
+entered_stop : (position : Position) (company : Company) (marks : List Bool) (hex : Hex) (end : TrackEnd) (stop : Stop)
     → stop_at_end hex end ≡ Some stop → CanEnterAt position company marks hex end → IsMarked marks (spot_at hex end)
 entered_stop position company marks hex (AtStop number) stop is can = can.0
 entered_stop position company marks hex (AtSide side) stop is can = absurd (let nowhere : None ≡ Some stop = is in cc)
@@ -47,12 +47,12 @@ module _ (position : Position) (company : Company) (lawful : IsLawful position) 
     (arrive : AllArrive position company marks) (tokens : HasAllTokens position company marks)
     (closed : IsClosed position company (IsTrack position) marks) where
   -- a walk without its latest step
-  earlier_walk : (step earlier : Step) (before : List Step) → IsWalkOf position company (step ∷ (earlier ∷ before))
+  earlier_walk : (step earlier : WalkStep) (before : List WalkStep) → IsWalkOf position company (step ∷ (earlier ∷ before))
       → IsWalkOf position company (earlier ∷ before)
   earlier_walk step earlier before walk =
       record { walk = walk.walk.2; from_token = walk.from_token; passes = walk.passes.1 }
 
-  link_touched : (link : Link) (steps : List Step) → IsWalkOf position company steps → TouchesLink link steps
+  link_touched : (link : Link) (steps : List WalkStep) → IsWalkOf position company steps → TouchesLink link steps
       → CanTake position company marks link
   link_touched link [] walk touched = absurd touched
   link_touched link (step ∷ before) walk (inl is) =
@@ -73,8 +73,8 @@ module _ (position : Position) (company : Company) (lawful : IsLawful position) 
       → CanEnter position company marks (entered_at (record { link = link; turned = turned }))
       → ReachesLink position company link
   link_taken link turned track can =
-      let step : Step = record { link = link; turned = turned } in
-      let by : (before : List Step) × IsWalkOf position company (step ∷ before) =
+      let step : WalkStep = record { link = link; turned = turned } in
+      let by : (before : List WalkStep) × IsWalkOf position company (step ∷ before) =
       walk_by position company lawful marks arrive step track can in
       (step ∷ by.0, by.1, inl refl)
 
@@ -83,7 +83,7 @@ module _ (position : Position) (company : Company) (lawful : IsLawful position) 
   link_reached link can =
       elim can.1 [ inl first ↦ link_taken link false can.0 first | inr second ↦ link_taken link true can.0 second ]
 
-  stop_touched : (stop : Stop) (steps : List Step) → IsWalkOf position company steps → TouchesStop stop steps
+  stop_touched : (stop : Stop) (steps : List WalkStep) → IsWalkOf position company steps → TouchesStop stop steps
       → IsMarkedStop marks stop
   stop_touched stop [] walk touched = absurd touched
   stop_touched stop (step ∷ before) walk (inl (inl entered)) =

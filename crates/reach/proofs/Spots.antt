@@ -7,8 +7,8 @@ use Rattle.map_tables.specs.Side.{number_of, facing_of}
 use Rattle.map_tables.specs.declared.hex.Hex.{Hex}
 use Rattle.map_tables.specs.declared.place.Stop.{Stop}
 use Rattle.map_tables.specs.declared.side.Side.{Side}
-use Rattle.map_tables.specs.declared.track.End.{End}
-use Rattle.map_tables.specs.declared.track.End.TheVariants.{Side as AtSide, Stop as AtStop}
+use Rattle.map_tables.specs.declared.track.TrackEnd.{TrackEnd}
+use Rattle.map_tables.specs.declared.track.TrackEnd.TheVariants.{Side as AtSide, Stop as AtStop}
 use Rattle.reach.specs.Position.{Position}
 use Rattle.reach.specs.Lawful.{IsLawful}
 use Rattle.reach.specs.Reached.{stop_order}
@@ -31,7 +31,7 @@ record AreOne (spot other : Spot) : Type 0 where
   pub stop : stop_of spot ≡ stop_of other
   pub across : across spot ≡ across other
 
-one_number : (hex : Hex) (end : End) (other : Hex) (other_end : End) → number_at hex end ≡ number_at other other_end
+one_number : (hex : Hex) (end : TrackEnd) (other : Hex) (other_end : TrackEnd) → number_at hex end ≡ number_at other other_end
     → AreOne (spot_at hex end) (spot_at other other_end)
 one_number hex (AtSide side) other (AtSide other_side) same =
     let both : (index_of hex ≡ index_of other) × (number_of side ≡ number_of other_side) =
@@ -71,7 +71,7 @@ one_number hex (AtStop number) other (AtSide side) same =
     ))
 
 -- ends of one hex with one number are one
-pub one_end : (hex : Hex) (end other : End) → number_at hex end ≡ number_at hex other → end ≡ other
+pub one_end : (hex : Hex) (end other : TrackEnd) → number_at hex end ≡ number_at hex other → end ≡ other
 one_end hex (AtSide side) (AtSide other) same = ap AtSide (same_side side other (omega (arith, same)))
 one_end hex (AtStop number) (AtStop other) same = ap AtStop (same_stop_index number other (omega (arith, same)))
 one_end hex (AtSide side) (AtStop number) same =
@@ -94,7 +94,7 @@ pub are_one : (spot other : Spot) → spot_number spot ≡ spot_number other
     → (stop_of spot ≡ stop_of other) × (across spot ≡ across other)
 are_one spot other same = let one = one_number spot.hex spot.end other.hex other.end same in (one.stop, one.across)
 
-number_of_stop : (hex : Hex) (end : End) (stop : Stop) → stop_at_end hex end ≡ Some stop
+number_of_stop : (hex : Hex) (end : TrackEnd) (stop : Stop) → stop_at_end hex end ≡ Some stop
     → number_at hex end ≡ 8 * index_of stop.hex + (6 + stop_index_of stop.number)
 number_of_stop hex (AtSide side) stop is = cc
 number_of_stop hex (AtStop number) stop is =
@@ -106,7 +106,7 @@ pub stop_number : (spot : Spot) (stop : Stop) → stop_of spot ≡ Some stop
     → spot_number spot ≡ 8 * index_of stop.hex + (6 + stop_index_of stop.number)
 stop_number spot stop is = number_of_stop spot.hex spot.end stop is
 
-names_end : (hex : Hex) (end : End) (stop : Stop) → stop_at_end hex end ≡ Some stop → joined_stop_of stop ≡ stop
+names_end : (hex : Hex) (end : TrackEnd) (stop : Stop) → stop_at_end hex end ≡ Some stop → joined_stop_of stop ≡ stop
 names_end hex (AtSide side) stop is = cc
 names_end hex (AtStop number) stop is =
     let same : joined_stop_of (stop_at hex number) ≡ stop = cc in
@@ -146,7 +146,7 @@ back_from position lawful hex side (Some other) is from same =
     subst (λ s. (across s ≡ Some (spot_at hex (AtSide side))) × (stop_of s ≡ None)) there
     (crossed other side hex (neighbour_of other (facing_of side)) (lawful.borders_pair hex side other is), refl)
 
-back_end : (position : Position) → IsLawful position → (hex : Hex) (end : End) (from : Spot)
+back_end : (position : Position) → IsLawful position → (hex : Hex) (end : TrackEnd) (from : Spot)
     → across_end hex end ≡ Some from → (across from ≡ Some (spot_at hex end)) × (stop_of from ≡ None)
 back_end position lawful hex (AtSide side) from is =
     back_from position lawful hex side (neighbour_of hex side) refl from is

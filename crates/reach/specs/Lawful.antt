@@ -7,7 +7,7 @@ use Rattle.map_tables.specs.declared.hex.Hex.TheVariants.{A11, J2}
 use Rattle.map_tables.specs.declared.place.Stop.{Stop}
 use Rattle.map_tables.specs.Place.{joined_hex}
 use Rattle.map_tables.specs.declared.place.StopNumber.TheVariants.{First, Second}
-use Rattle.map_tables.specs.declared.track.End.TheVariants.{Stop as AtStop}
+use Rattle.map_tables.specs.declared.track.TrackEnd.TheVariants.{Stop as AtStop}
 use Rattle.map_tables.specs.declared.track.Link.{Link}
 use Rattle.reach.specs.Position.{Position, IsAmong, links_of, value_of, is_red}
 

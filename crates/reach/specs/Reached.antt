@@ -9,11 +9,11 @@ use Rattle.map_tables.specs.declared.place.Stop.{Stop}
 use Rattle.map_tables.specs.declared.track.Link.{Link}
 use Rattle.reach.specs.Position.{Position, HasToken, IsAmong, IsFull}
 use Rattle.reach.specs.Walk.{IsWalk, BeginsAt, PassesOnly, TouchesLink, TouchesStop}
-use Rattle.reach.specs.declared.walk.Step.{Step}
+use Rattle.reach.specs.declared.walk.WalkStep.{WalkStep}
 use Rattle.tables.specs.declared.roster.Company.{Company}
 
 -- a walk of a company: it begins at a token of the company and passes no city that is full for it
-pub record IsWalkOf (position : Position) (company : Company) (steps : List Step) : Type 0 where
+pub record IsWalkOf (position : Position) (company : Company) (steps : List WalkStep) : Type 0 where
   pub walk : IsWalk position steps
   pub from_token : BeginsAt (λ stop. HasToken position stop company) steps
   pub passes : PassesOnly (λ stop. ¬ IsFull position stop company) steps
@@ -21,13 +21,13 @@ pub record IsWalkOf (position : Position) (company : Company) (steps : List Step
 -- a link is reached: a walk of the company touches it
 abbrev pub ReachesLink : Position → Company → Link → Type 0
 ReachesLink position company link =
-    (steps : List Step) × IsWalkOf position company steps × TouchesLink link steps
+    (steps : List WalkStep) × IsWalkOf position company steps × TouchesLink link steps
 
 -- a stop is reached: the company has a token there, or a walk of the company touches it
 abbrev pub ReachesStop : Position → Company → Stop → Type 0
 ReachesStop position company stop =
     ((joined_stop_of stop ≡ stop) × HasToken position stop company)
-    ⊎ ((steps : List Step) × IsWalkOf position company steps × TouchesStop stop steps)
+    ⊎ ((steps : List WalkStep) × IsWalkOf position company steps × TouchesStop stop steps)
 
 -- the place of a stop in the order of the map: by its hex, and then by its number
 abbrev pub stop_order : Stop → ℕ

@@ -8,19 +8,19 @@ use Rattle.map_tables.specs.Side.{number_of}
 use Rattle.map_tables.specs.declared.hex.Hex.{Hex}
 use Rattle.map_tables.specs.declared.hex.Hex.TheVariants.{A9, A11, I1, J2}
 use Rattle.map_tables.specs.declared.place.Stop.{Stop}
-use Rattle.map_tables.specs.declared.track.End.{End}
-use Rattle.map_tables.specs.declared.track.End.TheVariants.{Side as AtSide, Stop as AtStop}
+use Rattle.map_tables.specs.declared.track.TrackEnd.{TrackEnd}
+use Rattle.map_tables.specs.declared.track.TrackEnd.TheVariants.{Side as AtSide, Stop as AtStop}
 use Rattle.map_tables.specs.declared.track.Link.{Link}
 use Rattle.reach.specs.Position.{Position, HasToken, IsFull, IsAmong, links_of}
 use Rattle.reach.specs.Reached.{IsWalkOf}
 use Rattle.reach.specs.Walk.{spot_at, entered_at, left_at, stop_of, across, AreJoined, IsTrack}
 use Rattle.reach.specs.declared.walk.Spot.{Spot}
-use Rattle.reach.specs.declared.walk.Step.{Step}
+use Rattle.reach.specs.declared.walk.WalkStep.{WalkStep}
 use Rattle.tables.specs.declared.roster.Company.{Company}
 
 -- the number of an end of a hex on the map: eight for each hex. A stop that lies in two hexes has
 -- one number.
-abbrev pub number_at : Hex → End → ℕ
+abbrev pub number_at : Hex → TrackEnd → ℕ
 number_at hex (AtSide side) = 8 * index_of hex + number_of side
 number_at hex (AtStop number) =
     let joined = joined_stop_of (stop_at hex number) in 8 * index_of joined.hex + (6 + stop_index_of joined.number)
@@ -43,7 +43,7 @@ AreMarkedStops marks stops = (stop : Stop) → IsAmong stop stops ↔ IsMarkedSt
 
 -- A walk that arrives where the marks say may enter a link at this spot. It is a stop that is
 -- marked and not full, or a side of a border whose other side is marked.
-abbrev pub CanEnterAt : Position → Company → List Bool → Hex → End → Type 0
+abbrev pub CanEnterAt : Position → Company → List Bool → Hex → TrackEnd → Type 0
 CanEnterAt position company marks hex (AtSide side) =
     (from : Spot) × (across (record { hex = hex; end = AtSide side }) ≡ Some from) × IsMarked marks from
 CanEnterAt position company marks hex (AtStop number) =
@@ -90,7 +90,7 @@ KeepsAsMany old new = (link : Link) → old link ↔ new link
 abbrev pub Arrives : Position → Company → Spot → Type 0
 Arrives position company spot =
     ((stop : Stop) × (stop_of spot ≡ Some stop) × HasToken position stop company)
-    ⊎ ((step : Step) × (before : List Step) × IsWalkOf position company (step ∷ before)
+    ⊎ ((step : WalkStep) × (before : List WalkStep) × IsWalkOf position company (step ∷ before)
     × (spot_number (left_at step) ≡ spot_number spot))
 
 -- walks arrive at all that is marked
@@ -103,9 +103,9 @@ HasAllTokens position company marks =
     (spot : Spot) (stop : Stop) → stop_of spot ≡ Some stop → HasToken position stop company → IsMarked marks spot
 
 -- where these steps lead from what is marked is marked as well
-abbrev pub IsClosed : Position → Company → (Step → Type 0) → List Bool → Type 0
+abbrev pub IsClosed : Position → Company → (WalkStep → Type 0) → List Bool → Type 0
 IsClosed position company P marks =
-    (step : Step) → P step → CanEnter position company marks (entered_at step) → IsMarked marks (left_at step)
+    (step : WalkStep) → P step → CanEnter position company marks (entered_at step) → IsMarked marks (left_at step)
 
 -- how many are marked
 abbrev pub marked : List Bool → ℕ
@@ -141,12 +141,12 @@ IsPushed marks stop old new =
     (IsMarkedStop marks stop × (new ≡ old ++ stop ∷ [])) ⊎ ((¬ IsMarkedStop marks stop) × (new ≡ old))
 
 -- a step enters its link at a spot
-abbrev pub IsEnteredAt : Spot → Step → Type 0
+abbrev pub IsEnteredAt : Spot → WalkStep → Type 0
 IsEnteredAt at step = spot_number (entered_at step) ≡ spot_number at
 
 -- a step is followed from a spot: where it is left is marked, and its link is kept, if it is
 -- entered there
-pub record IsFollowed (step : Step) (at : Spot) (old : List Bool) (waited : List Spot) (first : Link → Type 0)
+pub record IsFollowed (step : WalkStep) (at : Spot) (old : List Bool) (waited : List Spot) (first : Link → Type 0)
     (new : List Bool) (waiting : List Spot) (kept : Link → Type 0) : Type 0 where
   pub entered : IsEnteredAt at step → IsMarking (left_at step) old waited new waiting
   pub link : IsEnteredAt at step → IsKept step.link first kept
@@ -170,13 +170,13 @@ pub record LeadsTo (position : Position) (company : Company) (from at : Spot) : 
   pub may_pass : IfSome (stop_of at) (λ stop. ¬ IsFull position stop company)
 
 -- a step was followed: where it leads is marked, and its link is kept
-abbrev pub WasFollowed : List Bool → (Link → Type 0) → Step → Type 0
+abbrev pub WasFollowed : List Bool → (Link → Type 0) → WalkStep → Type 0
 WasFollowed marks kept step = IsMarked marks (left_at step) × kept step.link
 
 -- the steps were followed by which a walk that has arrived at a spot may go on
 abbrev pub IsLookedAt : Position → Company → List Bool → (Link → Type 0) → Spot → Type 0
 IsLookedAt position company marks kept from =
-    (step : Step) → IsTrack position step → LeadsTo position company from (entered_at step)
+    (step : WalkStep) → IsTrack position step → LeadsTo position company from (entered_at step)
     → WasFollowed marks kept step
 
 -- each spot that is marked waits to be looked at, or was looked at; and what waits is marked
@@ -188,7 +188,7 @@ pub record AreLookedAt (position : Position) (company : Company) (marks : List B
 -- What following such steps does. What is marked or kept stays so. Walks still arrive at all of it
 -- and may take all those links. The steps were followed. As many more wait as are marked, and each
 -- of those that are new is among them.
-pub record Spreads (position : Position) (company : Company) (P : Step → Type 0) (old : List Bool)
+pub record Spreads (position : Position) (company : Company) (P : WalkStep → Type 0) (old : List Bool)
     (waited : List Spot) (first : Link → Type 0) (new : List Bool) (waiting : List Spot)
     (links : Link → Type 0) : Type 0 where
   pub length_kept : length new ≡ length old
@@ -196,7 +196,7 @@ pub record Spreads (position : Position) (company : Company) (P : Step → Type 
   pub arrive : AllArrive position company old → AllArrive position company new
   pub stay : (link : Link) → first link → links link
   pub taken : CanTakeAll position company old first → CanTakeAll position company new links
-  pub followed : (step : Step) → P step → WasFollowed new links step
+  pub followed : (step : WalkStep) → P step → WasFollowed new links step
   pub fresh : (spot : Spot) → IsMarked new spot → IsMarked old spot ⊎ Waits waiting spot
   pub still : (spot : Spot) → Waits waited spot → Waits waiting spot
   pub known : (spot : Spot) → Waits waiting spot → Waits waited spot ⊎ IsMarked new spot

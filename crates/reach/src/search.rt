@@ -9,14 +9,14 @@ ghost use Rattle.reach.specs.Search.{IsEnteredAt, IsFollowed, IsKept, IsMarked, 
 ghost use Rattle.reach.specs.Search.{KeepsNone, LeadsTo, Spreads, marked, twin_of};
 ghost use Rattle.reach.specs.Tokens.{AreNamed, IsListed, stop_of_token};
 ghost use Rattle.reach.specs.Walk.{IsTrack, entered_at, left_at};
-ghost use Rattle.reach.specs.declared.walk.Step.{Step};
+ghost use Rattle.reach.specs.declared.walk.WalkStep.{WalkStep};
 
 use crate::link_visitor::Keeper;
 use crate::network::Network;
 use crate::stop_numbers::{SPOTS, spot_number};
-use crate::walk::{Spot, Step};
+use crate::walk::{Spot, WalkStep};
 use arrayvec::ArrayVec;
-use map_tables::{End, HEXES, Hex, Link, Place, Stop, StopNumber, joined_stop};
+use map_tables::{HEXES, Hex, Link, Place, Stop, StopNumber, TrackEnd, joined_stop};
 use tables::Company;
 
 /// How many ends a hex has: six sides and two stops.
@@ -98,7 +98,7 @@ pub fn twin(hex: Hex) -> Option<Hex>
 }
 
 /// Returns whether a step enters its link at a spot of the same hex.
-fn is_entered(step: Step, at: Spot) -> bool
+fn is_entered(step: WalkStep, at: Spot) -> bool
     requires { step.link.hex ≡ at.hex }
     ensures { IsTrue result ↔ IsEnteredAt at step }
 {
@@ -106,7 +106,7 @@ fn is_entered(step: Step, at: Spot) -> bool
 }
 
 /// Follows a step: keeps its link, and marks where it is left.
-fn follow<K: Keeper>(step: Step, marks: &mut Marks, keeper: &mut K) -> Result<(), K::Fault>
+fn follow<K: Keeper>(step: WalkStep, marks: &mut Marks, keeper: &mut K) -> Result<(), K::Fault>
     ensures marking { OnOk result (IsMarking (left_at step)
         marks.old.marks marks.old.waiting.items marks.new.marks marks.new.waiting.items) }
     ensures link { OnOk result (IsKept step.link (K.keeps keeper.old) (K.keeps keeper.new)) }
@@ -118,7 +118,7 @@ fn follow<K: Keeper>(step: Step, marks: &mut Marks, keeper: &mut K) -> Result<()
 
 /// Follows a step, if it enters its link at a spot.
 fn follow_at<K: Keeper>(
-    step: Step,
+    step: WalkStep,
     at: Spot,
     marks: &mut Marks,
     keeper: &mut K,
@@ -147,16 +147,16 @@ fn follow_both<N: Network, K: Keeper>(
     requires here { link.hex ≡ at.hex }
     requires track { IsAmong link (links_of (N.position network.now) link.hex) }
     requires may { CanEnter (N.position network.now) company marks.old.marks at }
-    ensures { let takes = λ (taken : Step). (taken.link ≡ link) × IsEnteredAt at taken in
+    ensures { let takes = λ (taken : WalkStep). (taken.link ≡ link) × IsEnteredAt at taken in
         OnOk result (Spreads (N.position network.now) company takes
         marks.old.marks marks.old.waiting.items (K.keeps keeper.old)
         marks.new.marks marks.new.waiting.items (K.keeps keeper.new)) }
 {
-    let forward = Step {
+    let forward = WalkStep {
         link,
         turned: false,
     };
-    let back = Step { link, turned: true };
+    let back = WalkStep { link, turned: true };
     follow_at(forward, at, marks, keeper)?;
     follow_at(back, at, marks, keeper)?;
     Ok(())
@@ -173,7 +173,7 @@ fn follow_from<N: Network, K: Keeper>(
     requires lawful { IsLawful (N.position network.now) }
     requires may { CanEnter (N.position network.now) company marks.old.marks at }
     ensures { let position = N.position network.now in
-        let takes = λ (taken : Step).
+        let takes = λ (taken : WalkStep).
         IsAmong taken.link (links_of position at.hex) × IsEnteredAt at taken in
         OnOk result (Spreads position company takes
         marks.old.marks marks.old.waiting.items (K.keeps keeper.old)
@@ -198,7 +198,7 @@ fn look_from_stop<N: Network, K: Keeper>(
     requires lawful { IsLawful (N.position network.now) }
     requires arrived { IsMarkedStop marks.old.marks stop }
     ensures { let position = N.position network.now in
-        let takes = λ (taken : Step). IsTrack position taken
+        let takes = λ (taken : WalkStep). IsTrack position taken
         × GoesOnAt position company stop (entered_at taken) in
         OnOk result (Spreads position company takes
         marks.old.marks marks.old.waiting.items (K.keeps keeper.old)
@@ -207,7 +207,7 @@ fn look_from_stop<N: Network, K: Keeper>(
     if network.full(stop, company) {
         return Ok(());
     }
-    let end = End::Stop(stop.number);
+    let end = TrackEnd::Stop(stop.number);
     let at = Spot { hex: stop.hex, end };
     follow_from(network, company, at, marks, keeper)?;
     if let Some(hex) = twin(stop.hex) {
@@ -229,7 +229,7 @@ fn look<N: Network, K: Keeper>(
     requires lawful { IsLawful (N.position network.now) }
     requires arrived { IsMarked marks.old.marks from }
     ensures { let position = N.position network.now in
-        let takes = λ (taken : Step). IsTrack position taken
+        let takes = λ (taken : WalkStep). IsTrack position taken
         × LeadsTo position company from (entered_at taken) in
         OnOk result (Spreads position company takes
         marks.old.marks marks.old.waiting.items (K.keeps keeper.old)
@@ -324,7 +324,7 @@ fn mark_token<N: Network>(network: &N, company: Company, stop: Stop, marks: &mut
         marks.old.marks marks.old.waiting.items marks.new.marks marks.new.waiting.items }
 {
     if network.token(stop, company) {
-        let end = End::Stop(stop.number);
+        let end = TrackEnd::Stop(stop.number);
         marks.mark(Spot { hex: stop.hex, end });
     }
 }

@@ -4,7 +4,7 @@ ghost use Rattle.reach.specs.Reached.{stop_order};
 ghost use Rattle.reach.specs.Search.{spot_number};
 
 use crate::walk::Spot;
-use map_tables::{End, HEXES, Stop, joined_stop};
+use map_tables::{HEXES, Stop, TrackEnd, joined_stop};
 
 /// How many stops the hexes of the map may have.
 pub const STOPS: usize = 2 * HEXES;
@@ -27,8 +27,8 @@ pub fn spot_number(spot: Spot) -> usize
     ensures bound { result < 744 }
 {
     match spot.end {
-        End::Side(side) => 8 * spot.hex.index() + side.number(),
-        End::Stop(number) => {
+        TrackEnd::Side(side) => 8 * spot.hex.index() + side.number(),
+        TrackEnd::Stop(number) => {
             let stop = joined_stop(Stop {
                 hex: spot.hex,
                 number,

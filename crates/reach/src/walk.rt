@@ -1,16 +1,16 @@
 ghost use Rattle.std.specs.Prelude.{◌≡◌};
 ghost use Rattle.map_tables.specs.declared.hex.Hex.TheVariants.{A9};
 ghost use Rattle.map_tables.specs.declared.side.Side.TheVariants.{SouthWest};
-ghost use Rattle.map_tables.specs.declared.track.End.TheVariants.{Side as AtSide};
+ghost use Rattle.map_tables.specs.declared.track.TrackEnd.TheVariants.{Side as AtSide};
 ghost use Rattle.reach.specs.Walk.{across, entered_at, left_at, stop_of};
 
-use map_tables::{End, Hex, Link, Side, Stop, joined_stop, neighbour};
+use map_tables::{Hex, Link, Side, Stop, TrackEnd, joined_stop, neighbour};
 
 /// An end in a hex: one of its sides, or one of its stops.
 #[derive(Clone, Copy, Debug, PartialEq, Eq)]
 pub struct Spot {
     pub hex: Hex,
-    pub end: End,
+    pub end: TrackEnd,
 }
 
 impl Default for Spot {
@@ -20,7 +20,7 @@ impl Default for Spot {
     fn default() -> Spot {
         Spot {
             hex: Hex::A9,
-            end: End::Side(Side::SouthWest),
+            end: TrackEnd::Side(Side::SouthWest),
         }
     }
 }
@@ -31,8 +31,8 @@ impl Spot {
         ensures { result ≡ stop_of self }
     {
         match self.end {
-            End::Side(_) => None,
-            End::Stop(number) => Some(joined_stop(Stop {
+            TrackEnd::Side(_) => None,
+            TrackEnd::Stop(number) => Some(joined_stop(Stop {
                 hex: self.hex,
                 number,
             })),
@@ -45,14 +45,14 @@ impl Spot {
         ensures { result ≡ across self }
     {
         match self.end {
-            End::Side(side) => {
+            TrackEnd::Side(side) => {
                 let hex = neighbour(self.hex, side)?;
                 Some(Spot {
                     hex,
-                    end: End::Side(side.facing()),
+                    end: TrackEnd::Side(side.facing()),
                 })
             }
-            End::Stop(_) => None,
+            TrackEnd::Stop(_) => None,
         }
     }
 }
@@ -60,12 +60,12 @@ impl Spot {
 /// A link as a walk takes it: from its first end to its second, or turned, from its second to its
 /// first.
 #[derive(Clone, Copy, Debug, PartialEq, Eq)]
-pub struct Step {
+pub struct WalkStep {
     pub link: Link,
     pub turned: bool,
 }
 
-impl Step {
+impl WalkStep {
     /// Returns where the step enters its link.
     pub fn entered(self) -> Spot
         ensures { result ≡ entered_at self }

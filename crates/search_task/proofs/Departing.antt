@@ -7,7 +7,7 @@ use Rattle.std.proofs.lemmas.Bool.{cases_lt}
 use Rattle.std.proofs.lemmas.List.{take_at}
 use Rattle.std.proofs.lemmas.Option.{slice_get_read, slice_get_within}
 use Rattle.reach.specs.Position.{IsAmong}
-use Rattle.reach.specs.declared.walk.Step.{Step}
+use Rattle.reach.specs.declared.walk.WalkStep.{WalkStep}
 use Rattle.reach.proofs.Lists.{among_before, among_cases, among_end}
 use Rattle.search_task.specs.declared.segments.Entry.{Entry}
 use Rattle.search_task.specs.declared.task.Departures.{Departures}
@@ -54,7 +54,7 @@ free_first used segment (hop ∷ hops) free = free.0
 
 -- a segment whose border is used adds none
 pub adds_none :
-    (task : Task) (used : List Bool) (walked : List Step) (place : ℕ) (segment : Segment) (legs : List Leg) →
+    (task : Task) (used : List Bool) (walked : List WalkStep) (place : ℕ) (segment : Segment) (legs : List Leg) →
     misses used segment.borders.items ≡ false → AddsLegs task used walked place segment legs legs
 adds_none task used walked place segment legs fails =
     record {
@@ -66,7 +66,7 @@ adds_none task used walked place segment legs fails =
 
 -- a segment to a stop is a leg
 pub adds_stop :
-    (task : Task) (used : List Bool) (walked : List Step) (place : ℕ) (segment : Segment) (legs : List Leg)
+    (task : Task) (used : List Bool) (walked : List WalkStep) (place : ℕ) (segment : Segment) (legs : List Leg)
     (leg : Leg) →
     misses used segment.borders.items ≡ true → stop_in (node_at task segment.to) ≡ true → leg.first ≡ place
     → leg.segment.to ≡ segment.to →
@@ -107,7 +107,7 @@ adds_stop task used walked place segment legs leg free stops place_is to_is bord
 
 -- nor does one to a side that ends
 pub adds_end :
-    (task : Task) (used : List Bool) (walked : List Step) (place : ℕ) (segment : Segment) (legs : List Leg) →
+    (task : Task) (used : List Bool) (walked : List WalkStep) (place : ℕ) (segment : Segment) (legs : List Leg) →
     stop_in (node_at task segment.to) ≡ false → ends_in (node_at task segment.to) ≡ true
     → AddsLegs task used walked place segment legs legs
 adds_end task used walked place segment legs side ends =
@@ -119,7 +119,7 @@ adds_end task used walked place segment legs side ends =
     by_hops (hop ∷ hops) to leads free = absurd (let wrong : true ≡ false = sym ends ∙ leads.0.1 in cc)
 
 has_kept :
-    (task : Task) (used : List Bool) (walked : List Step) (place : ℕ) (segment : Segment) (hops : List Hop) (to : ℕ)
+    (task : Task) (used : List Bool) (walked : List WalkStep) (place : ℕ) (segment : Segment) (hops : List Hop) (to : ℕ)
     (old new : List Leg) →
     ((leg : Leg) → IsAmong leg old → IsAmong leg new) → HasLeg task used walked place segment hops to old →
     HasLeg task used walked place segment hops to new
@@ -133,7 +133,7 @@ one_segment task spot place other segment found leads finds same =
     ∙ finds) in cc
 
 pub below_more :
-    (task : Task) (used : List Bool) (walked : List Step) (place spot index : ℕ) (segment : Segment)
+    (task : Task) (used : List Bool) (walked : List WalkStep) (place spot index : ℕ) (segment : Segment)
     (old middle new : List Leg) →
     LeadsFrom task spot index segment → AddsBelow task used walked place spot index old middle
     → AddsLegs task used walked place segment middle new →
@@ -158,7 +158,7 @@ below_more task used walked place spot index segment old middle new here before 
 
 -- a segment to a side that may be passed
 made_more :
-    (task : Task) (used : List Bool) (walked : List Step) (place : ℕ) (segment : Segment) (hop : Hop)
+    (task : Task) (used : List Bool) (walked : List WalkStep) (place : ℕ) (segment : Segment) (hop : Hop)
     (hops : List Hop) (leg : Leg) →
     misses used segment.borders.items ≡ true → stop_in (node_at task segment.to) ≡ false
     → ends_in (node_at task segment.to) ≡ false →
@@ -175,7 +175,7 @@ made_more task used walked place segment hop hops leg free side passes leads mad
     }
 
 pub adds_side :
-    (task : Task) (used : List Bool) (walked : List Step) (place : ℕ) (segment : Segment) (index : ℕ)
+    (task : Task) (used : List Bool) (walked : List WalkStep) (place : ℕ) (segment : Segment) (index : ℕ)
     (old new : List Leg) →
     misses used segment.borders.items ≡ true → stop_in (node_at task segment.to) ≡ false
     → ends_in (node_at task segment.to) ≡ false →
@@ -215,7 +215,7 @@ pub adds_after : (task : Task) (used : List Bool) (old new : Path) (segment : Se
     → IsSamePath old new → AddsLegsBy task used new segment legs more → AddsLegsBy task used old segment legs more
 adds_after task used old new segment legs more same adds =
     subst (λ (n : ℕ). AddsLegs task used old.steps.items n segment legs more) same.first
-    (subst (λ (steps : List Step). AddsLegs task used steps new.first segment legs more) same.steps adds)
+    (subst (λ (steps : List WalkStep). AddsLegs task used steps new.first segment legs more) same.steps adds)
 
 pub same_both : (old middle new : Path) → IsSamePath old middle → IsSamePath middle new → IsSamePath old new
 same_both old middle new first second =
@@ -325,7 +325,7 @@ to_same a b same segments (hop ∷ hops) segment to leads =
 
 made_same :
     (a b : Task) → a.spots.items ≡ b.spots.items → a.segments ≡ b.segments →
-    (used : List Bool) (walked : List Step) (place : ℕ) (segment : Segment) (hops : List Hop) (leg : Leg) →
+    (used : List Bool) (walked : List WalkStep) (place : ℕ) (segment : Segment) (hops : List Hop) (leg : Leg) →
     IsMadeOf a used walked place segment hops leg → IsMadeOf b used walked place segment hops leg
 made_same a b same segments used walked place segment hops leg made =
     record {

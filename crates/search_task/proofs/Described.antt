@@ -7,14 +7,14 @@ use Rattle.map_tables.specs.Place.{joined_stop_of, stop_at}
 use Rattle.map_tables.specs.declared.hex.Hex.{Hex}
 use Rattle.map_tables.specs.declared.place.Stop.{Stop}
 use Rattle.map_tables.specs.declared.place.StopNumber.{StopNumber}
-use Rattle.map_tables.specs.declared.track.End.{End}
-use Rattle.map_tables.specs.declared.track.End.TheVariants.{Side as AtSide, Stop as AtStop}
+use Rattle.map_tables.specs.declared.track.TrackEnd.{TrackEnd}
+use Rattle.map_tables.specs.declared.track.TrackEnd.TheVariants.{Side as AtSide, Stop as AtStop}
 use Rattle.reach.specs.Lawful.{IsLawful}
 use Rattle.reach.specs.Position.{Position, IsAmong}
 use Rattle.reach.specs.Search.{spot_number, number_at}
 use Rattle.reach.specs.Walk.{AreJoined, IsTrack, across_end, entered_at, left_at, spot_at, stop_at_end, stop_of}
 use Rattle.reach.specs.declared.walk.Spot.{Spot}
-use Rattle.reach.specs.declared.walk.Step.{Step}
+use Rattle.reach.specs.declared.walk.WalkStep.{WalkStep}
 use Rattle.reach.proofs.Spots.{back, are_one, stop_number}
 use Rattle.tables.specs.declared.rolling_stock.Kind.{Kind}
 use Rattle.tables.specs.declared.roster.Company.{Company}
@@ -32,7 +32,7 @@ use Rattle.search_task.specs.Fit.{BordersFit, IsFit, IsSide, SegmentFits}
 use Rattle.search_task.specs.Spots.{LeadsFrom, node_at, own_in, segments_at, stop_in}
 
 -- the border of an end has a number below 279
-pub border_fits : (hex : Hex) (end : End) → BordersFit (border_at hex end)
+pub border_fits : (hex : Hex) (end : TrackEnd) → BordersFit (border_at hex end)
 border_fits hex (AtSide side) = (border_low hex side, tt)
 border_fits hex (AtStop number) = tt
 
@@ -40,7 +40,7 @@ border_fits hex (AtStop number) = tt
 pub spot_low : (spot : Spot) → spot_number spot < 744
 spot_low spot = end_low spot.hex spot.end
   where
-    end_low : (hex : Hex) (end : End) → number_at hex end < 744
+    end_low : (hex : Hex) (end : TrackEnd) → number_at hex end < 744
     end_low hex (AtSide side) = omega (arith, index_low hex, side_low side)
     end_low hex (AtStop number) = omega (
       arith,
@@ -72,7 +72,7 @@ place_among (y ∷ ys) x (inl is) = (0, ap (λ z. Some z) is)
 place_among (y ∷ ys) x (inr later) = let rest = place_among ys x later in (suc rest.0, rest.1)
 
 -- the spot from which a step is taken
-from_end : (hex : Hex) (end : End) (number : ℕ) → number_before hex end ≡ Some number → (position : Position)
+from_end : (hex : Hex) (end : TrackEnd) (number : ℕ) → number_before hex end ≡ Some number → (position : Position)
     → IsLawful position → (spot : Spot) × (spot_number spot ≡ number) × AreJoined spot (spot_at hex end)
 from_end hex (AtStop place) number is position lawful =
     let same : spot_number (spot_at hex (AtStop place)) ≡ number = cc in
@@ -87,7 +87,7 @@ from_end hex (AtSide side) number is position lawful = by_across (across_end hex
         let number_is : spot_number from ≡ number = cc in
         (from, number_is, inr (back position lawful (spot_at hex (AtSide side)) from there).0)
 
-to_end : (position : Position) → IsLawful position → (hex : Hex) (end : End) (spot : Spot)
+to_end : (position : Position) → IsLawful position → (hex : Hex) (end : TrackEnd) (spot : Spot)
     → AreJoined spot (spot_at hex end) → number_before hex end ≡ Some (spot_number spot)
 to_end position lawful hex (AtStop place) spot joined =
     elim joined [
@@ -102,7 +102,7 @@ to_end position lawful hex (AtSide side) spot joined =
     ]
 
 module _ (position : Position) (company : Company) (lawful : IsLawful position) (kinds : List Kind)
-    (steps : List Step) (are_steps : AreSteps position steps) (task : Task)
+    (steps : List WalkStep) (are_steps : AreSteps position steps) (task : Task)
     (numbered : AreNumbered position company task.spots.items) (segments : AreSegments steps task.segments) where
   -- the node at a number, and what it is
   node_there : (number : ℕ) → number < 744 → (node : Node) × (node_at task number ≡ Some node)
@@ -138,7 +138,7 @@ module _ (position : Position) (company : Company) (lawful : IsLawful position) 
         segment_is = of.segment_is;
       }
 
-  complete_there : (number : ℕ) (step : Step) → IsTrack position step → GoesFrom number step
+  complete_there : (number : ℕ) (step : WalkStep) → IsTrack position step → GoesFrom number step
       → HasSegmentOf task number step
   complete_there number step track goes =
       let comes : ComesFrom number step = to_end position lawful (entered_at step).hex (entered_at step).end goes.spot
@@ -156,20 +156,20 @@ module _ (position : Position) (company : Company) (lawful : IsLawful position) 
   describes_it trains = record { spots = spot_there; sound = sound_there; complete = complete_there; trains = trains }
 
   -- an end that is left is a side where a stop is entered
-  side_left : (step : Step) → IsTrack position step → (stop : Stop) → stop_of (entered_at step) ≡ Some stop
+  side_left : (step : WalkStep) → IsTrack position step → (stop : Stop) → stop_of (entered_at step) ≡ Some stop
       → stop_of (left_at step) ≡ None
   side_left step track stop there = by_ends (entered_at step).end (left_at step).end
       (λ n m enters leaves. stop_to_stop step.link step.turned n m (ordered position lawful step track) enters leaves)
       there
     where
-      by_ends : (enters leaves : End) → ((n m : StopNumber) → enters ≡ AtStop n → leaves ≡ AtStop m → ⊥)
+      by_ends : (enters leaves : TrackEnd) → ((n m : StopNumber) → enters ≡ AtStop n → leaves ≡ AtStop m → ⊥)
           → stop_at_end step.link.hex enters ≡ Some stop → stop_at_end step.link.hex leaves ≡ None
       by_ends (AtSide side) leaves apart is = absurd cc
       by_ends (AtStop n) (AtSide side) apart is = refl
       by_ends (AtStop n) (AtStop m) apart is = absurd (apart n m refl refl)
 
   -- a step that is entered at a side crosses a border
-  over_border : (hex : Hex) (end : End) → stop_at_end hex end ≡ None → 0 < length (border_at hex end)
+  over_border : (hex : Hex) (end : TrackEnd) → stop_at_end hex end ≡ None → 0 < length (border_at hex end)
   over_border hex (AtSide side) none = omega arith
   over_border hex (AtStop place) none = absurd cc
 
@@ -203,7 +203,7 @@ module _ (position : Position) (company : Company) (lawful : IsLawful position) 
         | inr over ↦ across_none spot.hex spot.end next over ∙ sym (back position lawful spot next over).1
       ]
     where
-      across_none : (hex : Hex) (end : End) (to : Spot) → across_end hex end ≡ Some to → stop_at_end hex end ≡ None
+      across_none : (hex : Hex) (end : TrackEnd) (to : Spot) → across_end hex end ≡ Some to → stop_at_end hex end ≡ None
       across_none hex (AtSide side) to is = refl
       across_none hex (AtStop place) to is = absurd cc
 

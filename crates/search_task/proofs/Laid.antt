@@ -10,15 +10,15 @@ use Rattle.map_tables.specs.Place.{joined_stop_of, stop_at, stop_index_of}
 use Rattle.map_tables.specs.declared.hex.Hex.{Hex}
 use Rattle.map_tables.specs.declared.place.Stop.{Stop}
 use Rattle.map_tables.specs.declared.place.StopNumber.{StopNumber}
-use Rattle.map_tables.specs.declared.track.End.{End}
-use Rattle.map_tables.specs.declared.track.End.TheVariants.{Side as AtSide, Stop as AtStop}
+use Rattle.map_tables.specs.declared.track.TrackEnd.{TrackEnd}
+use Rattle.map_tables.specs.declared.track.TrackEnd.TheVariants.{Side as AtSide, Stop as AtStop}
 use Rattle.map_tables.specs.declared.track.Link.{Link}
 use Rattle.reach.specs.Lawful.{IsLawful}
 use Rattle.reach.specs.Position.{Position, IsAmong, links_of}
 use Rattle.reach.specs.Search.{number_at, spot_number}
 use Rattle.reach.specs.Walk.{IsTrack, across_end, entered_at, spot_at, stop_at_end, stop_of}
 use Rattle.reach.specs.declared.walk.Spot.{Spot}
-use Rattle.reach.specs.declared.walk.Step.{Step}
+use Rattle.reach.specs.declared.walk.WalkStep.{WalkStep}
 use Rattle.reach.proofs.Collected.{hexes_more, own_hex}
 use Rattle.reach.proofs.Hexes.{index_low, same_index, same_stop_index, side_low, stop_index_low}
 use Rattle.reach.proofs.Lists.{among_before, among_cases, among_end}
@@ -38,11 +38,11 @@ use Rattle.search_task.proofs.Chained.{from_here, from_other, set_at}
 use Rattle.search_task.proofs.Places.{below_next}
 
 -- a link taken in a direction
-abbrev pub taking : Link → Bool → Step
+abbrev pub taking : Link → Bool → WalkStep
 taking link turned = record { link = link; turned = turned }
 
 -- a step takes its link in one of the two directions
-directions : (link : Link) (step : Step) → step.link ≡ link → (taking link false ≡ step) ⊎ (taking link true ≡ step)
+directions : (link : Link) (step : WalkStep) → step.link ≡ link → (taking link false ≡ step) ⊎ (taking link true ≡ step)
 directions link step is = by_direction step.turned
   where
     by_direction : (turned : Bool) → (taking link false ≡ taking step.link turned)
@@ -51,7 +51,7 @@ directions link step is = by_direction step.turned
     by_direction true = inr (ap (λ (l : Link). taking l true) (sym is))
 
 -- both steps of a link are added
-pub both_added : (link : Link) (old : List Step)
+pub both_added : (link : Link) (old : List WalkStep)
     → Adds (λ other. other ≡ link) old ((old ++ taking link false ∷ []) ++ taking link true ∷ [])
 both_added link old =
     record {
@@ -67,14 +67,14 @@ both_added link old =
       only = λ step among. elim (among_cases (old ++ taking link false ∷ []) step (taking link true) among) [
         | inl before ↦ elim (among_cases old step (taking link false) before) [
           | inl first ↦ inl first
-          | inr forward ↦ inr (sym (ap (λ (s : Step). s.link) forward))
+          | inr forward ↦ inr (sym (ap (λ (s : WalkStep). s.link) forward))
         ]
-        | inr turned ↦ inr (sym (ap (λ (s : Step). s.link) turned))
+        | inr turned ↦ inr (sym (ap (λ (s : WalkStep). s.link) turned))
       ];
     }
 
 -- no link has come
-pub adds_none : (steps : List Step) (links : List Link) → Adds (λ link. IsAmong link (take 0 links)) steps steps
+pub adds_none : (steps : List WalkStep) (links : List Link) → Adds (λ link. IsAmong link (take 0 links)) steps steps
 adds_none steps links =
     record {
       kept = λ step among. among;
@@ -83,7 +83,7 @@ adds_none steps links =
     }
 
 -- one more link has come
-pub adds_next : (first steps new : List Step) (links : List Link) (i : ℕ) (d : Link) → i < length links
+pub adds_next : (first steps new : List WalkStep) (links : List Link) (i : ℕ) (d : Link) → i < length links
     → Adds (λ link. IsAmong link (take i links)) first steps → Adds (λ other. other ≡ get_or links i d) steps new
     → Adds (λ link. IsAmong link (take (i + 1) links)) first new
 adds_next first steps new links i d low before adds =
@@ -107,14 +107,14 @@ adds_next first steps new links i d low before adds =
     }
 
 -- all links have come
-pub adds_all : (first steps : List Step) (links : List Link) (i : ℕ) → length links ≤ i
+pub adds_all : (first steps : List WalkStep) (links : List Link) (i : ℕ) → length links ≤ i
     → Adds (λ link. IsAmong link (take i links)) first steps → Adds (λ link. IsAmong link links) first steps
 adds_all first steps links i all adds = subst (λ ls. Adds (λ link. IsAmong link ls) first steps)
     (take_all i links all) adds
 
 -- the steps of one more hex
 pub steps_more : (position : Position) → IsLawful position → (hex : Hex) (index : ℕ) → index_of hex ≡ index
-    → (old new : List Step) → StepsBefore position old index
+    → (old new : List WalkStep) → StepsBefore position old index
     → Adds (λ link. IsAmong link (links_of position hex)) old new → StepsBefore position new (index + 1)
 steps_more position lawful hex index is old new before adds =
     record {
@@ -128,8 +128,8 @@ steps_more position lawful hex index is old new before adds =
       ];
     }
 
-pub steps_all : (position : Position) (steps : List Step) (index : ℕ) → 93 ≤ index → StepsBefore position steps index
-    → (step : Step) → IsAmong step steps ↔ IsTrack position step
+pub steps_all : (position : Position) (steps : List WalkStep) (index : ℕ) → 93 ≤ index → StepsBefore position steps index
+    → (step : WalkStep) → IsAmong step steps ↔ IsTrack position step
 steps_all position steps index all before step =
     (before.only step, λ track. before.added step (omega (arith, index_low step.link.hex)) track)
 
@@ -152,9 +152,9 @@ laid_none position =
 
 -- the steps of the first links of a hex have come, after those of the hexes before it
 pub record LaidIn (position : Position) (index : ℕ) (links : List Link) (entries : List Entry) : Type 0 where
-  pub first : List Step
+  pub first : List WalkStep
   pub before : StepsBefore position first index
-  pub steps : List Step
+  pub steps : List WalkStep
   pub adds : Adds (λ link. IsAmong link links) first steps
   pub segments : AreSegments steps entries
 
@@ -209,7 +209,7 @@ laid_all position index entries all laid =
     record { steps = laid.steps; all = steps_all position laid.steps index all laid.before; segments = laid.segments }
 
 -- a spot from which a step is taken has a number
-before_low : (hex : Hex) (end : End) (number : ℕ) → number_before hex end ≡ Some number → number < 744
+before_low : (hex : Hex) (end : TrackEnd) (number : ℕ) → number_before hex end ≡ Some number → number < 744
 before_low hex (AtStop place) number is =
     let same : spot_number (spot_at hex (AtStop place)) ≡ number = cc in
     subst (λ (n : ℕ). n < 744) same (spot_low (spot_at hex (AtStop place)))
@@ -221,7 +221,7 @@ before_low hex (AtSide side) number is = by_across (across_end hex (AtSide side)
         let number_is : spot_number from ≡ number = cc in
         subst (λ (n : ℕ). n < 744) number_is (spot_low from)
 
-comes_low : (number : ℕ) (step : Step) → ComesFrom number step → (number < 744) × (code_before step ≡ number)
+comes_low : (number : ℕ) (step : WalkStep) → ComesFrom number step → (number < 744) × (code_before step ≡ number)
 comes_low number step comes =
     (before_low (entered_at step).hex (entered_at step).end number comes, ap number_or_none comes)
 
@@ -230,16 +230,16 @@ code_comes : (number : ℕ) (found : Option ℕ) → number < 744 → (number_or
 code_comes number None low = (λ is. absurd (omega (arith, low, is)), λ is. absurd cc)
 code_comes number (Some other) low = (λ is. ap (λ (n : ℕ). Some n) is, λ is. let same : other ≡ number = cc in same)
 
-comes_by_code : (number : ℕ) (step : Step) → number < 744 → (code_before step ≡ number) ↔ ComesFrom number step
+comes_by_code : (number : ℕ) (step : WalkStep) → number < 744 → (code_before step ≡ number) ↔ ComesFrom number step
 comes_by_code number step few = code_comes number (number_before (entered_at step).hex (entered_at step).end) few
 
 -- the code of a step is known by the spot at which it is entered
-pub code_is : (number : ℕ) (spot : Spot) (step : Step) → spot ≡ entered_at step
+pub code_is : (number : ℕ) (spot : Spot) (step : WalkStep) → spot ≡ entered_at step
     → number ≡ number_or_none (number_before spot.hex spot.end) → number ≡ code_before step
 code_is number spot step same is = is ∙ ap (λ (s : Spot). number_or_none (number_before s.hex s.end)) same
 
 -- the next step may not be taken
-segments_same : (number : ℕ) (steps : List Step) (segments : List Segment) (next : Step) → (ComesFrom number next → ⊥)
+segments_same : (number : ℕ) (steps : List WalkStep) (segments : List Segment) (next : WalkStep) → (ComesFrom number next → ⊥)
     → AreSegmentsFrom number steps segments → AreSegmentsFrom number (steps ++ next ∷ []) segments
 segments_same number steps segments next fails before =
     record {
@@ -259,7 +259,7 @@ segments_same number steps segments next fails before =
     }
 
 -- the segment of the next step is added
-segments_more : (number : ℕ) (steps : List Step) (segments : List Segment) (next : Step) → ComesFrom number next
+segments_more : (number : ℕ) (steps : List WalkStep) (segments : List Segment) (next : WalkStep) → ComesFrom number next
     → (segment : Segment) → IsSegmentOf next segment → AreSegmentsFrom number steps segments
     → AreSegmentsFrom number (steps ++ next ∷ []) (segments ++ segment ∷ [])
 segments_more number steps segments next comes segment is before =
@@ -295,7 +295,7 @@ segments_more number steps segments next comes segment is before =
           segment = segment;
           among = among_end segments segment;
           segment_is =
-              subst (λ (s : Step). IsSegmentOf s segment) same is;
+              subst (λ (s : WalkStep). IsSegmentOf s segment) same is;
         }
       ];
     }
@@ -304,7 +304,7 @@ segments_more number steps segments next comes segment is before =
 pub spot_side : (number : ℕ) (spot : Spot) → spot_number spot ≡ number → number % 8 < 6 → stop_of spot ≡ None
 spot_side number spot is low = by_end spot.hex spot.end is
   where
-    by_end : (hex : Hex) (end : End) → number_at hex end ≡ number → stop_at_end hex end ≡ None
+    by_end : (hex : Hex) (end : TrackEnd) → number_at hex end ≡ number → stop_at_end hex end ≡ None
     by_end hex (AtSide side) same = refl
     by_end hex (AtStop place) same = absurd (omega (arith, stop_index_low place))
 
@@ -313,7 +313,7 @@ pub spot_stop : (number : ℕ) (spot : Spot) → spot_number spot ≡ number →
     → index_of stop.hex ≡ number / 8 → 6 + stop_index_of stop.number ≡ number % 8 → stop_of spot ≡ Some stop
 spot_stop number spot is low stop hex_is number_is = by_end spot.hex spot.end is
   where
-    by_end : (hex : Hex) (end : End) → number_at hex end ≡ number → stop_at_end hex end ≡ Some stop
+    by_end : (hex : Hex) (end : TrackEnd) → number_at hex end ≡ number → stop_at_end hex end ≡ Some stop
     by_end hex (AtSide side) same = absurd (omega (arith, side_low side))
     by_end hex (AtStop place) same =
         let joined = joined_stop_of (stop_at hex place) in
@@ -410,13 +410,13 @@ numbered_all position company hex nodes all before =
     }
 
 -- the next step may be taken from no spot
-pub takes_none : (step : Step) (entries : List Entry) → 744 ≤ code_before step → TakesStep step entries entries
+pub takes_none : (step : WalkStep) (entries : List Entry) → 744 ≤ code_before step → TakesStep step entries entries
 takes_none step entries none steps before number =
     segments_same number steps (segments_from number entries) step
     (λ comes. let low = comes_low number step comes in omega (arith, none, low.0, low.1)) (before number)
 
 -- its segment is added after those from the spot from which it may be taken
-pub takes_segment : (step : Step) (old new : List Entry) (segment : Segment) → code_before step < 744
+pub takes_segment : (step : WalkStep) (old new : List Entry) (segment : Segment) → code_before step < 744
     → IsSegmentOf step segment → AddsSegment (code_before step) segment old new → TakesStep step old new
 takes_segment step old new segment few is adds steps before number =
     elim (cases_eq adds.entry.from number) [

@@ -6,14 +6,14 @@ use Rattle.std.specs.Prelude.{◌∷◌, ◌++◌, length, slice_get}
 use Rattle.map_tables.specs.Hex.{index_of}
 use Rattle.map_tables.specs.declared.hex.Hex.{Hex}
 use Rattle.map_tables.specs.declared.place.Stop.{Stop}
-use Rattle.map_tables.specs.declared.track.End.{End}
-use Rattle.map_tables.specs.declared.track.End.TheVariants.{Side as AtSide, Stop as AtStop}
+use Rattle.map_tables.specs.declared.track.TrackEnd.{TrackEnd}
+use Rattle.map_tables.specs.declared.track.TrackEnd.TheVariants.{Side as AtSide, Stop as AtStop}
 use Rattle.map_tables.specs.declared.track.Link.{Link}
 use Rattle.reach.specs.Position.{Position, HasToken, IsAmong, IsFull, is_red, value_of}
 use Rattle.reach.specs.Search.{spot_number}
 use Rattle.reach.specs.Walk.{AreJoined, IsTrack, across_end, entered_at, left_at, spot_at, stop_of}
 use Rattle.reach.specs.declared.walk.Spot.{Spot}
-use Rattle.reach.specs.declared.walk.Step.{Step}
+use Rattle.reach.specs.declared.walk.WalkStep.{WalkStep}
 use Rattle.tables.specs.Train.{stops_of}
 use Rattle.tables.specs.declared.rolling_stock.Kind.{Kind}
 use Rattle.tables.specs.declared.roster.Company.{Company}
@@ -26,14 +26,14 @@ use Rattle.search_task.specs.Segments.{segments_from}
 use Rattle.search_task.specs.Spots.{LeadsFrom, ends_in, node_at, own_in, stop_in, value_in}
 
 -- a step may be taken from a spot, by its number
-pub record GoesFrom (number : ℕ) (step : Step) : Type 0 where
+pub record GoesFrom (number : ℕ) (step : WalkStep) : Type 0 where
   pub spot : Spot
   pub number_is : spot_number spot ≡ number
   pub joined : AreJoined spot (entered_at step)
 
 -- a segment is that of a step: it leads to where the step is left, over the border at which it is
 -- entered
-pub record IsSegmentOf (step : Step) (segment : Segment) : Type 0 where
+pub record IsSegmentOf (step : WalkStep) (segment : Segment) : Type 0 where
   pub to : segment.to ≡ spot_number (left_at step)
   pub step_is : segment.step ≡ step
   pub borders : segment.borders.items ≡ border_at (entered_at step).hex (entered_at step).end
@@ -68,13 +68,13 @@ most_of_all (kind ∷ kinds) = most_of (stops_of kind) ∷ most_of_all kinds
 
 -- a segment is that of a step which may be taken from a spot
 pub record IsStepFrom (position : Position) (number : ℕ) (segment : Segment) : Type 0 where
-  pub step : Step
+  pub step : WalkStep
   pub track : IsTrack position step
   pub goes : GoesFrom number step
   pub segment_is : IsSegmentOf step segment
 
 -- the segment of a step is among those that lead from a spot
-pub record HasSegmentOf (task : Task) (number : ℕ) (step : Step) : Type 0 where
+pub record HasSegmentOf (task : Task) (number : ℕ) (step : WalkStep) : Type 0 where
   pub index : ℕ
   pub segment : Segment
   pub leads : LeadsFrom task number index segment
@@ -85,17 +85,17 @@ pub record Describes (position : Position) (company : Company) (kinds : List Kin
   pub spots : (spot : Spot) → IsNodeAt position company (stop_of spot) (node_at task (spot_number spot))
   pub sound : (number index : ℕ) (segment : Segment) → LeadsFrom task number index segment
       → IsStepFrom position number segment
-  pub complete : (number : ℕ) (step : Step) → IsTrack position step → GoesFrom number step
+  pub complete : (number : ℕ) (step : WalkStep) → IsTrack position step → GoesFrom number step
       → HasSegmentOf task number step
   pub trains : task.trains.items ≡ most_of_all kinds
 
 -- the number of the spot from which a step is taken that is entered at an end of a hex
-abbrev pub number_before : Hex → End → Option ℕ
+abbrev pub number_before : Hex → TrackEnd → Option ℕ
 number_before hex (AtSide side) = option_map spot_number (across_end hex (AtSide side))
 number_before hex (AtStop number) = Some (spot_number (spot_at hex (AtStop number)))
 
 -- a step may be taken from a spot with this number
-abbrev pub ComesFrom : ℕ → Step → Type 0
+abbrev pub ComesFrom : ℕ → WalkStep → Type 0
 ComesFrom number step = number_before (entered_at step).hex (entered_at step).end ≡ Some number
 
 -- the number of the spot from which a step may be taken, or a number that no spot has
@@ -103,44 +103,44 @@ abbrev pub number_or_none : Option ℕ → ℕ
 number_or_none (Some number) = number
 number_or_none None = 744
 
-abbrev pub code_before : Step → ℕ
+abbrev pub code_before : WalkStep → ℕ
 code_before step = number_or_none (number_before (entered_at step).hex (entered_at step).end)
 
 -- these are all steps of a position
-abbrev pub AreSteps : Position → List Step → Type 0
-AreSteps position steps = (step : Step) → IsAmong step steps ↔ IsTrack position step
+abbrev pub AreSteps : Position → List WalkStep → Type 0
+AreSteps position steps = (step : WalkStep) → IsAmong step steps ↔ IsTrack position step
 
 -- these are steps of a position, and all that lie in its first hexes
-pub record StepsBefore (position : Position) (steps : List Step) (index : ℕ) : Type 0 where
-  pub added : (step : Step) → index_of step.link.hex < index → IsTrack position step → IsAmong step steps
-  pub only : (step : Step) → IsAmong step steps → IsTrack position step
+pub record StepsBefore (position : Position) (steps : List WalkStep) (index : ℕ) : Type 0 where
+  pub added : (step : WalkStep) → index_of step.link.hex < index → IsTrack position step → IsAmong step steps
+  pub only : (step : WalkStep) → IsAmong step steps → IsTrack position step
 
 -- the steps of such links are added
-pub record Adds (P : Link → Type 0) (old new : List Step) : Type 0 where
-  pub kept : (step : Step) → IsAmong step old → IsAmong step new
-  pub added : (step : Step) → P step.link → IsAmong step new
-  pub only : (step : Step) → IsAmong step new → IsAmong step old ⊎ P step.link
+pub record Adds (P : Link → Type 0) (old new : List WalkStep) : Type 0 where
+  pub kept : (step : WalkStep) → IsAmong step old → IsAmong step new
+  pub added : (step : WalkStep) → P step.link → IsAmong step new
+  pub only : (step : WalkStep) → IsAmong step new → IsAmong step old ⊎ P step.link
 
 -- a segment is that of one of some steps
-pub record IsOfStep (number : ℕ) (steps : List Step) (segment : Segment) : Type 0 where
-  pub step : Step
+pub record IsOfStep (number : ℕ) (steps : List WalkStep) (segment : Segment) : Type 0 where
+  pub step : WalkStep
   pub among : IsAmong step steps
   pub comes : ComesFrom number step
   pub segment_is : IsSegmentOf step segment
 
 -- the segment of a step is one of some
-pub record HasIts (segments : List Segment) (step : Step) : Type 0 where
+pub record HasIts (segments : List Segment) (step : WalkStep) : Type 0 where
   pub segment : Segment
   pub among : IsAmong segment segments
   pub segment_is : IsSegmentOf step segment
 
 -- these are the segments of those steps that may be taken from a spot with this number
-pub record AreSegmentsFrom (number : ℕ) (steps : List Step) (segments : List Segment) : Type 0 where
+pub record AreSegmentsFrom (number : ℕ) (steps : List WalkStep) (segments : List Segment) : Type 0 where
   pub sound : (segment : Segment) → IsAmong segment segments → IsOfStep number steps segment
-  pub complete : (step : Step) → IsAmong step steps → ComesFrom number step → HasIts segments step
+  pub complete : (step : WalkStep) → IsAmong step steps → ComesFrom number step → HasIts segments step
 
 -- these are the segments of those steps that may be taken from each spot
-abbrev pub AreSegments : List Step → List Entry → Type 0
+abbrev pub AreSegments : List WalkStep → List Entry → Type 0
 AreSegments steps entries = (number : ℕ) → AreSegmentsFrom number steps (segments_from number entries)
 
 -- what is at a number: the spot with this number; the first six of each hex are its sides
@@ -162,17 +162,17 @@ pub record AreNumberedBefore (position : Position) (company : Company) (most : �
       → IsNumbered position company number node
 
 -- to the segments of some steps that of one more step is added
-abbrev pub TakesStep : Step → List Entry → List Entry → Type 0
-TakesStep step old new = (steps : List Step) → AreSegments steps old → AreSegments (steps ++ step ∷ []) new
+abbrev pub TakesStep : WalkStep → List Entry → List Entry → Type 0
+TakesStep step old new = (steps : List WalkStep) → AreSegments steps old → AreSegments (steps ++ step ∷ []) new
 
 -- these are the segments of steps of a position, among these all that lie in its first hexes
 pub record LaidBefore (position : Position) (index : ℕ) (entries : List Entry) : Type 0 where
-  pub steps : List Step
+  pub steps : List WalkStep
   pub before : StepsBefore position steps index
   pub segments : AreSegments steps entries
 
 -- these are the segments of all steps of a position
 pub record AreLaid (position : Position) (entries : List Entry) : Type 0 where
-  pub steps : List Step
+  pub steps : List WalkStep
   pub all : AreSteps position steps
   pub segments : AreSegments steps entries

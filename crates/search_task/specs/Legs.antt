@@ -3,7 +3,7 @@
 use Rattle.std.specs.Prelude.{◌≡◌, ℕ, ◌+◌, ◌<◌, ◌≤◌, Bool, true, false, ◌⊎◌, Option, Some, None, List, [], ◌∷◌, ◌++◌}
 use Rattle.std.specs.Prelude.{length, replicate, slice_get}
 use Rattle.reach.specs.Position.{IsAmong}
-use Rattle.reach.specs.declared.walk.Step.{Step}
+use Rattle.reach.specs.declared.walk.WalkStep.{WalkStep}
 use Rattle.search_task.specs.declared.task.Departures.{Departures}
 use Rattle.search_task.specs.declared.task.Segment.{Segment}
 use Rattle.search_task.specs.declared.task.Task.{Task}
@@ -33,7 +33,7 @@ borders_by segment [] = segment.borders.items
 borders_by segment (hop ∷ hops) = segment.borders.items ++ borders_by hop.segment hops
 
 -- their steps
-abbrev pub steps_by : Segment → List Hop → List Step
+abbrev pub steps_by : Segment → List Hop → List WalkStep
 steps_by segment [] = segment.step ∷ []
 steps_by segment (hop ∷ hops) = segment.step ∷ steps_by hop.segment hops
 
@@ -45,7 +45,7 @@ AreFree used segment (hop ∷ hops) =
 
 -- a leg is made of a segment at a place and of others, after some steps over the used borders: it
 -- crosses these as well
-pub record IsMadeOf (task : Task) (used : List Bool) (walked : List Step) (place : ℕ) (segment : Segment)
+pub record IsMadeOf (task : Task) (used : List Bool) (walked : List WalkStep) (place : ℕ) (segment : Segment)
     (hops : List Hop) (leg : Leg) : Type 0 where
   pub leads : LeadsTo task segment hops leg.segment.to
   pub free : AreFree used segment hops
@@ -54,7 +54,7 @@ pub record IsMadeOf (task : Task) (used : List Bool) (walked : List Step) (place
   pub steps : leg.steps.items ≡ walked ++ steps_by segment hops
 
 -- a leg by a segment is among some
-pub record HasLeg (task : Task) (used : List Bool) (walked : List Step) (place : ℕ) (segment : Segment)
+pub record HasLeg (task : Task) (used : List Bool) (walked : List WalkStep) (place : ℕ) (segment : Segment)
     (hops : List Hop) (to : ℕ) (legs : List Leg) : Type 0 where
   pub leg : Leg
   pub among : IsAmong leg legs
@@ -62,7 +62,7 @@ pub record HasLeg (task : Task) (used : List Bool) (walked : List Step) (place :
   pub to_is : leg.segment.to ≡ to
 
 -- the legs by a segment are added to some
-pub record AddsLegs (task : Task) (used : List Bool) (walked : List Step) (place : ℕ) (segment : Segment)
+pub record AddsLegs (task : Task) (used : List Bool) (walked : List WalkStep) (place : ℕ) (segment : Segment)
     (old new : List Leg) : Type 0 where
   pub kept : (leg : Leg) → IsAmong leg old → IsAmong leg new
   pub sound : (leg : Leg) → IsAmong leg new → IsAmong leg old
@@ -98,7 +98,7 @@ pub record IsSamePath (old new : Path) : Type 0 where
 
 -- the legs by the segments from a spot before one of them, after a segment that led there, are
 -- added
-pub record AddsBelow (task : Task) (used : List Bool) (walked : List Step) (place : ℕ) (spot most : ℕ)
+pub record AddsBelow (task : Task) (used : List Bool) (walked : List WalkStep) (place : ℕ) (spot most : ℕ)
     (old new : List Leg) : Type 0 where
   pub kept : (leg : Leg) → IsAmong leg old → IsAmong leg new
   pub sound : (leg : Leg) → IsAmong leg new → IsAmong leg old

@@ -4,14 +4,14 @@ ghost use Rattle.search_task.specs.Fit.{BordersFit};
 ghost use Rattle.search_task.specs.Crossed.{marked_all, misses};
 
 use crate::bit_set::Borders;
-use reach::Step;
+use reach::WalkStep;
 use std::marker::Model;
 
 /// A segment of track that is one step: it crosses one border at most.
 #[derive(Drop)]
 pub(crate) struct Stretch {
     to: usize,
-    step: Step,
+    step: WalkStep,
     border: Option<usize>,
 }
 
@@ -34,7 +34,7 @@ impl Model for Stretch {
 
 impl Stretch {
     /// Returns a segment to a spot, by a step, over a border.
-    pub(crate) fn of(to: usize, step: Step, border: Option<usize>) -> Stretch
+    pub(crate) fn of(to: usize, step: WalkStep, border: Option<usize>) -> Stretch
         requires { BordersFit (option_to_list border) }
         ensures to { result.to ≡ to }
         ensures step { result.step ≡ step }
@@ -51,7 +51,7 @@ impl Stretch {
     }
 
     /// Returns the step that it is.
-    pub(crate) fn step(&self) -> Step
+    pub(crate) fn step(&self) -> WalkStep
         ensures { result ≡ self.now.step }
     {
         self.step

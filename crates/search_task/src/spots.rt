@@ -16,8 +16,8 @@ use crate::outgoing_segment::Stretch;
 use crate::segments::Segments;
 use crate::task::{Node, Task};
 use legal_runs::border_to;
-use map_tables::{End, HEXES, Hex, Stop, StopNumber, neighbour};
-use reach::{Network, SPOTS, Spot, Step, spot_number};
+use map_tables::{HEXES, Hex, Stop, StopNumber, TrackEnd, neighbour};
+use reach::{Network, SPOTS, Spot, WalkStep, spot_number};
 use std::alloc::{AllocError, Global};
 use tables::{Company, Kind};
 
@@ -37,16 +37,16 @@ fn origin_of(spot: Spot) -> Origin
     ensures border { option_to_list result.border ≡ border_at spot.hex spot.end }
 {
     match spot.end {
-        End::Stop(_) => Origin {
+        TrackEnd::Stop(_) => Origin {
             number: spot_number(spot),
             border: None,
         },
-        End::Side(side) => {
+        TrackEnd::Side(side) => {
             let beyond = neighbour(spot.hex, side);
             let border = Some(border_to(spot.hex, side, beyond));
             match beyond {
                 Some(hex) => {
-                    let end = End::Side(side.facing());
+                    let end = TrackEnd::Side(side.facing());
                     Origin {
                         number: spot_number(Spot { hex, end }),
                         border,
@@ -62,7 +62,7 @@ fn origin_of(spot: Spot) -> Origin
 }
 
 /// Returns the segment of a step, over the border at which it is entered.
-fn segment_of(step: Step, border: Option<usize>) -> Stretch
+fn segment_of(step: WalkStep, border: Option<usize>) -> Stretch
     requires { let entered = entered_at step in option_to_list border ≡ border_at entered.hex
         entered.end }
     ensures { IsSegmentOf step result }
@@ -150,7 +150,7 @@ fn all_spots<N: Network>(
 
 /// Adds the segment of a step to those of the spot from which it may be taken, if there is one.
 /// Fails only if allocation fails.
-fn add_step(step: Step, segments: &mut Segments) -> Result<(), AllocError>
+fn add_step(step: WalkStep, segments: &mut Segments) -> Result<(), AllocError>
     ensures { OnOk result (TakesStep step segments.old segments.new) }
 {
     let from = origin_of(step.entered());
@@ -173,13 +173,13 @@ fn add_steps<N: Network>(network: &N, hex: Hex, segments: &mut Segments) -> Resu
     for link in links.as_slice() {
         let link = *link;
         add_step(
-            Step {
+            WalkStep {
                 link,
                 turned: false,
             },
             segments,
         )?;
-        add_step(Step { link, turned: true }, segments)?;
+        add_step(WalkStep { link, turned: true }, segments)?;
     }
     Ok(())
 }

@@ -1,7 +1,7 @@
 //! The steps of a leg. A few are kept without allocating.
 ghost use Rattle.std.specs.Prelude.{◌≡◌, ◌∷◌, ◌++◌, [], IfOk};
 
-use reach::Step;
+use reach::WalkStep;
 use std::alloc::{AllocError, Global};
 use std::marker::Model;
 
@@ -11,9 +11,9 @@ const FEW: usize = 4;
 /// Some steps, in order. They are the first ones of the few, or the others if these are none.
 #[derive(Drop)]
 pub struct Steps {
-    few: [Step; FEW],
+    few: [WalkStep; FEW],
     count: usize,
-    others: Vec<Step>,
+    others: Vec<WalkStep>,
 }
 
 impl Model for Steps {
@@ -30,7 +30,7 @@ impl Model for Steps {
 
 impl Steps {
     /// Returns some steps, and one more after them. Fails only if allocation fails.
-    pub(crate) fn of(alloc: Global, first: &[Step], last: Step) -> Result<Steps, AllocError>
+    pub(crate) fn of(alloc: Global, first: &[WalkStep], last: WalkStep) -> Result<Steps, AllocError>
         ensures { IfOk result (λ steps. steps.items ≡ first.now ++ last ∷ []) }
     {
         let mut few = [last; FEW];
@@ -52,7 +52,7 @@ impl Steps {
     }
 
     /// Returns the steps, in order.
-    pub fn as_slice(&self) -> &[Step]
+    pub fn as_slice(&self) -> &[WalkStep]
         ensures { result.now ≡ self.now.items }
     {
         if self.count == 0 {

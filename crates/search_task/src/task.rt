@@ -3,7 +3,7 @@ ghost use Rattle.std.specs.Prelude.{◌≡◌};
 use crate::crossing::Crossing;
 use crate::segments::Segments;
 use crate::steps::Steps;
-use reach::Step;
+use reach::WalkStep;
 use tables::Amount;
 
 /// Track that leads from a spot to another: what a leg reaches, and what each `Stretch` is in a
@@ -13,7 +13,7 @@ pub struct Segment {
     /// The spot to which it leads, by its number.
     pub to: usize,
     /// The step that it is; the last one of a leg.
-    pub step: Step,
+    pub step: WalkStep,
     /// The borders that it crosses, by their numbers.
     pub borders: Crossing,
 }

@@ -17,7 +17,7 @@ use crate::open_sheet::OpenSheet;
 use crate::players::Players;
 use crate::sheet::Sheet;
 use crate::sheet_key::SheetKey;
-use crate::text::{Piece, first_line, first_written};
+use crate::text::{LineAndRest, first_line, first_written};
 use order_grammar::{Fault, Order, Version, begins_with_word, read_order_in};
 use std::alloc::{AllocError, Global};
 use std::collections::HashMap;
@@ -73,7 +73,7 @@ impl<'a> Collection<'a> {
         version: Version,
         players: &Players,
         text: &'a [u8],
-        piece: Piece<'a>,
+        piece: LineAndRest<'a>,
     ) -> Result<(), FileFault>
         requires few { length players.now ≤ 6 }
         requires short { length piece.rest.now ≤ file_most }
@@ -146,7 +146,7 @@ impl<'a> Collection<'a> {
         &mut self,
         version: Version,
         players: &Players,
-        piece: Piece<'a>,
+        piece: LineAndRest<'a>,
     ) -> Result<(), FileFault>
         requires few { length players.now ≤ 6 }
         requires short { length piece.rest.now ≤ file_most }

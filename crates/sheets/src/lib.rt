@@ -53,4 +53,4 @@ pub use file::{FILE_MOST, Sheets, collect, examine};
 pub use parts::PartsLeft;
 pub use place::{fault_out_of_place, is_of_file};
 pub use sheet::{LINES_MOST, Lines, NumberedLine, ReadLine, Sheet, UnreadLine};
-pub use text::{Piece, first_line};
+pub use text::{LineAndRest, first_line};

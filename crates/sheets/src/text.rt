@@ -7,7 +7,7 @@ use order_grammar::{LINE_MOST, has_word};
 
 /// A line of a text, and what follows it.
 #[derive(Clone, Copy, Debug)]
-pub struct Piece<'a> {
+pub struct LineAndRest<'a> {
     /// The line, without its LF and a CR before that.
     pub line: &'a [u8],
     /// The text after its LF.
@@ -16,7 +16,7 @@ pub struct Piece<'a> {
 
 /// Returns the first line of a text; `None` if nothing is left. A last line without LF counts, and
 /// a CR at its end belongs to it.
-pub fn first_line(text: &[u8]) -> Option<Piece<'_>>
+pub fn first_line(text: &[u8]) -> Option<LineAndRest<'_>>
     ensures shorter { IfSome result (λ piece. length piece.rest.now < length text.now) }
     ensures lines { MatchOption result (text.now ≡ [])
         (λ piece. lines_of text.now ≡ piece.line.now ∷ lines_of piece.rest.now) }
@@ -29,11 +29,11 @@ pub fn first_line(text: &[u8]) -> Option<Piece<'_>>
         return None;
     }
     match newline(text) {
-        Some(end) => Some(Piece {
+        Some(end) => Some(LineAndRest {
             line: without_return(&text[..end]),
             rest: &text[end + 1..],
         }),
-        None => Some(Piece {
+        None => Some(LineAndRest {
             line: text,
             rest: &[],
         }),
@@ -68,7 +68,7 @@ fn is_blank(line: &[u8]) -> bool
 }
 
 /// Returns the first line of a text that is not blank, and what follows it.
-pub(crate) fn first_written(text: &[u8]) -> Option<Piece<'_>>
+pub(crate) fn first_written(text: &[u8]) -> Option<LineAndRest<'_>>
     ensures shorter { IfSome result (λ piece. length piece.rest.now < length text.now) }
     ensures lines { MatchOption result
         (written_lines text.now ≡ [])

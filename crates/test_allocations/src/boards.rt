@@ -1,7 +1,7 @@
 //! Calls on the map: a line of three cities, with PRR's home in the middle.
 
 use crate::call::{Call, made};
-use crate::fault::Fault;
+use crate::fault::OutcomeFault;
 use crate::outcome::Outcome;
 use best_run::{Best, Keeping, Search, best};
 use board::{Asker, Board, BoardFault, LayFault, PlainBoard, TokenFault, TurnStep};
@@ -77,15 +77,15 @@ fn home() -> [(Place, Company); 1] {
 }
 
 /// Returns the line and the token.
-fn board(alloc: Global) -> Result<Board, Fault> {
+fn board(alloc: Global) -> Result<Board, OutcomeFault> {
     match Board::of(alloc, &line(), &home(), Kind::Two) {
         Ok(board) => Ok(board),
-        Err(_) => Err(Fault::Position),
+        Err(_) => Err(OutcomeFault::Position),
     }
 }
 
 /// Makes the board.
-pub fn lays_out(rt: &HostRuntime) -> Result<Outcome, Fault> {
+pub fn lays_out(rt: &HostRuntime) -> Result<Outcome, OutcomeFault> {
     Call::BoardOf.begin(rt)?;
     let answer = Board::of(rt.alloc(), &line(), &home(), Kind::Two);
     made(rt)?;
@@ -96,7 +96,7 @@ pub fn lays_out(rt: &HostRuntime) -> Result<Outcome, Fault> {
 }
 
 /// Makes the plain board: PRR's token lies on it.
-pub fn lays_out_plain(rt: &HostRuntime) -> Result<Outcome, Fault> {
+pub fn lays_out_plain(rt: &HostRuntime) -> Result<Outcome, OutcomeFault> {
     Call::PlainBoardOf.begin(rt)?;
     let answer = PlainBoard::of(rt.alloc(), &line(), &home(), Kind::Two);
     made(rt)?;
@@ -108,7 +108,7 @@ pub fn lays_out_plain(rt: &HostRuntime) -> Result<Outcome, Fault> {
 
 /// Lays tiles one after the other on an empty board. If one fails, the board is that of those
 /// before it.
-pub fn puts_lays(rt: &HostRuntime) -> Result<Outcome, Fault> {
+pub fn puts_lays(rt: &HostRuntime) -> Result<Outcome, OutcomeFault> {
     let mut board = Board::empty(rt.alloc(), Kind::Two);
     let tiles = [Hex::H6, Hex::H8, Hex::H14, Hex::F12, Hex::H16].map(straight);
     Call::PutLay.begin(rt)?;
@@ -136,7 +136,7 @@ fn put_lays(board: &mut Board, tiles: &[Lay]) -> usize {
 
 /// Places more tokens than are in the value of a board. If one fails, the board is that of those
 /// before it.
-pub fn puts_tokens(rt: &HostRuntime) -> Result<Outcome, Fault> {
+pub fn puts_tokens(rt: &HostRuntime) -> Result<Outcome, OutcomeFault> {
     let mut board = board(rt.alloc())?;
     Call::PutToken.begin(rt)?;
     let count = put_tokens(&mut board);
@@ -162,7 +162,7 @@ fn put_tokens(board: &mut Board) -> usize {
 }
 
 /// Tries a tile beyond the west end, which PRR reaches and may lay for nothing.
-pub fn tries_lay(rt: &HostRuntime) -> Result<Outcome, Fault> {
+pub fn tries_lay(rt: &HostRuntime) -> Result<Outcome, OutcomeFault> {
     let board = board(rt.alloc())?;
     let tile = laid(Hex::H8, TileNo::T9);
     Call::TryLay.begin(rt)?;
@@ -176,7 +176,7 @@ pub fn tries_lay(rt: &HostRuntime) -> Result<Outcome, Fault> {
 }
 
 /// Tries a second token, which costs 40.
-pub fn tries_token(rt: &HostRuntime) -> Result<Outcome, Fault> {
+pub fn tries_token(rt: &HostRuntime) -> Result<Outcome, OutcomeFault> {
     let board = board(rt.alloc())?;
     Call::TryToken.begin(rt)?;
     let answer = board.try_token(&asker(40), first(Hex::H10).place());
@@ -189,7 +189,7 @@ pub fn tries_token(rt: &HostRuntime) -> Result<Outcome, Fault> {
 }
 
 /// Finds what PRR reaches: the three cities.
-pub fn reaches(rt: &HostRuntime) -> Result<Outcome, Fault> {
+pub fn reaches(rt: &HostRuntime) -> Result<Outcome, OutcomeFault> {
     let board = board(rt.alloc())?;
     Call::Reached.begin(rt)?;
     let answer = reached(rt.alloc(), &board, PRR);
@@ -198,9 +198,9 @@ pub fn reaches(rt: &HostRuntime) -> Result<Outcome, Fault> {
 }
 
 /// The same on the plain board.
-pub fn reaches_plain(rt: &HostRuntime) -> Result<Outcome, Fault> {
+pub fn reaches_plain(rt: &HostRuntime) -> Result<Outcome, OutcomeFault> {
     let Ok(board) = PlainBoard::of(rt.alloc(), &line(), &home(), Kind::Two) else {
-        return Err(Fault::Position);
+        return Err(OutcomeFault::Position);
     };
     Call::ReachedPlain.begin(rt)?;
     let answer = reached(rt.alloc(), &board, PRR);
@@ -231,7 +231,7 @@ fn outcome_of(answer: Result<Best, AllocError>) -> Outcome {
 }
 
 /// Finds the best on the board.
-pub fn finds_best(rt: &HostRuntime) -> Result<Outcome, Fault> {
+pub fn finds_best(rt: &HostRuntime) -> Result<Outcome, OutcomeFault> {
     let board = board(rt.alloc())?;
     Call::Best.begin(rt)?;
     let answer = best(rt.alloc(), &board, PRR, &TRAINS);
@@ -240,9 +240,9 @@ pub fn finds_best(rt: &HostRuntime) -> Result<Outcome, Fault> {
 }
 
 /// Finds the best on the plain board.
-pub fn finds_best_plain(rt: &HostRuntime) -> Result<Outcome, Fault> {
+pub fn finds_best_plain(rt: &HostRuntime) -> Result<Outcome, OutcomeFault> {
     let Ok(board) = PlainBoard::of(rt.alloc(), &line(), &home(), Kind::Two) else {
-        return Err(Fault::Position);
+        return Err(OutcomeFault::Position);
     };
     Call::BestPlain.begin(rt)?;
     let answer = best(rt.alloc(), &board, PRR, &TRAINS);
@@ -251,7 +251,7 @@ pub fn finds_best_plain(rt: &HostRuntime) -> Result<Outcome, Fault> {
 }
 
 /// Finds the greatest revenue by the runner that searches.
-pub fn searches(rt: &HostRuntime) -> Result<Outcome, Fault> {
+pub fn searches(rt: &HostRuntime) -> Result<Outcome, OutcomeFault> {
     let board = board(rt.alloc())?;
     let mut search = Search::new(rt.alloc());
     Call::Search.begin(rt)?;
@@ -264,7 +264,7 @@ pub fn searches(rt: &HostRuntime) -> Result<Outcome, Fault> {
 }
 
 /// Keeps the best of one call after another. If one fails, those before it are kept.
-pub fn keeps(rt: &HostRuntime) -> Result<Outcome, Fault> {
+pub fn keeps(rt: &HostRuntime) -> Result<Outcome, OutcomeFault> {
     let board = board(rt.alloc())?;
     let mut keeping = Keeping::new(rt.alloc());
     Call::Keeping.begin(rt)?;

@@ -1,4 +1,4 @@
-use crate::fault::Fault;
+use crate::fault::OutcomeFault;
 use std::rt::Runtime;
 
 /// A call that allocates.
@@ -123,14 +123,14 @@ impl Call {
     }
 
     /// Writes its name: the call is to be made now.
-    pub fn begin(self, rt: &HostRuntime) -> Result<(), Fault> {
+    pub fn begin(self, rt: &HostRuntime) -> Result<(), OutcomeFault> {
         rt.print(self.name())?;
         Ok(())
     }
 }
 
 /// Writes that the call was made.
-pub fn made(rt: &HostRuntime) -> Result<(), Fault> {
+pub fn made(rt: &HostRuntime) -> Result<(), OutcomeFault> {
     rt.print(": made: ")?;
     Ok(())
 }

@@ -4,7 +4,7 @@ use thiserror::Error;
 
 /// Why no outcome is printed.
 #[derive(Clone, Copy, Debug, PartialEq, Eq, Drop, Error)]
-pub enum Fault {
+pub enum OutcomeFault {
     /// The position before the call cannot be built: an allocation failed, or a call that builds it
     /// returned something unexpected.
     #[error("the position before the call cannot be built")]
@@ -17,24 +17,24 @@ pub enum Fault {
     Io,
 }
 
-impl Fault {
+impl OutcomeFault {
     /// Returns the status that the program ends with.
     pub fn status(&self) -> u8 {
         match self {
-            Fault::Position | Fault::Name => 1,
-            Fault::Io => 4,
+            OutcomeFault::Position | OutcomeFault::Name => 1,
+            OutcomeFault::Io => 4,
         }
     }
 }
 
-impl From<AllocError> for Fault {
-    fn from(_error: AllocError) -> Fault {
-        Fault::Position
+impl From<AllocError> for OutcomeFault {
+    fn from(_error: AllocError) -> OutcomeFault {
+        OutcomeFault::Position
     }
 }
 
-impl From<io::Error> for Fault {
-    fn from(_error: io::Error) -> Fault {
-        Fault::Io
+impl From<io::Error> for OutcomeFault {
+    fn from(_error: io::Error) -> OutcomeFault {
+        OutcomeFault::Io
     }
 }

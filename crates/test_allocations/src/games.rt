@@ -1,7 +1,7 @@
 //! Calls on a whole game: one more event, its rounds.
 
 use crate::call::{Call, made};
-use crate::fault::Fault;
+use crate::fault::OutcomeFault;
 use crate::outcome::Outcome;
 use best_run::Search;
 use history::{Event, History, Holder, Party};
@@ -17,7 +17,7 @@ const ANN: Holder = Holder::Seat(Seat(0));
 const MANY: usize = 20;
 
 /// Adds events one after the other. If one fails, the game is that of those before it.
-pub fn appends(rt: &HostRuntime) -> Result<Outcome, Fault> {
+pub fn appends(rt: &HostRuntime) -> Result<Outcome, OutcomeFault> {
     let mut game = History::start(rt.alloc(), 3);
     Call::Append.begin(rt)?;
     let count = append_many(&mut game);
@@ -68,7 +68,7 @@ fn event(is_revenue: bool) -> Event {
 }
 
 /// Plays the first game, or the same with its order under a condition.
-pub fn plays(rt: &HostRuntime, sheets: &Sheets, call: Call) -> Result<Outcome, Fault> {
+pub fn plays(rt: &HostRuntime, sheets: &Sheets, call: Call) -> Result<Outcome, OutcomeFault> {
     call.begin(rt)?;
     let answer = play(rt.alloc(), sheets);
     made(rt)?;
@@ -79,7 +79,7 @@ pub fn plays(rt: &HostRuntime, sheets: &Sheets, call: Call) -> Result<Outcome, F
 }
 
 /// Plays the script with the runner that searches: PRR earns 30, of which ANN has 9.
-pub fn plays_with(rt: &HostRuntime, sheets: &Sheets) -> Result<Outcome, Fault> {
+pub fn plays_with(rt: &HostRuntime, sheets: &Sheets) -> Result<Outcome, OutcomeFault> {
     let mut search = Search::new(rt.alloc());
     Call::PlayWith.begin(rt)?;
     let answer = play_with(rt.alloc(), sheets, &mut search);
@@ -97,12 +97,12 @@ pub fn steps(
     sheets: &Sheets,
     call: Call,
     before: usize,
-) -> Result<Outcome, Fault> {
+) -> Result<Outcome, OutcomeFault> {
     let mut search = Search::new(rt.alloc());
     let mut play = Play::start(rt.alloc(), sheets)?;
     for _ in 0..before {
         if !has_stepped(&mut play, &mut search) {
-            return Err(Fault::Position);
+            return Err(OutcomeFault::Position);
         }
     }
     let last = play.last_round();

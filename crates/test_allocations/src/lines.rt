@@ -1,7 +1,7 @@
 //! Calls on texts: an order file, a line, marks.
 
 use crate::call::{Call, made};
-use crate::fault::Fault;
+use crate::fault::OutcomeFault;
 use crate::outcome::Outcome;
 use crate::texts::{FIRST, UNREAD};
 use certificate::{HexFault, print_hex, read_hex};
@@ -14,7 +14,7 @@ use tables::{Round, Seat};
 const OWED: &[u8; 30] = b"IF PRICE PRR >= 90 BUY PRR IPO";
 
 /// Collects the sheets of the first game: three players, and ANN's sheet is there.
-pub fn collects(rt: &HostRuntime) -> Result<Outcome, Fault> {
+pub fn collects(rt: &HostRuntime) -> Result<Outcome, OutcomeFault> {
     Call::Collect.begin(rt)?;
     let answer = collect(rt.alloc(), FIRST.as_bytes());
     made(rt)?;
@@ -28,7 +28,7 @@ pub fn collects(rt: &HostRuntime) -> Result<Outcome, Fault> {
 }
 
 /// Collects the sheets of a file with unread lines: their faults are kept.
-pub fn collects_unread(rt: &HostRuntime) -> Result<Outcome, Fault> {
+pub fn collects_unread(rt: &HostRuntime) -> Result<Outcome, OutcomeFault> {
     Call::CollectUnread.begin(rt)?;
     let answer = collect(rt.alloc(), UNREAD.as_bytes());
     made(rt)?;
@@ -39,9 +39,9 @@ pub fn collects_unread(rt: &HostRuntime) -> Result<Outcome, Fault> {
 }
 
 /// Prints the order of a line that is spelt otherwise.
-pub fn prints_line(rt: &HostRuntime) -> Result<Outcome, Fault> {
+pub fn prints_line(rt: &HostRuntime) -> Result<Outcome, OutcomeFault> {
     let Ok(line) = read_line(b"run 2 h12.0  H10.0 # x") else {
-        return Err(Fault::Position);
+        return Err(OutcomeFault::Position);
     };
     Call::PrintLine.begin(rt)?;
     let answer = print_line(rt.alloc(), &line.order);
@@ -53,9 +53,9 @@ pub fn prints_line(rt: &HostRuntime) -> Result<Outcome, Fault> {
 }
 
 /// Prints an order under its condition, of a line that is spelt otherwise.
-pub fn prints_conditional(rt: &HostRuntime) -> Result<Outcome, Fault> {
+pub fn prints_conditional(rt: &HostRuntime) -> Result<Outcome, OutcomeFault> {
     let Ok(line) = read_line_in(Version::Two, b"if price prr  >= 090 buy PRR ipo") else {
-        return Err(Fault::Position);
+        return Err(OutcomeFault::Position);
     };
     Call::PrintConditional.begin(rt)?;
     let answer = print_conditional(rt.alloc(), line.condition.as_ref(), &line.order);
@@ -67,7 +67,7 @@ pub fn prints_conditional(rt: &HostRuntime) -> Result<Outcome, Fault> {
 }
 
 /// Reads the marks of a small tree, and three 0 bits after them.
-pub fn reads_hex(rt: &HostRuntime) -> Result<Outcome, Fault> {
+pub fn reads_hex(rt: &HostRuntime) -> Result<Outcome, OutcomeFault> {
     Call::ReadHex.begin(rt)?;
     let answer = read_hex(rt.alloc(), b"BEFB8");
     made(rt)?;
@@ -82,7 +82,7 @@ pub fn reads_hex(rt: &HostRuntime) -> Result<Outcome, Fault> {
 }
 
 /// Prints 40 bits of the value 1.
-pub fn prints_hex(rt: &HostRuntime) -> Result<Outcome, Fault> {
+pub fn prints_hex(rt: &HostRuntime) -> Result<Outcome, OutcomeFault> {
     let bits = [true; 40];
     Call::PrintHex.begin(rt)?;
     let answer = print_hex(rt.alloc(), &bits);

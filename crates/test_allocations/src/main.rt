@@ -24,7 +24,7 @@ mod rounds_played;
 mod texts;
 
 use call::Call;
-use fault::Fault;
+use fault::OutcomeFault;
 use outcome::Outcome;
 use sheets::collect;
 use std::env;
@@ -43,7 +43,7 @@ fn main(rt: HostRuntime) -> ExitCode {
 }
 
 /// Makes the call that the command line names, or each if it names none.
-fn make_all(rt: &HostRuntime) -> Result<(), Fault> {
+fn make_all(rt: &HostRuntime) -> Result<(), OutcomeFault> {
     let words: Vec<String> = env::args(rt)?.collect(rt.alloc())?;
     let named = words.get(1);
     let mut count: usize = 0;
@@ -53,17 +53,21 @@ fn make_all(rt: &HostRuntime) -> Result<(), Fault> {
             count = count.saturating_add(1);
         }
     }
-    if count == 0 { Err(Fault::Name) } else { Ok(()) }
+    if count == 0 {
+        Err(OutcomeFault::Name)
+    } else {
+        Ok(())
+    }
 }
 
 /// Prints what became of a call, and ends its line.
-fn print_outcome(rt: &HostRuntime, outcome: Outcome) -> Result<(), Fault> {
+fn print_outcome(rt: &HostRuntime, outcome: Outcome) -> Result<(), OutcomeFault> {
     rt.println(outcome.text())?;
     Ok(())
 }
 
 /// Makes a call.
-fn make(rt: &HostRuntime, call: Call) -> Result<Outcome, Fault> {
+fn make(rt: &HostRuntime, call: Call) -> Result<Outcome, OutcomeFault> {
     match call {
         Call::Collect => lines::collects(rt),
         Call::CollectUnread => lines::collects_unread(rt),
@@ -97,9 +101,9 @@ fn make(rt: &HostRuntime, call: Call) -> Result<Outcome, Fault> {
 }
 
 /// Makes a call on the sheets of an order file.
-fn make_on(rt: &HostRuntime, call: Call, file: &str) -> Result<Outcome, Fault> {
+fn make_on(rt: &HostRuntime, call: Call, file: &str) -> Result<Outcome, OutcomeFault> {
     let Ok(sheets) = collect(rt.alloc(), file.as_bytes()) else {
-        return Err(Fault::Position);
+        return Err(OutcomeFault::Position);
     };
     match call {
         Call::PlayOpening => rounds_played::plays_opening(rt, &sheets),
@@ -117,6 +121,6 @@ fn make_on(rt: &HostRuntime, call: Call, file: &str) -> Result<Outcome, Fault> {
         Call::RoundText => reports::writes_round(rt, &sheets),
         Call::Report => reports::writes_all(rt, &sheets),
         Call::ReportUnread => reports::writes_unread(rt, &sheets),
-        _ => Err(Fault::Name),
+        _ => Err(OutcomeFault::Name),
     }
 }

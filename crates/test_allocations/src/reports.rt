@@ -1,7 +1,7 @@
 //! Calls that write a game as text.
 
 use crate::call::{Call, made};
-use crate::fault::Fault;
+use crate::fault::OutcomeFault;
 use crate::games::has_stepped;
 use crate::outcome::Outcome;
 use crate::texts::{AWAITED, FIRST_ROUND, HEADER, UNREAD_LINES};
@@ -22,7 +22,7 @@ fn outcome_of(answer: Result<Vec<u8>, AllocError>, owed: &str) -> Outcome {
 }
 
 /// Writes the header of the first game.
-pub fn writes_header(rt: &HostRuntime, sheets: &Sheets) -> Result<Outcome, Fault> {
+pub fn writes_header(rt: &HostRuntime, sheets: &Sheets) -> Result<Outcome, OutcomeFault> {
     Call::HeaderText.begin(rt)?;
     let answer = header_text(rt.alloc(), sheets);
     made(rt)?;
@@ -30,11 +30,11 @@ pub fn writes_header(rt: &HostRuntime, sheets: &Sheets) -> Result<Outcome, Fault
 }
 
 /// Writes its round, as it was played last.
-pub fn writes_next(rt: &HostRuntime, sheets: &Sheets) -> Result<Outcome, Fault> {
+pub fn writes_next(rt: &HostRuntime, sheets: &Sheets) -> Result<Outcome, OutcomeFault> {
     let mut search = Search::new(rt.alloc());
     let mut play = Play::start(rt.alloc(), sheets)?;
     if !has_stepped(&mut play, &mut search) {
-        return Err(Fault::Position);
+        return Err(OutcomeFault::Position);
     }
     Call::NextText.begin(rt)?;
     let answer = next_text(rt.alloc(), &play);
@@ -43,17 +43,17 @@ pub fn writes_next(rt: &HostRuntime, sheets: &Sheets) -> Result<Outcome, Fault> 
 }
 
 /// Writes what follows its round.
-pub fn writes_end(rt: &HostRuntime, sheets: &Sheets) -> Result<Outcome, Fault> {
+pub fn writes_end(rt: &HostRuntime, sheets: &Sheets) -> Result<Outcome, OutcomeFault> {
     let mut search = Search::new(rt.alloc());
     let mut play = Play::start(rt.alloc(), sheets)?;
     if !has_stepped(&mut play, &mut search) {
-        return Err(Fault::Position);
+        return Err(OutcomeFault::Position);
     }
     ends(rt, &mut play, &mut search)
 }
 
 /// Writes what follows the rounds of a play that has reached its end.
-fn ends(rt: &HostRuntime, play: &mut Play, search: &mut Search) -> Result<Outcome, Fault> {
+fn ends(rt: &HostRuntime, play: &mut Play, search: &mut Search) -> Result<Outcome, OutcomeFault> {
     match play.step(search) {
         Ok(Step::Ended(_)) => {
             Call::EndText.begin(rt)?;
@@ -61,12 +61,12 @@ fn ends(rt: &HostRuntime, play: &mut Play, search: &mut Search) -> Result<Outcom
             made(rt)?;
             Ok(outcome_of(answer, AWAITED))
         }
-        Ok(Step::Played(_)) | Err(_) => Err(Fault::Position),
+        Ok(Step::Played(_)) | Err(_) => Err(OutcomeFault::Position),
     }
 }
 
 /// Writes its round, looked back at.
-pub fn writes_round(rt: &HostRuntime, sheets: &Sheets) -> Result<Outcome, Fault> {
+pub fn writes_round(rt: &HostRuntime, sheets: &Sheets) -> Result<Outcome, OutcomeFault> {
     let game = play(rt.alloc(), sheets)?;
     Call::RoundText.begin(rt)?;
     let answer = round_text(rt.alloc(), &game, Round::Opening(1));
@@ -75,7 +75,7 @@ pub fn writes_round(rt: &HostRuntime, sheets: &Sheets) -> Result<Outcome, Fault>
 }
 
 /// Writes the whole report.
-pub fn writes_all(rt: &HostRuntime, sheets: &Sheets) -> Result<Outcome, Fault> {
+pub fn writes_all(rt: &HostRuntime, sheets: &Sheets) -> Result<Outcome, OutcomeFault> {
     let game = play(rt.alloc(), sheets)?;
     Call::Report.begin(rt)?;
     let answer = report(rt.alloc(), &game);
@@ -84,7 +84,7 @@ pub fn writes_all(rt: &HostRuntime, sheets: &Sheets) -> Result<Outcome, Fault> {
 }
 
 /// The whole report of a file with unread lines.
-pub fn writes_unread(rt: &HostRuntime, sheets: &Sheets) -> Result<Outcome, Fault> {
+pub fn writes_unread(rt: &HostRuntime, sheets: &Sheets) -> Result<Outcome, OutcomeFault> {
     let game = play(rt.alloc(), sheets)?;
     Call::ReportUnread.begin(rt)?;
     let answer = report(rt.alloc(), &game);

@@ -1,7 +1,7 @@
 //! Calls that play a round, or a company's turn, and take the game by value.
 
 use crate::call::{Call, made};
-use crate::fault::Fault;
+use crate::fault::OutcomeFault;
 use crate::outcome::Outcome;
 use best_run::Search;
 use certificate::RunnerFault;
@@ -16,7 +16,7 @@ use tables::{Company, Round, Seat};
 const PRR: Company = Company::Pennsylvania;
 
 /// Plays the opening round: all six privates are sold.
-pub fn plays_opening(rt: &HostRuntime, sheets: &Sheets) -> Result<Outcome, Fault> {
+pub fn plays_opening(rt: &HostRuntime, sheets: &Sheets) -> Result<Outcome, OutcomeFault> {
     let game = History::start(rt.alloc(), sheets.seats());
     Call::PlayOpening.begin(rt)?;
     let answer = play_opening(rt.alloc(), game, sheets, Round::Opening(1));
@@ -28,7 +28,7 @@ pub fn plays_opening(rt: &HostRuntime, sheets: &Sheets) -> Result<Outcome, Fault
 }
 
 /// Plays a stock round in which nothing has happened before: ANN starts PRR.
-pub fn plays_stock(rt: &HostRuntime, sheets: &Sheets) -> Result<Outcome, Fault> {
+pub fn plays_stock(rt: &HostRuntime, sheets: &Sheets) -> Result<Outcome, OutcomeFault> {
     let game = History::start(rt.alloc(), sheets.seats());
     Call::PlayStock.begin(rt)?;
     let answer = play_stock(rt.alloc(), game, sheets, Round::Stock(1));
@@ -40,15 +40,15 @@ pub fn plays_stock(rt: &HostRuntime, sheets: &Sheets) -> Result<Outcome, Fault> 
 }
 
 /// Plays PRR's first turn: it lays a tile.
-pub fn plays_company(rt: &HostRuntime, sheets: &Sheets) -> Result<Outcome, Fault> {
+pub fn plays_company(rt: &HostRuntime, sheets: &Sheets) -> Result<Outcome, OutcomeFault> {
     let game = History::start(rt.alloc(), sheets.seats());
     let game = play_opening(rt.alloc(), game, sheets, Round::Opening(1))?;
     if game.seats() != sheets.seats() {
-        return Err(Fault::Position);
+        return Err(OutcomeFault::Position);
     }
     let game = play_stock(rt.alloc(), game, sheets, Round::Stock(1))?;
     if game.seats() != sheets.seats() || !game.floated(PRR) {
-        return Err(Fault::Position);
+        return Err(OutcomeFault::Position);
     }
     let mut search = Search::new(rt.alloc());
     let round = Round::Operating { set: 1, number: 1 };

@@ -10,7 +10,7 @@ use Rattle.map_tables.specs.declared.hex.Hex.TheVariants.{A11, G11, G13, H10, H1
 use Rattle.map_tables.specs.declared.place.StopNumber.TheVariants.{First}
 use Rattle.map_tables.specs.declared.side.Side.{Side}
 use Rattle.map_tables.specs.declared.side.Side.TheVariants.{SouthWest, West, NorthWest, NorthEast, East, SouthEast}
-use Rattle.map_tables.specs.declared.track.End.TheVariants.{Side as AtSide, Stop as AtStop}
+use Rattle.map_tables.specs.declared.track.TrackEnd.TheVariants.{Side as AtSide, Stop as AtStop}
 use Rattle.map_tables.specs.declared.track.Link.{Link}
 use Rattle.test_libraries.specs.declared.four_stops.Standing.{Standing}
 use Rattle.map_tables.specs.Place.{stop_index_of}

@@ -2,7 +2,7 @@
 
 use board::{Asker, Board, BoardFault, LayFault, TokenFault, TurnStep};
 use map_tables::{
-    End, Hex, Lay, LayRule, Place, Rotation, Side, Stop, StopNumber, TileNo, TokenRule,
+    Hex, Lay, LayRule, Place, Rotation, Side, Stop, StopNumber, TileNo, TokenRule, TrackEnd,
 };
 use reach::{Network, reached};
 use std::alloc::Global;
@@ -101,8 +101,8 @@ fn puts_a_swapped_tile(rt: HostRuntime) {
     let leaves = links
         .as_slice()
         .iter()
-        .find(|link| link.b == End::Stop(StopNumber::First));
-    assert!(rt; leaves.map(|link| link.a) == Some(End::Side(Side::NorthWest)));
+        .find(|link| link.b == TrackEnd::Stop(StopNumber::First));
+    assert!(rt; leaves.map(|link| link.a) == Some(TrackEnd::Side(Side::NorthWest)));
     assert_eq!(rt;
         board.try_lay(&erie, swapped),
         Err(LayFault::Rule(LayRule::WrongTile))

@@ -5,7 +5,7 @@ ghost use Rattle.map_tables.specs.declared.place.StopNumber.TheVariants.{First};
 ghost use Rattle.reach.specs.Position.{at_stop};
 
 use arrayvec::ArrayVec;
-use map_tables::{End, Hex, Link, Links, Side, Stop, StopNumber, joined_stop};
+use map_tables::{Hex, Link, Links, Side, Stop, StopNumber, TrackEnd, joined_stop};
 use reach::Network;
 use tables::{Amount, Company};
 
@@ -86,8 +86,8 @@ fn spoke(hex: Hex, side: Side) -> Link
 {
     Link {
         hex,
-        a: End::Side(side),
-        b: End::Stop(StopNumber::First),
+        a: TrackEnd::Side(side),
+        b: TrackEnd::Stop(StopNumber::First),
     }
 }
 
@@ -113,8 +113,8 @@ fn links_in(hex: Hex) -> Links
         Hex::H12 => {
             links.push(Link {
                 hex,
-                a: End::Side(Side::West),
-                b: End::Side(Side::NorthWest),
+                a: TrackEnd::Side(Side::West),
+                b: TrackEnd::Side(Side::NorthWest),
             });
             links.push(spoke(hex, Side::West));
             links.push(spoke(hex, Side::NorthWest));

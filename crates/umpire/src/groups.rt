@@ -7,12 +7,12 @@ ghost use Rattle.order_grammar.specs.Words.{texts_of};
 
 use certificate::{Bits, Claim, ClaimedRun, ClaimedRuns, Group};
 use order_grammar::{Line, Order, Words, begins_with_word, read_cert_line};
-use sheets::{Piece, first_line};
+use sheets::{LineAndRest, first_line};
 use std::alloc::{AllocError, Global};
 
 /// Returns the next line of a text of certificates that begins a group, and the text after it.
 /// `None` means that none is left.
-pub(crate) fn next_head(text: &[u8]) -> Option<Piece<'_>>
+pub(crate) fn next_head(text: &[u8]) -> Option<LineAndRest<'_>>
     ensures { MatchOption result (groups_of text.now ≡ [])
         (λ head. groups_of text.now ≡
         group_behind head.line.now head.rest.now ∷ groups_of head.rest.now) }

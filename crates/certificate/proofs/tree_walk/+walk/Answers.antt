@@ -5,7 +5,7 @@ use Rattle.map_tables.specs.declared.hex.Hex.{Hex}
 use Rattle.map_tables.specs.Place.{stop_at}
 use Rattle.map_tables.specs.declared.place.Stop.{Stop}
 use Rattle.map_tables.specs.declared.side.Side.{Side}
-use Rattle.map_tables.specs.declared.track.End.TheVariants.{Side as AtSide, Stop as AtStop}
+use Rattle.map_tables.specs.declared.track.TrackEnd.TheVariants.{Side as AtSide, Stop as AtStop}
 use Rattle.map_tables.specs.declared.track.Link.{Link}
 use Rattle.reach.proofs.Lists.{among_at}
 use Rattle.reach.specs.Position.{IsAmong, links_of}
@@ -13,7 +13,7 @@ use Rattle.reach.specs.Reached.{stop_order}
 use Rattle.reach.specs.Search.{twin_of}
 use Rattle.reach.specs.Walk.{across, across_end, entered_at, left_at, spot_at, stop_of}
 use Rattle.reach.specs.declared.walk.Spot.{Spot}
-use Rattle.reach.specs.declared.walk.Step.{Step}
+use Rattle.reach.specs.declared.walk.WalkStep.{WalkStep}
 use Rattle.reach.proofs.Collected.{none_marked}
 use Rattle.reach.proofs.Spots.{names_itself, order_low}
 use Rattle.reach.proofs.Looking.{twin_joined}
@@ -239,11 +239,11 @@ leave-returns-in_default-clause-walks g t c = λ assigned steps stops at_node co
     let tree = c.args.tree.now in
     let stop : Stop = c.args.stop in
     let node : Node = node_at tree c.args.begun.now assigned steps in
-    let test : Step → Bool = goes_over (taken_borders node) in
-    let at_own : (step : Step) → entered_at step ≡ spot_at stop.hex (AtStop stop.number) → Continues steps stops step =
+    let test : WalkStep → Bool = goes_over (taken_borders node) in
+    let at_own : (step : WalkStep) → entered_at step ≡ spot_at stop.hex (AtStop stop.number) → Continues steps stops step =
     λ step at. continues step (ap stop_of at ∙ ap (λ (s : Stop). Some s) named) in
     let walk = c.follow.ensures.walks assigned steps stops at_node at_own in
-    subst (λ (l : List Step). WalksOver g.D.Decider.decides position tree c.args.decider.now (with_steps test node l) c.follow.result
+    subst (λ (l : List WalkStep). WalksOver g.D.Decider.decides position tree c.args.decider.now (with_steps test node l) c.follow.result
     c.follow.new.decider) (sym (one_hex position stop (sym c.twin.ensures ∙ c.in_default.is))) walk
 
 pub leave-returns-then-not-follow-clause-walks : goal.leave-returns-then-not-follow-clause-walks
@@ -252,14 +252,14 @@ leave-returns-then-not-follow-clause-walks g t c = λ assigned steps stops at_no
     let tree = c.args.tree.now in
     let stop : Stop = c.args.stop in
     let node : Node = node_at tree c.args.begun.now assigned steps in
-    let test : Step → Bool = goes_over (taken_borders node) in
-    let at_own : (step : Step) → entered_at step ≡ spot_at stop.hex (AtStop stop.number) → Continues steps stops step =
+    let test : WalkStep → Bool = goes_over (taken_borders node) in
+    let at_own : (step : WalkStep) → entered_at step ≡ spot_at stop.hex (AtStop stop.number) → Continues steps stops step =
     λ step at. continues step (ap stop_of at ∙ ap (λ (s : Stop). Some s) named) in
     let other : Hex = c.in-Some.other in
     let beside : twin_of stop.hex ≡ Some other = sym c.twin.ensures ∙ c.in-Some.is in
     let first : List Node = with_steps test node (steps_at position other (AtStop stop.number)) in
     let second : List Node = with_steps test node (steps_at position stop.hex (AtStop stop.number)) in
-    let at_other : (step : Step) → entered_at step ≡ spot_at other (AtStop stop.number) → Continues steps stops step =
+    let at_other : (step : WalkStep) → entered_at step ≡ spot_at other (AtStop stop.number) → Continues steps stops step =
     λ step at. continues step (ap stop_of at ∙ ap (λ (h : Hex). Some (stop_at h stop.number)) (twin_joined stop.hex other beside)) in
     let walk = c.follow-2.ensures.walks assigned steps stops at_node at_other in
     subst (λ (l : List Node). WalksOver g.D.Decider.decides position tree c.args.decider.now l false c.follow-2.new.decider)
@@ -274,14 +274,14 @@ leave-returns-clause-walks g t c = λ assigned steps stops at_node continues nam
     let tree = c.args.tree.now in
     let stop : Stop = c.args.stop in
     let node : Node = node_at tree c.args.begun.now assigned steps in
-    let test : Step → Bool = goes_over (taken_borders node) in
-    let at_own : (step : Step) → entered_at step ≡ spot_at stop.hex (AtStop stop.number) → Continues steps stops step =
+    let test : WalkStep → Bool = goes_over (taken_borders node) in
+    let at_own : (step : WalkStep) → entered_at step ≡ spot_at stop.hex (AtStop stop.number) → Continues steps stops step =
     λ step at. continues step (ap stop_of at ∙ ap (λ (s : Stop). Some s) named) in
     let other : Hex = c.in-Some.other in
     let beside : twin_of stop.hex ≡ Some other = sym c.twin.ensures ∙ c.in-Some.is in
     let first : List Node = with_steps test node (steps_at position other (AtStop stop.number)) in
     let second : List Node = with_steps test node (steps_at position stop.hex (AtStop stop.number)) in
-    let at_other : (step : Step) → entered_at step ≡ spot_at other (AtStop stop.number) → Continues steps stops step =
+    let at_other : (step : WalkStep) → entered_at step ≡ spot_at other (AtStop stop.number) → Continues steps stops step =
     λ step at. continues step (ap stop_of at ∙ ap (λ (h : Hex). Some (stop_at h stop.number)) (twin_joined stop.hex other beside)) in
     let walk = c.follow-2.ensures.walks assigned steps stops at_node at_other in
     let later = c.follow-3.ensures.walks assigned steps stops
@@ -303,7 +303,7 @@ follow-loop-link-init g t c = (
       let tree = c.args.tree.now in
       let at = c.args.at in
       let node : Node = node_at tree c.args.begun.now assigned steps in
-      let test : Step → Bool = may_take (reached_in tree) node at.end in
+      let test : WalkStep → Bool = may_take (reached_in tree) node at.end in
       let items : List Link = c.at-link-items.result.now in
       let all : List Node = with_steps test node (steps_at position at.hex at.end) in
       subst (λ (l : List Link). LeavesOver g.D.Decider.decides position tree c.args.decider.now all c.args.decider.now
@@ -322,7 +322,7 @@ follow-returns-then-not-take-clause-walks g t c = λ assigned steps stops at_nod
     let tree = c.args.tree.now in
     let at = c.args.at in
     let node : Node = node_at tree c.args.begun.now assigned steps in
-    let test : Step → Bool = may_take (reached_in tree) node at.end in
+    let test : WalkStep → Bool = may_take (reached_in tree) node at.end in
     let items : List Link = c.at-link-items.result.now in
     let all : List Node = with_steps test node (steps_at position at.hex at.end) in
     let is : items ≡ links_of position at.hex = c.at-link-items.ensures position at_node.tree_is.links in
@@ -353,7 +353,7 @@ follow-loop-link-preserved g t c = (
       let tree = c.args.tree.now in
       let at = c.args.at in
       let node : Node = node_at tree c.args.begun.now assigned steps in
-      let test : Step → Bool = may_take (reached_in tree) node at.end in
+      let test : WalkStep → Bool = may_take (reached_in tree) node at.end in
       let items : List Link = c.at-link-items.result.now in
       let all : List Node = with_steps test node (steps_at position at.hex at.end) in
       let is : items ≡ links_of position at.hex = c.at-link-items.ensures position at_node.tree_is.links in
@@ -376,7 +376,7 @@ follow-returns-clause-walks g t c = λ assigned steps stops at_node continues.
     let tree = c.args.tree.now in
     let at = c.args.at in
     let node : Node = node_at tree c.args.begun.now assigned steps in
-    let test : Step → Bool = may_take (reached_in tree) node at.end in
+    let test : WalkStep → Bool = may_take (reached_in tree) node at.end in
     let items : List Link = c.at-link-items.result.now in
     let all : List Node = with_steps test node (steps_at position at.hex at.end) in
     things_over g.D.Decider.decides position tree (steps_by at.end) test node items c.args.decider.now
@@ -396,7 +396,7 @@ take-returns-in_default-clause-walks g t c = λ assigned steps stops at_node amo
     let at = c.args.at in
     let link = c.args.link in
     let node : Node = node_at tree c.args.begun.now assigned steps in
-    let test : Step → Bool = may_take (reached_in tree) node at.end in
+    let test : WalkStep → Bool = may_take (reached_in tree) node at.end in
     over_none g.D.Decider.decides position tree c.args.decider.now (with_steps test node (steps_by at.end link))
     (no_step_found test node at.end link c.step_into.result c.in_default.is c.step_into.ensures)
 
@@ -407,8 +407,8 @@ take-returns-in_default-stop-clause-walks g t c = λ assigned steps stops at_nod
     let at = c.args.at in
     let link = c.args.link in
     let node : Node = node_at tree c.args.begun.now assigned steps in
-    let test : Step → Bool = may_take (reached_in tree) node at.end in
-    let step : Step = c.in-Some.step in
+    let test : WalkStep → Bool = may_take (reached_in tree) node at.end in
+    let step : WalkStep = c.in-Some.step in
     let made : Node = with_step node step in
     let one : node_if (test step) made ≡ with_steps test node (steps_by at.end link) =
     step_found test node at.end link c.step_into.result step c.in-Some.is c.step_into.ensures in
@@ -427,8 +427,8 @@ take-returns-in_default-end-clause-walks g t c = λ assigned steps stops at_node
     let at = c.args.at in
     let link = c.args.link in
     let node : Node = node_at tree c.args.begun.now assigned steps in
-    let test : Step → Bool = may_take (reached_in tree) node at.end in
-    let step : Step = c.in-Some.step in
+    let test : WalkStep → Bool = may_take (reached_in tree) node at.end in
+    let step : WalkStep = c.in-Some.step in
     let made : Node = with_step node step in
     let one : node_if (test step) made ≡ with_steps test node (steps_by at.end link) =
     step_found test node at.end link c.step_into.result step c.in-Some.is c.step_into.ensures in
@@ -447,8 +447,8 @@ take-returns-then-not-reaches-clause-walks g t c = λ assigned steps stops at_no
     let at = c.args.at in
     let link = c.args.link in
     let node : Node = node_at tree c.args.begun.now assigned steps in
-    let test : Step → Bool = may_take (reached_in tree) node at.end in
-    let step : Step = c.in-Some.step in
+    let test : WalkStep → Bool = may_take (reached_in tree) node at.end in
+    let step : WalkStep = c.in-Some.step in
     let made : Node = with_step node step in
     let one : node_if (test step) made ≡ with_steps test node (steps_by at.end link) =
     step_found test node at.end link c.step_into.result step c.in-Some.is c.step_into.ensures in
@@ -472,8 +472,8 @@ take-returns-then-has-clause-walks g t c = λ assigned steps stops at_node among
     let at = c.args.at in
     let link = c.args.link in
     let node : Node = node_at tree c.args.begun.now assigned steps in
-    let test : Step → Bool = may_take (reached_in tree) node at.end in
-    let step : Step = c.in-Some.step in
+    let test : WalkStep → Bool = may_take (reached_in tree) node at.end in
+    let step : WalkStep = c.in-Some.step in
     let made : Node = with_step node step in
     let one : node_if (test step) made ≡ with_steps test node (steps_by at.end link) =
     step_found test node at.end link c.step_into.result step c.in-Some.is c.step_into.ensures in
@@ -502,8 +502,8 @@ take-returns-clause-walks g t c = λ assigned steps stops at_node among continue
     let at = c.args.at in
     let link = c.args.link in
     let node : Node = node_at tree c.args.begun.now assigned steps in
-    let test : Step → Bool = may_take (reached_in tree) node at.end in
-    let step : Step = c.in-Some.step in
+    let test : WalkStep → Bool = may_take (reached_in tree) node at.end in
+    let step : WalkStep = c.in-Some.step in
     let made : Node = with_step node step in
     let one : node_if (test step) made ≡ with_steps test node (steps_by at.end link) =
     step_found test node at.end link c.step_into.result step c.in-Some.is c.step_into.ensures in
@@ -685,7 +685,7 @@ at_stop-returns-in-Cut-clause-walks g t c = λ assigned before step at_node two 
     let position = g.N.Network.position c.args.network.now in
     let tree = c.args.tree.now in
     let begun = c.args.begun.now in
-    let steps : List Step = step ∷ before in
+    let steps : List WalkStep = step ∷ before in
     let node : Node = node_at tree begun assigned steps in
     one_cut g.D.Decider.decides position tree c.args.decider.now c.ask.new.decider node
     (c.in-Cut.ensures position c.args.used.now assigned (step ∷ before) at_node)
@@ -695,7 +695,7 @@ at_stop-returns-in-Stop-clause-walks g t c = λ assigned before step at_node two
     let position = g.N.Network.position c.args.network.now in
     let tree = c.args.tree.now in
     let begun = c.args.begun.now in
-    let steps : List Step = step ∷ before in
+    let steps : List WalkStep = step ∷ before in
     let node : Node = node_at tree begun assigned steps in
     one_end g.D.Decider.decides position tree c.args.decider.now c.ask.new.decider node
     (c.in-Stop.ensures position c.args.used.now assigned (step ∷ before) at_node)
@@ -705,7 +705,7 @@ at_stop-returns-then-not-begun-clause-walks g t c = λ assigned before step at_n
     let position = g.N.Network.position c.args.network.now in
     let tree = c.args.tree.now in
     let begun = c.args.begun.now in
-    let steps : List Step = step ∷ before in
+    let steps : List WalkStep = step ∷ before in
     let node : Node = node_at tree begun assigned steps in
     let run : List TrainRun = with_run begun assigned steps in
     let passed : List Node = from_stop position tree.company (reached_in tree) node begun.kind c.args.stop in
@@ -725,7 +725,7 @@ at_stop-returns-then-not-choose-clause-walks g t c = λ assigned before step at_
     let position = g.N.Network.position c.args.network.now in
     let tree = c.args.tree.now in
     let begun = c.args.begun.now in
-    let steps : List Step = step ∷ before in
+    let steps : List WalkStep = step ∷ before in
     let node : Node = node_at tree begun assigned steps in
     let run : List TrainRun = with_run begun assigned steps in
     let passed : List Node = from_stop position tree.company (reached_in tree) node begun.kind c.args.stop in
@@ -752,7 +752,7 @@ at_stop-returns-clause-walks g t c = λ assigned before step at_node two at.
     let position = g.N.Network.position c.args.network.now in
     let tree = c.args.tree.now in
     let begun = c.args.begun.now in
-    let steps : List Step = step ∷ before in
+    let steps : List WalkStep = step ∷ before in
     let node : Node = node_at tree begun assigned steps in
     let run : List TrainRun = with_run begun assigned steps in
     let passed : List Node = from_stop position tree.company (reached_in tree) node begun.kind c.args.stop in
@@ -783,7 +783,7 @@ pass-returns-then-ends_at-clause-walks g t c = λ assigned before step at_node a
     let position = g.N.Network.position c.args.network.now in
     let tree = c.args.tree.now in
     let begun = c.args.begun.now in
-    let steps : List Step = step ∷ before in
+    let steps : List WalkStep = step ∷ before in
     let node : Node = node_at tree begun assigned steps in
     let stop : Stop = c.args.stop in
     let last : is_last_stop position tree.company (reached_in tree) node begun.kind stop ≡ true =
@@ -798,7 +798,7 @@ pass-returns-clause-walks g t c = λ assigned before step at_node at.
     let position = g.N.Network.position c.args.network.now in
     let tree = c.args.tree.now in
     let begun = c.args.begun.now in
-    let steps : List Step = step ∷ before in
+    let steps : List WalkStep = step ∷ before in
     let node : Node = node_at tree begun assigned steps in
     let stop : Stop = c.args.stop in
     let last : is_last_stop position tree.company (reached_in tree) node begun.kind stop ≡ false =

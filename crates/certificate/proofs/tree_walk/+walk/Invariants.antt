@@ -3,7 +3,7 @@ use Rattle.std.proofs.Common.{◌≡◌, ◌+◌, ◌-◌, ◌*◌, ◌<◌, ◌
 use Rattle.std.proofs.Common.{replicate}
 use Rattle.map_tables.specs.declared.place.Stop.{Stop}
 use Rattle.reach.specs.Walk.{entered_at}
-use Rattle.reach.specs.declared.walk.Step.{Step}
+use Rattle.reach.specs.declared.walk.WalkStep.{WalkStep}
 use Rattle.legal_runs.specs.Set.{TrainRun}
 use Rattle.certificate.specs.Tree.{for_each, goes_over, run_borders, setting_out, taken_borders, with_steps, steps_at}
 use Rattle.certificate.specs.Tree.{steps_by, steps_from}
@@ -72,9 +72,9 @@ invariant-set_out-loop-stop g l =
 abbrev pub invariant-follow-loop-link : goal.invariant-follow-loop-link
 invariant-follow-loop-link g l =
     (l.used ≡ l.fn.used) × (l.seen ≡ l.fn.seen)
-    × ((assigned : List TrainRun) (steps : List Step) (stops : List Stop) →
+    × ((assigned : List TrainRun) (steps : List WalkStep) (stops : List Stop) →
     IsOnRun (g.N.Network.position l.network) l.tree l.begun l.fn.used l.fn.seen assigned steps stops →
-    ((step : Step) → entered_at step ≡ l.fn.at → Continues steps stops step) →
+    ((step : WalkStep) → entered_at step ≡ l.fn.at → Continues steps stops step) →
     LeavesOver g.D.Decider.decides (g.N.Network.position l.network) l.tree l.fn.decider
     (with_steps (may_take (reached_in l.tree) (node_at l.tree l.begun assigned steps) l.fn.at.end)
     (node_at l.tree l.begun assigned steps) (steps_at (g.N.Network.position l.network) l.fn.at.hex l.fn.at.end))

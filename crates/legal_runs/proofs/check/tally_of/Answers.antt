@@ -1,7 +1,7 @@
 -- The place in hand is one leg further.
 use Rattle.std.proofs.Common.{◌≡◌, ◌≤◌, List, length, ap, sym, ◌∙◌, subst, arith}
 use Rattle.map_tables.specs.declared.place.Place.{Place}
-use Rattle.map_tables.specs.declared.track.End.{End}
+use Rattle.map_tables.specs.declared.track.TrackEnd.{TrackEnd}
 use Rattle.legal_runs.specs.Named.{arrived, made_along}
 use Rattle.legal_runs.specs.Tally.{counted, no_steps}
 use Rattle.legal_runs.specs.declared.tally.Tally.{Tally}
@@ -57,7 +57,7 @@ loop-place-preserved g c =
 pub returns-in-Stop : goal.returns-in-Stop
 returns-in-Stop g c =
     let position = g.N.Network.position c.args.network.now in
-    ap (λ (end : End). arrived end c.loop-place.tally) (sym c.in-Stop.is)
+    ap (λ (end : TrackEnd). arrived end c.loop-place.tally) (sym c.in-Stop.is)
     ∙ sym (at_end (counted position c.args.company) position c.loop-place.at c.loop-place.tally _
     c.loop-place.place-index c.loop-place-test.false)
     ∙ c.loop-place.invariant.left
@@ -65,7 +65,7 @@ returns-in-Stop g c =
 pub returns-in-Side : goal.returns-in-Side
 returns-in-Side g c =
     let position = g.N.Network.position c.args.network.now in
-    ap (λ (end : End). arrived end c.loop-place.tally) (sym c.in-Side.is)
+    ap (λ (end : TrackEnd). arrived end c.loop-place.tally) (sym c.in-Side.is)
     ∙ sym (at_end (counted position c.args.company) position c.loop-place.at c.loop-place.tally _
     c.loop-place.place-index c.loop-place-test.false)
     ∙ c.loop-place.invariant.left

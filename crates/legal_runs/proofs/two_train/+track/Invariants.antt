@@ -2,7 +2,7 @@
 -- on.
 use Rattle.std.proofs.Common.{◌+◌, ◌*◌, not, take, count_by}
 use Rattle.reach.specs.Position.{IsAmong, links_of}
-use Rattle.reach.specs.declared.walk.Step.{Step}
+use Rattle.reach.specs.declared.walk.WalkStep.{WalkStep}
 use Rattle.legal_runs.specs.TwoTrain.{LeadsFrom}
 use Rattle.legal_runs.proofs.two_train.+track.Given as goal
 
@@ -17,5 +17,5 @@ decreases-leads_by_link g l = 3 * count_by not l.used.now + 2
 
 abbrev pub invariant-leads_on-loop-link : goal.invariant-leads_on-loop-link
 invariant-leads_on-loop-link g l =
-    (step : Step) → IsAmong step.link (take l.link-index (links_of (g.N.Network.position l.network) l.next.hex))
+    (step : WalkStep) → IsAmong step.link (take l.link-index (links_of (g.N.Network.position l.network) l.next.hex))
     → LeadsFrom (g.N.Network.position l.network) l.start l.crossing l.next step → ⊥

@@ -4,7 +4,7 @@ use Rattle.std.proofs.lemmas.Bool.{eqb-true}
 use Rattle.map_tables.specs.Hex.{index_of}
 use Rattle.map_tables.specs.Track.{end_order}
 use Rattle.map_tables.specs.declared.hex.Hex.{Hex}
-use Rattle.map_tables.specs.declared.track.End.{End}
+use Rattle.map_tables.specs.declared.track.TrackEnd.{TrackEnd}
 use Rattle.reach.specs.Walk.{spot_at}
 use Rattle.reach.specs.declared.walk.Spot.{Spot}
 use Rattle.reach.proofs.Hexes.{same_index}
@@ -14,7 +14,7 @@ use Rattle.legal_runs.proofs.two_train.is_entered.Goals as goal
 one_spot : (a b : Spot) → index_of a.hex ≡ index_of b.hex → end_order a.end ≡ end_order b.end → a ≡ b
 one_spot a b hexes ends =
     ap (λ (h : Hex). spot_at h a.end) (same_index a.hex b.hex hexes)
-    ∙ ap (λ (e : End). spot_at b.hex e) (same_end a.end b.end ends)
+    ∙ ap (λ (e : TrackEnd). spot_at b.hex e) (same_end a.end b.end ends)
 
 pub returns-then-index : goal.returns-then-index
 returns-then-index c =

@@ -6,12 +6,12 @@ use Rattle.map_tables.specs.declared.hex.Hex.{Hex}
 use Rattle.map_tables.specs.declared.place.Stop.{Stop}
 use Rattle.map_tables.specs.declared.place.StopNumber.{StopNumber}
 use Rattle.map_tables.specs.declared.place.StopNumber.TheVariants.{First, Second}
-use Rattle.map_tables.specs.declared.track.End.{End}
-use Rattle.map_tables.specs.declared.track.End.TheVariants.{Side as AtSide, Stop as AtStop}
+use Rattle.map_tables.specs.declared.track.TrackEnd.{TrackEnd}
+use Rattle.map_tables.specs.declared.track.TrackEnd.TheVariants.{Side as AtSide, Stop as AtStop}
 use Rattle.reach.specs.Lawful.{IsLawful}
 use Rattle.reach.specs.Position.{HasToken, IsAmong, Position, in_hex, links_of, no_stop}
 use Rattle.reach.specs.Walk.{stop_at_end}
-use Rattle.reach.specs.declared.walk.Step.{Step}
+use Rattle.reach.specs.declared.walk.WalkStep.{WalkStep}
 use Rattle.reach.proofs.Collected.{lies_there}
 use Rattle.reach.proofs.Hexes.{joined_twice}
 use Rattle.legal_runs.specs.TwoTrain.{LeavesToken}
@@ -35,7 +35,7 @@ by_number position company hex First token = inl token
 by_number position company hex Second token = inr token
 
 by_end :
-    (position : Position) (company : Company) (hex : Hex) (end : End) (start : Stop) →
+    (position : Position) (company : Company) (hex : Hex) (end : TrackEnd) (start : Stop) →
     stop_at_end hex end ≡ Some start → HasToken position start company → HasTokenIn position company hex
 by_end position company hex (AtSide side) start is token = absurd cc
 by_end position company hex (AtStop number) start is token =
@@ -46,7 +46,7 @@ by_end position company hex (AtStop number) start is token =
     (subst (IsNamed position company) (joined_twice (stop_at hex number)) named)
 
 token_there :
-    (position : Position) (company : Company) (hex : Hex) (step : Step) →
+    (position : Position) (company : Company) (hex : Hex) (step : WalkStep) →
     IsLawful position → IsAmong step.link (links_of position hex) → LeavesToken position company step
     → HasTokenIn position company hex
 token_there position company hex step lawful among leaves =

@@ -3,16 +3,16 @@ use Rattle.std.proofs.Common.{◌≡◌, Bool, true, false, ◌⊎◌, inl, inr,
 use Rattle.map_tables.specs.declared.track.Link.{Link}
 use Rattle.reach.specs.Search.{IsEnteredAt}
 use Rattle.reach.specs.declared.walk.Spot.{Spot}
-use Rattle.reach.specs.declared.walk.Step.{Step}
+use Rattle.reach.specs.declared.walk.WalkStep.{WalkStep}
 use Rattle.reach.proofs.Marking.{can_still, spreads_followed, spreads_on}
 use Rattle.reach.proofs.search.follow_both.Goals as goal
 
 -- a link taken in a direction
-abbrev taking : Link → Bool → Step
+abbrev taking : Link → Bool → WalkStep
 taking link turned = record { link = link; turned = turned }
 
 -- a step takes its link in one of the two directions
-directions : (link : Link) (at : Spot) (step : Step) → (step.link ≡ link) × IsEnteredAt at step
+directions : (link : Link) (at : Spot) (step : WalkStep) → (step.link ≡ link) × IsEnteredAt at step
     → ((step ≡ taking link false) × IsEnteredAt at step) ⊎ ((step ≡ taking link true) × IsEnteredAt at step)
 directions link at step is = by_direction step.turned is
   where

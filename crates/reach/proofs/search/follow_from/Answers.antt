@@ -8,7 +8,7 @@ use Rattle.reach.specs.Lawful.{IsLawful}
 use Rattle.reach.specs.Position.{Position, IsAmong, links_of}
 use Rattle.reach.specs.Search.{IsEnteredAt}
 use Rattle.reach.specs.declared.walk.Spot.{Spot}
-use Rattle.reach.specs.declared.walk.Step.{Step}
+use Rattle.reach.specs.declared.walk.WalkStep.{WalkStep}
 use Rattle.reach.proofs.Collected.{lies_there, own_hex}
 use Rattle.reach.proofs.Lists.{among_at, among_next}
 use Rattle.reach.proofs.Marking.{can_still, spreads_fewer, spreads_none, spreads_on}
@@ -49,7 +49,7 @@ follow_both-requires-clause-may g c =
 
 -- a link of one more is of those before, or the next
 next : (links : List Link) (all : List Link) → links ≡ all → (i : ℕ) (d : Link) → i < length links
-    → (at : Spot) (taken : Step) → IsAmong taken.link (take (i + 1) all) × IsEnteredAt at taken
+    → (at : Spot) (taken : WalkStep) → IsAmong taken.link (take (i + 1) all) × IsEnteredAt at taken
     → (IsAmong taken.link (take i all) × IsEnteredAt at taken)
     ⊎ ((taken.link ≡ get_or links i d) × IsEnteredAt at taken)
 next links all is i d low at taken both =
@@ -67,7 +67,7 @@ loop-link-preserved g c =
     c.args.at)
 
 -- the links of the hex
-whole : (links all : List Link) → links ≡ all → (i : ℕ) → length links ≤ i → (at : Spot) (taken : Step)
+whole : (links all : List Link) → links ≡ all → (i : ℕ) → length links ≤ i → (at : Spot) (taken : WalkStep)
     → IsAmong taken.link all × IsEnteredAt at taken → IsAmong taken.link (take i all) × IsEnteredAt at taken
 whole links all is i come at taken both =
     (subst (λ ls. IsAmong taken.link ls) (sym (take_all i all (omega (arith, ap length is)))) both.0, both.1)

@@ -1,6 +1,6 @@
 -- The links that end at the stop: those of the hex that names it, and those of the other.
 use Rattle.std.proofs.Common.{◌≡◌, Some, None, true, false, sym, ◌∙◌}
-use Rattle.map_tables.specs.declared.track.End.TheVariants.{Stop as AtStop}
+use Rattle.map_tables.specs.declared.track.TrackEnd.TheVariants.{Stop as AtStop}
 use Rattle.reach.specs.Search.{twin_of}
 use Rattle.reach.specs.Walk.{spot_at}
 use Rattle.reach.proofs.Looking.{goes_on_in, goes_on_in_both, own_hex_named, stop_enters, twin_joined}

@@ -1,5 +1,5 @@
 use Rattle.std.proofs.Common.{◌≡◌, length}
-use Rattle.picture.specs.declared.writer.Spot.TheVariants.{Between}
+use Rattle.picture.specs.declared.writer.WriterPlace.TheVariants.{Between}
 use Rattle.picture.proofs.writer.Writer.finish.Given as goal
 
 abbrev pub invariant-loop-writer : goal.invariant-loop-writer
