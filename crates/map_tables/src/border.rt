@@ -1,5 +1,5 @@
 ghost use Rattle.std.specs.Prelude.{◌≡◌};
-ghost use Rattle.map_tables.specs.Border.{neighbour_of};
+ghost use Rattle.map_tables.specs.Border.{adjacent, neighbour_of};
 
 use crate::hex::Hex::*;
 use crate::hex::{HEXES, Hex};
@@ -347,4 +347,21 @@ pub fn neighbour(hex: Hex, side: Side) -> Option<Hex>
     ensures { result ≡ neighbour_of hex side }
 {
     NEIGHBOURS[hex.index()][side.number()]
+}
+
+/// Returns the hex that lies at a side of a hex, also if the border between the two is closed;
+/// `None` off the map.
+#[tactic(auto, unfolding(crate::specs::Border::adjacent))]
+pub fn adjacent(hex: Hex, side: Side) -> Option<Hex>
+    ensures { result ≡ adjacent hex side }
+{
+    let (row, column) = (hex.row(), hex.column());
+    match side {
+        Side::SouthWest => Hex::at(row + 1, column - 1),
+        Side::West => Hex::at(row, column.saturating_sub(2)),
+        Side::NorthWest => Hex::at(row - 1, column - 1),
+        Side::NorthEast => Hex::at(row - 1, column + 1),
+        Side::East => Hex::at(row, column + 2),
+        Side::SouthEast => Hex::at(row + 1, column + 1),
+    }
 }

@@ -26,7 +26,7 @@ mod text;
 mod tiles;
 mod track;
 
-pub use border::neighbour;
+pub use border::{adjacent, neighbour};
 pub use hex::{HEXES, Hex};
 pub use homes::{home, private_hexes};
 pub use lay::{Lay, laid_links};

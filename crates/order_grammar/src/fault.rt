@@ -54,11 +54,19 @@ impl Fault {
         &FAULTS
     }
 
+    /// Returns its row of the table.
+    fn row(self) -> &'static RuleRow<Fault>
+        ensures code { result.now.code.now ≡ code_of self }
+        ensures sentence { result.now.sentence.now ≡ sentence_of self }
+    {
+        &FAULTS[self as usize]
+    }
+
     /// Returns the code that a report prints.
     pub fn code(self) -> &'static str
         ensures { result.now ≡ code_of self }
     {
-        FAULTS[self as usize].code
+        self.row().code
     }
 
     /// Returns what is wrong, in a player's words. The desk and the tables of the docs print no
@@ -66,7 +74,7 @@ impl Fault {
     pub fn sentence(self) -> &'static str
         ensures { result.now ≡ sentence_of self }
     {
-        FAULTS[self as usize].sentence
+        self.row().sentence
     }
 }
 
