@@ -1,5 +1,6 @@
 -- What the desk's libraries share.
 pub mod Belongings
+pub mod Beyond
 pub mod Cause
 pub mod Coming
 pub mod Fault

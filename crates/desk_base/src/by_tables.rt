@@ -1,9 +1,10 @@
 //! Orders that the map and the tables alone show to be wrong, whatever the game.
 
+use crate::beyond::beyond_side;
 use crate::map_facts::{bad_side, side_towards};
 use crate::objection::Objection;
 use board_state::{has_bad_side, is_open, is_wrong_kind};
-use map_tables::{Lay, Place, hex_kind, neighbour, printed_slots, printed_stops};
+use map_tables::{Lay, Place, hex_kind, printed_slots, printed_stops};
 use order_grammar::Order;
 use tables::{Amount, Company, Round, par_square};
 
@@ -67,7 +68,7 @@ fn objection_to_lay(lay: Lay) -> Option<(&'static str, Objection)> {
     }
     if has_bad_side(lay) {
         let side = bad_side(lay)?;
-        return Some(("L7", Objection::Side(side, neighbour(lay.hex, side))));
+        return Some(("L7", Objection::Side(side, beyond_side(lay.hex, side))));
     }
     None
 }

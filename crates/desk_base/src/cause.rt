@@ -44,7 +44,9 @@ pub enum Cause {
     SomeHaveRun,
     /// S1, of RAISE: the company has a train.
     HasTrain,
-    /// S1, of RAISE: the company has none, and could run none or need not raise money for it.
+    /// S1, of RAISE: the company has none, and could run none.
+    RunsNone,
+    /// S1, of RAISE: the company must buy one, and it and its president have money enough.
     NotShort,
     /// S5: the president would keep under two shares, and nobody else has two.
     NobodyElse,
@@ -88,7 +90,8 @@ impl Cause {
             Cause::NoTrain => " (% has no train)",
             Cause::SomeHaveRun => " (a train of % has run)",
             Cause::HasTrain => " (% has a train)",
-            Cause::NotShort => " (% could run no train, or there is money enough)",
+            Cause::RunsNone => " (% could run no train)",
+            Cause::NotShort => " (there is money enough)",
             Cause::NobodyElse => " (nobody else has two)",
             Cause::PresidencyMoves => " (the presidency of % would move)",
             Cause::SlotIsKept => " (a slot is kept for a home)",

@@ -3,12 +3,13 @@
 //!
 //! Reading order: `text` (`Piece`, `push`, `fill`), `reason` (`Reason`), `advice`, `explaining`
 //! (`explain`), `set_number` (`number_in_set`, `end_after`), `coming` (`can_come`), `objection`
-//! (`Objection`), `map_facts`, `by_tables` (what the map and the tables show), `belongings` (what
+//! (`Objection`), `beyond` (what lies at a side), `map_facts`, `by_tables` (what the map and the tables show), `belongings` (what
 //! somebody has), `cause` (which one it was of several).
 #![tactic(auto)]
 
 mod advice;
 mod belongings;
+mod beyond;
 mod by_tables;
 mod cause;
 mod coming;
@@ -23,6 +24,7 @@ mod set_number;
 mod text;
 
 pub use belongings::{objection_by_view, other_president};
+pub use beyond::{Beyond, beyond_side, push_beyond};
 pub use by_tables::objection_to;
 pub use cause::{Cause, cause_of_slot};
 pub use coming::can_come;

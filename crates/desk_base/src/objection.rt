@@ -1,6 +1,7 @@
 //! Why an order is wrong that breaks a rule: the one cause among those of the rule, and what would
 //! be good where that is known.
 
+use crate::beyond::{Beyond, push_beyond};
 use crate::text::Piece::{Bytes, Number, Words};
 use crate::text::{Piece, fill};
 use history::Holder;
@@ -28,8 +29,8 @@ pub enum Objection {
     Apart(Hex, Hex),
     /// The tile is of another kind than the hex, or its stops are swapped where there are not two.
     Kind(Lay),
-    /// Its track leads over this side, where this hex lies, if one does and the border is open.
-    Side(Side, Option<Hex>),
+    /// Its track leads over this side, beyond which this lies.
+    Side(Side, Beyond),
     /// It is not BO's par value.
     NotBaltimore,
     /// It is no par value.
@@ -131,10 +132,7 @@ fn word_of(kind: TileKind) -> &'static str {
 }
 
 /// Adds which side is bad, and where it leads.
-fn push_side(out: &mut Vec<u8>, side: Side, beyond: Option<Hex>) -> Result<(), AllocError> {
+fn push_side(out: &mut Vec<u8>, side: Side, beyond: Beyond) -> Result<(), AllocError> {
     fill(out, "; at side % ", &[Number(side.number() as Money)])?;
-    match beyond {
-        Some(hex) => fill(out, "% has no track", &[Bytes(hex.text().as_slice())]),
-        None => fill(out, "the map ends, or the border is closed", &[]),
-    }
+    push_beyond(out, beyond)
 }

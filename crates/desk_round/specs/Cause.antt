@@ -50,6 +50,7 @@ cause_of_lay None = cause.LayUsed
 cause_of_lay (Some done.Token) = cause.TokenPlaced
 cause_of_lay (Some done.Run) = cause.HasRun
 cause_of_lay (Some done.Pay) = cause.PaidOrWithheld
+cause_of_lay (Some done.Purchase) = cause.PaidOrWithheld
 
 -- of a PAY or a WITHHOLD: its step is past, or nothing is earned
 abbrev pub cause_of_pay : Option Done → Cause
@@ -69,9 +70,16 @@ abbrev pub cause_of_run : List Event → Company → Order → Cause
 cause_of_run events company (order.Run kind run) = cause_of_kind events company kind
 cause_of_run events company other = cause_of_best events company
 
+-- of a RAISE for a company without a train, by what it has done last: it is at the purchase that it
+-- must make, for which there is money enough, or it need not buy since it could run no train
+abbrev pub cause_of_purchase : Option Done → Cause
+cause_of_purchase (Some done.Purchase) = cause.NotShort
+cause_of_purchase other = cause.RunsNone
+
 -- of a RAISE for a company: no purchase is due since it has a train, or there is another reason
 abbrev pub cause_of_raise : List Event → Company → Cause
-cause_of_raise events company = if has_trains events company then cause.HasTrain else cause.NotShort
+cause_of_raise events company =
+    if has_trains events company then cause.HasTrain else cause_of_purchase (last_done events company)
 
 -- the price of a train that an order or an offer names, if it names one
 abbrev pub price_named : Order → Option ℕ

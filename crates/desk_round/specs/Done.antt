@@ -1,5 +1,5 @@
--- How far a company's turn had come: a token, a run and a payment are steps that it has done in the
--- round that began last.
+-- How far a company's turn had come: a token, a run, a payment and the purchase that it must make
+-- are steps that it has done in the round that began last.
 use Rattle.std.specs.Prelude.{List, Option, Some, None, if◌then◌else◌}
 use Rattle.std.specs.List.{fold}
 use Rattle.desk_round.specs.declared.done.Done.{Done}
@@ -20,6 +20,7 @@ done_then company before (event.Token its place cost) = done_if_own its company 
 done_then company before (event.Runs its revenue) = done_if_own its company done.Run before
 done_then company before (event.Dividend its holder amount) = done_if_own its company done.Pay before
 done_then company before (event.Withheld its amount) = done_if_own its company done.Pay before
+done_then company before (event.Forced its) = done_if_own its company done.Purchase before
 done_then company before other = before
 
 -- the last step that a company has done

@@ -2,7 +2,7 @@
 ghost use Rattle.std.specs.Prelude.{◌≡◌};
 ghost use Rattle.certs.specs.Sale.{another_has, kept_after, none_is_left};
 ghost use Rattle.desk_round.specs.Cause.{cause_above, cause_in_orders, cause_in_turn, cause_of};
-ghost use Rattle.desk_round.specs.Cause.{cause_of_lay, cause_of_pay, cause_of_price, cause_of_raise};
+ghost use Rattle.desk_round.specs.Cause.{cause_of_lay, cause_of_pay, cause_of_price, cause_of_purchase, cause_of_raise};
 ghost use Rattle.desk_round.specs.Cause.{cause_of_run, cause_of_sale, cause_of_stay, cause_of_trade};
 ghost use Rattle.desk_round.specs.Cause.{cause_of_best, cause_of_kind, cause_of_owner, cause_of_seller};
 ghost use Rattle.desk_round.specs.Cause.{cause_of_shares, cause_of_source};
@@ -113,7 +113,7 @@ fn cause_of_lay(done: Option<Done>) -> Cause
         None => Cause::LayUsed,
         Some(Done::Token) => Cause::TokenPlaced,
         Some(Done::Run) => Cause::HasRun,
-        Some(Done::Pay) => Cause::PaidOrWithheld,
+        Some(Done::Pay | Done::Purchase) => Cause::PaidOrWithheld,
     }
 }
 
@@ -173,7 +173,17 @@ fn cause_of_raise(view: &GameView, company: Company) -> Cause
     if has_trains(view, company) {
         Cause::HasTrain
     } else {
-        Cause::NotShort
+        cause_of_purchase(last_done(view.events, company))
+    }
+}
+
+/// Returns why no money is to be raised for a company without a train that has done this last.
+fn cause_of_purchase(done: Option<Done>) -> Cause
+    ensures { result ≡ cause_of_purchase done }
+{
+    match done {
+        Some(Done::Purchase) => Cause::NotShort,
+        _ => Cause::RunsNone,
     }
 }
 

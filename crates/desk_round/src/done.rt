@@ -14,6 +14,8 @@ pub(crate) enum Done {
     Run,
     /// It has paid or withheld what it earned.
     Pay,
+    /// It is at the purchase that it must make, after its orders.
+    Purchase,
 }
 
 /// Returns the last step that a company has done in the round in hand; `None` if it has done none.
@@ -37,6 +39,7 @@ fn done_then(done: Option<Done>, event: &Event, company: Company) -> Option<Done
         Event::Runs { company: its, .. } if *its == company => Some(Done::Run),
         Event::Dividend { company: its, .. } if *its == company => Some(Done::Pay),
         Event::Withheld { company: its, .. } if *its == company => Some(Done::Pay),
+        Event::Forced(its) if *its == company => Some(Done::Purchase),
         _ => done,
     }
 }

@@ -8,14 +8,14 @@ use crate::track::break_of;
 use crate::ways::{push_ways_to_stop, push_ways_to_tile};
 use desk_base::Piece::{Bytes, Number, Words};
 use desk_base::{
-    Cause, Objection, bad_side, board_at, cause_of_slot, fill, objection_by_view, objection_to,
-    push, push_objection,
+    Cause, Objection, bad_side, beyond_side, board_at, cause_of_slot, fill, objection_by_view,
+    objection_to, push, push_beyond, push_objection,
 };
 use history::{
     GameView, Holder, LayRule, OpeningRule, Party, PrivateRule, Refusal, Ruling, RunRule,
     Shareholder, StockRule, TokenRule, TrainRule,
 };
-use map_tables::{Colour, Hex, Lay, neighbour, printed_colour, tile};
+use map_tables::{Colour, Hex, Lay, printed_colour, tile};
 use order_grammar::{Fault, Order, TrainSource};
 use report::name;
 use sheets::Sheets;
@@ -112,15 +112,13 @@ pub(crate) fn push_of_place(
     }
 }
 
-/// Adds to which side the track of a tile leads where it may not, and the grey or red hex there.
+/// Adds to which side the track of a tile leads where it may not, and what lies there.
 fn push_bad_side(out: &mut Vec<u8>, lay: Lay) -> Result<(), AllocError> {
     let Some(side) = bad_side(lay) else {
         return Ok(());
     };
-    fill(out, " (at side %", &[Number(side.number() as Money)])?;
-    if let Some(hex) = neighbour(lay.hex, side) {
-        fill(out, ", where % lies", &[Bytes(hex.text().as_slice())])?;
-    }
+    fill(out, " (at side % ", &[Number(side.number() as Money)])?;
+    push_beyond(out, beyond_side(lay.hex, side))?;
     fill(out, ")", &[])
 }
 
