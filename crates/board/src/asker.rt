@@ -1,7 +1,7 @@
 ghost use Rattle.std.specs.Prelude.{◌≡◌};
 ghost use Rattle.board.specs.Turn.{place_of_step};
 
-use tables::{Company, Money};
+use tables::{Company, Money, PerPrivate};
 
 /// A step of a company's turn, in order.
 #[derive(Clone, Copy, Debug, PartialEq, Eq)]
@@ -41,7 +41,7 @@ pub struct Asker {
     /// Whether that was DH's lay: 57 on F16, by the company that owns DH.
     pub dh_laid: bool,
     /// The privates that it owns, by their places in the roster.
-    pub own_privates: [bool; 6],
+    pub own_privates: PerPrivate<bool>,
     /// The privates that players own, by their places in the roster.
-    pub player_privates: [bool; 6],
+    pub player_privates: PerPrivate<bool>,
 }

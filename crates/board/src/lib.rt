@@ -38,8 +38,8 @@
 //!     pointer: TurnStep::Lay,
 //!     lay_used: false,
 //!     dh_laid: false,
-//!     own_privates: [false; 6],
-//!     player_privates: [false; 6],
+//!     own_privates: [false; PRIVATES],
+//!     player_privates: [false; PRIVATES],
 //! };
 //! assert_eq!(rt; board.try_lay(&asker, lay), Ok(0));
 //! assert_eq!(rt; board.put_lay(lay), Ok(()));

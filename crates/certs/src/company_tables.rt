@@ -4,17 +4,17 @@ ghost use Rattle.certs.specs.Rows.{AreBounded, IsBounded};
 
 use crate::share_places::Row;
 use history::{GameView, Shareholder};
-use tables::{Company, Seat, Square};
+use tables::{Company, PerCompany, Seat, Square};
 
 /// What is said of each company, by its place in the roster.
 #[derive(Clone, Copy, Debug)]
 pub(crate) struct CompanyTables {
     /// The shares of each company by their places.
-    pub shares: [Row; 8],
+    pub shares: PerCompany<Row>,
     /// The president of each company, as it was said last.
-    pub presidents: [Option<Seat>; 8],
+    pub presidents: PerCompany<Option<Seat>>,
     /// The square of each company.
-    pub squares: [Option<Square>; 8],
+    pub squares: PerCompany<Option<Square>>,
 }
 
 /// Returns the tables of the companies of a game.
@@ -29,7 +29,7 @@ pub(crate) fn company_tables_of(view: &GameView) -> CompanyTables
 }
 
 /// Returns the shares of each company.
-fn rows_of(view: &GameView) -> [Row; 8]
+fn rows_of(view: &GameView) -> PerCompany<Row>
     ensures shares { AreSharesOf view.now.events.now result }
     ensures bounded { AreBounded result }
 {

@@ -5,15 +5,15 @@ ghost use Rattle.tables.specs.declared.roster.Company.{Company};
 use crate::company_tables::{CompanyTables, company_tables_of};
 use crate::share_places::{Row, index_of, moved};
 use history::{GameView, History, Owners, ShareCount, Shareholder, Transfer};
-use tables::{Company, Seat, Square};
+use tables::{Company, PerCompany, Seat, Square};
 
 /// Who holds what in a game, in tables by the places of the companies in the roster.
 #[derive(Clone, Copy, Debug)]
 pub struct Holdings {
     pub(crate) seats: usize,
-    shares: [Row; 8],
-    pub(crate) presidents: [Option<Seat>; 8],
-    pub(crate) squares: [Option<Square>; 8],
+    shares: PerCompany<Row>,
+    pub(crate) presidents: PerCompany<Option<Seat>>,
+    pub(crate) squares: PerCompany<Option<Square>>,
     pub(crate) owners: Owners,
     ghost bounded: { AreBounded shares },
 }

@@ -3,11 +3,14 @@ ghost use Rattle.certs.specs.Rows.{IsBounded, IsMoved, IsTaken, index_of};
 ghost use Rattle.events.specs.declared.event.Shareholder.{Shareholder};
 
 use history::{ShareCount, Shareholder};
-use tables::Seat;
+use tables::{PLAYERS_MOST, Seat};
+
+/// How many places a company's shares have: the initial offering, the bank pool and six seats.
+const PLACES: usize = PLAYERS_MOST + 2;
 
 /// The shares of a company by their places: the initial offering's, the bank pool's, and those of
 /// each of six seats.
-pub(crate) type Row = [ShareCount; 8];
+pub(crate) type Row = [ShareCount; PLACES];
 
 /// Returns the index of a place in a row.
 pub(crate) fn index_of(place: Shareholder) -> usize

@@ -19,7 +19,7 @@ use history::GameView;
 use order_grammar::{Fault, Order, Version, begins_with_word};
 use sheets::{LINES_MOST, NumberedLine, UnreadLine, is_of_file};
 use std::alloc::AllocError;
-use tables::{Company, Round};
+use tables::{COMPANIES, Company, PerCompany, Round};
 
 /// How far a sheet was looked at.
 #[derive(Drop)]
@@ -35,7 +35,7 @@ struct Reader<'v, 'g> {
     /// The orders of the company's turn so far.
     block: Block,
     /// The lines on which the companies' orders begin.
-    begun: [Option<usize>; 8],
+    begun: PerCompany<Option<usize>>,
 }
 
 /// Finds what is wrong with the lines of a sheet of a file of some version, and the companies that
@@ -57,7 +57,7 @@ pub(crate) fn look_at_sheet<'a>(
         number: 0,
         is_open: false,
         block: Block::none(),
-        begun: [None; 8],
+        begun: [None; COMPANIES],
     };
     reader.take_lines(head, found)?;
     reader.add_silent(head, found)?;

@@ -12,7 +12,7 @@ use crate::tiles_part::begin_section;
 use crate::worth_history::Entry;
 use picture::PagePiece::{Name, Number, Round, Words};
 use picture::{Attr, Point, Tag, Writer, letter};
-use tables::{Company, Money, Seat};
+use tables::{COMPANIES, Company, Money, PerCompany, Seat};
 
 /// What a line of a chart shows.
 #[derive(Clone, Copy)]
@@ -262,7 +262,7 @@ fn put_names(out: &mut Writer, scene: &Scene, entries: &[Entry], series: &[Serie
         return;
     };
     let mut least = 0;
-    let mut is_named = [false; 8];
+    let mut is_named = [false; COMPANIES];
     for (place, _) in series.iter().enumerate() {
         let below = APART.saturating_mul(series.len() - 1 - place);
         if let Some(number) = next_name(last, series, &is_named) {
@@ -280,7 +280,7 @@ fn put_names(out: &mut Writer, scene: &Scene, entries: &[Entry], series: &[Serie
 }
 
 /// Returns the line of the greatest last value that has no name yet; `None` if each has one.
-fn next_name(last: &Entry, series: &[Series], is_named: &[bool; 8]) -> Option<usize> {
+fn next_name(last: &Entry, series: &[Series], is_named: &PerCompany<bool>) -> Option<usize> {
     let mut found = None;
     let mut greatest = 0;
     for (number, line) in series.iter().enumerate() {

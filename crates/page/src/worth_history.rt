@@ -10,7 +10,7 @@ use report::player_worth;
 use rounds::{Play, Step};
 use sheets::Sheets;
 use std::alloc::{AllocError, Global};
-use tables::{Amount, Company, Money, PLAYERS_MOST, Round, Seat, price};
+use tables::{Amount, COMPANIES, Company, Money, PLAYERS_MOST, PerCompany, Round, Seat, price};
 
 /// How a game stood after a round.
 #[derive(Clone, Copy)]
@@ -20,7 +20,7 @@ pub(crate) struct Entry {
     pub(crate) worths: [Money; PLAYERS_MOST],
     /// The prices of the companies' shares, in the order of the roster; `None` before a company is
     /// started.
-    pub(crate) prices: [Option<Amount>; 8],
+    pub(crate) prices: PerCompany<Option<Amount>>,
 }
 
 /// A game that is played up to a round, with how it stood after each.
@@ -88,7 +88,7 @@ fn entry_of(history: &History, round: Round) -> Entry {
             *worth = player_worth(&view, Seat::at(number));
         }
     }
-    let mut prices = [None; 8];
+    let mut prices = [None; COMPANIES];
     for company in Company::ALL {
         if let Some(square) = view.square(company) {
             prices[company.place()] = Some(price(square));

@@ -10,7 +10,7 @@ use map_tables::{Hex, Lay, Place, Rotation, Stop, StopNumber, TileNo};
 use reach::{Network, Reach, reached};
 use std::alloc::{AllocError, Global};
 use std::rt::Runtime;
-use tables::{Company, Kind, Money, Round};
+use tables::{Company, Kind, Money, PRIVATES, Round};
 
 const PRR: Company = Company::Pennsylvania;
 
@@ -34,8 +34,8 @@ fn asker(cash: Money) -> Asker {
         pointer: TurnStep::Lay,
         lay_used: false,
         dh_laid: false,
-        own_privates: [false; 6],
-        player_privates: [false; 6],
+        own_privates: [false; PRIVATES],
+        player_privates: [false; PRIVATES],
     }
 }
 

@@ -6,7 +6,7 @@ use map_tables::{
 };
 use reach::{Network, reached};
 use std::alloc::Global;
-use tables::{Company, Kind, Money};
+use tables::{Company, Kind, Money, PRIVATES};
 
 pub(crate) const PRR: Company = Company::Pennsylvania;
 
@@ -18,8 +18,8 @@ fn asker(company: Company, cash: Money) -> Asker {
         pointer: TurnStep::Lay,
         lay_used: false,
         dh_laid: false,
-        own_privates: [false; 6],
-        player_privates: [false; 6],
+        own_privates: [false; PRIVATES],
+        player_privates: [false; PRIVATES],
     }
 }
 

@@ -6,7 +6,7 @@ use board::{Asker, Board, TurnStep};
 use map_tables::{Hex, Lay, Rotation, Stop, StopNumber, TileNo};
 use order_grammar::{print_line, read_line};
 use std::test::Fail;
-use tables::{Company, Kind};
+use tables::{Company, Kind, PRIVATES};
 
 #[test]
 fn order_grammar_prints_a_line(rt: HostRuntime) -> Result<(), Fail> {
@@ -40,8 +40,8 @@ fn board_tries_a_lay(rt: HostRuntime) {
         pointer: TurnStep::Lay,
         lay_used: false,
         dh_laid: false,
-        own_privates: [false; 6],
-        player_privates: [false; 6],
+        own_privates: [false; PRIVATES],
+        player_privates: [false; PRIVATES],
     };
     assert_eq!(rt; board.try_lay(&asker, lay), Ok(0));
     assert_eq!(rt; board.put_lay(lay), Ok(()));
