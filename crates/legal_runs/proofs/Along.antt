@@ -98,3 +98,6 @@ module _ {A B : Type 0} (make : A → WalkStep → A) (also : B → WalkStep →
           ≡ option_map of (option_and_then (λ at. travelled make position at made places) found)
       by_spot None = refl
       by_spot (Some at) = travelled_alike at made places
+
+-- what the check of a run needs of its legs
+pub ruleset legs = (at_end, begun_along, leg_further, no_leg, rest_short)
