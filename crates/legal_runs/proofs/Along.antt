@@ -5,13 +5,12 @@ use Rattle.std.proofs.Common.{drop-cons, length-take, length-drop}
 use Rattle.std.proofs.lemmas.List.{drop_all, take_all}
 use Rattle.map_tables.specs.declared.place.Place.{Place}
 use Rattle.map_tables.specs.declared.place.StopNumber.{StopNumber}
-use Rattle.map_tables.specs.declared.track.TrackEnd.{TrackEnd}
-use Rattle.map_tables.specs.declared.track.TrackEnd.TheVariants.{Side as AtSide, Stop as AtStop}
+use Rattle.map_tables.specs.declared.track.TrackEnd.TheVariants.{Stop as AtStop}
 use Rattle.reach.specs.Position.{Position}
 use Rattle.reach.specs.Walk.{spot_at}
 use Rattle.reach.specs.declared.walk.Spot.{Spot}
 use Rattle.reach.specs.declared.walk.WalkStep.{WalkStep}
-use Rattle.legal_runs.specs.Named.{arrived, beginning, leg_to, made_along, travelled, with_leg, with_second}
+use Rattle.legal_runs.specs.Named.{arrived, beginning, leg_to, made_along, travelled, with_leg}
 use Rattle.legal_runs.specs.declared.leg.Leg.{Leg}
 
 -- what follows the first place is no longer than a run
@@ -25,11 +24,7 @@ module _ {A : Type 0} (make : A → WalkStep → A) (position : Position) where
       (spot_at (get_or places 0 d).hex (AtStop number)) made (take (length places - 1) (drop 1 places))
       ≡ made_along make position made places
   begun_along [] d number made least is = absurd (omega arith)
-  begun_along (place ∷ places) d number made least is =
-      ap (λ rest. travelled make position (spot_at place.hex (AtStop number)) made rest)
-      (take_all (length (place ∷ places) - 1) places (omega arith))
-      ∙ ap (λ stop. option_and_then (λ at. travelled make position at made places)
-      (option_map (λ n. spot_at place.hex (AtStop n)) stop)) (sym is)
+  begun_along (place ∷ places) d number made least is = grind (arith, take_all)
 
   -- the place at an index comes next
   next_place : (at : Spot) (made : A) (places : List Place) (i : ℕ) (d : Place) → i < length places
@@ -62,22 +57,12 @@ module _ {A : Type 0} (make : A → WalkStep → A) (position : Position) where
 -- what is made of a walk step by step is what is made along its places
 module _ {A B : Type 0} (make : A → WalkStep → A) (also : B → WalkStep → B) (of : A → B)
     (alike : (made : A) (step : WalkStep) → also (of made) step ≡ of (make made step)) (position : Position) where
-  second_alike : (made : A) (second : Option WalkStep)
-      → with_second also (of made) second ≡ of (with_second make made second)
-  second_alike made None = refl
-  second_alike made (Some step) = alike made step
-
   leg_alike : (made : A) (leg : Leg) → with_leg also (of made) leg ≡ of (with_leg make made leg)
-  leg_alike made leg = ap (λ b. with_second also b leg.second) (alike made leg.first)
-      ∙ second_alike (make made leg.first) leg.second
-
-  arrived_alike : (end : TrackEnd) (made : A) → arrived end (of made) ≡ option_map of (arrived end made)
-  arrived_alike (AtSide side) made = refl
-  arrived_alike (AtStop number) made = refl
+  leg_alike made leg = grind arith
 
   travelled_alike : (at : Spot) (made : A) (places : List Place)
       → travelled also position at (of made) places ≡ option_map of (travelled make position at made places)
-  travelled_alike at made [] = arrived_alike at.end made
+  travelled_alike at made [] = grind arith
   travelled_alike at made (place ∷ places) =
       by_leg (leg_to position at place) (λ leg. travelled_alike leg.at (with_leg make made leg) places)
     where
@@ -98,3 +83,6 @@ module _ {A B : Type 0} (make : A → WalkStep → A) (also : B → WalkStep →
           ≡ option_map of (option_and_then (λ at. travelled make position at made places) found)
       by_spot None = refl
       by_spot (Some at) = travelled_alike at made places
+
+-- what the check of a run needs of its legs
+pub ruleset legs = (at_end, begun_along, leg_further, no_leg, rest_short)

@@ -106,7 +106,7 @@ own_numbers pair hex other next beyond side way is also = (
   where
     by_sides : AreSidesOfOneBorder (spot_at hex (AtSide side)) (spot_at other (AtSide way))
         → border_of hex side ≡ border_of other way
-    by_sides (inl one) = one_number hex other side way one
+    by_sides (inl one) = grind arith
     by_sides (inr over) =
         let there : Some (spot_at next (AtSide (facing_of side))) ≡ Some (spot_at other (AtSide way)) =
         sym (across_is hex next side is) ∙ over in

@@ -4,7 +4,7 @@
 use Rattle.std.proofs.Common.{◌≡◌, ℕ, suc, ◌+◌, ◌<◌, ◌≤◌, lit<, Bool, true, false, eqb, ◌⊎◌, inl, inr, Option, Some}
 use Rattle.std.proofs.Common.{None, List, [], ◌∷◌, ◌++◌, length, get_or, refl, ap, sym, ◌∙◌, subst, arith}
 use Rattle.std.specs.List.{AllByRecursion}
-use Rattle.std.proofs.lemmas.Bool.{eq-eqb, eqb-true}
+use Rattle.std.proofs.lemmas.Bool.{eqb-true}
 use Rattle.map_tables.specs.Hex.{hexes, index_of}
 use Rattle.map_tables.specs.declared.hex.Hex.{Hex}
 use Rattle.map_tables.specs.declared.hex.Hex.TheVariants.{A9}
@@ -94,7 +94,7 @@ decided_of_kinds P known = six (known Two) (known Three) (known Four) (known Fiv
 
     six : Decided (P Two) → Decided (P Three) → Decided (P Four) → Decided (P Five) → Decided (P Six)
         → Decided (P Diesel) → Decided ((kind : Kind) → P kind)
-    six (inl a) (inl b) (inl c) (inl d) (inl e) (inl f) = inl (all a b c d e f)
+    six (inl a) (inl b) (inl c) (inl d) (inl e) (inl f) = grind arith
     six (inr fails) b c d e f = inr (λ each. fails (each Two))
     six a (inr fails) c d e f = inr (λ each. fails (each Three))
     six a b (inr fails) d e f = inr (λ each. fails (each Four))
@@ -111,10 +111,7 @@ decided_among border (other ∷ borders) = by_test (eqb other border) refl (deci
         → Decided ((other ≡ border) ⊎ IsAmong border borders)
     by_test true is later = inl (inl (eqb-true other border is))
     by_test false is (inl later) = inl (inr later)
-    by_test false is (inr fails) = inr (λ either. elim either [
-      | inl here ↦ let wrong : false ≡ true = sym is ∙ eq-eqb other border here in absurd cc
-      | inr later ↦ fails later
-    ])
+    by_test false is (inr fails) = grind arith
 
 -- two lists of borders share one, or none
 decided_free : (borders others : List ℕ) → Decided ((border : ℕ) → IsAmong border borders → ¬ IsAmong border others)
@@ -125,17 +122,13 @@ decided_free (border ∷ borders) others = by_first (decided_among border others
         Decided (IsAmong border others) → Decided ((b : ℕ) → IsAmong b borders → ¬ IsAmong b others) →
         Decided ((b : ℕ) → IsAmong b (border ∷ borders) → ¬ IsAmong b others)
     by_first (inl shared) rest = inr (λ free. free border (inl refl) shared)
-    by_first (inr apart) (inl free) = inl (λ b among. elim among [
-      | inl here ↦ subst (λ (n : ℕ). ¬ IsAmong n others) here apart
-      | inr later ↦ free b later
-    ])
+    by_first (inr apart) (inl free) = grind arith
     by_first (inr apart) (inr fails) = inr (λ free. fails (λ b among. free b (inr among)))
 
 decided_all : {A : Type 0} (P : A → Type 0) → ((thing : A) → Decided (P thing)) → (things : List A)
     → Decided (AllByRecursion P things)
 decided_all P known [] = inl tt
-decided_all P known (thing ∷ things) = both_decided (P thing) (AllByRecursion P things) (known thing)
-    (decided_all P known things)
+decided_all P known (thing ∷ things) = grind (arith, decided_all P known things)
 
 decided_apart : (runs : List TrainRun) → Decided (AreApart runs)
 decided_apart [] = inl tt

@@ -1,7 +1,7 @@
 -- Each run of a claim that holds has 2 to 280 places: at least two stops, and a border crossed to
 -- each place but the first, none of them twice.
 use Rattle.std.proofs.Common.{◌≡◌, ℕ, ◌+◌, Bool, true, false, cond, ltb, List, [], ◌∷◌, Option, Some, None, option_map}
-use Rattle.std.proofs.Common.{option_and_then, length, refl, sym, ap, subst, ◌∙◌, arith}
+use Rattle.std.proofs.Common.{option_and_then, length, refl, arith}
 use Rattle.std.specs.List.{AllByRecursion, list_any}
 use Rattle.std.proofs.lemmas.List.{length-append}
 use Rattle.map_tables.specs.Side.{facing_of}
@@ -19,8 +19,8 @@ use Rattle.reach.specs.declared.walk.WalkStep.{WalkStep}
 use Rattle.tables.specs.declared.rolling_stock.Kind.{Kind}
 use Rattle.tables.specs.declared.roster.Company.{Company}
 use Rattle.legal_runs.specs.Claim.{NameRuns}
-use Rattle.legal_runs.specs.Legal.{EndsAtStop, IsLegalRun, border_at, crossed}
-use Rattle.legal_runs.specs.Named.{arrived, leg_by_stop, leg_from, leg_over, leg_to, same_link, side_towards}
+use Rattle.legal_runs.specs.Legal.{IsLegalRun, border_at, crossed}
+use Rattle.legal_runs.specs.Named.{arrived, leg_by_stop, leg_from, leg_over, leg_to, same_link}
 use Rattle.legal_runs.specs.Named.{step_between, step_over, taken, travelled, walk_named, with_leg}
 use Rattle.legal_runs.specs.Places.{ClaimsHavePlaces, HasPlaces}
 use Rattle.legal_runs.specs.Set.{RunsLegally, TrainRun}
@@ -41,10 +41,7 @@ border_counted hex (AtStop number) = refl
 
 step_counted : (before : List WalkStep) (step : WalkStep) (from : TrackEnd) → (entered_at step).end ≡ from
     → length (crossed (step ∷ before)) ≡ over_border from + length (crossed before)
-step_counted before step from enters =
-    length-append (border_at (entered_at step).hex (entered_at step).end) (crossed before)
-    ∙ ap (λ (n : ℕ). n + length (crossed before)) (border_counted (entered_at step).hex (entered_at step).end
-    ∙ ap over_border enters)
+step_counted before step from enters = grind (arith, over_border, border_counted, enters, length-append)
 
 -- a step between two ends is entered at the first
 over_by : (hex : Hex) (from to : TrackEnd) (turned : Bool) → let step : WalkStep =
@@ -55,8 +52,7 @@ over_by hex from to false = refl
 
 found_by : (over step : WalkStep) (from : TrackEnd) (found : Bool) → (entered_at over).end ≡ from
     → cond found (Some over) None ≡ Some step → (entered_at step).end ≡ from
-found_by over step from true enters is = let same : over ≡ step =
-    cc in subst (λ (s : WalkStep). (entered_at s).end ≡ from) same enters
+found_by over step from true enters is = grind arith
 found_by over step from false enters is = absurd cc
 
 enters : (position : Position) (hex : Hex) (from to : TrackEnd) (step : WalkStep)
@@ -76,11 +72,7 @@ by_stop : (position : Position) (made : List WalkStep) (from : TrackEnd) (first 
     (entered_at first).end ≡ from → leg_by_stop position first hex side stop ≡ Some leg
     → IsCounted made (over_border from) leg
 unfolding over_border
-by_stop position made from first hex side None leg enters_first is =
-    let same : (let there : Leg = record { first = first; second = None; at = spot_at hex (AtSide side) } in there)
-    ≡ leg = cc in
-    subst (λ (l : Leg). IsCounted made (over_border from) l) same
-    (record { counted = ap (λ (n : ℕ). 1 + n) (step_counted made first from enters_first) })
+by_stop position made from first hex side None leg enters_first is = grind (arith, over_border, step_counted)
 by_stop position made from first hex side (Some number) leg enters_first is =
     by_second (step_between position hex (AtSide side) (AtStop number)) refl is
   where
@@ -89,23 +81,7 @@ by_stop position made from first hex side (Some number) leg enters_first is =
         { first = first; second = Some second; at = spot_at hex (AtStop number) } in there) found ≡ Some leg
         → IsCounted made (over_border from) leg
     by_second None found is = absurd cc
-    by_second (Some second) found is =
-        let same : (let there : Leg = record {
-          first = first;
-          second = Some second;
-          at =
-              spot_at hex (AtStop number);
-        } in there) ≡ leg = cc in
-        subst (λ (l : Leg). IsCounted made (over_border from) l) same
-        (record {
-          counted = omega (
-            arith,
-            step_counted (first ∷ made) second (AtSide side)
-                (enters position hex (AtSide side) (AtStop number) second found),
-            step_counted made first from
-                enters_first,
-          );
-        })
+    by_second (Some second) found is = grind (arith, over_border, step_counted, enters)
 
 by_first : (position : Position) (made : List WalkStep) (at : Spot) (side : Side) (place : Place) (first : Option WalkStep)
     (leg : Leg) →
@@ -119,26 +95,24 @@ by_first position made at side place (Some first) leg found is =
 by_side : (position : Position) (made : List WalkStep) (at : Spot) (place : Place) (side : Option Side) (leg : Leg)
     → leg_over position at place side ≡ Some leg → IsCounted made (over_border at.end) leg
 by_side position made at place None leg is = absurd cc
-by_side position made at place (Some side) leg is =
-    by_first position made at side place (step_between position at.hex at.end (AtSide side)) leg refl is
+by_side position made at place (Some side) leg is = grind (arith, by_first)
 
 leg_counted : (position : Position) (made : List WalkStep) (at : Spot) (place : Place) (leg : Leg)
     → leg_to position at place ≡ Some leg → IsCounted made (over_border at.end) leg
 unfolding leg_to
-leg_counted position made at place leg is = by_side position made at place (side_towards at.hex place.hex) leg is
+leg_counted position made at place leg is = grind (arith, by_side)
 
 -- a train crosses a border to each place but its first
 arrives : (hex : Hex) (end : TrackEnd) (made all : List WalkStep) → arrived end made ≡ Some all
     → length (crossed all) ≡ over_border end + length (crossed made)
 unfolding over_border
 arrives hex (AtSide side) made all is = absurd cc
-arrives hex (AtStop number) made all is = let same : made ≡ all =
-    cc in omega (arith, ap (λ (steps : List WalkStep). length (crossed steps)) same)
+arrives hex (AtStop number) made all is = grind arith
 
 places_counted : (position : Position) (at : Spot) (made all : List WalkStep) (places : List Place)
     → travelled taken position at made places ≡ Some all →
     length (crossed all) ≡ (over_border at.end + length (crossed made)) + length places
-places_counted position at made all [] is = omega (arith, arrives at.hex at.end made all is)
+places_counted position at made all [] is = grind (arith, arrives)
 places_counted position at made all (place ∷ places) is =
     by_leg (leg_to position at place) (λ leg found next. omega (
       arith,
@@ -166,20 +140,12 @@ run_counted position None place places all has is = absurd cc
 run_counted position (Some number) place places all has is =
     omega (arith, places_counted position (spot_at place.hex (AtStop number)) [] all places is)
 
--- one place names no run
-one_place : (position : Position) (stop : Option StopNumber) (place : Place) (all : List WalkStep) →
-    option_and_then (λ at. travelled taken position at [] [])
-    (option_map (λ number. spot_at place.hex (AtStop number)) stop) ≡ Some all → EndsAtStop all → ⊥
-one_place position None place all is ends = absurd cc
-one_place position (Some number) place all is ends = let same : [] ≡ all = cc in subst EndsAtStop (sym same) ends
-
 -- so a legal run has 2 to 280 places
 has_places : (position : Position) (company : Company) (kind : Kind) (used : List ℕ) (run : List Place)
     (steps : List WalkStep) → walk_named position run ≡ Some steps → IsLegalRun position company kind used steps
     → HasPlaces run
 has_places position company kind used [] steps named legal = absurd cc
-has_places position company kind used (place ∷ []) steps named legal =
-    absurd (one_place position place.stop place steps named legal.ends)
+has_places position company kind used (place ∷ []) steps named legal = grind arith
 has_places position company kind used (place ∷ next ∷ places) steps named legal =
     let few = no_more 279 (crossed steps) legal.no_border_twice (crossed_low 279 steps (omega arith)) in
     let counted = run_counted position place.stop place (next ∷ places) steps refl named in
@@ -199,5 +165,4 @@ runs_have_places position company (one ∷ claimed) (run ∷ runs) named legal =
 )
 
 pub claims_have_places : ClaimsHavePlaces
-claims_have_places position company trains claim holds =
-    runs_have_places position company claim.runs holds.0 holds.1 holds.2.legal
+claims_have_places position company trains claim holds = grind (arith, runs_have_places)

@@ -10,7 +10,7 @@ use Rattle.map_tables.specs.declared.track.TrackEnd.{TrackEnd}
 use Rattle.map_tables.specs.declared.track.TrackEnd.TheVariants.{Side as AtSide, Stop as AtStop}
 use Rattle.reach.specs.Lawful.{IsLawful}
 use Rattle.reach.specs.Position.{Position}
-use Rattle.reach.specs.Walk.{IsWalk, entered_at, left_at, stop_at_end}
+use Rattle.reach.specs.Walk.{IsWalk, stop_at_end}
 use Rattle.reach.specs.declared.walk.WalkStep.{WalkStep}
 use Rattle.tables.specs.declared.rolling_stock.Kind.{Kind}
 use Rattle.tables.specs.declared.roster.Company.{Company}
@@ -20,7 +20,7 @@ use Rattle.legal_runs.proofs.Lawful.{legal_where_unbroken}
 use Rattle.legal_runs.proofs.Written.{ordered, stop_to_stop}
 use Rattle.legal_runs.specs.Fault.{has_border_twice, is_taken, named_steps, steps_of}
 use Rattle.legal_runs.specs.Marks.{borders_used, marked}
-use Rattle.legal_runs.specs.Law.{NameLegalRun, RunsEarnByBorders, if_unused, unused}
+use Rattle.legal_runs.specs.Law.{NameLegalRun, RunsEarnByBorders, unused}
 use Rattle.legal_runs.specs.Legal.{IsLegalRun, border_at, crossed, earned, listed, visited, worth}
 
 -- no stop is worth more than 80 dollars
@@ -55,23 +55,15 @@ later_step hex (AtStop n) (AtStop m) stops borders apart few = absurd (apart n m
 pub few_visited : (position : Position) → IsLawful position → (steps : List WalkStep) → IsWalk position steps
     → length (visited steps) ≤ length (crossed steps) + 1
 few_visited position lawful [] walk = omega arith
-few_visited position lawful (step ∷ []) walk =
-    first_step step.link.hex (entered_at step).end (left_at step).end
-    (λ n m enters leaves. stop_to_stop step.link step.turned n m (ordered position lawful step walk.0) enters
-    leaves)
-few_visited position lawful (step ∷ earlier ∷ before) walk =
-    later_step step.link.hex (entered_at step).end (left_at step).end (visited (earlier ∷ before))
-    (crossed (earlier ∷ before)) (λ n m enters leaves. stop_to_stop step.link step.turned n m
-    (ordered position lawful step walk.0) enters leaves) (few_visited position lawful (earlier ∷ before) walk.2)
+few_visited position lawful (step ∷ []) walk = grind (arith, first_step, ordered, stop_to_stop)
+few_visited position lawful (step ∷ earlier ∷ before) walk = grind (arith, later_step, ordered, stop_to_stop, few_visited position lawful (earlier ∷ before) walk.2)
 
 -- a new mark leaves one border fewer
 mark_used : (marks : List Bool) (border : ℕ) → border < length marks → get_or marks border false ≡ false
     → unused (set marks border true) + 1 ≡ unused marks
 mark_used [] border low free = absurd (omega arith)
-mark_used (mark ∷ marks) zero low free =
-    let counts : if_unused mark ≡ 1 = ap if_unused free in omega arith
-mark_used (mark ∷ marks) (suc border) low free =
-    let rest = mark_used marks border (omega arith) free in omega arith
+mark_used (mark ∷ marks) zero low free = grind arith
+mark_used (mark ∷ marks) (suc border) low free = grind (arith, mark_used marks border (omega arith) free)
 
 -- this many leave this many fewer
 marks_used : (used : List Bool) (borders : List ℕ) → AllByRecursion (λ border. border < length used) borders

@@ -34,8 +34,7 @@ module _ {A B : Type 0} (make : A → B) where
   unfolding each
   each_among [] made among = absurd among
   each_among (other ∷ things) made (inl is) = (other, inl refl, is)
-  each_among (other ∷ things) made (inr later) = let found =
-      each_among things made later in (found.0, inr found.1, found.2)
+  each_among (other ∷ things) made (inr later) = grind (arith, each_among things made later)
 
 module _ {A B C : Type 0} (make : A → B → C) where
   -- what each thing of a list makes with each of another

@@ -1,6 +1,6 @@
 -- The greatest revenue: it is that of the best of finitely many legal sets, and at most 160 dollars
 -- for each border.
-use Rattle.std.proofs.Common.{ℕ, ◌*◌, ◌<◌, ◌≤◌, inl, inr, List, [], ◌∷◌, ◌++◌, length, refl, subst, arith}
+use Rattle.std.proofs.Common.{ℕ, ◌*◌, ◌<◌, ◌≤◌, inl, inr, List, [], ◌∷◌, ◌++◌, length, refl, arith}
 use Rattle.std.specs.List.{AllByRecursion}
 use Rattle.std.proofs.lemmas.List.{length-append}
 use Rattle.reach.specs.Lawful.{IsLawful}
@@ -8,9 +8,8 @@ use Rattle.reach.specs.Position.{Position, IsAmong}
 use Rattle.tables.specs.declared.rolling_stock.Kind.{Kind}
 use Rattle.tables.specs.declared.roster.Company.{Company}
 use Rattle.legal_runs.specs.Greatest.{AGreatestExists, MoreTrainsEarnNoLess, OneGreatest, OrderOfTrainsChangesNothing}
-use Rattle.legal_runs.specs.Legal.{AreDistinct, crossed, earned, visited}
-use Rattle.legal_runs.specs.Set.{AreApart, AreTakenFrom, IsGreatest, IsLegalSet, RunsLegally, ShareNoBorder, TrainRun}
-use Rattle.legal_runs.specs.Set.{revenue_of}
+use Rattle.legal_runs.specs.Legal.{AreDistinct, crossed, earned}
+use Rattle.legal_runs.specs.Set.{AreApart, IsGreatest, IsLegalSet, RunsLegally, ShareNoBorder, TrainRun, revenue_of}
 use Rattle.legal_runs.proofs.Choosing.{choices, set_decided, set_there}
 use Rattle.legal_runs.proofs.Counting.{no_more}
 use Rattle.legal_runs.proofs.Earning.{few_visited, worth_low}
@@ -33,16 +32,11 @@ distinct_both :
     → ((border : ℕ) → IsAmong border first → ¬ IsAmong border second) →
     AreDistinct (first ++ second)
 distinct_both [] second one two apart = two
-distinct_both (border ∷ first) second one two apart = (
-  λ among. elim ((among_both border first second).0 among)
-      [ inl before ↦ one.0 before | inr after ↦ apart border (inl refl) after ],
-  distinct_both first second one.1 two (λ other among. apart other (inr among)),
-)
+distinct_both (border ∷ first) second one two apart = grind (arith, among_both, distinct_both first second one.1 two (λ other among. apart other (inr among)))
 
 runs_low : (runs : List TrainRun) → AllByRecursion (λ border. border < 279) (borders_of_runs runs)
 runs_low [] = tt
-runs_low (run ∷ runs) = all_both (λ border. border < 279) (crossed run.steps) (borders_of_runs runs)
-    (crossed_low 279 run.steps (omega arith)) (runs_low runs)
+runs_low (run ∷ runs) = grind (arith, all_both, crossed_low, runs_low runs)
 
 apart_from :
     (run : TrainRun) (runs : List TrainRun) → AllByRecursion
@@ -67,26 +61,13 @@ module _ (position : Position) (company : Company) where
   -- a legal run earns at most 160 dollars for each border that it crosses
   run_earns : IsLawful position → (run : TrainRun) → RunsLegally position company run
       → earned position run.steps ≤ 160 * length (crossed run.steps)
-  run_earns lawful run legal =
-      omega (
-        arith,
-        worth_low position lawful (visited run.steps),
-        few_visited position lawful run.steps legal.walk,
-        legal.two,
-      )
+  run_earns lawful run legal = grind (arith, few_visited, worth_low)
 
   runs_earn :
       IsLawful position → (runs : List TrainRun) → AllByRecursion (RunsLegally position company) runs →
       revenue_of position runs ≤ 160 * length (borders_of_runs runs)
   runs_earn lawful [] legal = omega arith
-  runs_earn lawful (run ∷ runs) legal =
-      omega (
-        arith,
-        run_earns lawful run legal.0,
-        runs_earn lawful runs legal.1,
-        length-append (crossed run.steps)
-            (borders_of_runs runs),
-      )
+  runs_earn lawful (run ∷ runs) legal = grind (arith, run_earns, length-append, runs_earn lawful runs legal.1)
 
   pub set_earns : IsLawful position → (trains : List Kind) (runs : List TrainRun)
       → IsLegalSet position company trains runs → revenue_of position runs ≤ 44640
@@ -120,35 +101,13 @@ pub no_more_earned :
     (position : Position) (company : Company) (trains more : List Kind) (revenue greater : ℕ) →
     ((runs : List TrainRun) → IsLegalSet position company trains runs → IsLegalSet position company more runs) →
     IsGreatest position company trains revenue → IsGreatest position company more greater → revenue ≤ greater
-no_more_earned position company trains more revenue greater also first second =
-    subst (λ (n : ℕ). n ≤ greater) first.earned.2 (second.most first.earned.0 (also first.earned.0 first.earned.1))
+no_more_earned position company trains more revenue greater also first second = grind arith
 
 pub one_greatest : OneGreatest
-one_greatest position company trains revenue other first second =
-    let up : revenue ≤ other = no_more_earned position company trains trains revenue other (λ runs set. set) first
-    second in
-    let down : other ≤ revenue = no_more_earned position company trains trains other revenue (λ runs set. set) second
-    first in
-    omega arith
-
--- a legal set for some trains is one for more
-with_more :
-    (position : Position) (company : Company) (trains more : List Kind) → AreTakenFrom more trains
-    → (runs : List TrainRun) →
-    IsLegalSet position company trains runs → IsLegalSet position company more runs
-with_more position company trains more taken runs set =
-    record { legal = set.legal; each_once = λ kind. omega (arith, set.each_once kind, taken kind); apart = set.apart }
+one_greatest position company trains revenue other first second = grind arith
 
 pub more_trains : MoreTrainsEarnNoLess
-more_trains position company trains more revenue greater taken first second =
-    no_more_earned position company trains more revenue greater (with_more position company trains more taken) first
-    second
+more_trains position company trains more revenue greater taken first second = grind arith
 
 pub order_of_trains : OrderOfTrainsChangesNothing
-order_of_trains position company trains others revenue same greatest =
-    let there = with_more position company trains others (λ kind. omega (arith, same kind)) in
-    let back = with_more position company others trains (λ kind. omega (arith, same kind)) in
-    record {
-      earned = (greatest.earned.0, there greatest.earned.0 greatest.earned.1, greatest.earned.2);
-      most = λ runs set. greatest.most runs (back runs set);
-    }
+order_of_trains position company trains others revenue same greatest = grind arith

@@ -30,7 +30,7 @@ use Rattle.legal_runs.proofs.Sharing.{legal_by_marks, legal_over}
 among_all : (P : ℕ → Type 0) (things : List ℕ) → ((thing : ℕ) → IsAmong thing things → P thing)
     → AllByRecursion P things
 among_all P [] each = tt
-among_all P (thing ∷ things) each = (each thing (inl refl), among_all P things (λ other among. each other (inr among)))
+among_all P (thing ∷ things) each = grind (arith, among_all P things (λ other among. each other (inr among)))
 
 pub all_among : (P : ℕ → Type 0) (things : List ℕ) → AllByRecursion P things → (thing : ℕ) → IsAmong thing things
     → P thing
@@ -63,7 +63,7 @@ module _ (position : Position) (company : Company) where
 
   free_of : (kind : Kind) (used : List ℕ) (steps : List WalkStep) → IsLegalRun position company kind used steps
       → IsFreeOf used (run_of kind steps)
-  free_of kind used steps run = all_among (λ border. ¬ IsAmong border used) (crossed steps) run.no_used_border
+  free_of kind used steps run = grind (arith, all_among)
 
   over : (used : List ℕ) (run : TrainRun) → RunsLegally position company run → IsFreeOf used run
       → IsLegalRun position company run.kind used run.steps
@@ -117,8 +117,7 @@ module _ (position : Position) (company : Company) where
   its_runs :
       (claimed : List ClaimedRun) (used : List ℕ) (marks : List Bool) (left : ℕ) → MarksAre used marks →
       AreLegalInTurn position company marks left claimed → AreItsRuns claimed used left
-  its_runs [] used marks left are legal = record
-      { runs = []; named = tt; legal = tt; apart = tt; free = tt; earn = sym legal }
+  its_runs [] used marks left are legal = grind arith
   its_runs (first ∷ later) used marks left are legal =
       let steps : List WalkStep = named_steps position first.run in
       let same : steps ≡ legal.0.0 = ap steps_of legal.0.1 in
@@ -164,9 +163,7 @@ same_kinds : (position : Position) (claimed : List ClaimedRun) (runs : List Trai
 same_kinds position [] [] named = refl
 same_kinds position [] (run ∷ runs) named = absurd named
 same_kinds position (first ∷ later) [] named = absurd named
-same_kinds position (first ∷ later) (run ∷ runs) named =
-    ap (λ (k : Kind). k ∷ kinds_claimed later) named.0
-    ∙ ap (λ (ks : List Kind). run.kind ∷ ks) (same_kinds position later runs named.2)
+same_kinds position (first ∷ later) (run ∷ runs) named = grind (arith, same_kinds position later runs named.2)
 
 free_of_none : (runs : List TrainRun) → AllByRecursion (IsFreeOf []) runs
 free_of_none [] = tt
@@ -192,18 +189,7 @@ counted_claimed kind claimed =
 
 enough_is : (trains : List Kind) (claimed : List ClaimedRun) (kind : Kind)
     → (has_enough trains claimed kind ≡ true) ↔ (in_number kind (kinds_claimed claimed) ≤ in_number kind trains)
-enough_is trains claimed kind =
-    let of_trains : in_number kind trains ≡ count_by (λ (train : Kind). same_kind train kind) trains =
-    counted kind trains in
-    let of_runs : in_number kind (kinds_claimed claimed)
-    ≡ count_by (λ (run : ClaimedRun). same_kind run.kind kind) claimed = counted_claimed kind claimed in (
-      λ is.
-          let few : count_by (λ (run : ClaimedRun). same_kind run.kind kind) claimed
-          ≤ count_by (λ (train : Kind). same_kind train kind) trains = leb-true _ _ is in
-          omega arith,
-      λ few. le-leb _ _ (let low : count_by (λ (run : ClaimedRun). same_kind run.kind kind) claimed
-          ≤ count_by (λ (train : Kind). same_kind train kind) trains = omega arith in low),
-    )
+enough_is trains claimed kind = grind (arith, counted, counted_claimed, le-leb, leb-true)
 
 true_both : (a b : Bool) → a ≡ true → b ≡ true → (a && b) ≡ true
 true_both true b is also = also

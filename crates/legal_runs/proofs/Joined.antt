@@ -1,8 +1,8 @@
 -- Each rule of a walk is kept exactly if its fact of a legal run holds.
 use Rattle.std.proofs.Common.{◌≡◌, ◌↔◌, ℕ, ◌+◌, ◌*◌, ◌<◌, ◌≤◌, ◌==◌, Bool, true, false, ◌||◌, ltb, ◌⊎◌, inl, inr}
-use Rattle.std.proofs.Common.{Option, Some, None, IfSome, List, [], ◌∷◌, refl, ap, ◌∙◌, arith}
+use Rattle.std.proofs.Common.{List, [], ◌∷◌, refl, ap, ◌∙◌, arith}
 use Rattle.std.specs.List.{AllByRecursion, list_any}
-use Rattle.std.proofs.lemmas.Bool.{eqb-true, eq-eqb, ltb-true, ltb-false}
+use Rattle.std.proofs.lemmas.Bool.{eqb-true, eq-eqb, ltb-true}
 use Rattle.map_tables.specs.Hex.{index_of}
 use Rattle.map_tables.specs.Place.{stop_index_of}
 use Rattle.map_tables.specs.declared.hex.Hex.{Hex}
@@ -10,14 +10,14 @@ use Rattle.map_tables.specs.declared.place.Stop.{Stop}
 use Rattle.map_tables.specs.declared.place.StopNumber.{StopNumber}
 use Rattle.reach.specs.Position.{IsAmong}
 use Rattle.reach.specs.Reached.{stop_order}
-use Rattle.reach.specs.Walk.{PassesBy, PassesOnly, entered_at, stop_of}
+use Rattle.reach.specs.Walk.{PassesBy, PassesOnly}
 use Rattle.reach.specs.declared.walk.WalkStep.{WalkStep}
 use Rattle.reach.proofs.Hexes.{same_index, same_stop_index, stop_index_low}
 use Rattle.reach.proofs.Lists.{among_found, found_among}
 use Rattle.tables.specs.Train.{stops_of}
 use Rattle.tables.specs.declared.rolling_stock.Kind.{Kind}
-use Rattle.legal_runs.specs.Fault.{are_over, goes_through, has_border, has_border_twice, has_stop, has_stop_twice}
-use Rattle.legal_runs.specs.Fault.{is_such, is_taken, is_wrong_number, passes}
+use Rattle.legal_runs.specs.Fault.{goes_through, has_border, has_border_twice, has_stop, has_stop_twice}
+use Rattle.legal_runs.specs.Fault.{is_taken, is_wrong_number, passes}
 use Rattle.legal_runs.specs.Legal.{AreAtMost, AreDistinct, HasSuch}
 use Rattle.legal_runs.proofs.Marks.{among_is}
 
@@ -73,13 +73,11 @@ stops_distinct (stop ∷ stops) h =
 
 pub distinct_stops : (stops : List Stop) → AreDistinct stops → has_stop_twice stops ≡ false
 distinct_stops [] h = refl
-distinct_stops (stop ∷ stops) h =
-    both_fail (has_stop_twice stops) (has_stop stop stops) (distinct_stops stops h.1)
-    ((fails (has_stop stop stops) (has_stop_is stop stops)).1 h.0)
+distinct_stops (stop ∷ stops) h = grind (arith, fails, both_fail, has_stop_is, distinct_stops stops h.1)
 
 -- the test of a border among borders fails
 not_among_is : (border : ℕ) (borders : List ℕ) → (has_border border borders ≡ false) ↔ (¬ IsAmong border borders)
-not_among_is border borders = fails (has_border border borders) (among_is border borders)
+not_among_is border borders = grind (arith, fails, among_is)
 
 -- no border twice, and none that was used
 pub borders_distinct : (used : List ℕ) (borders : List ℕ) → has_border_twice used borders ≡ false
@@ -97,21 +95,13 @@ borders_distinct used (border ∷ borders) h =
 pub distinct_borders : (used : List ℕ) (borders : List ℕ) → AreDistinct borders
     → AllByRecursion (λ border. ¬ IsAmong border used) borders → has_border_twice used borders ≡ false
 distinct_borders used [] once free = refl
-distinct_borders used (border ∷ borders) once free =
-    both_fail (has_border_twice used borders) (is_taken used borders border)
-    (distinct_borders used borders once.1 free.1)
-    (both_fail (has_border border used) (has_border border borders) ((not_among_is border used).1 free.0)
-    ((not_among_is border borders).1 once.0))
+distinct_borders used (border ∷ borders) once free = grind (arith, both_fail, not_among_is, distinct_borders used borders once.1 free.1)
 
 module _ (P : Stop → Type 0) (test : Stop → Bool) (exact : (stop : Stop) → (test stop ≡ true) ↔ P stop) where
-  such_none : (stop : Option Stop) → (is_such test stop ≡ false) ↔ IfSome stop (λ s. ¬ P s)
-  such_none None = (λ h. tt, λ h. refl)
-  such_none (Some stop) = fails (test stop) (exact stop)
-
   by_none : (before : List WalkStep) (step : WalkStep) → (goes_through test before step ≡ false)
       ↔ PassesBy (λ s. ¬ P s) before step
   by_none [] step = (λ h. tt, λ h. refl)
-  by_none (earlier ∷ before) step = such_none (stop_of (entered_at step))
+  by_none (earlier ∷ before) step = grind arith
 
   -- no such stop is passed
   pub passes_none : (steps : List WalkStep) → passes test steps ≡ false → PassesOnly (λ s. ¬ P s) steps
@@ -123,17 +113,11 @@ module _ (P : Stop → Type 0) (test : Stop → Bool) (exact : (stop : Stop) →
 
   pub none_passes : (steps : List WalkStep) → PassesOnly (λ s. ¬ P s) steps → passes test steps ≡ false
   none_passes [] h = refl
-  none_passes (step ∷ before) h =
-      both_fail (passes test before) (goes_through test before step) (none_passes before h.1)
-      ((by_none before step).1 h.0)
+  none_passes (step ∷ before) h = grind (arith, none_passes before h.1)
 
   first_of_or : (a b : Bool) → (a || b) ≡ true → (a ≡ true) ⊎ (b ≡ true)
   first_of_or true b h = inl refl
   first_of_or false b h = inr h
-
-  or_with : (a b : Bool) → b ≡ true → (a || b) ≡ true
-  or_with true b h = refl
-  or_with false b h = h
 
   -- one of the stops is such
   pub has_such : (stops : List Stop) → list_any test stops ≡ true → HasSuch P stops
@@ -145,7 +129,7 @@ module _ (P : Stop → Type 0) (test : Stop → Bool) (exact : (stop : Stop) →
   pub such_has : (stops : List Stop) → HasSuch P stops → list_any test stops ≡ true
   such_has [] h = absurd h
   such_has (stop ∷ stops) (inl here) = ap (λ b. b || list_any test stops) ((exact stop).1 here)
-  such_has (stop ∷ stops) (inr later) = or_with (test stop) (list_any test stops) (such_has stops later)
+  such_has (stop ∷ stops) (inr later) = grind (arith, such_has stops later)
 
 pub not_less : (m n : ℕ) → n ≤ m → ltb m n ≡ false
 not_less m n le = by_test (ltb m n) refl
@@ -154,20 +138,10 @@ not_less m n le = by_test (ltb m n) refl
     by_test true is = absurd (let less : m < n = ltb-true m n is in omega arith)
     by_test false is = refl
 
--- the number of stops
-most_is : (most : Option ℕ) (count : ℕ) → (are_over most count ≡ false) ↔ AreAtMost most count
-most_is None count = (λ h. tt, λ h. refl)
-most_is (Some most) count = (λ h. ltb-false most count h, λ h. not_less most count h)
-
 pub number_is : (kind : Kind) (count : ℕ) → is_wrong_number kind count ≡ false
     → (2 ≤ count) × AreAtMost (stops_of kind) count
-number_is kind count h =
-    let parts : (ltb count 2 ≡ false) × (are_over (stops_of kind) count ≡ false) =
-    neither (ltb count 2) (are_over (stops_of kind) count) h in
-    (ltb-false count 2 parts.0, (most_is (stops_of kind) count).0 parts.1)
+number_is kind count h = grind arith
 
 pub is_number : (kind : Kind) (count : ℕ) → 2 ≤ count → AreAtMost (stops_of kind) count
     → is_wrong_number kind count ≡ false
-is_number kind count least most =
-    both_fail (ltb count 2) (are_over (stops_of kind) count) (not_less count 2 least)
-    ((most_is (stops_of kind) count).1 most)
+is_number kind count least most = grind arith

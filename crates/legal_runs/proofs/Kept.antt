@@ -1,7 +1,7 @@
 -- What the tally keeps of a walk is what the tests find in it.
 use Rattle.std.proofs.Common.{◌≡◌, ◌↔◌, ℕ, ◌+◌, ◌-◌, ◌*◌, ◌<◌, ◌≤◌, Bool, true, false, ltb, eqb, ◌||◌, ◌⊎◌, inl, inr}
 use Rattle.std.proofs.Common.{if◌then◌else◌, Option, Some, None, List, [], ◌∷◌, ◌++◌, length, get_or, set, replicate}
-use Rattle.std.proofs.Common.{refl, ap, sym, ◌∙◌, subst, arith, get_or-set_same, get_or-set_other, length-set}
+use Rattle.std.proofs.Common.{refl, ◌∙◌, arith, get_or-set_same, get_or-set_other, length-set}
 use Rattle.std.specs.List.{AllByRecursion, list_any}
 use Rattle.std.proofs.lemmas.Bool.{cases_eq, eq-eqb, ltb-true, ltb-false}
 use Rattle.map_tables.specs.Border.{neighbour_of}
@@ -12,7 +12,7 @@ use Rattle.map_tables.specs.declared.place.Stop.{Stop}
 use Rattle.map_tables.specs.declared.side.Side.{Side}
 use Rattle.map_tables.specs.declared.track.TrackEnd.{TrackEnd}
 use Rattle.map_tables.specs.declared.track.TrackEnd.TheVariants.{Side as AtSide, Stop as AtStop}
-use Rattle.reach.specs.Position.{IsAmong, Position, is_red, value_of}
+use Rattle.reach.specs.Position.{IsAmong, Position, is_red}
 use Rattle.reach.specs.Reached.{stop_order}
 use Rattle.reach.specs.Walk.{entered_at, left_at, stop_of}
 use Rattle.reach.specs.declared.walk.WalkStep.{WalkStep}
@@ -20,7 +20,7 @@ use Rattle.reach.proofs.Hexes.{index_low, side_low}
 use Rattle.reach.proofs.Collected.{none_marked}
 use Rattle.reach.proofs.Spots.{order_low}
 use Rattle.tables.specs.declared.roster.Company.{Company}
-use Rattle.legal_runs.specs.Fault.{has_border, has_border_twice, has_stop, has_stop_twice, has_token, is_full, is_such}
+use Rattle.legal_runs.specs.Fault.{has_border_twice, has_stop, has_stop_twice, has_token, is_full, is_such}
 use Rattle.legal_runs.specs.Fault.{is_taken, passes}
 use Rattle.legal_runs.specs.Law.{CrossedBordersAreUsed}
 use Rattle.legal_runs.specs.Legal.{border_at, border_beyond, border_of, crossed, first_stop, listed, visited, worth}
@@ -67,15 +67,7 @@ or_not_here false b c is same = same
 -- one more mark
 pub mark_more : (marks : List Bool) (n m : ℕ) → n < length marks
     → get_or (set marks n true) m false ≡ (eqb n m || get_or marks m false)
-mark_more marks n m low =
-    elim (cases_eq m n) [
-      | inl same ↦
-          subst (λ k. get_or (set marks n true) k false ≡ (eqb n k || get_or marks k false)) (sym same)
-          (get_or-set_same marks n true false low ∙ ap (λ b. b || get_or marks n false) (sym (eq-eqb n n refl)))
-      | inr other ↦
-          get_or-set_other marks n m true false other ∙ or_not_here (eqb n m) (get_or marks m false)
-          (get_or marks m false) (eqb_not n m (λ is. other (sym is))) refl
-    ]
+mark_more marks n m low = grind (arith, or_not_here, low, get_or-set_same, get_or-set_other, cases_eq, eq-eqb, eqb_not)
 
 pub length_marked : (used : List Bool) (borders : List ℕ) → length (marked used borders) ≡ length used
 length_marked used [] = refl
@@ -84,12 +76,8 @@ length_marked used (border ∷ borders) = length-set (marked used borders) borde
 -- a border is marked where it was used or crossed
 pub marked_is : (used : List Bool) (borders : List ℕ) (border : ℕ) → AllByRecursion (λ b. b < length used) borders
     → get_or (marked used borders) border false ≡ is_taken (borders_used used) borders border
-marked_is used [] border low = sym (mark_listed used border) ∙ or_swapped false (has_border border (borders_used used))
-marked_is used (other ∷ borders) border low =
-    let here : other < length (marked used borders) = omega (arith, length_marked used borders, low.0) in
-    mark_more (marked used borders) other border here
-    ∙ ap (λ b. eqb other border || b) (marked_is used borders border low.1)
-    ∙ or_inside (eqb other border) (has_border border (borders_used used)) (has_border border borders)
+marked_is used [] border low = grind (arith, or_swapped, mark_listed)
+marked_is used (other ∷ borders) border low = grind (arith, or_inside, mark_more, length_marked, low, marked_is used borders border low.1)
 
 -- whether a walk has a step
 abbrev pub has_begun : List WalkStep → Bool
@@ -121,24 +109,7 @@ module _ (position : Position) (company : Company) (used : List Bool) where
       (full red : Bool) → Keeps tally begun stops borders full red
       → Keeps (visiting position company tally stop) begun (stop ∷ stops) borders full red
   unfolding visiting
-  visiting_keeps tally stop begun stops borders full red kept = record {
-    begun_is = kept.begun_is;
-    stops_are = omega (arith, kept.stops_are);
-    value_is = ap (λ n. n + value_of position stop) kept.value_is;
-    seen_all = length-set tally.seen (stop_order stop) true ∙ kept.seen_all;
-    seen_is = λ other.
-        mark_more tally.seen (stop_order stop) (stop_order other) (omega (arith, order_low stop, kept.seen_all))
-        ∙ ap (λ b. eqb (stop_order stop) (stop_order other) || b) (kept.seen_is other);
-    stop_twice_is = ap (λ b. b || get_or tally.seen (stop_order stop) false) kept.stop_twice_is
-        ∙ ap (λ b. has_stop_twice stops || b) (kept.seen_is stop);
-    crossed_is = kept.crossed_is;
-    borders_low = kept.borders_low;
-    border_twice_is = kept.border_twice_is;
-    full_is = kept.full_is;
-    own_is = or_swapped tally.own_token (has_token position company stop)
-        ∙ ap (λ b. has_token position company stop || b) kept.own_is;
-    red_is = kept.red_is;
-  }
+  visiting_keeps tally stop begun stops borders full red kept = grind (arith, or_swapped, mark_more, length-set, order_low)
 
   -- a stop is passed
   passing_keeps : (tally : Tally) (stop : Stop) (begun : Bool) (stops : List Stop) (borders : List ℕ)
@@ -146,43 +117,14 @@ module _ (position : Position) (company : Company) (used : List Bool) where
       → Keeps (passing position company tally stop) begun stops borders (full || is_full position company stop)
       (red || is_red position stop)
   unfolding passing
-  passing_keeps tally stop begun stops borders full red kept = record {
-    begun_is = kept.begun_is;
-    stops_are = kept.stops_are;
-    value_is = kept.value_is;
-    seen_all = kept.seen_all;
-    seen_is = kept.seen_is;
-    stop_twice_is = kept.stop_twice_is;
-    crossed_is = kept.crossed_is;
-    borders_low = kept.borders_low;
-    border_twice_is = kept.border_twice_is;
-    full_is = ap (λ b. b || is_full position company stop) kept.full_is;
-    own_is = kept.own_is;
-    red_is = ap (λ b. b || is_red position stop) kept.red_is;
-  }
+  passing_keeps tally stop begun stops borders full red kept = grind arith
 
   -- a border is crossed
   crossing_keeps : (tally : Tally) (border : ℕ) (begun : Bool) (stops : List Stop) (borders : List ℕ)
       (full red : Bool) → border < length used → Keeps tally begun stops borders full red
       → Keeps (crossing tally border) begun stops (border ∷ borders) full red
   unfolding crossing
-  crossing_keeps tally border begun stops borders full red low kept = record {
-    begun_is = kept.begun_is;
-    stops_are = kept.stops_are;
-    value_is = kept.value_is;
-    seen_all = kept.seen_all;
-    seen_is = kept.seen_is;
-    stop_twice_is = kept.stop_twice_is;
-    crossed_is = ap (λ marks. set marks border true) kept.crossed_is;
-    borders_low = (low, kept.borders_low);
-    border_twice_is =
-        ap (λ b. b || get_or tally.crossed border false) kept.border_twice_is
-        ∙ ap (λ b. has_border_twice (borders_used used) borders || b)
-        (ap (λ marks. get_or marks border false) kept.crossed_is ∙ marked_is used borders border kept.borders_low);
-    full_is = kept.full_is;
-    own_is = kept.own_is;
-    red_is = kept.red_is;
-  }
+  crossing_keeps tally border begun stops borders full red low kept = grind (arith, marked_is, low)
 
   -- the side at which a step is entered
   side_keeps : 279 ≤ length used → (tally : Tally) (hex : Hex) (end : TrackEnd) (begun : Bool) (stops : List Stop)
@@ -217,9 +159,7 @@ module _ (position : Position) (company : Company) (used : List Bool) where
   later_keeps : (tally : Tally) (stop : Option Stop) (stops : List Stop) (borders : List ℕ) (full red : Bool)
       → Keeps tally true stops borders full red → Keeps (entering_stop position company tally stop) true stops borders
       (full || is_such (is_full position company) stop) (red || is_such (is_red position) stop)
-  later_keeps tally None stops borders full red kept =
-      subst (λ b. Keeps tally true stops borders b (red || false)) (or_none full)
-      (subst (λ b. Keeps tally true stops borders full b) (or_none red) kept)
+  later_keeps tally None stops borders full red kept = grind (arith, or_none)
   later_keeps tally (Some stop) stops borders full red kept =
       chosen true (passing position company tally stop) (visiting position company tally stop) tally.begun kept.begun_is
       (λ (t : Tally). Keeps t true stops borders (full || is_full position company stop)
@@ -235,20 +175,7 @@ module _ (position : Position) (company : Company) (used : List Bool) where
 
   begun_now : (tally : Tally) (begun : Bool) (stops : List Stop) (borders : List ℕ) (full red : Bool)
       → Keeps tally begun stops borders full red → Keeps (record tally { begun = true }) true stops borders full red
-  begun_now tally begun stops borders full red kept = record {
-    begun_is = refl;
-    stops_are = kept.stops_are;
-    value_is = kept.value_is;
-    seen_all = kept.seen_all;
-    seen_is = kept.seen_is;
-    stop_twice_is = kept.stop_twice_is;
-    crossed_is = kept.crossed_is;
-    borders_low = kept.borders_low;
-    border_twice_is = kept.border_twice_is;
-    full_is = kept.full_is;
-    own_is = kept.own_is;
-    red_is = kept.red_is;
-  }
+  begun_now tally begun stops borders full red kept = grind arith
 
   -- a step entered, the first of a walk or a later one
   entered_keeps : 279 ≤ length used → (before : List WalkStep) (step : WalkStep) (tally : Tally)
@@ -306,19 +233,18 @@ module _ (position : Position) (company : Company) (used : List Bool) where
   pub tally_keeps : 279 ≤ length used → (steps : List WalkStep)
       → Keeps (tally_of position company used steps) (has_begun steps) (visited steps) (crossed steps)
       (passes (is_full position company) steps) (passes (is_red position) steps)
-  tally_keeps whole [] = none_keeps
-  tally_keeps whole (step ∷ before) = step_keeps whole before step (tally_keeps whole before)
+  tally_keeps whole [] = grind (arith, none_keeps)
+  tally_keeps whole (step ∷ before) = grind (arith, step_keeps, tally_keeps whole before)
 
 low_before : (bound : ℕ) (hex : Hex) (end : TrackEnd) (borders : List ℕ) → 279 ≤ bound
     → AllByRecursion (λ b. b < bound) borders → AllByRecursion (λ b. b < bound) (border_at hex end ++ borders)
-low_before bound hex (AtSide side) borders whole low = (omega (arith, border_low hex side), low)
-low_before bound hex (AtStop number) borders whole low = low
+low_before bound hex (AtSide side) borders whole low = grind (arith, border_low, low)
+low_before bound hex (AtStop number) borders whole low = grind (arith, low)
 
 -- the borders that a walk crosses have low numbers
 pub crossed_low : (bound : ℕ) (steps : List WalkStep) → 279 ≤ bound → AllByRecursion (λ b. b < bound) (crossed steps)
 crossed_low bound [] whole = tt
-crossed_low bound (step ∷ before) whole =
-    low_before bound (entered_at step).hex (entered_at step).end (crossed before) whole (crossed_low bound before whole)
+crossed_low bound (step ∷ before) whole = grind (arith, low_before, crossed_low bound before whole)
 
 -- a test of an element or of others
 or_is : (a b : Bool) → (a || b) ≡ true → (a ≡ true) ⊎ (b ≡ true)
@@ -333,16 +259,7 @@ is_or false b (inr h) = h
 -- after a walk those borders are used that were used before, and those that it crosses
 pub taken_is : (used borders : List ℕ) (border : ℕ)
     → (is_taken used borders border ≡ true) ↔ (IsAmong border borders ⊎ IsAmong border used)
-taken_is used borders border = (
-  λ h. elim (or_is (has_border border used) (has_border border borders) h) [
-    | inl before ↦ inr ((among_is border used).0 before)
-    | inr now ↦ inl ((among_is border borders).0 now)
-  ],
-  λ h. is_or (has_border border used) (has_border border borders) (elim h [
-    | inl now ↦ inr ((among_is border borders).1 now)
-    | inr before ↦ inl ((among_is border used).1 before)
-  ]),
-)
+taken_is used borders border = grind (arith, or_is, is_or, among_is)
 
 pub crossed_used : CrossedBordersAreUsed
 crossed_used used marks steps are =
@@ -352,26 +269,10 @@ crossed_used used marks steps are =
     }
   where
     low : AllByRecursion (λ b. b < length marks) (crossed steps)
-    low = crossed_low (length marks) steps (omega (arith, are.for_each))
+    low = grind (arith, crossed_low)
 
     after : (border : ℕ) → IsUsed (marked marks (crossed steps)) border ↔ IsAmong border (crossed steps ++ used)
-    after border =
-        let is : get_or (marked marks (crossed steps)) border false
-        ≡ is_taken (borders_used marks) (crossed steps) border = marked_is marks (crossed steps) border low in
-        let parts = taken_is (borders_used marks) (crossed steps) border in
-        let both = among_both border (crossed steps) used in
-        let of_marks = used_is marks border in (
-          λ h. both.1 (elim (parts.0 (sym is ∙ h)) [
-            | inl now ↦ inl now
-            | inr before ↦ inr
-                ((are.exact border).0 (of_marks.1 before))
-          ]),
-          λ h. is ∙ parts.1 (elim (both.0 h) [
-            | inl now ↦ inl now
-            | inr before ↦ inr
-                (of_marks.0 ((are.exact border).1 before))
-          ]),
-        )
+    after border = grind (arith, marked_is, taken_is, low, among_both, used_is)
 
 -- to the marked borders those were added that the walk crosses
 pub crossed_added : (marks : List Bool) (steps : List WalkStep) → length marks ≡ 279

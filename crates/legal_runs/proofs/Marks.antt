@@ -1,5 +1,5 @@
 -- The borders that are marked, and the marks of used borders once a walk has crossed more.
-use Rattle.std.proofs.Common.{◌≡◌, ◌↔◌, ℕ, zero, suc, ◌+◌, ◌<◌, ◌==◌, Bool, true, false, eqb, ◌||◌, ◌⊎◌, inl, inr, List}
+use Rattle.std.proofs.Common.{◌≡◌, ◌↔◌, ℕ, zero, suc, ◌+◌, ◌<◌, ◌==◌, Bool, true, false, eqb, ◌⊎◌, inl, inr, List}
 use Rattle.std.proofs.Common.{[], ◌∷◌, ◌++◌, get_or, refl, sym, ◌∙◌, subst, arith}
 use Rattle.std.proofs.lemmas.Bool.{eq-eqb, eqb-true}
 use Rattle.reach.specs.Position.{IsAmong}
@@ -14,44 +14,21 @@ eqb_not m n differ = by_test (eqb m n) refl
     by_test true is = absurd (differ (eqb-true m n is))
     by_test false is = refl
 
-or_both : (a b c : Bool) → a ≡ false → b ≡ c → (a || b) ≡ c
-or_both true b c none same = cc
-or_both false b c none same = same
-
-or_first : (a b : Bool) → a ≡ true → (a || b) ≡ true
-or_first true b is = refl
-or_first false b is = cc
-
 -- no border is marked whose mark is before the first
 none_before : (number border : ℕ) (marks : List Bool) → border < number
     → has_border border (borders_from number marks) ≡ false
 none_before number border [] low = refl
-none_before number border (true ∷ marks) low =
-    or_both (eqb number border) (has_border border (borders_from (number + 1) marks)) false
-    (eqb_not number border (λ same. omega arith)) (none_before (number + 1) border marks (omega arith))
+none_before number border (true ∷ marks) low = grind (arith, none_before (number + 1) border marks (omega arith))
 none_before number border (false ∷ marks) low = none_before (number + 1) border marks (omega arith)
-
-one_later :
-    (number k : ℕ) (marks : List Bool) → has_border ((number + 1) + k) (borders_from (number + 1) marks)
-    ≡ get_or marks k false →
-    has_border (number + suc k) (borders_from (number + 1) marks) ≡ get_or marks k false
-one_later number k marks is =
-    let next : number + suc k ≡ (number + 1) + k = omega arith in
-    subst (λ (n : ℕ). has_border n (borders_from (number + 1) marks) ≡ get_or marks k false) (sym next) is
 
 -- a border is one of those that are marked where its mark is set
 listed_from : (number k : ℕ) (marks : List Bool)
     → has_border (number + k) (borders_from number marks) ≡ get_or marks k false
 listed_from number k [] = refl
-listed_from number zero (true ∷ marks) =
-    or_first (eqb number (number + 0)) (has_border (number + 0) (borders_from (number + 1) marks))
-    (eq-eqb number (number + 0) (omega arith))
-listed_from number zero (false ∷ marks) = none_before (number + 1) (number + 0) marks (omega arith)
-listed_from number (suc k) (true ∷ marks) =
-    or_both (eqb number (number + suc k)) (has_border (number + suc k) (borders_from (number + 1) marks))
-    (get_or marks k false) (eqb_not number (number + suc k) (λ same. omega arith))
-    (one_later number k marks (listed_from (number + 1) k marks))
-listed_from number (suc k) (false ∷ marks) = one_later number k marks (listed_from (number + 1) k marks)
+listed_from number zero (true ∷ marks) = grind arith
+listed_from number zero (false ∷ marks) = grind (arith, none_before)
+listed_from number (suc k) (true ∷ marks) = grind (arith, listed_from (number + 1) k marks)
+listed_from number (suc k) (false ∷ marks) = grind (arith, listed_from (number + 1) k marks)
 
 pub mark_listed : (marks : List Bool) (border : ℕ) → has_border border (borders_used marks) ≡ get_or marks border false
 unfolding borders_used
@@ -79,14 +56,4 @@ used_is marks border = (
 pub among_both : {A : Type 0} (thing : A) (first second : List A)
     → IsAmong thing (first ++ second) ↔ (IsAmong thing first ⊎ IsAmong thing second)
 among_both thing [] second = (λ h. inr h, λ h. elim h [ inl none ↦ absurd none | inr there ↦ there ])
-among_both thing (other ∷ first) second =
-    let rest = among_both thing first second in (
-      λ h. elim h [
-        | inl here ↦ inl (inl here)
-        | inr later ↦ elim (rest.0 later) [ inl one ↦ inl (inr one) | inr there ↦ inr there ]
-      ],
-      λ h. elim h [
-        | inl before ↦ elim before [ inl here ↦ inl here | inr later ↦ inr (rest.1 (inl later)) ]
-        | inr there ↦ inr (rest.1 (inr there))
-      ],
-    )
+among_both thing (other ∷ first) second = grind (arith, among_both thing first second)

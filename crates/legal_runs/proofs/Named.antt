@@ -1,6 +1,6 @@
 -- The walk that places name is a walk, from a stop to a stop.
 use Rattle.std.proofs.Common.{◌≡◌, ◌==◌, Bool, true, false, ltb, inl, inr, if◌then◌else◌, Option, Some, None}
-use Rattle.std.proofs.Common.{option_map, option_and_then, List, [], ◌∷◌, refl, ap, sym, ◌∙◌, subst, arith}
+use Rattle.std.proofs.Common.{option_map, option_and_then, List, [], ◌∷◌, refl, ap, ◌∙◌, subst, arith}
 use Rattle.std.specs.List.{list_any}
 use Rattle.std.proofs.lemmas.Bool.{eqb-true}
 use Rattle.map_tables.specs.Border.{neighbour_of}
@@ -79,8 +79,7 @@ over_by position hex from to false found =
 joined_by : (position : Position) (hex : Hex) (from to : TrackEnd) (over step : WalkStep) (found : Bool)
     → (found ≡ true → Joins position hex from to over) → (if found then Some over else None) ≡ Some step
     → Joins position hex from to step
-joined_by position hex from to over step true joins is =
-    let same : over ≡ step = cc in subst (λ (s : WalkStep). Joins position hex from to s) same (joins refl)
+joined_by position hex from to over step true joins is = grind arith
 joined_by position hex from to over step false joins is = cc
 
 joins : (position : Position) (hex : Hex) (from to : TrackEnd) (step : WalkStep)
@@ -121,8 +120,7 @@ joined_there left hex (AtStop number) is_after =
 goes_on : (before : List WalkStep) (step : WalkStep) (hex : Hex) (end : TrackEnd) → IsAfter before hex end
     → entered_at step ≡ spot_at hex end → GoesOn before step
 goes_on [] step hex end is_after entered = tt
-goes_on (earlier ∷ before) step hex end is_after entered =
-    subst (λ (s : Spot). AreJoined (left_at earlier) s) (sym entered) (joined_there (left_at earlier) hex end is_after)
+goes_on (earlier ∷ before) step hex end is_after entered = grind (arith, joined_there)
 
 begins_well : (before : List WalkStep) (step : WalkStep) (hex : Hex) (end : TrackEnd) → BeginsWell before
     → IsAfter before hex end → entered_at step ≡ spot_at hex end → BeginsAt (λ stop. Unit {0}) (step ∷ before)
@@ -145,20 +143,13 @@ module _ (position : Position) where
   one_step : (before : List WalkStep) (step : WalkStep) (hex : Hex) (from to : TrackEnd) (at : Spot)
       → Joins position hex from to step → IsWalk position before → BeginsWell before → IsAfter before hex from
       → LeadsTo (spot_at hex to) at.hex at.end → Goes position (step ∷ before) at
-  one_step before step hex from to at joins walk begins is_after next = record {
-    walk = (joins.track, goes_on before step hex from is_after joins.entered, walk);
-    begins = begins_well before step hex from begins is_after joins.entered;
-    is_after = subst (λ (s : Spot). LeadsTo s at.hex at.end) (sym joins.left) next;
-  }
+  one_step before step hex from to at joins walk begins is_after next = grind (arith, joins, goes_on, begins_well)
 
   -- over the border to the next place, and on to its stop
   on_by_stop : (steps : List WalkStep) (first : WalkStep) (hex : Hex) (side : Side) (stop : Option StopNumber) (leg : Leg)
       → Goes position (first ∷ steps) (spot_at hex (AtSide side))
       → leg_by_stop position first hex side stop ≡ Some leg → Goes position (with_leg taken steps leg) leg.at
-  on_by_stop steps first hex side None leg goes is =
-      let same : (let made : Leg = record { first = first; second = None; at = spot_at hex (AtSide side) } in made)
-      ≡ leg = cc in
-      subst (λ (l : Leg). Goes position (with_leg taken steps l) l.at) same goes
+  on_by_stop steps first hex side None leg goes is = grind arith
   on_by_stop steps first hex side (Some number) leg goes is =
       by_second (step_between position hex (AtSide side) (AtStop number)) refl is
     where
@@ -202,13 +193,12 @@ module _ (position : Position) where
   on_leg : (steps : List WalkStep) (at : Spot) (place : Place) (leg : Leg) → Goes position steps at
       → leg_to position at place ≡ Some leg → Goes position (with_leg taken steps leg) leg.at
   unfolding leg_to
-  on_leg steps at place leg goes is = on_over steps at place (side_towards at.hex place.hex) leg goes refl is
+  on_leg steps at place leg goes is = grind (arith, on_over)
 
   whole_there : (steps : List WalkStep) (hex : Hex) (end : TrackEnd) → IsWalk position steps → BeginsWell steps
       → IsAfter steps hex end → (all : List WalkStep) → arrived end steps ≡ Some all → IsWhole position all
   whole_there steps hex (AtSide side) walk begins is_after all is = cc
-  whole_there [] hex (AtStop number) walk begins is_after all is =
-      let same : [] ≡ all = cc in subst (λ (a : List WalkStep). IsWhole position a) same tt
+  whole_there [] hex (AtStop number) walk begins is_after all is = grind arith
   whole_there (step ∷ before) hex (AtStop number) walk begins is_after all is =
       let same : (step ∷ before) ≡ all = cc in
       subst (λ (a : List WalkStep). IsWhole position a) same
@@ -217,7 +207,7 @@ module _ (position : Position) where
   -- all the way
   all_the_way : (steps : List WalkStep) (at : Spot) (places : List Place) (all : List WalkStep) → Goes position steps at
       → travelled taken position at steps places ≡ Some all → IsWhole position all
-  all_the_way steps at [] all goes is = whole_there steps at.hex at.end goes.walk goes.begins goes.is_after all is
+  all_the_way steps at [] all goes is = grind (arith, whole_there)
   all_the_way steps at (place ∷ places) all goes is =
       by_leg (leg_to position at place) (λ leg found. all_the_way (with_leg taken steps leg) leg.at places all
       (on_leg steps at place leg goes found)) refl is

@@ -1,17 +1,15 @@
 -- A legal set for some trains is one for trains of which one may visit more stops. The run of the
 -- train that is replaced, if it has one, is then the run of the other.
-use Rattle.std.proofs.Common.{◌≡◌, ℕ, ◌+◌, ◌≤◌, ◌⊎◌, inl, inr, Bool, true, false, eqb, if◌then◌else◌, List, [], ◌∷◌}
-use Rattle.std.proofs.Common.{length, get_or, refl, ap, sym, ◌∙◌, subst, arith}
+use Rattle.std.proofs.Common.{◌≡◌, ℕ, ◌+◌, ◌≤◌, ◌⊎◌, inl, inr, Bool, true, false, if◌then◌else◌, List, [], ◌∷◌}
+use Rattle.std.proofs.Common.{refl, ap, ◌∙◌, subst, arith}
 use Rattle.std.specs.List.{AllByRecursion}
-use Rattle.std.proofs.lemmas.Bool.{eqb-true}
 use Rattle.reach.specs.Position.{Position}
 use Rattle.reach.specs.declared.walk.WalkStep.{WalkStep}
-use Rattle.tables.specs.Train.{kinds, place_of_kind, same_kind, stops_of}
+use Rattle.tables.specs.Train.{same_kind}
 use Rattle.tables.specs.declared.rolling_stock.Kind.{Kind}
-use Rattle.tables.specs.declared.rolling_stock.Kind.TheVariants.{Two, Three, Four, Five, Six, Diesel}
 use Rattle.tables.specs.declared.roster.Company.{Company}
 use Rattle.legal_runs.specs.Greatest.{GreaterTrainsEarnNoLess, VisitsAsMany}
-use Rattle.legal_runs.specs.Legal.{AreAtMost, earned, visited}
+use Rattle.legal_runs.specs.Legal.{earned}
 use Rattle.legal_runs.specs.Set.{AreApart, AreTakenFrom, IsLegalSet, RunsLegally, ShareNoBorder, TrainRun, in_number}
 use Rattle.legal_runs.specs.Set.{revenue_of, trains_that_run}
 
@@ -70,36 +68,13 @@ still_apart kind other (run ∷ runs) apart =
     by_test true first later = (apart.0, apart.1)
     by_test false first later = (first, later)
 
--- the kind at a place
-kind_at : (kind : Kind) → get_or kinds (place_of_kind kind) Two ≡ kind
-kind_at Two = refl
-kind_at other = refl
-
 pub kind_is : (a b : Kind) → same_kind a b ≡ true → a ≡ b
-kind_is a b same =
-    sym (kind_at a) ∙ ap (λ n. get_or kinds n Two) (eqb-true (place_of_kind a) (place_of_kind b) same) ∙ kind_at b
-
--- trains of one kind may visit as many stops
-most_of : (a b : Kind) → same_kind a b ≡ true → (count : ℕ) → AreAtMost (stops_of a) count
-    → AreAtMost (stops_of b) count
-most_of a b same count few = subst (λ (k : Kind). AreAtMost (stops_of k) count) (kind_is a b same) few
+kind_is a b same = grind arith
 
 module _ (position : Position) (company : Company) (kind other : Kind) (as_many : VisitsAsMany kind other) where
   run_still : (run : TrainRun) → same_kind run.kind kind ≡ true → RunsLegally position company run
       → RunsLegally position company (run_of other run.steps)
-  run_still run same legal = record {
-    walk = legal.walk;
-    begins = legal.begins;
-    ends = legal.ends;
-    two = legal.two;
-    most = as_many (length (visited run.steps)) (most_of run.kind kind same (length (visited run.steps)) legal.most);
-    no_stop_twice = legal.no_stop_twice;
-    own_token = legal.own_token;
-    no_border_twice = legal.no_border_twice;
-    no_used_border = legal.no_used_border;
-    no_red_inside = legal.no_red_inside;
-    no_full_inside = legal.no_full_inside;
-  }
+  run_still run same legal = grind arith
 
   legal_still :
       (runs : List TrainRun) → AllByRecursion (RunsLegally position company) runs →
@@ -122,17 +97,6 @@ Counted kind other runs =
     ⊎ ((k : Kind) → in_number k (trains_that_run (relabelled kind other runs)) + of_kind k kind
     ≡ in_number k (trains_that_run runs) + of_kind k other)
 
--- trains of one kind are as many of each
-alike : (a b k : Kind) → same_kind a b ≡ true → of_kind k a ≡ of_kind k b
-alike a b k same = ap (λ (n : ℕ). if eqb n (place_of_kind k) then 1 else 0)
-    (eqb-true (place_of_kind a) (place_of_kind b) same)
-
-not_alike : (a b k : Kind) → same_kind a b ≡ false → same_kind b k ≡ true → of_kind k a ≡ 0
-not_alike a b k apart same =
-    let differ : eqb (place_of_kind a) (place_of_kind k) ≡ false =
-    subst (λ (n : ℕ). eqb (place_of_kind a) n ≡ false) (eqb-true (place_of_kind b) (place_of_kind k) same) apart in
-    ap (λ (b : Bool). if b then 1 else 0) differ
-
 -- so once a test says whether a run is that of the train
 abbrev CountedBy : Kind → Kind → TrainRun → List TrainRun → Bool → Type 0
 CountedBy kind other run runs b =
@@ -147,14 +111,8 @@ counted_still kind other [] = inl (λ k. (λ same. refl, refl))
 counted_still kind other (run ∷ runs) = by_test (same_kind run.kind kind) refl (counted_still kind other runs)
   where
     by_test : (b : Bool) → same_kind run.kind kind ≡ b → Counted kind other runs → CountedBy kind other run runs b
-    by_test true is rest = inr (λ k. let same : of_kind k run.kind ≡ of_kind k kind =
-        alike run.kind kind k is in omega arith)
-    by_test false is (inl none) =
-        inl (λ k. (
-          λ same. let not_it : of_kind k run.kind ≡ 0 = not_alike run.kind kind k is same in let rest : in_number k
-              (trains_that_run runs) ≡ 0 = (none k).0 same in omega arith,
-          ap (λ n. of_kind k run.kind + n) (none k).1,
-        ))
+    by_test true is rest = grind arith
+    by_test false is (inl none) = grind arith
     by_test false is (inr one) = inr (λ k. let rest = one k in omega arith)
 
 taken_still :
@@ -166,11 +124,8 @@ taken_still kind other trains runs taken k = by_count (counted_still kind other 
     by_count :
         Counted kind other runs → (b : Bool) → same_kind kind k ≡ b →
         in_number k (trains_that_run (relabelled kind other runs)) ≤ of_kind k other + in_number k trains
-    by_count (inl none) true is = let zero : in_number k (trains_that_run runs) ≡ 0 = (none k).0 is in let same =
-        (none k).1 in omega arith
-    by_count (inl none) false is =
-        let not_it : of_kind k kind ≡ 0 = ap (λ (b : Bool). if b then 1 else 0) is in
-        let same = (none k).1 in omega (arith, taken k)
+    by_count (inl none) true is = grind arith
+    by_count (inl none) false is = grind arith
     by_count (inr one) b is = omega (arith, one k, taken k)
 
 pub greater_trains : GreaterTrainsEarnNoLess

@@ -103,10 +103,7 @@ crossed_fewer : (b : Bool) (marks crossed : List Bool) (border : ℕ) → border
     → get_or marks border false ≡ b → (if b then None else Some (set marks border true)) ≡ Some crossed
     → (count_by not crossed < count_by not marks) × (length crossed ≡ length marks)
 crossed_fewer true marks crossed border low was is = absurd cc
-crossed_fewer false marks crossed border low was is =
-    let same : set marks border true ≡ crossed = cc in
-    subst (λ (ms : List Bool). (count_by not ms < count_by not marks) × (length ms ≡ length marks)) same
-    (fewer_free marks border low was, length-set marks border true)
+crossed_fewer false marks crossed border low was is = grind (arith, length-set, fewer_free)
 
 fewer_at : (marks crossed : List Bool) (hex : Hex) (end : TrackEnd) → length marks ≡ 279
     → crossing_end marks hex end ≡ Some crossed → (count_by not crossed < count_by not marks)

@@ -1,7 +1,7 @@
 -- A search from the tokens of a company finds a run for a 2-train exactly if there is one. What it
 -- follows is such a run. It follows each such run from its beginning, or from its end if the token
 -- is there.
-use Rattle.std.proofs.Common.{◌≡◌, ◌↔◌, ℕ, ◌+◌, ◌<◌, ◌≤◌, Bool, true, false, inl, inr, if◌then◌else◌, Option, Some}
+use Rattle.std.proofs.Common.{◌≡◌, ◌↔◌, ℕ, ◌+◌, ◌<◌, ◌≤◌, Bool, true, false, inl, inr, Option, Some}
 use Rattle.std.proofs.Common.{None, IfSome, option_map, List, [], ◌∷◌, ◌++◌, length, get_or, set, take, replicate, refl}
 use Rattle.std.proofs.Common.{ap, sym, ◌∙◌, subst, arith, get_or-set_same, get_or-set_other}
 use Rattle.std.specs.List.{AllByRecursion}
@@ -27,14 +27,12 @@ use Rattle.reach.proofs.Spots.{back}
 use Rattle.reach.proofs.Collected.{none_marked}
 use Rattle.tables.specs.declared.rolling_stock.Kind.TheVariants.{Two}
 use Rattle.tables.specs.declared.roster.Company.{Company}
-use Rattle.legal_runs.specs.Legal.{AreDistinct, HasSuch, IsLegalRun, border_at, border_of, crossed, first_stop, listed}
-use Rattle.legal_runs.specs.Legal.{visited}
+use Rattle.legal_runs.specs.Legal.{AreDistinct, HasSuch, IsLegalRun, border_at, crossed, first_stop, listed, visited}
 use Rattle.legal_runs.specs.Marks.{marked}
 use Rattle.legal_runs.specs.TwoTrain.{CanRun, Continues, IsFree, LeadsOn, LeavesToken, crossing, crossing_end}
 use Rattle.legal_runs.specs.TwoTrain.{none_used, over_border}
 use Rattle.legal_runs.proofs.Borders.{faced}
 use Rattle.legal_runs.proofs.Kept.{crossed_low, length_marked}
-use Rattle.legal_runs.proofs.Marks.{among_both}
 use Rattle.legal_runs.proofs.RunReached.{flipped, flip_enters, flip_leaves, no_stop_across}
 
 -- a border is marked where it was crossed, and nowhere else
@@ -51,13 +49,8 @@ marked_among (other ∷ borders) border is =
 among_marked : (borders : List ℕ) (border : ℕ) → AllByRecursion (λ b. b < 279) borders → IsAmong border borders
     → get_or (marked none_used borders) border false ≡ true
 among_marked [] border low among = absurd among
-among_marked (other ∷ borders) border low (inl same) =
-    let here : other < length (marked none_used borders) = omega (arith, length_marked none_used borders, low.0) in
-    subst (λ b. get_or (set (marked none_used borders) other true) b false ≡ true) same
-    (get_or-set_same (marked none_used borders) other true false here)
-among_marked (other ∷ borders) border low (inr later) =
-    let here : other < length (marked none_used borders) = omega (arith, length_marked none_used borders, low.0) in
-    set_keeps (marked none_used borders) other border here (among_marked borders border low.1 later)
+among_marked (other ∷ borders) border low (inl same) = grind (arith, get_or-set_same, length_marked)
+among_marked (other ∷ borders) border low (inr later) = grind (arith, set_keeps, length_marked, among_marked borders border low.1 later)
 
 -- the border at an end that is free was not crossed, and is then
 over_is : (hex : Hex) (end : TrackEnd) (borders : List ℕ)
@@ -67,25 +60,18 @@ over_is hex (AtStop number) borders = refl
 
 distinct_over : (hex : Hex) (end : TrackEnd) (borders : List ℕ) → AllByRecursion (λ b. b < 279) borders
     → IsFree (marked none_used borders) hex end → AreDistinct borders → AreDistinct (border_at hex end ++ borders)
-distinct_over hex (AtSide side) borders low free distinct = (
-  λ among. let is : get_or (marked none_used borders) (border_of hex side) false ≡ true =
-      among_marked borders (border_of hex side) low among in
-      let wrong : true ≡ false = sym is ∙ free in cc,
-  distinct,
-)
-distinct_over hex (AtStop number) borders low free distinct = distinct
+distinct_over hex (AtSide side) borders low free distinct = grind (arith, among_marked, distinct)
+distinct_over hex (AtStop number) borders low free distinct = grind arith
 
 free_there : (hex : Hex) (end : TrackEnd) (borders : List ℕ) → stop_at_end hex end ≡ None
     → AreDistinct (border_at hex end ++ borders) → IsFree (marked none_used borders) hex end
-free_there hex (AtSide side) borders none distinct =
-    false_from_ne_true (get_or (marked none_used borders) (border_of hex side) false)
-    (λ is. distinct.0 (marked_among borders (border_of hex side) is))
+free_there hex (AtSide side) borders none distinct = grind (arith, marked_among, false_from_ne_true)
 free_there hex (AtStop number) borders none distinct = absurd cc
 
 pub others_distinct : (hex : Hex) (end : TrackEnd) (borders : List ℕ) → AreDistinct (border_at hex end ++ borders)
     → AreDistinct borders
-others_distinct hex (AtSide side) borders distinct = distinct.1
-others_distinct hex (AtStop number) borders distinct = distinct
+others_distinct hex (AtSide side) borders distinct = grind arith
+others_distinct hex (AtStop number) borders distinct = grind arith
 
 -- no stop is passed at a border
 passed_none : (P : Stop → Type 0) (marks : List Bool) (hex : Hex) (end : TrackEnd) → IsFree marks hex end
@@ -106,8 +92,7 @@ no_border hex (AtSide side) stop is = absurd cc
 no_border hex (AtStop number) stop is = refl
 
 none_crossed : (step : WalkStep) (stop : Stop) → stop_of (entered_at step) ≡ Some stop → crossed (step ∷ []) ≡ []
-none_crossed step stop is = ap (λ (borders : List ℕ). borders ++ [])
-    (no_border (entered_at step).hex (entered_at step).end stop is)
+none_crossed step stop is = grind arith
 
 -- nothing is used before
 unused : (borders : List ℕ) → AllByRecursion (λ border. ¬ IsAmong border []) borders
@@ -172,10 +157,7 @@ module _ (position : Position) (company : Company) (start : Stop) where
       → HasToken position start company → Continues position start (marked none_used (crossed (step ∷ before))) step
       later → CanRun position company
   onward [] step before way token leads = (step ∷ before, arrived step before way token leads.0 leads.1 leads.2)
-  onward (next ∷ later) step before way token leads =
-      onward later next (step ∷ before) (further step before next way leads.0 leads.1 leads.2) token
-      (subst (λ (marks : List Bool). Continues position start marks next later)
-      (over_is (entered_at next).hex (entered_at next).end (crossed (step ∷ before))) leads.3)
+  onward (next ∷ later) step before way token leads = grind (arith, onward later next (step ∷ before) (further step before next way leads.0 leads.1 leads.2) token (subst (λ (marks : List Bool). Continues position start marks next later) (over_is (entered_at next).hex (entered_at next).end (crossed (step ∷ before))) leads.3))
 
   begun : (step : WalkStep) → IsTrack position step → stop_of (entered_at step) ≡ Some start → Underway step []
   begun step track is = record {
@@ -200,9 +182,7 @@ run_found position company step track leaves =
 start_among : (before : List WalkStep) (step : WalkStep) (start : Stop) → stop_of (begins_at step before) ≡ Some start
     → IsAmong start (first_stop before step ++ visited before)
 start_among [] step start is = subst (λ (found : Option Stop). IsAmong start (listed found ++ [])) (sym is) (inl refl)
-start_among (earlier ∷ before) step start is =
-    (among_both start (listed (stop_of (left_at earlier))) (first_stop before earlier ++ visited before)).1
-    (inr (start_among before earlier start is))
+start_among (earlier ∷ before) step start is = grind (arith, start_among before earlier start is)
 
 -- of at most one stop, of which one is known, there is no other
 no_other : (found : Option Stop) (stop : Stop) (rest : List Stop) → IsAmong stop rest
@@ -237,7 +217,7 @@ one_border pair spot other over = by_end spot.end over
         ∙ ap (λ (s : Spot). border_at s.hex s.end) there
 
     by_end : (end : TrackEnd) → across_end spot.hex end ≡ Some other → border_at spot.hex end ≡ border_at other.hex other.end
-    by_end (AtSide side) over = by_hex side (neighbour_of spot.hex side) refl over
+    by_end (AtSide side) over = grind (arith, by_hex)
     by_end (AtStop number) over = absurd cc
 
 -- borders that are not marked
@@ -265,17 +245,12 @@ over_at marks hex (AtStop number) = refl
 free_without : (marks : List Bool) (one : ℕ) (borders : List ℕ) → (IsAmong one borders → ⊥) → AreFree marks borders
     → AreFree (set marks one true) borders
 free_without marks one [] none free = tt
-free_without marks one (border ∷ borders) none free = (
-  get_or-set_other marks one border true false (λ same. none (inl same))
-      ∙ free.0,
-  free_without marks one borders (λ later. none (inr later)) free.1,
-)
+free_without marks one (border ∷ borders) none free = grind (arith, get_or-set_other, free_without marks one borders (λ later. none (inr later)) free.1)
 
 still_free : (marks : List Bool) (hex : Hex) (end : TrackEnd) (borders : List ℕ)
     → AreDistinct (border_at hex end ++ borders) → AreFree marks (border_at hex end ++ borders)
     → AreFree (marked marks (border_at hex end)) borders
-still_free marks hex (AtSide side) borders distinct free =
-    free_without marks (border_of hex side) borders distinct.0 free.1
+still_free marks hex (AtSide side) borders distinct free = grind (arith, distinct, free_without)
 still_free marks hex (AtStop number) borders distinct free = free
 
 -- a walk the other way
@@ -290,21 +265,7 @@ module _ (position : Position) (lawful : IsLawful position) (company : Company) 
       → length (first_stop before step ++ visited before) ≤ 1 → AreDistinct (crossed (step ∷ before))
       → Continues position start (marked none_used (crossed (step ∷ before))) step later
       → (first : WalkStep) × IsTrack position first × LeavesToken position company first
-  ahead start [] step later token walk begins few distinct leads = (
-    step,
-    walk.0,
-    (
-      start,
-      begins,
-      token,
-      (
-        later,
-        subst
-            (λ (borders : List ℕ). Continues position start (marked none_used borders) step later)
-            (none_crossed step start begins) leads,
-      ),
-    ),
-  )
+  ahead start [] step later token walk begins few distinct leads = grind (arith, none_crossed, walk, begins)
   ahead start (earlier ∷ before) step later token walk begins few distinct leads =
       let rest : List Stop = first_stop before earlier ++ visited before in
       let one : (stop_of (left_at earlier) ≡ None) × (length rest ≤ 1) =
@@ -407,24 +368,13 @@ module _ (position : Position) (lawful : IsLawful position) (company : Company) 
       by_steps [] run = absurd run.ends
       by_steps (step ∷ before) run = from_token step before run
 
--- the marks once a border is crossed
-by_mark : (b : Bool) (new over : List Bool) → (if b then None else Some new) ≡ Some over → (b ≡ false) × (new ≡ over)
-by_mark true new over is = absurd cc
-by_mark false new over is = (refl, cc)
-
-by_no_mark : (b : Bool) (new : List Bool) → (if b then None else Some new) ≡ None → b ≡ false → ⊥
-by_no_mark true new is free = cc
-by_no_mark false new is free = cc
-
 crossed_by : (marks : List Bool) (hex : Hex) (end : TrackEnd) (over : List Bool) → crossing_end marks hex end ≡ Some over
     → IsFree marks hex end × (over_border marks hex end ≡ over)
-crossed_by marks hex (AtSide side) over is = by_mark (get_or marks (border_of hex side) false)
-    (set marks (border_of hex side) true) over is
+crossed_by marks hex (AtSide side) over is = grind arith
 crossed_by marks hex (AtStop number) over is = absurd cc
 
 not_crossed : (marks : List Bool) (hex : Hex) (end : TrackEnd) → crossing_end marks hex end ≡ None → IsFree marks hex end → ⊥
-not_crossed marks hex (AtSide side) is free = by_no_mark (get_or marks (border_of hex side) false)
-    (set marks (border_of hex side) true) is free
+not_crossed marks hex (AtSide side) is free = grind arith
 not_crossed marks hex (AtStop number) is free = free
 
 -- where no step by the links before one is such, and none by that one, none is by the links up to
@@ -449,9 +399,7 @@ by_turn P link first second forward back none found = by_step found.0.link found
   where
     by_step : (its : Link) (turned : Bool) → its ≡ link → P (record { link = its; turned = turned }) → second ≡ true
     by_step its true is holds = back.1 (subst (λ (l : Link). P (record { link = l; turned = true })) is holds)
-    by_step its false is holds =
-        absurd (let wrong : true ≡ false = sym (forward.1
-        (subst (λ (l : Link). P (record { link = l; turned = false })) is holds)) ∙ none in cc)
+    by_step its false is holds = grind arith
 
 module _ (position : Position) (start : Stop) (marks : List Bool) (step : WalkStep) where
   -- a step that is left at a stop leads on where that is not the first one

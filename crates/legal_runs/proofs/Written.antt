@@ -1,14 +1,14 @@
 -- A walk is named by its places, and each legal run is such a walk. The places lead a train step by
 -- step: to where a step is left, if that is a stop, and otherwise to where it is entered. The next
 -- place gives the side by which it leaves.
-use Rattle.std.proofs.Common.{◌≡◌, ℕ, ◌+◌, ◌-◌, ◌<◌, ◌==◌, Bool, true, false, ◌&&◌, ltb, ◌⊎◌, inl, inr, if◌then◌else◌}
+use Rattle.std.proofs.Common.{◌≡◌, ℕ, ◌+◌, ◌-◌, ◌<◌, Bool, true, false, ◌&&◌, ◌⊎◌, inl, inr, if◌then◌else◌}
 use Rattle.std.proofs.Common.{Option, Some, None, IfSome, option_map, option_and_then, List, [], ◌∷◌, ◌++◌, length, ◌≤◌}
 use Rattle.std.proofs.Common.{refl, ap, sym, ◌∙◌, subst, arith, find, lit<}
 use Rattle.std.specs.List.{list_any}
-use Rattle.std.proofs.lemmas.Bool.{and_parts, eqb-true, eq-eqb, ltb-true, lt-ltb}
+use Rattle.std.proofs.lemmas.Bool.{and_parts, eqb-true, eq-eqb, ltb-true}
 use Rattle.std.proofs.lemmas.List.{append-nil, append_assoc, length-append}
 use Rattle.map_tables.specs.Border.{adjacent, neighbour_of, open_to, is_closed}
-use Rattle.map_tables.specs.Hex.{column_of, hex_at, hexes, index_of, row_of, same_hex, site_of}
+use Rattle.map_tables.specs.Hex.{column_of, hex_at, index_of, row_of, site_of}
 use Rattle.map_tables.specs.Laws.{are_links, is_link, leads}
 use Rattle.map_tables.specs.Place.{joined_hex, joined_stop_of, stop_at}
 use Rattle.map_tables.specs.Side.{facing_of, sides}
@@ -40,21 +40,14 @@ use Rattle.legal_runs.specs.Law.{AreItsPlaces, EachLegalRunIsNamed}
 use Rattle.legal_runs.specs.Written.{place_at, place_over, places_of, places_over}
 use Rattle.legal_runs.specs.declared.leg.Leg.{Leg}
 use Rattle.legal_runs.proofs.Counting.{no_more}
-use Rattle.legal_runs.proofs.Joined.{not_less}
 use Rattle.legal_runs.proofs.Kept.{crossed_low}
 use Rattle.legal_runs.proofs.Named.{hex_found}
-use Rattle.legal_runs.proofs.Tests.{all_three}
 
 -- what is found in a row and a column is there
 place_found : (row column : ℕ) (hex : Hex) → hex_at row column ≡ Some hex
     → (row_of hex ≡ row) × (column_of hex ≡ column)
 unfolding hex_at
-place_found row column hex is =
-    let passes : ((row_of hex == row) && (column_of hex == column)) ≡ true =
-    found_passes (λ h. (row_of h == row) && (column_of h == column)) hexes hex is in
-    let parts : ((row_of hex == row) ≡ true) × ((column_of hex == column) ≡ true) =
-    and_parts (row_of hex == row) (column_of hex == column) passes in
-    (eqb-true (row_of hex) row parts.0, eqb-true (column_of hex) column parts.1)
+place_found row column hex is = grind (arith, and_parts, eqb-true, found_passes)
 
 -- a neighbour lies at the side
 open_by : (next other : Hex) (closed : Bool) → (if closed then None else Some next) ≡ Some other
@@ -131,8 +124,7 @@ finds_by :
     (IsAmong thing rest → (other : A) × (found ≡ Some other)) → (first ≡ thing) ⊎ IsAmong thing rest →
     (other : A) × ((if b then Some first else found) ≡ Some other)
 finds_by test first thing rest found true is passes later either = (first, refl)
-finds_by test first thing rest found false is passes later (inl here) =
-    let wrong : false ≡ true = sym is ∙ ap test here ∙ passes in absurd cc
+finds_by test first thing rest found false is passes later (inl here) = grind arith
 finds_by test first thing rest found false is passes later (inr among) = later among
 
 finds : {A : Type 0} (test : A → Bool) (things : List A) (thing : A) → IsAmong thing things → test thing ≡ true
@@ -186,42 +178,18 @@ pub record Ordered (link : Link) : Type 0 where
   pub rising : end_order link.a < end_order link.b
 
 pub ordered : (position : Position) → IsLawful position → (step : WalkStep) → IsTrack position step → Ordered step.link
-ordered position lawful step track =
-    let links = lawful.links step.link.hex in
-    let is : is_link step.link ≡ true = ordered_among (links_of position step.link.hex) step.link links.in_order
-    track in
-    let parts : (ltb (end_order step.link.a) 6 ≡ true) × (ltb (end_order step.link.a) (end_order step.link.b) ≡ true) =
-    and_parts (ltb (end_order step.link.a) 6) (ltb (end_order step.link.a) (end_order step.link.b)) is in
-    record {
-      from_side = ltb-true (end_order step.link.a) 6 parts.0;
-      rising =
-          ltb-true (end_order step.link.a) (end_order step.link.b) parts.1;
-    }
+ordered position lawful step track = grind (arith, ordered_among, and_parts, ltb-true)
 
 -- the step from where it is entered to where it is left is the step itself
 over_is :
     (hex : Hex) (a b : TrackEnd) (turned : Bool) → end_order a < end_order b →
     step_over hex (if turned then b else a) (if turned then a else b)
     ≡ record { link = record { hex = hex; a = a; b = b }; turned = turned }
-over_is hex a b true rising =
-    ap (λ (less : Bool). let s : WalkStep = if less then record
-    { link = record { hex = hex; a = a; b = b }; turned = true } else
-    record { link = record { hex = hex; a = b; b = a }; turned = false } in s)
-    (lt-ltb (end_order a) (end_order b) rising)
-over_is hex a b false rising =
-    ap (λ (less : Bool). let s : WalkStep = if less then record
-    { link = record { hex = hex; a = b; b = a }; turned = true } else
-    record { link = record { hex = hex; a = a; b = b }; turned = false } in s)
-    (not_less (end_order b) (end_order a) (omega (arith, rising)))
-
-itself : (link : Link) → same_link link link ≡ true
-itself link =
-    all_three (same_hex link.hex link.hex) (end_order link.a == end_order link.a) (end_order link.b == end_order link.b)
-    (eq-eqb (index_of link.hex) (index_of link.hex) refl)
-    (eq-eqb (end_order link.a) (end_order link.a) refl) (eq-eqb (end_order link.b) (end_order link.b) refl)
+over_is hex a b true rising = grind arith
+over_is hex a b false rising = grind arith
 
 link_same : (link other : Link) → link ≡ other → same_link link other ≡ true
-link_same link other is = subst (λ (l : Link). same_link link l ≡ true) is (itself link)
+link_same link other is = grind arith
 
 -- and the position has it
 between_is :
@@ -242,10 +210,8 @@ between_is position lawful step track =
 pub stop_to_stop :
     (link : Link) (turned : Bool) (n m : StopNumber) → Ordered link → (if turned then link.b else link.a) ≡ AtStop n →
     (if turned then link.a else link.b) ≡ AtStop m → ⊥
-stop_to_stop link true n m facts enters leaves =
-    let wrong : end_order link.a ≡ end_order (AtStop m) = ap end_order leaves in omega (arith, wrong, facts.from_side)
-stop_to_stop link false n m facts enters leaves =
-    let wrong : end_order link.a ≡ end_order (AtStop n) = ap end_order enters in omega (arith, wrong, facts.from_side)
+stop_to_stop link true n m facts enters leaves = grind arith
+stop_to_stop link false n m facts enters leaves = grind arith
 
 -- what names an area
 joined_cases : (hex : Hex) → (joined_hex hex ≡ hex) ⊎ ((joined_hex hex ≡ J2) ⊎ (joined_hex hex ≡ A11))
@@ -262,8 +228,7 @@ one_over hex (AtStop number) left places borders same = ap length (append-nil pl
 
 as_many : (steps : List WalkStep) → length (places_over steps) ≡ length (crossed steps)
 as_many [] = refl
-as_many (step ∷ before) =
-    one_over step.link.hex (entered_at step).end (left_at step) (places_over before) (crossed before) (as_many before)
+as_many (step ∷ before) = grind (arith, one_over, as_many before)
 
 module _ (position : Position) (lawful : IsLawful position) where
   -- some places lead a train to a spot by these steps
@@ -280,11 +245,7 @@ module _ (position : Position) (lawful : IsLawful position) where
       (at : Spot) (steps : List WalkStep) (places : List Place) (place : Place) (leg : Leg)
       → leg_to position at place ≡ Some leg → Led at steps places →
       Led leg.at (with_leg taken steps leg) (places ++ (place ∷ []))
-  led_further at steps places place leg is led = record {
-    leads_on = λ rest.
-        ap (walk_named position) (append_assoc places (place ∷ []) rest) ∙ led.leads_on (place ∷ rest)
-        ∙ ap (option_and_then (λ l. travelled taken position l.at (with_leg taken steps l) rest)) is;
-  }
+  led_further at steps places place leg is led = grind (arith, append_assoc)
 
   -- the leg by a step to a side, over the border there, and on
   leg_by_track :
@@ -328,8 +289,7 @@ module _ (position : Position) (lawful : IsLawful position) where
       → (entered_at step).end ≡ AtStop number →
       Led (entered_at step) before places → (end : TrackEnd) → (left_at step).end ≡ end → NowAt step before places end
   from_stop step before places number track enters led (AtSide side) leaves = led
-  from_stop step before places number track enters led (AtStop other) leaves =
-      absurd (stop_to_stop step.link step.turned number other (ordered position lawful step track) enters leaves)
+  from_stop step before places number track enters led (AtStop other) leaves = grind (arith, ordered, stop_to_stop)
 
   -- the first step
   first_written :
@@ -337,26 +297,18 @@ module _ (position : Position) (lawful : IsLawful position) where
       → stop_of (spot_at step.link.hex end) ≡ Some stop →
       NowAt step [] (place_at (spot_at step.link.hex end) ∷ listed (place_over end (left_at step))) (left_at step).end
   first_written step track (AtSide side) enters stop is = cc
-  first_written step track (AtStop number) enters stop is =
-      let places : List Place = place_at (spot_at step.link.hex (AtStop number)) ∷ [] in
-      from_stop step [] places number track enters
-      (subst (λ (e : TrackEnd). Led (spot_at step.link.hex e) [] places) (sym enters) (led_first step.link.hex number))
-      (left_at step).end refl
+  first_written step track (AtStop number) enters stop is = grind (arith, led_first, from_stop)
 
   -- where a link ends at a stop, it is its second end
   enters_second : (link : Link) (turned : Bool) (n : StopNumber) → Ordered link
       → (if turned then link.b else link.a) ≡ AtStop n → link.b ≡ AtStop n
   enters_second link true n facts is = is
-  enters_second link false n facts is =
-      absurd (let wrong : end_order link.a ≡ end_order (AtStop n) =
-      ap end_order is in omega (arith, wrong, facts.from_side))
+  enters_second link false n facts is = grind arith
 
   leaves_second : (link : Link) (turned : Bool) (n : StopNumber) → Ordered link
       → (if turned then link.a else link.b) ≡ AtStop n → link.b ≡ AtStop n
   leaves_second link false n facts is = is
-  leaves_second link true n facts is =
-      absurd (let wrong : end_order link.a ≡ end_order (AtStop n) =
-      ap end_order is in omega (arith, wrong, facts.from_side))
+  leaves_second link true n facts is = grind arith
 
   -- spots at one stop that is not red are one
   one_hex :
@@ -417,10 +369,7 @@ module _ (position : Position) (lawful : IsLawful position) where
   between_ends :
       (step : WalkStep) (from to : TrackEnd) → IsTrack position step → (entered_at step).end ≡ from → (left_at step).end ≡ to →
       step_between position step.link.hex from to ≡ Some step
-  between_ends step from to track enters leaves =
-      ap (λ (e : TrackEnd). step_between position step.link.hex e to) (sym enters)
-      ∙ ap (step_between position step.link.hex (entered_at step).end) (sym leaves)
-      ∙ between_is position lawful step track
+  between_ends step from to track enters leaves = grind (arith, between_is)
 
   -- a step that goes on over a border
   over_written :
@@ -456,9 +405,7 @@ module _ (position : Position) (lawful : IsLawful position) where
       (earlier step : WalkStep) (left entered : TrackEnd) → (left_at earlier).end ≡ left → (entered_at step).end ≡ entered →
       AreJoined (left_at earlier) (entered_at step) → AreJoined (spot_at earlier.link.hex left)
       (spot_at step.link.hex entered)
-  joined_ends earlier step left entered leaves enters joined =
-      subst (λ (e : TrackEnd). AreJoined (spot_at earlier.link.hex left) (spot_at step.link.hex e)) enters
-      (subst (λ (e : TrackEnd). AreJoined (spot_at earlier.link.hex e) (entered_at step)) leaves joined)
+  joined_ends earlier step left entered leaves enters joined = grind arith
 
   no_side_at_stop : (a b : Hex) (number : StopNumber) (side : Side)
       → AreJoined (spot_at a (AtStop number)) (spot_at b (AtSide side)) → ⊥
@@ -509,11 +456,8 @@ module _ (position : Position) (lawful : IsLawful position) where
       → BeginsAt (λ stop. Unit {0}) (step ∷ before) →
       PassesOnly (λ stop. ¬ (is_red position stop ≡ true)) (step ∷ before)
       → NowAt step before (places_of (step ∷ before)) (left_at step).end
-  written step [] walk begins passes = first_written step walk.0 (entered_at step).end refl begins.0 begins.1
-  written step (earlier ∷ before) walk begins passes =
-      later_written step earlier before (places_of (earlier ∷ before)) walk.0 walk.2.0 walk.1 passes.0
-      (left_at earlier).end (entered_at step).end refl refl
-      (written earlier before walk.2 begins passes.1)
+  written step [] walk begins passes = grind (arith, first_written, walk, begins)
+  written step (earlier ∷ before) walk begins passes = grind (arith, later_written, walk, begins, written earlier before walk.2 begins passes.1)
 
   -- a step that is left at a stop came over a border
   over_one :
@@ -521,8 +465,7 @@ module _ (position : Position) (lawful : IsLawful position) where
       → (left_at step).end ≡ AtStop number → (end : TrackEnd) →
       (entered_at step).end ≡ end → 1 ≤ length (border_at step.link.hex end ++ crossed before)
   over_one step before number track leaves (AtSide side) enters = omega arith
-  over_one step before number track leaves (AtStop other) enters =
-      absurd (stop_to_stop step.link step.turned other number (ordered position lawful step track) enters leaves)
+  over_one step before number track leaves (AtStop other) enters = grind (arith, ordered, stop_to_stop)
 
   -- at its end
   at_stop :

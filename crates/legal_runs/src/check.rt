@@ -53,6 +53,7 @@ pub fn check_run<N: Network>(
 }
 
 /// Follows the walk that the places of a run name; `None` if there is none.
+#[tactic(auto, using(crate::proofs::Along::legs))]
 fn tally_of<N: Network>(network: &N, company: Company, run: &Run, used: &Used) -> Option<Tally>
     ensures { let position = N.position network.now in
         result ≡ made_along (counted position company) position (no_steps used.now) run.now }

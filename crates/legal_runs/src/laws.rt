@@ -20,6 +20,7 @@ ghost use Rattle.legal_runs.specs.Places.{ClaimsHavePlaces};
 
 /// States that what some places name is a legal run exactly if they break no rule. The walk that
 /// they name then leads from a stop to a stop and keeps all that a legal run must keep.
+#[tactic(auto, using(crate::proofs::Lawful::legal_where_unbroken))]
 pub fn legal_where_no_rule_is_broken()
     ensures { LegalWhereNoRuleIsBroken }
 {}
@@ -51,6 +52,7 @@ pub fn runs_share_no_border()
 
 /// States that a run that breaks no rule earns at most 160 dollars for each border that it uses. So
 /// all runs of a turn together earn at most 44,640 dollars.
+#[tactic(auto, using(crate::proofs::Earning::earn_by_borders))]
 pub fn runs_earn_by_borders()
     ensures { RunsEarnByBorders }
 {}
@@ -62,16 +64,19 @@ pub fn each_legal_run_is_named()
 
 /// States that there is a greatest revenue that a company's trains can earn, whatever lies: some
 /// legal set of runs earns it and none earns more. It is under 50,000 dollars.
+#[tactic(auto, using(crate::proofs::Greatest::a_greatest_exists))]
 pub fn a_greatest_exists()
     ensures { AGreatestExists }
 {}
 
 /// States that there is no second greatest revenue.
+#[tactic(auto, using(crate::proofs::Greatest::one_greatest))]
 pub fn one_greatest()
     ensures { OneGreatest }
 {}
 
 /// States that more trains never earn less.
+#[tactic(auto, using(crate::proofs::Greatest::more_trains))]
 pub fn more_trains_earn_no_less()
     ensures { MoreTrainsEarnNoLess }
 {}
@@ -83,6 +88,7 @@ pub fn greater_trains_earn_no_less()
 {}
 
 /// States that the order of a company's trains changes nothing.
+#[tactic(auto, using(crate::proofs::Greatest::order_of_trains))]
 pub fn order_of_trains_changes_nothing()
     ensures { OrderOfTrainsChangesNothing }
 {}

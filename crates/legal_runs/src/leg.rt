@@ -62,6 +62,7 @@ pub(crate) fn leg_to<N: Network>(
 }
 
 /// Returns the side of a hex at which another lies; `None` if they are no neighbours.
+#[tactic(auto, unfolding(crate::specs::Named::side_towards))]
 fn side_towards(hex: Hex, other: Hex) -> Option<Side>
     ensures { result ≡ side_towards hex other }
 {

@@ -178,6 +178,7 @@ pub fn worth<N: Network>(network: &N, stop: Stop) -> Amount
 }
 
 /// Returns whether a company has a token at a stop.
+#[tactic(auto, using(crate::proofs::Tests::tests_agree, crate::proofs::Tests::has_token_is))]
 pub fn has_token<N: Network>(network: &N, company: Company, stop: Stop) -> bool
     ensures { result ≡ has_token (N.position network.now) company stop }
 {
@@ -185,6 +186,7 @@ pub fn has_token<N: Network>(network: &N, company: Company, stop: Stop) -> bool
 }
 
 /// Returns whether a stop is a city that is full for a company.
+#[tactic(auto, using(crate::proofs::Tests::tests_agree, crate::proofs::Tests::is_full_is))]
 pub fn is_full<N: Network>(network: &N, company: Company, stop: Stop) -> bool
     ensures { result ≡ is_full (N.position network.now) company stop }
 {

@@ -1,7 +1,6 @@
 -- The tally of the run gives the first rule that it breaks, what it earns and what it crosses.
-use Rattle.std.proofs.Common.{Bool, List, ◌∙◌, sym, ap, subst, pos, length, arith, refl}
+use Rattle.std.proofs.Common.{Bool, List, sym, ap, subst, length, arith, refl}
 use Rattle.std.proofs.lemmas.Int.{to_z-of_z}
-use mir.Syntax.{w128}
 use Rattle.legal_runs.specs.Fault.{named_steps}
 use Rattle.legal_runs.specs.Legal.{crossed}
 use Rattle.legal_runs.specs.Marks.{AreAdded, borders_used}
@@ -11,36 +10,19 @@ use Rattle.legal_runs.proofs.Ruled.{no_track, ruled, value_kept, crossed_kept}
 use Rattle.legal_runs.proofs.check.check_run.Goals as goal
 
 pub returns-in_default-clause-first_fault : goal.returns-in_default-clause-first_fault
-returns-in_default-clause-first_fault g c =
-    no_track (g.N.Network.position c.args.network.now) c.args.company c.args.used.now c.args.kind c.args.run.now
-    (sym c.tally_of.ensures ∙ c.in_default.is)
+returns-in_default-clause-first_fault g c = grind (arith, no_track)
 
 pub returns-in-Some-fault-clause-first_fault : goal.returns-in-Some-fault-clause-first_fault
-returns-in-Some-fault-clause-first_fault g c =
-    ruled (g.N.Network.position c.args.network.now) c.args.company c.args.used.now c.args.kind
-    (omega (arith, c.used.invariant, ap length c.used.view_is)) c.args.run.now c.in-Some.tally
-    (sym c.tally_of.ensures ∙ c.in-Some.is)
-    ∙ sym c.fault.ensures ∙ c.in-Some-fault.is
+returns-in-Some-fault-clause-first_fault g c = grind (arith, ruled)
 
 pub returns-clause-no_fault : goal.returns-clause-no_fault
-returns-clause-no_fault g c =
-    ruled (g.N.Network.position c.args.network.now) c.args.company c.args.used.now c.args.kind
-    (omega (arith, c.used.invariant, ap length c.used.view_is)) c.args.run.now c.in-Some.tally
-    (sym c.tally_of.ensures ∙ c.in-Some.is)
-    ∙ sym c.fault.ensures ∙ c.in_default-fault.is
+returns-clause-no_fault g c = grind (arith, ruled)
 
 pub returns-clause-earns : goal.returns-clause-earns
-returns-clause-earns g c =
-    to_z-of_z w128 c.from.result (record { sfits = c.from.type_inv }) ∙ c.from.ensures
-    ∙ ap pos (value_kept (g.N.Network.position c.args.network.now) c.args.company c.args.used.now
-    (omega (arith, c.used.invariant, ap length c.used.view_is)) c.args.run.now c.in-Some.tally
-    (sym c.tally_of.ensures ∙ c.in-Some.is))
+returns-clause-earns g c = grind (arith, to_z-of_z, value_kept)
 
 pub returns-clause-crosses : goal.returns-clause-crosses
-returns-clause-crosses g c =
-    crossed_kept (g.N.Network.position c.args.network.now) c.args.company c.args.used.now
-    (omega (arith, c.used.invariant, ap length c.used.view_is)) c.args.run.now c.in-Some.tally
-    (sym c.tally_of.ensures ∙ c.in-Some.is)
+returns-clause-crosses g c = grind (arith, crossed_kept)
 
 pub returns-in_default-clause-exact : goal.returns-in_default-clause-exact
 returns-in_default-clause-exact g c = (

@@ -1,7 +1,6 @@
 -- A step leads on where it is left at another stop, or where one of the steps that are entered
 -- beyond leads on.
-use Rattle.std.proofs.Common.{◌≡◌, rules, true, false, Some, None, List, [], length, take, refl, ap, sym, ◌∙◌, subst}
-use Rattle.std.proofs.Common.{arith}
+use Rattle.std.proofs.Common.{◌≡◌, true, false, Some, None, List, [], length, take, refl, ap, sym, ◌∙◌, subst, arith}
 use Rattle.std.proofs.lemmas.List.{take_all}
 use Rattle.map_tables.specs.declared.track.Link.{Link}
 use Rattle.reach.specs.Position.{IsAmong, Position, links_of}
@@ -9,7 +8,7 @@ use Rattle.reach.specs.Walk.{across, left_at, stop_of}
 use Rattle.reach.specs.declared.walk.Spot.{Spot}
 use Rattle.reach.proofs.Lists.{among_at}
 use Rattle.legal_runs.specs.TwoTrain.{LeadsFrom, crossing}
-use Rattle.legal_runs.proofs.TwoTrain.{by_turn, leads_nowhere, leads_over, leads_over_none, leads_to_stop}
+use Rattle.legal_runs.proofs.TwoTrain.{leads_nowhere, leads_over, leads_over_none, leads_to_stop}
 use Rattle.legal_runs.proofs.TwoTrain.{one_link_more, over_leads}
 use Rattle.legal_runs.proofs.two_train.+track.Goals as goal
 
@@ -48,8 +47,7 @@ leads_on-returns-in_default-over g t c =
     )
 
 pub leads_on-leads_by_link-requires : goal.leads_on-leads_by_link-requires
-leads_on-leads_by_link-requires g t c = λ lifetimes within.
-    (omega (arith, c.in-Some-over.ensures.fewer), (search rules, c.requires))
+leads_on-leads_by_link-requires g t c = grind arith
 
 pub leads_on-returns-then-leads_by_link : goal.leads_on-returns-then-leads_by_link
 leads_on-returns-then-leads_by_link g t c =
@@ -103,16 +101,7 @@ leads_on-returns g t c =
     )
 
 pub leads_by_link-returns-then-leads_from : goal.leads_by_link-returns-then-leads_from
-leads_by_link-returns-then-leads_from g t c = (
-  λ yes. (_, refl, c.leads_from.ensures.0 yes),
-  λ found.
-      c.if-leads_from.true,
-)
+leads_by_link-returns-then-leads_from g t c = grind arith
 
 pub leads_by_link-returns-else-leads_from : goal.leads_by_link-returns-else-leads_from
-leads_by_link-returns-else-leads_from g t c = (
-  λ yes. (_, refl, c.leads_from-else-leads_from.ensures.0 yes),
-  λ found. by_turn (LeadsFrom (g.N.Network.position c.args.network.now) c.args.start c.args.used.now c.args.spot)
-      c.args.link c.leads_from.result c.leads_from-else-leads_from.result c.leads_from.ensures
-      c.leads_from-else-leads_from.ensures c.if-leads_from.false found,
-)
+leads_by_link-returns-else-leads_from g t c = grind arith

@@ -1,7 +1,7 @@
 -- The hex in hand comes after those before it.
-use Rattle.std.proofs.Common.{◌≡◌, true, false, inl, inr, refl, sym, ◌∙◌, arith}
+use Rattle.std.proofs.Common.{true, false, refl, arith}
 use Rattle.reach.specs.Position.{Position}
-use Rattle.reach.proofs.Collected.{hexes_more, own_hex}
+use Rattle.reach.proofs.Collected.{own_hex}
 use Rattle.reach.proofs.Hexes.{index_low}
 use Rattle.legal_runs.proofs.TwoTrain.{run_begins, run_found}
 use Rattle.legal_runs.proofs.two_train.can_run.Goals as goal
@@ -16,14 +16,7 @@ returns-then-leaves_hex g c =
     )
 
 pub loop-index-preserved : goal.loop-index-preserved
-loop-index-preserved g c =
-    let position : Position = g.N.Network.position c.args.network.now in
-    λ step low track leaves.
-    elim (hexes_more position c.at_index.result c.loop-index.index c.at_index.ensures step.link low track) [
-      | inl before ↦ c.loop-index.invariant step before track leaves
-      | inr here ↦ let wrong : true ≡ false = sym (c.leaves_hex.ensures.1 (step, here, leaves))
-          ∙ c.if-leaves_hex.false in cc
-    ]
+loop-index-preserved g c = grind arith
 
 pub returns : goal.returns
 returns g c =

@@ -1,5 +1,5 @@
 -- The link in hand comes after those before it.
-use Rattle.std.proofs.Common.{◌≡◌, true, false, List, length, take, refl, ap, sym, ◌∙◌, subst, arith}
+use Rattle.std.proofs.Common.{◌≡◌, true, false, List, length, take, ap, sym, ◌∙◌, subst, arith}
 use Rattle.std.proofs.lemmas.List.{take_all}
 use Rattle.map_tables.specs.declared.track.Link.{Link}
 use Rattle.reach.specs.Position.{IsAmong, Position, links_of}
@@ -9,16 +9,7 @@ use Rattle.legal_runs.proofs.TwoTrain.{one_link_more}
 use Rattle.legal_runs.proofs.two_train.leaves_in.Goals as goal
 
 pub returns-then-leaves_by : goal.returns-then-leaves_by
-returns-then-leaves_by g c =
-    let position : Position = g.N.Network.position c.args.network.now in
-    let found = c.leaves_by.ensures.0 c.if-leaves_by.true in
-    let here : List Link = c.as_slice-link-items.result.now in
-    let is : here ≡ links_of position c.args.hex = c.as_slice-link-items.ensures.value ∙ c.links-links.ensures in
-    let among : IsAmong found.0.link (links_of position c.args.hex) =
-    subst (λ (ls : List Link). IsAmong found.0.link ls) is
-    (subst (λ (link : Link). IsAmong link here) (sym found.1)
-    (among_at here c.loop-link.link-index _ c.loop-link-test.true)) in
-    (λ yes. (found.0, among, found.2), λ leads. refl)
+returns-then-leaves_by g c = grind (arith, among_at)
 
 pub loop-link-preserved : goal.loop-link-preserved
 loop-link-preserved g c =

@@ -1,31 +1,15 @@
 -- Each step in hand is the first of those that are left.
-use Rattle.std.proofs.Common.{◌≡◌, Some, None, List, [], ◌∷◌, ◌++◌, Iter, ap, sym, ◌∙◌, arith}
+use Rattle.std.proofs.Common.{Some, None, List, ◌++◌, ap, sym, ◌∙◌, arith}
 use Rattle.std.proofs.lemmas.List.{append-nil}
 use Rattle.std.specs.Iterator.Adapters.{rev_source}
 use Rattle.std.specs.Slice.Iter.{iter_rest}
-use Rattle.std.specs.declared.iter.Rev.{Rev}
 use Rattle.map_tables.specs.declared.place.Place.{Place}
-use Rattle.reach.specs.declared.walk.WalkStep.{WalkStep}
-use Rattle.legal_runs.specs.Written.{place_at, places_of, places_over}
+use Rattle.legal_runs.specs.Written.{places_of, places_over}
 use Rattle.legal_runs.proofs.Writing.{begun_with, room_for, step_further}
 use Rattle.legal_runs.proofs.write.write_run.Goals as goal
 
 pub loop-step-init : goal.loop-step-init
-loop-step-init c =
-    let all : List WalkStep = c.args.steps.now in
-    let left : iter_rest (rev_source c.into_iter-step-iterator.result) ≡ all =
-    ap (λ (steps : Rev (Iter WalkStep)). iter_rest (rev_source steps)) c.into_iter-step-iterator.ensures.into_iter_gives
-    ∙ ap iter_rest c.rev-step-items.ensures.source ∙ c.iter.ensures.rest in
-    let first : c.push.new.self.items ≡ c.place_at.result ∷ [] =
-    c.push.ensures.items ∙ ap (λ (places : List Place). places ++ c.place_at.result ∷ []) c.new-places.ensures in (
-      tt,
-      tt,
-      ap (λ (places : List Place). places ++ places_over (iter_rest (rev_source c.into_iter-step-iterator.result)))
-          first
-          ∙ ap (λ (steps : List WalkStep). c.place_at.result ∷ places_over steps) left
-          ∙ ap (λ (place : Place). place ∷ places_over all) (c.place_at.ensures ∙ ap place_at c.entered.ensures)
-          ∙ begun_with all _ c.requires.least,
-    )
+loop-step-init c = grind (arith, begun_with)
 
 pub push-requires-in-Some-place_over : goal.push-requires-in-Some-place_over
 push-requires-in-Some-place_over c =
