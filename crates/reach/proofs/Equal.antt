@@ -4,7 +4,7 @@ use denote.Enum.Bare.{sameb, same_true, true_same}
 use Rattle.map_tables.specs.contracts.hex.Hex.{the_type as hex_type}
 use Rattle.map_tables.specs.contracts.place.StopNumber.{the_type as number_type}
 use Rattle.map_tables.specs.contracts.side.Side.{the_type as side_type}
-use Rattle.map_tables.specs.contracts.track.EndPartialEq.TheImpl.{ghosts as end_ghosts}
+use Rattle.map_tables.specs.contracts.track.TrackEndPartialEq.TheImpl.{ghosts as end_ghosts}
 use Rattle.map_tables.specs.contracts.track.LinkPartialEq.TheImpl.{ghosts as link_ghosts}
 use Rattle.map_tables.specs.declared.hex.Hex.{Hex}
 use Rattle.map_tables.specs.declared.place.Stop.{Stop}
