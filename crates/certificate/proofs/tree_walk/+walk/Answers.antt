@@ -1,5 +1,5 @@
 -- The walk goes over the children of each node, in their order, and leaves the marks as they were.
-use Rattle.std.proofs.Common.{◌≡◌, ◌<◌, rules, ℕ, ◌+◌, ◌-◌, Bool, true, false, not, ◌&&◌, count_by, option_map, if◌then◌else◌, Some, None, List, [], ◌∷◌, ◌++◌, length, get_or, set, replicate, refl, ap, sym, ◌∙◌, subst, arith}
+use Rattle.std.proofs.Common.{◌≡◌, ◌<◌, rules, ℕ, ◌-◌, Bool, true, false, not, ◌&&◌, count_by, option_map, if◌then◌else◌, Some, None, List, [], ◌∷◌, ◌++◌, length, get_or, set, replicate, refl, ap, sym, ◌∙◌, subst, arith}
 use Rattle.map_tables.specs.Border.{neighbour_of}
 use Rattle.map_tables.specs.declared.hex.Hex.{Hex}
 use Rattle.map_tables.specs.Place.{stop_at}
@@ -29,7 +29,8 @@ use Rattle.certificate.proofs.Going.{hexes_steps, no_step_found, none_ahead, one
 use Rattle.certificate.proofs.Going.{over_none, step_enters, step_found, thing_ends, thing_over, things_over, up_ends}
 use Rattle.certificate.proofs.Going.{beyond_it, default_link, default_stop, up_over, up_whole}
 use Rattle.certificate.proofs.Places.{none_is}
-use Rattle.certificate.proofs.OnRun.{and_false, and_true, border_continues, children_at_border, children_at_stop, finished_crossed, finished_is_between, finishing_is, is_free, is_last, no_beyond, node_out, not_free, out_continues, same_node, seen_false, on_run_at_stop, on_run_from, on_run_over, same_state, stop_continues, takes_no_stop, takes_over, takes_stop, two_stops, with_run}
+use Rattle.certificate.proofs.OnRun.{and_false, and_true, border_continues, children_at_border, children_at_stop, finished_crossed, finished_is_between, finishing_is, is_free, is_last, no_beyond, not_free, same_node, seen_false, on_run_at_stop, on_run_over, same_state, stop_continues, takes_no_stop, takes_over, takes_stop, two_stops, with_run}
+use Rattle.certificate.proofs.SettingOut.{left_from}
 use Rattle.certificate.proofs.Walked.{walks_both, walks_ended}
 use Rattle.certificate.proofs.Walking.{end_rank, mark_undone, rank_low}
 use Rattle.certificate.proofs.tree_walk.+walk.Goals as goal
@@ -129,40 +130,27 @@ set_out-returns-then-not-whole-clause-walks g t c = λ assigned at_node crossed 
     let node : Node = node_from tree assigned c.args.place in
     let items : List Stop = c.stops-stop-items.result.now in
     let stop : Stop = get_or items c.loop-stop.stop-index default_stop in
-    let begun = c.visiting-begun.result in
-    let kind = c.in-Some.kind in
-    let is : items ≡ reached_in tree = c.stops-stop-items.ensures.value in
-    let next : begun.next ≡ capped (c.args.place + 1) = c.visiting-begun.ensures.next ∙ c.saturating_add-next.ensures in
     let here : AreCrossed c.loop-stop.used (run_borders assigned) =
     subst (λ (u : List Bool). AreCrossed u (run_borders assigned)) (sym c.loop-stop.invariant.0) crossed in
-    let same : node ≡ node_at tree begun assigned [] =
-    node_out position tree c.args.value c.args.place assigned kind begun at_node low
-    (sym c.kind_at.ensures ∙ c.in-Some.is) c.visiting-begun.ensures.train next in
-    let marked : c.mark.new.self ≡ set (replicate 186 false) (stop_order stop) true =
-    c.mark.ensures ∙ ap (λ (m : List Bool). set m (stop_order stop) true) c.loop-stop.invariant.1 in
-    let there : IsOnRun position tree begun c.loop-stop.used c.mark.new.self assigned [] (stop ∷ []) =
-    same_state position tree begun c.loop-stop.used (set (replicate 186 false) (stop_order stop) true) c.loop-stop.used c.mark.new.self
-    assigned [] (stop ∷ []) refl marked
-    (on_run_from position tree c.args.value c.args.place c.loop-stop.used assigned kind stop begun at_node here low
-    c.visiting-begun.ensures.train next (c.visiting-begun.ensures.later ∙ (c.may_earn_from.ensures
+    let among : IsAmong stop (reached_in tree) = subst (λ (l : List Stop). IsAmong stop l) c.stops-stop-items.ensures.value
+    (among_at items c.loop-stop.stop-index default_stop c.loop-stop-test.true) in
+    let walk = left_from g.D.Decider.decides position tree c.args.value c.args.place c.loop-stop.used c.mark.new.self
+    assigned c.in-Some.kind stop c.visiting-begun.result c.loop-stop.decider c.leave-whole.new.decider
+    c.leave-whole.result at_node here low (sym c.kind_at.ensures ∙ c.in-Some.is) c.visiting-begun.ensures.train
+    (c.visiting-begun.ensures.next ∙ c.saturating_add-next.ensures)
+    (c.visiting-begun.ensures.later ∙ (c.may_earn_from.ensures
     ∙ ap (λ (n : ℕ). capped (earned_from tree.groups n)) c.saturating_add-next.ensures))
     c.visiting-begun.ensures.value (c.visiting-begun.ensures.left ∙ ap (option_map (λ n. n - 1)) c.stops.ensures)
-    c.visiting-begun.ensures.own) in
-    let among : IsAmong stop (reached_in tree) = subst (λ (l : List Stop). IsAmong stop l) is
-    (among_at items c.loop-stop.stop-index default_stop c.loop-stop-test.true) in
-    let walk = c.leave-whole.ensures.walks assigned [] (stop ∷ []) there (λ step at. out_continues stop step at)
-    (at_node.tree_is.named stop among) in
-    let over : WalksOver g.D.Decider.decides position tree c.loop-stop.decider
-    (with_steps (goes_over (taken_borders node)) node (steps_from position stop)) false c.leave-whole.new.decider =
-    subst (λ (b : Bool). WalksOver g.D.Decider.decides position tree c.loop-stop.decider
-    (with_steps (goes_over (taken_borders node)) node (steps_from position stop)) b c.leave-whole.new.decider)
-    c.if-not-whole.true (subst (λ (n : Node). WalksOver g.D.Decider.decides position tree c.loop-stop.decider
-    (with_steps (goes_over (taken_borders n)) n (steps_from position stop)) c.leave-whole.result
-    c.leave-whole.new.decider) (sym same) walk) in
+    c.visiting-begun.ensures.own
+    (c.mark.ensures ∙ ap (λ (m : List Bool). set m (stop_order stop) true) c.loop-stop.invariant.1) among
+    (c.leave-whole.ensures.walks assigned) in
     thing_ends g.D.Decider.decides position tree (steps_from position) (goes_over (taken_borders node)) node items
     c.args.decider.now c.loop-stop.decider c.leave-whole.new.decider
     (setting_out position tree.company (reached_in tree) node) c.loop-stop.stop-index default_stop
-    c.loop-stop-test.true (c.loop-stop.invariant.2 assigned at_node crossed low) over
+    c.loop-stop-test.true (c.loop-stop.invariant.2 assigned at_node crossed low)
+    (subst (λ (b : Bool). WalksOver g.D.Decider.decides position tree c.loop-stop.decider
+    (with_steps (goes_over (taken_borders node)) node (steps_from position stop)) b c.leave-whole.new.decider)
+    c.if-not-whole.true walk)
 
 pub set_out-returns-then-not-whole-clause-used : goal.set_out-returns-then-not-whole-clause-used
 set_out-returns-then-not-whole-clause-used g t c = c.leave-whole.ensures.used ∙ c.loop-stop.invariant.0
@@ -181,40 +169,27 @@ set_out-loop-stop-preserved g t c = (
       let node : Node = node_from tree assigned c.args.place in
       let items : List Stop = c.stops-stop-items.result.now in
       let stop : Stop = get_or items c.loop-stop.stop-index default_stop in
-      let begun = c.visiting-begun.result in
-      let kind = c.in-Some.kind in
-      let is : items ≡ reached_in tree = c.stops-stop-items.ensures.value in
-      let next : begun.next ≡ capped (c.args.place + 1) = c.visiting-begun.ensures.next ∙ c.saturating_add-next.ensures in
       let here : AreCrossed c.loop-stop.used (run_borders assigned) =
       subst (λ (u : List Bool). AreCrossed u (run_borders assigned)) (sym c.loop-stop.invariant.0) crossed in
-      let same : node ≡ node_at tree begun assigned [] =
-      node_out position tree c.args.value c.args.place assigned kind begun at_node low
-      (sym c.kind_at.ensures ∙ c.in-Some.is) c.visiting-begun.ensures.train next in
-      let marked : c.mark.new.self ≡ set (replicate 186 false) (stop_order stop) true =
-      c.mark.ensures ∙ ap (λ (m : List Bool). set m (stop_order stop) true) c.loop-stop.invariant.1 in
-      let there : IsOnRun position tree begun c.loop-stop.used c.mark.new.self assigned [] (stop ∷ []) =
-      same_state position tree begun c.loop-stop.used (set (replicate 186 false) (stop_order stop) true) c.loop-stop.used c.mark.new.self
-      assigned [] (stop ∷ []) refl marked
-      (on_run_from position tree c.args.value c.args.place c.loop-stop.used assigned kind stop begun at_node here low
-      c.visiting-begun.ensures.train next (c.visiting-begun.ensures.later ∙ (c.may_earn_from.ensures
+      let among : IsAmong stop (reached_in tree) = subst (λ (l : List Stop). IsAmong stop l) c.stops-stop-items.ensures.value
+      (among_at items c.loop-stop.stop-index default_stop c.loop-stop-test.true) in
+      let walk = left_from g.D.Decider.decides position tree c.args.value c.args.place c.loop-stop.used c.mark.new.self
+      assigned c.in-Some.kind stop c.visiting-begun.result c.loop-stop.decider c.leave-whole.new.decider
+      c.leave-whole.result at_node here low (sym c.kind_at.ensures ∙ c.in-Some.is) c.visiting-begun.ensures.train
+      (c.visiting-begun.ensures.next ∙ c.saturating_add-next.ensures)
+      (c.visiting-begun.ensures.later ∙ (c.may_earn_from.ensures
       ∙ ap (λ (n : ℕ). capped (earned_from tree.groups n)) c.saturating_add-next.ensures))
       c.visiting-begun.ensures.value (c.visiting-begun.ensures.left ∙ ap (option_map (λ n. n - 1)) c.stops.ensures)
-      c.visiting-begun.ensures.own) in
-      let among : IsAmong stop (reached_in tree) = subst (λ (l : List Stop). IsAmong stop l) is
-      (among_at items c.loop-stop.stop-index default_stop c.loop-stop-test.true) in
-      let walk = c.leave-whole.ensures.walks assigned [] (stop ∷ []) there (λ step at. out_continues stop step at)
-      (at_node.tree_is.named stop among) in
-      let over : WalksOver g.D.Decider.decides position tree c.loop-stop.decider
-      (with_steps (goes_over (taken_borders node)) node (steps_from position stop)) true c.leave-whole.new.decider =
-      subst (λ (b : Bool). WalksOver g.D.Decider.decides position tree c.loop-stop.decider
-      (with_steps (goes_over (taken_borders node)) node (steps_from position stop)) b c.leave-whole.new.decider)
-      c.if-not-whole.false (subst (λ (n : Node). WalksOver g.D.Decider.decides position tree c.loop-stop.decider
-      (with_steps (goes_over (taken_borders n)) n (steps_from position stop)) c.leave-whole.result
-      c.leave-whole.new.decider) (sym same) walk) in
+      c.visiting-begun.ensures.own
+      (c.mark.ensures ∙ ap (λ (m : List Bool). set m (stop_order stop) true) c.loop-stop.invariant.1) among
+      (c.leave-whole.ensures.walks assigned) in
       thing_over g.D.Decider.decides position tree (steps_from position) (goes_over (taken_borders node)) node items
       c.args.decider.now c.loop-stop.decider c.leave-whole.new.decider
       (setting_out position tree.company (reached_in tree) node) c.loop-stop.stop-index default_stop
-      c.loop-stop-test.true (c.loop-stop.invariant.2 assigned at_node crossed low) over,
+      c.loop-stop-test.true (c.loop-stop.invariant.2 assigned at_node crossed low)
+      (subst (λ (b : Bool). WalksOver g.D.Decider.decides position tree c.loop-stop.decider
+      (with_steps (goes_over (taken_borders node)) node (steps_from position stop)) b c.leave-whole.new.decider)
+      c.if-not-whole.false walk),
 )
 
 pub set_out-returns-clause-walks : goal.set_out-returns-clause-walks
