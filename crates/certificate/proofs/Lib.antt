@@ -17,5 +17,6 @@ pub mod OnRun
 pub mod Places
 pub mod Going
 pub mod SettingOut
+pub mod KnownStops
 pub mod HexLinks
 pub mod Read

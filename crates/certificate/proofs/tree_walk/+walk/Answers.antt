@@ -140,8 +140,8 @@ set_out-returns-then-not-whole-clause-walks g t c = λ assigned at_node crossed 
     (c.visiting-begun.ensures.next ∙ c.saturating_add-next.ensures)
     (c.visiting-begun.ensures.later ∙ (c.may_earn_from.ensures
     ∙ ap (λ (n : ℕ). capped (earned_from tree.groups n)) c.saturating_add-next.ensures))
-    c.visiting-begun.ensures.value (c.visiting-begun.ensures.left ∙ ap (option_map (λ n. n - 1)) c.stops.ensures)
-    c.visiting-begun.ensures.own
+    (c.visiting-begun.ensures.value at_node.tree_is) (c.visiting-begun.ensures.left ∙ ap (option_map (λ n. n - 1)) c.stops.ensures)
+    (c.visiting-begun.ensures.own at_node.tree_is)
     (c.mark.ensures ∙ ap (λ (m : List Bool). set m (stop_order stop) true) c.loop-stop.invariant.1) among
     (c.leave-whole.ensures.walks assigned) in
     thing_ends g.D.Decider.decides position tree (steps_from position) (goes_over (taken_borders node)) node items
@@ -179,8 +179,8 @@ set_out-loop-stop-preserved g t c = (
       (c.visiting-begun.ensures.next ∙ c.saturating_add-next.ensures)
       (c.visiting-begun.ensures.later ∙ (c.may_earn_from.ensures
       ∙ ap (λ (n : ℕ). capped (earned_from tree.groups n)) c.saturating_add-next.ensures))
-      c.visiting-begun.ensures.value (c.visiting-begun.ensures.left ∙ ap (option_map (λ n. n - 1)) c.stops.ensures)
-      c.visiting-begun.ensures.own
+      (c.visiting-begun.ensures.value at_node.tree_is) (c.visiting-begun.ensures.left ∙ ap (option_map (λ n. n - 1)) c.stops.ensures)
+      (c.visiting-begun.ensures.own at_node.tree_is)
       (c.mark.ensures ∙ ap (λ (m : List Bool). set m (stop_order stop) true) c.loop-stop.invariant.1) among
       (c.leave-whole.ensures.walks assigned) in
       thing_over g.D.Decider.decides position tree (steps_from position) (goes_over (taken_borders node)) node items
@@ -516,8 +516,9 @@ arrive-returns-clause-walks g t c = λ assigned steps stops step at_node continu
     let low : stop_order stop < length c.args.seen.now = omega (arith, order_low stop, at_node.seen.0) in
     let there = on_run_at_stop position tree begun c.args.used.now c.args.seen.now assigned steps stops at_node step
     stop here continues left low
-    c.visiting-here.ensures.train c.visiting-here.ensures.next c.visiting-here.ensures.later c.visiting-here.ensures.value
-    c.visiting-here.ensures.left c.visiting-here.ensures.own in
+    c.visiting-here.ensures.train c.visiting-here.ensures.next c.visiting-here.ensures.later
+    (c.visiting-here.ensures.value at_node.tree_is) c.visiting-here.ensures.left
+    (c.visiting-here.ensures.own at_node.tree_is) in
     let marked : IsOnRun position tree here c.args.used.now c.mark.new.self assigned (step ∷ steps)
     (visited (step ∷ steps)) =
     same_state position tree here c.args.used.now (set c.args.seen.now (stop_order stop) true) c.args.used.now
@@ -763,7 +764,7 @@ pass-returns-then-ends_at-clause-walks g t c = λ assigned before step at_node a
     let stop : Stop = c.args.stop in
     let last : is_last_stop position tree.company (reached_in tree) node begun.kind stop ≡ true =
     is_last position tree begun c.args.used.now c.args.seen.now assigned before step stop at_node at
-    ∙ (sym c.ends_at.ensures ∙ c.if-ends_at.true) in
+    ∙ (sym (c.ends_at.ensures at_node.tree_is) ∙ c.if-ends_at.true) in
     let over : List Node = with_steps (goes_over (taken_borders node)) node (steps_from position stop) in
     over_none g.D.Decider.decides position tree c.args.decider.now
     (from_stop position tree.company (reached_in tree) node begun.kind stop) (ap (λ (b : Bool). if b then [] else over) last)
@@ -778,7 +779,7 @@ pass-returns-clause-walks g t c = λ assigned before step at_node at.
     let stop : Stop = c.args.stop in
     let last : is_last_stop position tree.company (reached_in tree) node begun.kind stop ≡ false =
     is_last position tree begun c.args.used.now c.args.seen.now assigned before step stop at_node at
-    ∙ (sym c.ends_at.ensures ∙ c.if-ends_at.false) in
+    ∙ (sym (c.ends_at.ensures at_node.tree_is) ∙ c.if-ends_at.false) in
     let over : List Node = with_steps (goes_over (taken_borders node)) node (steps_from position stop) in
     let walk = c.leave.ensures.walks assigned steps (visited steps) at_node
     (λ next is. stop_continues before step stop next at is) (names_itself (left_at step) stop at) in
