@@ -74,6 +74,53 @@ filled bytes more_bytes count number more bit old seven is gained before =
     ∙ (ap (λ (b : List Bool). bits_of_bytes bytes ++ b) (sym eight)
     ∙ pushed bytes count number more bit old is before)))
 
+-- four bits at the end of a number
+of_bit : (rest : ℕ) → rest < 2 → rest ≡ bit_number (nat_eq rest 1)
+of_bit zero low = refl
+of_bit (suc zero) low = refl
+of_bit (suc (suc rest)) low = absurd (omega arith)
+
+four_more : (count number value : ℕ) → value < 16
+    → bits_of (count + 1 + 1 + 1 + 1) (16 * number + value) ≡ bits_of count number ++ bits_of 4 value
+four_more count number value low =
+    let a : ℕ = value / 8 % 2 in
+    let b : ℕ = value / 4 % 2 in
+    let c : ℕ = value / 2 % 2 in
+    let d : ℕ = value / 1 % 2 in
+    let one : ℕ = 2 * number + a in
+    let two : ℕ = 2 * one + b in
+    let three : ℕ = 2 * two + c in
+    let is : 16 * number + value ≡ 2 * three + d = omega arith in
+    let first = more_at_end count number a (nat_eq a 1) (of_bit a (omega arith)) in
+    let second = more_at_end (count + 1) one b (nat_eq b 1) (of_bit b (omega arith)) in
+    let third = more_at_end (count + 1 + 1) two c (nat_eq c 1) (of_bit c (omega arith)) in
+    let fourth = more_at_end (count + 1 + 1 + 1) three d (nat_eq d 1) (of_bit d (omega arith)) in
+    let bits : List Bool = bits_of count number in
+    ap (bits_of (count + 1 + 1 + 1 + 1)) is
+    ∙ (fourth ∙ (ap (λ (l : List Bool). l ++ nat_eq d 1 ∷ []) third
+    ∙ (ap (λ (l : List Bool). (l ++ nat_eq c 1 ∷ []) ++ nat_eq d 1 ∷ []) second
+    ∙ (ap (λ (l : List Bool). ((l ++ nat_eq b 1 ∷ []) ++ nat_eq c 1 ∷ []) ++ nat_eq d 1 ∷ []) first
+    ∙ all_four bits (nat_eq a 1) (nat_eq b 1) (nat_eq c 1) (nat_eq d 1)))))
+  where
+    all_four : (bits : List Bool) (a b c d : Bool)
+        → (((bits ++ a ∷ []) ++ b ∷ []) ++ c ∷ []) ++ d ∷ [] ≡ bits ++ a ∷ b ∷ c ∷ d ∷ []
+    all_four [] a b c d = refl
+    all_four (bit ∷ bits) a b c d = ap (λ (l : List Bool). bit ∷ l) (all_four bits a b c d)
+
+-- the bits of a digit are added after half a byte
+pub digit_ended :
+    (bytes more_bytes : List ℕ) (count number value : ℕ) (old : List Bool) → count ≡ 4 → value < 16 →
+    more_bytes ≡ bytes ++ (16 * number + value) ∷ [] → bits_of_bytes bytes ++ bits_of count number ≡ old →
+    bits_of_bytes more_bytes ++ bits_of 0 0 ≡ old ++ bits_of 4 value
+digit_ended bytes more_bytes count number value old half_full low gained before =
+    append-nil (bits_of_bytes more_bytes)
+    ∙ (ap bits_of_bytes gained
+    ∙ (byte_more bytes (16 * number + value)
+    ∙ (ap (λ (l : List Bool). bits_of_bytes bytes ++ l) (four_more 4 number value low)
+    ∙ (sym (append_assoc (bits_of_bytes bytes) (bits_of 4 number) (bits_of 4 value))
+    ∙ ap (λ (l : List Bool). l ++ bits_of 4 value)
+    (ap (λ (n : ℕ). bits_of_bytes bytes ++ bits_of n number) (sym half_full) ∙ before)))))
+
 -- so few bits are a small number
 pub is_low : (count number : ℕ) → count < 8 → number < 2 ^ count → number < 128
 is_low zero number few low = omega arith

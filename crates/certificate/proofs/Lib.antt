@@ -16,5 +16,7 @@ pub mod Walking
 pub mod OnRun
 pub mod Places
 pub mod Going
+pub mod SettingOut
+pub mod KnownStops
 pub mod HexLinks
 pub mod Read

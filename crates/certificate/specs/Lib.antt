@@ -6,6 +6,7 @@ pub mod Digits
 pub mod Example
 pub mod Ranking
 pub mod HexLinks
+pub mod KnownStops
 pub mod Walked
 pub mod Walking
 pub mod Read

@@ -21,6 +21,7 @@ use Rattle.legal_runs.specs.Legal.{border_at, listed, visited, worth}
 use Rattle.certificate.specs.Ranking.{ranked_of}
 use Rattle.legal_runs.specs.Set.{TrainRun, revenue_of}
 use Rattle.certificate.specs.HexLinks.{AreHexLinks}
+use Rattle.certificate.specs.KnownStops.{AreKnown}
 use Rattle.certificate.specs.Tree.{Node, goes_over, gone_over, leads_on, may_all_earn, may_earn, node_of, run_borders}
 use Rattle.certificate.specs.Tree.{setting_out, taken_borders}
 use Rattle.certificate.specs.Walked.{LeavesAhead, Walks, capped}
@@ -86,6 +87,7 @@ pub record IsTree (position : Position) (tree : Tree) : Type 0 where
   pub fits : length (trains_of_tree tree) ≤ 18446744073709551615
   pub ranking : tree.ranking ≡ ranked_of position (reached_in tree)
   pub links : AreHexLinks position tree.links
+  pub known : AreKnown position tree.company tree.known
 
 -- no run is begun, and the assigned runs earn this much
 pub record IsBetweenRuns (position : Position) (tree : Tree) (value : ℕ) (assigned : List TrainRun) : Type 0 where

@@ -1,9 +1,9 @@
 ghost use Rattle.std.specs.Prelude.{◌≡◌, ◌↔◌, ◌*◌, ◌+◌, ◌≤◌, true, Err, OnOk, OnErr, IfErr, IfOk, IsTrue, MatchOption, []};
 ghost use Rattle.std.specs.Prelude.{◌∷◌, ◌++◌, take, drop, get_or, false};
-ghost use Rattle.certificate.specs.Digits.{bits_of, bits_of_digits, digits_of, has_other};
+ghost use Rattle.certificate.specs.Digits.{bits_of, bits_of_digit, bits_of_digits, digits_of, has_other};
 ghost use Rattle.certificate.specs.declared.hex.HexFault.TheVariants.{Digit};
 
-use crate::hex::{HexFault, bit_number, bits_of_digit, digit_of, has_other};
+use crate::hex::{HexFault, bit_number, bits_of_digit, digit_of, has_other, value_of_digit};
 use std::alloc::{AllocError, Global};
 use std::marker::Model;
 
@@ -80,9 +80,29 @@ impl Bits {
         ensures { OnOk result (self.new ≡ self.old ++ bits_of_digits text.now) }
     {
         for digit in text {
-            self.push_all(&bits_of_digit(*digit))?;
+            self.add_digit(*digit)?;
         }
         Ok(())
+    }
+
+    /// Adds the four bits of a hexadecimal digit, or four 0 bits for another byte. Fails only if
+    /// allocation fails; then some may be added.
+    fn add_digit(&mut self, digit: u8) -> Result<(), AllocError>
+        ensures { OnOk result (self.new ≡ self.old ++ bits_of_digit digit) }
+    {
+        let value = value_of_digit(digit);
+        if self.count == 0 {
+            self.last = value;
+            self.count = 4;
+            return Ok(());
+        }
+        if self.count == 4 {
+            self.bytes.push(16 * self.last + value)?;
+            self.last = 0;
+            self.count = 0;
+            return Ok(());
+        }
+        self.push_all(&bits_of_digit(digit))
     }
 
     /// Adds bits at the end.

@@ -1,5 +1,5 @@
 //! Marks in a text: four bits to a hexadecimal digit.
-ghost use Rattle.std.specs.Prelude.{◌≡◌, ◌↔◌, ◌*◌, ◌+◌, ◌<◌, ◌≤◌, length, take, drop, true, Err, IfOk, [], ◌∷◌};
+ghost use Rattle.std.specs.Prelude.{◌≡◌, ◌↔◌, ◌*◌, ◌+◌, ◌<◌, ◌≤◌, length, take, drop, true, unwrap_or, Err, IfOk, IfSome, [], ◌∷◌};
 ghost use Rattle.certificate.specs.Digits.{bit_number, bits_of, bits_of_digit, bits_of_digits, digit_of, digit_value};
 ghost use Rattle.certificate.specs.Digits.{digits_of, has_other, is_digit};
 ghost use Rattle.certificate.specs.declared.hex.HexFault.TheVariants.{Digit, Memory};
@@ -116,7 +116,8 @@ fn is_digit(byte: u8) -> bool
 
 /// Returns the value of a hexadecimal digit; `None` for any other byte.
 fn digit_value(byte: u8) -> Option<u8>
-    ensures { result ≡ digit_value byte }
+    ensures value { result ≡ digit_value byte }
+    ensures bound { IfSome result (λ value. value < 16) }
 {
     match byte {
         b'0'..=b'9' => Some(byte - b'0'),
@@ -126,11 +127,19 @@ fn digit_value(byte: u8) -> Option<u8>
     }
 }
 
+/// Returns the value of a hexadecimal digit, under 16; 0 for any other byte.
+pub(crate) fn value_of_digit(digit: u8) -> u8
+    ensures value { result ≡ unwrap_or (digit_value digit) 0 }
+    ensures bound { result < 16 }
+{
+    digit_value(digit).unwrap_or(0)
+}
+
 /// Returns the bits of a digit.
 pub(crate) fn bits_of_digit(digit: u8) -> [bool; 4]
     ensures { result ≡ bits_of_digit digit }
 {
-    let value = digit_value(digit).unwrap_or(0);
+    let value = value_of_digit(digit);
     [
         value / 8 % 2 == 1,
         value / 4 % 2 == 1,

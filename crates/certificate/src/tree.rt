@@ -1,5 +1,5 @@
-//! What stays the same in a walk over a choice tree: the company, what it reaches, the links of the
-//! hexes, and its trains in their order, D, 6 and so on to 2.
+//! What stays the same in a walk over a choice tree: the company, what it reaches and what that is,
+//! the links of the hexes, and its trains in their order, D, 6 and so on to 2.
 ghost use Rattle.std.specs.Prelude.{◌≡◌, List, Option, [], count_by, length};
 ghost use Rattle.map_tables.specs.declared.place.Stop.{Stop};
 ghost use Rattle.reach.specs.Position.{Position};
@@ -12,6 +12,7 @@ ghost use Rattle.certificate.specs.Walked.{capped};
 ghost use Rattle.certificate.specs.Walking.{AreVisited, IsTree, earned_from, kind_from, reached_in, trains_of_tree};
 
 use crate::hex_links::HexLinks;
+use crate::known_stops::KnownStops;
 use crate::ranking::Ranking;
 use map_tables::Stop;
 use reach::{Network, ReachedStops, StopMarks, reached_stops};
@@ -36,6 +37,7 @@ pub(crate) struct Tree {
     pub(crate) reached: ReachedStops,
     pub(crate) ranking: Ranking,
     pub(crate) links: HexLinks,
+    pub(crate) known: KnownStops,
     pub(crate) groups: [Group; KINDS],
     /// How many trains there are.
     pub(crate) count: usize,
@@ -52,6 +54,7 @@ impl Tree {
         network.keeps_laws();
         let reached = reached_stops(network, company);
         let ranking = Ranking::of(network, &reached);
+        let known = KnownStops::of(network, company, &reached);
         let groups = [
             group_of(&ranking, trains, Kind::Diesel),
             group_of(&ranking, trains, Kind::Six),
@@ -65,6 +68,7 @@ impl Tree {
             reached,
             ranking,
             links: HexLinks::of(network),
+            known,
             groups,
             count: number_of(trains),
         }

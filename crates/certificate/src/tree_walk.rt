@@ -21,10 +21,10 @@ ghost use Rattle.certificate.specs.Walking.{trains_of_tree};
 
 use crate::decider::{Decider, Decision};
 use crate::tree::Tree;
-use legal_runs::{Used, border_to, has_token, is_full, worth};
+use legal_runs::{Used, border_to};
 use map_tables::{Hex, Link, Stop, TrackEnd};
 use reach::{Network, Spot, StopMarks, WalkStep, twin};
-use tables::{Company, Kind};
+use tables::Kind;
 
 /// A run that is begun, and the trains after it.
 #[derive(Clone, Copy)]
@@ -45,36 +45,37 @@ pub(crate) struct Begun {
 
 impl Begun {
     /// Returns the run, once it has visited one more stop.
-    fn visiting<N: Network>(self, network: &N, company: Company, stop: Stop) -> Begun
+    fn visiting<N: Network>(self, network: &N, tree: &Tree, stop: Stop) -> Begun
         ensures train { result.kind ≡ self.kind }
         ensures next { result.next ≡ self.next }
         ensures later { result.later ≡ self.later }
-        ensures value { let position = N.position network.now in
+        ensures value { let position = N.position network.now in IsTree position tree.now →
             result.value ≡ capped (self.value + value_of position stop) }
         ensures left { result.left ≡ option_map (λ n. n - 1) self.left }
-        ensures own { let position = N.position network.now in
-            result.own_token ≡ (has_token position company stop || self.own_token) }
+        ensures own { let position = N.position network.now in IsTree position tree.now →
+            result.own_token ≡ (has_token position tree.now.company stop || self.own_token) }
     {
+        let facts = tree.known.at(network, tree.company, stop);
         Begun {
             kind: self.kind,
             next: self.next,
             later: self.later,
-            value: self.value.saturating_add(worth(network, stop) as u64),
+            value: self.value.saturating_add(facts.value as u64),
             left: match self.left {
                 Some(most) => Some(most.saturating_sub(1)),
                 None => None,
             },
-            own_token: has_token(network, company, stop) || self.own_token,
+            own_token: facts.own_token || self.own_token,
         }
     }
 
     /// Returns whether the run ends at a stop to which it has come.
-    fn ends_at<N: Network>(&self, network: &N, company: Company, stop: Stop) -> bool
-        ensures { let position = N.position network.now in
-            result ≡ (is_red position stop || (is_full position company stop
+    fn ends_at<N: Network>(&self, network: &N, tree: &Tree, stop: Stop) -> bool
+        ensures { let position = N.position network.now in IsTree position tree.now →
+            result ≡ (is_red position stop || (is_full position tree.now.company stop
             || is_none_left self.now.left)) }
     {
-        network.red(stop) || is_full(network, company, stop) || self.left == Some(0)
+        tree.known.at(network, tree.company, stop).ends || self.left == Some(0)
     }
 }
 
@@ -204,7 +205,7 @@ fn set_out<N: Network, D: Decider>(
     };
     let mut seen = StopMarks::none();
     for stop in tree.reached.stops() {
-        let begun = still.visiting(network, tree.company, *stop);
+        let begun = still.visiting(network, tree, *stop);
         seen.mark(*stop);
         let whole = leave(network, tree, *stop, &begun, used, &mut seen, decider);
         seen.unmark(*stop);
@@ -345,7 +346,7 @@ fn arrive<N: Network, D: Decider>(
     ensures used { used.new ≡ used.old }
     ensures seen { get_or seen.old (stop_order stop) false ≡ false → seen.new ≡ seen.old }
 {
-    let here = begun.visiting(network, tree.company, stop);
+    let here = begun.visiting(network, tree, stop);
     seen.mark(stop);
     let whole = at_stop(network, tree, stop, &here, used, seen, decider);
     seen.unmark(stop);
@@ -477,7 +478,7 @@ fn pass<N: Network, D: Decider>(
     ensures used { used.new ≡ used.old }
     ensures seen { seen.new ≡ seen.old }
 {
-    if begun.ends_at(network, tree.company, stop) {
+    if begun.ends_at(network, tree, stop) {
         return true;
     }
     leave(network, tree, stop, begun, used, seen, decider)

@@ -1,5 +1,5 @@
 -- The walk goes over the children of each node, in their order, and leaves the marks as they were.
-use Rattle.std.proofs.Common.{◌≡◌, ◌<◌, rules, ℕ, ◌+◌, ◌-◌, Bool, true, false, not, ◌&&◌, count_by, option_map, if◌then◌else◌, Some, None, List, [], ◌∷◌, ◌++◌, length, get_or, set, replicate, refl, ap, sym, ◌∙◌, subst, arith}
+use Rattle.std.proofs.Common.{◌≡◌, ◌<◌, rules, ℕ, ◌-◌, Bool, true, false, not, ◌&&◌, count_by, option_map, if◌then◌else◌, Some, None, List, [], ◌∷◌, ◌++◌, length, get_or, set, replicate, refl, ap, sym, ◌∙◌, subst, arith}
 use Rattle.map_tables.specs.Border.{neighbour_of}
 use Rattle.map_tables.specs.declared.hex.Hex.{Hex}
 use Rattle.map_tables.specs.Place.{stop_at}
@@ -29,7 +29,8 @@ use Rattle.certificate.proofs.Going.{hexes_steps, no_step_found, none_ahead, one
 use Rattle.certificate.proofs.Going.{over_none, step_enters, step_found, thing_ends, thing_over, things_over, up_ends}
 use Rattle.certificate.proofs.Going.{beyond_it, default_link, default_stop, up_over, up_whole}
 use Rattle.certificate.proofs.Places.{none_is}
-use Rattle.certificate.proofs.OnRun.{and_false, and_true, border_continues, children_at_border, children_at_stop, finished_crossed, finished_is_between, finishing_is, is_free, is_last, no_beyond, node_out, not_free, out_continues, same_node, seen_false, on_run_at_stop, on_run_from, on_run_over, same_state, stop_continues, takes_no_stop, takes_over, takes_stop, two_stops, with_run}
+use Rattle.certificate.proofs.OnRun.{and_false, and_true, border_continues, children_at_border, children_at_stop, finished_crossed, finished_is_between, finishing_is, is_free, is_last, no_beyond, not_free, same_node, seen_false, on_run_at_stop, on_run_over, same_state, stop_continues, takes_no_stop, takes_over, takes_stop, two_stops, with_run}
+use Rattle.certificate.proofs.SettingOut.{left_from}
 use Rattle.certificate.proofs.Walked.{walks_both, walks_ended}
 use Rattle.certificate.proofs.Walking.{end_rank, mark_undone, rank_low}
 use Rattle.certificate.proofs.tree_walk.+walk.Goals as goal
@@ -129,40 +130,27 @@ set_out-returns-then-not-whole-clause-walks g t c = λ assigned at_node crossed 
     let node : Node = node_from tree assigned c.args.place in
     let items : List Stop = c.stops-stop-items.result.now in
     let stop : Stop = get_or items c.loop-stop.stop-index default_stop in
-    let begun = c.visiting-begun.result in
-    let kind = c.in-Some.kind in
-    let is : items ≡ reached_in tree = c.stops-stop-items.ensures.value in
-    let next : begun.next ≡ capped (c.args.place + 1) = c.visiting-begun.ensures.next ∙ c.saturating_add-next.ensures in
     let here : AreCrossed c.loop-stop.used (run_borders assigned) =
     subst (λ (u : List Bool). AreCrossed u (run_borders assigned)) (sym c.loop-stop.invariant.0) crossed in
-    let same : node ≡ node_at tree begun assigned [] =
-    node_out position tree c.args.value c.args.place assigned kind begun at_node low
-    (sym c.kind_at.ensures ∙ c.in-Some.is) c.visiting-begun.ensures.train next in
-    let marked : c.mark.new.self ≡ set (replicate 186 false) (stop_order stop) true =
-    c.mark.ensures ∙ ap (λ (m : List Bool). set m (stop_order stop) true) c.loop-stop.invariant.1 in
-    let there : IsOnRun position tree begun c.loop-stop.used c.mark.new.self assigned [] (stop ∷ []) =
-    same_state position tree begun c.loop-stop.used (set (replicate 186 false) (stop_order stop) true) c.loop-stop.used c.mark.new.self
-    assigned [] (stop ∷ []) refl marked
-    (on_run_from position tree c.args.value c.args.place c.loop-stop.used assigned kind stop begun at_node here low
-    c.visiting-begun.ensures.train next (c.visiting-begun.ensures.later ∙ (c.may_earn_from.ensures
-    ∙ ap (λ (n : ℕ). capped (earned_from tree.groups n)) c.saturating_add-next.ensures))
-    c.visiting-begun.ensures.value (c.visiting-begun.ensures.left ∙ ap (option_map (λ n. n - 1)) c.stops.ensures)
-    c.visiting-begun.ensures.own) in
-    let among : IsAmong stop (reached_in tree) = subst (λ (l : List Stop). IsAmong stop l) is
+    let among : IsAmong stop (reached_in tree) = subst (λ (l : List Stop). IsAmong stop l) c.stops-stop-items.ensures.value
     (among_at items c.loop-stop.stop-index default_stop c.loop-stop-test.true) in
-    let walk = c.leave-whole.ensures.walks assigned [] (stop ∷ []) there (λ step at. out_continues stop step at)
-    (at_node.tree_is.named stop among) in
-    let over : WalksOver g.D.Decider.decides position tree c.loop-stop.decider
-    (with_steps (goes_over (taken_borders node)) node (steps_from position stop)) false c.leave-whole.new.decider =
-    subst (λ (b : Bool). WalksOver g.D.Decider.decides position tree c.loop-stop.decider
-    (with_steps (goes_over (taken_borders node)) node (steps_from position stop)) b c.leave-whole.new.decider)
-    c.if-not-whole.true (subst (λ (n : Node). WalksOver g.D.Decider.decides position tree c.loop-stop.decider
-    (with_steps (goes_over (taken_borders n)) n (steps_from position stop)) c.leave-whole.result
-    c.leave-whole.new.decider) (sym same) walk) in
+    let walk = left_from g.D.Decider.decides position tree c.args.value c.args.place c.loop-stop.used c.mark.new.self
+    assigned c.in-Some.kind stop c.visiting-begun.result c.loop-stop.decider c.leave-whole.new.decider
+    c.leave-whole.result at_node here low (sym c.kind_at.ensures ∙ c.in-Some.is) c.visiting-begun.ensures.train
+    (c.visiting-begun.ensures.next ∙ c.saturating_add-next.ensures)
+    (c.visiting-begun.ensures.later ∙ (c.may_earn_from.ensures
+    ∙ ap (λ (n : ℕ). capped (earned_from tree.groups n)) c.saturating_add-next.ensures))
+    (c.visiting-begun.ensures.value at_node.tree_is) (c.visiting-begun.ensures.left ∙ ap (option_map (λ n. n - 1)) c.stops.ensures)
+    (c.visiting-begun.ensures.own at_node.tree_is)
+    (c.mark.ensures ∙ ap (λ (m : List Bool). set m (stop_order stop) true) c.loop-stop.invariant.1) among
+    (c.leave-whole.ensures.walks assigned) in
     thing_ends g.D.Decider.decides position tree (steps_from position) (goes_over (taken_borders node)) node items
     c.args.decider.now c.loop-stop.decider c.leave-whole.new.decider
     (setting_out position tree.company (reached_in tree) node) c.loop-stop.stop-index default_stop
-    c.loop-stop-test.true (c.loop-stop.invariant.2 assigned at_node crossed low) over
+    c.loop-stop-test.true (c.loop-stop.invariant.2 assigned at_node crossed low)
+    (subst (λ (b : Bool). WalksOver g.D.Decider.decides position tree c.loop-stop.decider
+    (with_steps (goes_over (taken_borders node)) node (steps_from position stop)) b c.leave-whole.new.decider)
+    c.if-not-whole.true walk)
 
 pub set_out-returns-then-not-whole-clause-used : goal.set_out-returns-then-not-whole-clause-used
 set_out-returns-then-not-whole-clause-used g t c = c.leave-whole.ensures.used ∙ c.loop-stop.invariant.0
@@ -181,40 +169,27 @@ set_out-loop-stop-preserved g t c = (
       let node : Node = node_from tree assigned c.args.place in
       let items : List Stop = c.stops-stop-items.result.now in
       let stop : Stop = get_or items c.loop-stop.stop-index default_stop in
-      let begun = c.visiting-begun.result in
-      let kind = c.in-Some.kind in
-      let is : items ≡ reached_in tree = c.stops-stop-items.ensures.value in
-      let next : begun.next ≡ capped (c.args.place + 1) = c.visiting-begun.ensures.next ∙ c.saturating_add-next.ensures in
       let here : AreCrossed c.loop-stop.used (run_borders assigned) =
       subst (λ (u : List Bool). AreCrossed u (run_borders assigned)) (sym c.loop-stop.invariant.0) crossed in
-      let same : node ≡ node_at tree begun assigned [] =
-      node_out position tree c.args.value c.args.place assigned kind begun at_node low
-      (sym c.kind_at.ensures ∙ c.in-Some.is) c.visiting-begun.ensures.train next in
-      let marked : c.mark.new.self ≡ set (replicate 186 false) (stop_order stop) true =
-      c.mark.ensures ∙ ap (λ (m : List Bool). set m (stop_order stop) true) c.loop-stop.invariant.1 in
-      let there : IsOnRun position tree begun c.loop-stop.used c.mark.new.self assigned [] (stop ∷ []) =
-      same_state position tree begun c.loop-stop.used (set (replicate 186 false) (stop_order stop) true) c.loop-stop.used c.mark.new.self
-      assigned [] (stop ∷ []) refl marked
-      (on_run_from position tree c.args.value c.args.place c.loop-stop.used assigned kind stop begun at_node here low
-      c.visiting-begun.ensures.train next (c.visiting-begun.ensures.later ∙ (c.may_earn_from.ensures
-      ∙ ap (λ (n : ℕ). capped (earned_from tree.groups n)) c.saturating_add-next.ensures))
-      c.visiting-begun.ensures.value (c.visiting-begun.ensures.left ∙ ap (option_map (λ n. n - 1)) c.stops.ensures)
-      c.visiting-begun.ensures.own) in
-      let among : IsAmong stop (reached_in tree) = subst (λ (l : List Stop). IsAmong stop l) is
+      let among : IsAmong stop (reached_in tree) = subst (λ (l : List Stop). IsAmong stop l) c.stops-stop-items.ensures.value
       (among_at items c.loop-stop.stop-index default_stop c.loop-stop-test.true) in
-      let walk = c.leave-whole.ensures.walks assigned [] (stop ∷ []) there (λ step at. out_continues stop step at)
-      (at_node.tree_is.named stop among) in
-      let over : WalksOver g.D.Decider.decides position tree c.loop-stop.decider
-      (with_steps (goes_over (taken_borders node)) node (steps_from position stop)) true c.leave-whole.new.decider =
-      subst (λ (b : Bool). WalksOver g.D.Decider.decides position tree c.loop-stop.decider
-      (with_steps (goes_over (taken_borders node)) node (steps_from position stop)) b c.leave-whole.new.decider)
-      c.if-not-whole.false (subst (λ (n : Node). WalksOver g.D.Decider.decides position tree c.loop-stop.decider
-      (with_steps (goes_over (taken_borders n)) n (steps_from position stop)) c.leave-whole.result
-      c.leave-whole.new.decider) (sym same) walk) in
+      let walk = left_from g.D.Decider.decides position tree c.args.value c.args.place c.loop-stop.used c.mark.new.self
+      assigned c.in-Some.kind stop c.visiting-begun.result c.loop-stop.decider c.leave-whole.new.decider
+      c.leave-whole.result at_node here low (sym c.kind_at.ensures ∙ c.in-Some.is) c.visiting-begun.ensures.train
+      (c.visiting-begun.ensures.next ∙ c.saturating_add-next.ensures)
+      (c.visiting-begun.ensures.later ∙ (c.may_earn_from.ensures
+      ∙ ap (λ (n : ℕ). capped (earned_from tree.groups n)) c.saturating_add-next.ensures))
+      (c.visiting-begun.ensures.value at_node.tree_is) (c.visiting-begun.ensures.left ∙ ap (option_map (λ n. n - 1)) c.stops.ensures)
+      (c.visiting-begun.ensures.own at_node.tree_is)
+      (c.mark.ensures ∙ ap (λ (m : List Bool). set m (stop_order stop) true) c.loop-stop.invariant.1) among
+      (c.leave-whole.ensures.walks assigned) in
       thing_over g.D.Decider.decides position tree (steps_from position) (goes_over (taken_borders node)) node items
       c.args.decider.now c.loop-stop.decider c.leave-whole.new.decider
       (setting_out position tree.company (reached_in tree) node) c.loop-stop.stop-index default_stop
-      c.loop-stop-test.true (c.loop-stop.invariant.2 assigned at_node crossed low) over,
+      c.loop-stop-test.true (c.loop-stop.invariant.2 assigned at_node crossed low)
+      (subst (λ (b : Bool). WalksOver g.D.Decider.decides position tree c.loop-stop.decider
+      (with_steps (goes_over (taken_borders node)) node (steps_from position stop)) b c.leave-whole.new.decider)
+      c.if-not-whole.false walk),
 )
 
 pub set_out-returns-clause-walks : goal.set_out-returns-clause-walks
@@ -541,8 +516,9 @@ arrive-returns-clause-walks g t c = λ assigned steps stops step at_node continu
     let low : stop_order stop < length c.args.seen.now = omega (arith, order_low stop, at_node.seen.0) in
     let there = on_run_at_stop position tree begun c.args.used.now c.args.seen.now assigned steps stops at_node step
     stop here continues left low
-    c.visiting-here.ensures.train c.visiting-here.ensures.next c.visiting-here.ensures.later c.visiting-here.ensures.value
-    c.visiting-here.ensures.left c.visiting-here.ensures.own in
+    c.visiting-here.ensures.train c.visiting-here.ensures.next c.visiting-here.ensures.later
+    (c.visiting-here.ensures.value at_node.tree_is) c.visiting-here.ensures.left
+    (c.visiting-here.ensures.own at_node.tree_is) in
     let marked : IsOnRun position tree here c.args.used.now c.mark.new.self assigned (step ∷ steps)
     (visited (step ∷ steps)) =
     same_state position tree here c.args.used.now (set c.args.seen.now (stop_order stop) true) c.args.used.now
@@ -788,7 +764,7 @@ pass-returns-then-ends_at-clause-walks g t c = λ assigned before step at_node a
     let stop : Stop = c.args.stop in
     let last : is_last_stop position tree.company (reached_in tree) node begun.kind stop ≡ true =
     is_last position tree begun c.args.used.now c.args.seen.now assigned before step stop at_node at
-    ∙ (sym c.ends_at.ensures ∙ c.if-ends_at.true) in
+    ∙ (sym (c.ends_at.ensures at_node.tree_is) ∙ c.if-ends_at.true) in
     let over : List Node = with_steps (goes_over (taken_borders node)) node (steps_from position stop) in
     over_none g.D.Decider.decides position tree c.args.decider.now
     (from_stop position tree.company (reached_in tree) node begun.kind stop) (ap (λ (b : Bool). if b then [] else over) last)
@@ -803,7 +779,7 @@ pass-returns-clause-walks g t c = λ assigned before step at_node at.
     let stop : Stop = c.args.stop in
     let last : is_last_stop position tree.company (reached_in tree) node begun.kind stop ≡ false =
     is_last position tree begun c.args.used.now c.args.seen.now assigned before step stop at_node at
-    ∙ (sym c.ends_at.ensures ∙ c.if-ends_at.false) in
+    ∙ (sym (c.ends_at.ensures at_node.tree_is) ∙ c.if-ends_at.false) in
     let over : List Node = with_steps (goes_over (taken_borders node)) node (steps_from position stop) in
     let walk = c.leave.ensures.walks assigned steps (visited steps) at_node
     (λ next is. stop_continues before step stop next at is) (names_itself (left_at step) stop at) in

@@ -62,6 +62,7 @@ returns-clause-tree g c =
       fits = omega (arith, size, c.number_of.ensures, c.number_of.type_inv);
       ranking = ranked;
       links = c.of.ensures;
+      known = c.of-known.ensures;
     }
 
 pub returns-clause-trains : goal.returns-clause-trains
