@@ -53,8 +53,9 @@ impl Holdings {
     }
 }
 
-/// Returns the same number by the events of a game, from the totals.
-pub(crate) fn counted_now(view: &GameView, seat: Seat) -> ShareCount
+/// Returns how many certificates of a seat count against the limit, by the events of a game, from
+/// its totals.
+pub fn counted_now(view: &GameView, seat: Seat) -> ShareCount
     ensures { result ≡ counted_of view.now.events.now seat }
 {
     counted(&view.owners(), view, seat)

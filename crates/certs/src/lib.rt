@@ -26,6 +26,7 @@ mod sell;
 mod share_deal;
 mod share_places;
 
+pub use counted_certificates::counted_now;
 pub use dividend::pay_out;
 pub use holdings::Holdings;
 pub use president::successor;
