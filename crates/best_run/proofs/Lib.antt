@@ -8,6 +8,7 @@ pub mod Equal
 pub mod Beyond
 pub mod Hopeless
 pub mod Reached
+pub mod Capped
 pub mod Sorted
 pub mod Prefix
 pub mod Backwards

@@ -16,8 +16,8 @@ use Rattle.search_task.specs.declared.task.Segment.{Segment}
 use Rattle.search_task.specs.declared.task.Task.{Task}
 use Rattle.search_task.specs.declared.task.Leg.{Leg}
 use Rattle.best_run.specs.Ahead.{LiesAhead, WidensBelow}
-use Rattle.best_run.specs.Canonical.{AllLead, AreHeld, AreOpen, AreOpenBelow, Holds, IsCanonical, IsInReach}
-use Rattle.best_run.specs.Canonical.{IsRunCanonical, IsShut, IsShutBelow, MayGoOn, Opens, ReachesBelow, ReachesAt}
+use Rattle.best_run.specs.Canonical.{AllLead, AreOpen, AreOpenBelow, Holds, IsCanonical, IsInReach}
+use Rattle.best_run.specs.Canonical.{IsRunCanonical, IsShut, IsShutBelow, MayGoOn, Opens}
 use Rattle.best_run.specs.Canonical.{SetsOut, WidensTo, anywhere, sets_out}
 use Rattle.search_task.specs.Crossed.{cleared_all, marked_all, misses}
 use Rattle.search_task.specs.Fit.{BordersFit, IsFit, SegmentFits}
@@ -41,7 +41,7 @@ use Rattle.search_task.proofs.Places.{below_next, one_leg}
 use Rattle.search_task.proofs.Booleans.{both_are, both_first, both_second, not_both}
 
 -- a run that has visited nothing takes each segment whose borders are not used
-takes_free : (task : Task) (used : List Bool) (segment : Segment)
+pub takes_free : (task : Task) (used : List Bool) (segment : Segment)
     → can_take task anywhere used segment ≡ misses used segment.borders.items
 takes_free task used segment = ap (λ b. b && misses used segment.borders.items)
     (by_stop (stop_in (node_at task segment.to)))
@@ -51,7 +51,7 @@ takes_free task used segment = ap (λ b. b && misses used segment.borders.items)
     by_stop false = refl
 
 -- no leg leads from a stop that has none
-none_lead : (task : Task) (used reach : List Bool) (spot : ℕ) → legs_at task spot ≡ [] → AllLead task used reach spot
+pub none_lead : (task : Task) (used reach : List Bool) (spot : ℕ) → legs_at task spot ≡ [] → AllLead task used reach spot
 none_lead task used reach spot none place leg at free =
     absurd (no_leg place (ap (λ (legs : List Leg). slice_get legs place) (sym none) ∙ at))
   where
@@ -74,22 +74,13 @@ same_stop : (stops : List ℕ) (place other : ℕ) (stop found : ℕ) → slice_
 same_stop stops place other stop found at finds same =
     let e : Some stop ≡ Some found = sym at ∙ (ap (λ i. slice_get stops i) (sym same) ∙ finds) in cc
 
-next_listed : (stops : List ℕ) (place stop spot : ℕ) → slice_get stops place ≡ Some stop
+pub next_listed : (stops : List ℕ) (place stop spot : ℕ) → slice_get stops place ≡ Some stop
     → IsListed stops (place + 1) spot → IsListed stops place spot ⊎ (stop ≡ spot)
 next_listed stops place stop spot at listed =
     elim (below_next listed.0 place listed.1) [
       | inl less ↦ inl (listed.0, less, listed.2)
       | inr same ↦ inr (same_stop stops place listed.0 stop spot at listed.2 same)
     ]
-
--- what is in reach: nothing, what more tokens lead to, and what no token leads to
-pub reach_none : (task : Task) (used : List Bool) → ReachesBelow task used 0 (replicate 744 false)
-reach_none task used =
-    record {
-      own = λ spot listed. absurd (let low = listed.1 in omega arith);
-      held = λ spot listed. absurd (let low = listed.1 in omega arith);
-      all = λ spot lies. absurd (not_both (get_or (replicate 744 false) spot false) lies (none_marked 744 spot));
-    }
 
 pub widens_all : (task : Task) (assigned : Assigned) (spot : ℕ) (legs : List Leg) (count : ℕ) (old new : List Bool)
     → legs_at task spot ≡ legs → length legs ≤ count → WidensBelow task assigned anywhere spot count old new
@@ -113,70 +104,6 @@ holds_more stop reach low =
       kept = λ spot lies. set_keeps reach stop spot low lies;
       over = λ spot lies. elim (set_cases reach stop spot lies) [ inl same ↦ inr same | inr before ↦ inl before ];
       lies = get_or-set_same reach stop true false low;
-    }
-
-pub reach_more : (task : Task) (assigned : Assigned) (place stop : ℕ) (old middle new : List Bool)
-    → slice_get task.stops.items place ≡ Some stop → ReachesBelow task assigned.used place old → Holds stop old middle
-    → WidensTo task assigned stop middle new → ReachesBelow task assigned.used (place + 1) new
-reach_more task assigned place stop old middle new at before holds more =
-    record {
-      own = λ spot listed own. elim (next_listed task.stops.items place stop spot at listed) [
-        | inl less ↦ λ index leg is_found free. more.widens.kept leg.segment.to
-            (holds.kept leg.segment.to (before.own spot less own index leg is_found free))
-        | inr same ↦ subst (AllLead task assigned.used new) same more.here
-      ];
-      held = λ spot listed own. elim (next_listed task.stops.items place stop spot at listed) [
-        | inl less ↦ more.widens.kept spot (holds.kept spot (before.held spot less own))
-        | inr same ↦ subst (LiesAhead new) same (more.widens.kept stop holds.lies)
-      ];
-      all = λ spot lies passes index leg is_found free. elim (more.widens.over spot lies) [
-        | inl known ↦ elim (holds.over spot known) [
-          | inl was ↦ more.widens.kept leg.segment.to (holds.kept leg.segment.to
-              (before.all spot was passes index leg is_found free))
-          | inr same ↦ subst (AllLead task assigned.used new) same more.here index leg is_found free
-        ]
-        | inr over ↦ over passes index leg is_found (takes_free task assigned.used leg.segment ∙ free)
-      ];
-    }
-
-pub reach_same : (task : Task) (used : List Bool) (place stop : ℕ) (reach : List Bool)
-    → slice_get task.stops.items place ≡ Some stop → own_in (node_at task stop) ≡ false
-    → ReachesBelow task used place reach → ReachesBelow task used (place + 1) reach
-reach_same task used place stop reach at other before =
-    record {
-      own = λ spot listed own. elim (next_listed task.stops.items place stop spot at listed) [
-        | inl less ↦ before.own spot less own
-        | inr same ↦ absurd (not_both (own_in (node_at task spot)) own
-            (ap (λ (n : ℕ). own_in (node_at task n)) (sym same) ∙ other))
-      ];
-      held = λ spot listed own. elim (next_listed task.stops.items place stop spot at listed) [
-        | inl less ↦ before.held spot less own
-        | inr same ↦ absurd (not_both (own_in (node_at task spot)) own
-            (ap (λ (n : ℕ). own_in (node_at task n)) (sym same) ∙ other))
-      ];
-      all = before.all;
-    }
-
-pub reach_all : (task : Task) → AreReady task → (used : List Bool) (most : ℕ) (reach : List Bool)
-    → length task.stops.items ≤ most → ReachesBelow task used most reach → IsInReach task used reach
-reach_all task ready used most reach all below spot is out =
-    elim out [
-      | inl own ↦ elim (ready.stops.each spot is.0 is.1) [
-        | inl none ↦ none_lead task used reach spot none
-        | inr listed ↦ below.own spot (listed.0, (let low = listed.1 in omega arith), listed.2) own
-      ]
-      | inr on ↦ below.all spot on.0 on.1
-    ]
-
-pub held_all : (task : Task) → AreReady task → (used : List Bool) (most : ℕ) (reach : List Bool)
-    → length task.stops.items ≤ most → ReachesBelow task used most reach → AreHeld task used reach
-held_all task ready used most reach all below =
-    record {
-      held = λ spot is own. elim (ready.stops.each spot is.0 is.1) [
-        | inl none ↦ inl none
-        | inr listed ↦ inr (below.held spot (listed.0, (let low = listed.1 in omega arith), listed.2) own)
-      ];
-      all = below.all;
     }
 
 freer_unset : (marks used : List Bool) (n : ℕ) → Freer marks used → (IsMarked used n → ⊥)
@@ -575,30 +502,6 @@ module _ (task : Task) (fit : IsFit task) (ready : AreReady task) (first reach s
       move_by fuel moves (omega (arith, enough)) (between (with_run_finished assigned run)) others marks goes.shares
       completes.1 in
       record { moves = finish ∷ rest.moves; completes = (completes.0, rest.completes); same = rest.same }
-
--- more stops lie in reach
-pub reach_at : (task : Task) (assigned : Assigned) (stop : ℕ) (old middle new : List Bool) → Holds stop old middle
-    → WidensTo task assigned stop middle new → ReachesAt task assigned.used stop old new
-reach_at task assigned stop old middle new holds more =
-    record {
-      kept = λ spot lies. more.widens.kept spot (holds.kept spot lies);
-      lies = more.widens.kept stop holds.lies;
-      reaches = λ reaches spot is out. elim out [
-        | inl own ↦ still spot (reaches spot is (inl own))
-        | inr on ↦ elim (more.widens.over spot on.0) [
-          | inl known ↦ elim (holds.over spot known) [
-            | inl was ↦ still spot (reaches spot is (inr (was, on.1)))
-            | inr same ↦ subst (AllLead task assigned.used new) same more.here
-          ]
-          | inr over ↦ λ index leg is_found free. over on.1 index leg is_found
-              (takes_free task assigned.used leg.segment ∙ free)
-        ]
-      ];
-    }
-  where
-    still : (spot : ℕ) → AllLead task assigned.used old spot → AllLead task assigned.used new spot
-    still spot leads index leg is_found free = more.widens.kept leg.segment.to
-        (holds.kept leg.segment.to (leads index leg is_found free))
 
 -- a state that is alike has as many borders
 pub canonical_whole : (task : Task) (assigned : Assigned) (run : Option PartialRun) (like : SearchState)

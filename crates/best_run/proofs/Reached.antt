@@ -18,7 +18,8 @@ use Rattle.best_run.specs.declared.state.PartialRun.{PartialRun}
 use Rattle.best_run.specs.declared.value_ahead.Worth.{Worth}
 use Rattle.best_run.specs.Ahead.{IsLeast, IsOutlook, IsWorth, LiesAhead, beyond, ends_by, goes_back, goes_on, one_end}
 use Rattle.best_run.specs.Ahead.{two_ends}
-use Rattle.best_run.specs.Canonical.{AreHeld, IsInReach}
+use Rattle.best_run.specs.Canonical.{AreCapped, IsNear}
+use Rattle.best_run.specs.declared.canonical.InReach.{InReach}
 use Rattle.search_task.specs.Fit.{IsFit}
 use Rattle.best_run.specs.Moves.{Completes, EarnsAtMost, Explores, MayBegin, Move, along, begin, begun, between, go}
 use Rattle.best_run.specs.Moves.{may_come, own_before, partial, pass, passed, finish, total_after, turn, using}
@@ -62,18 +63,17 @@ module _ (task : Task) (fit : IsFit task) (ready : AreReady task) (reach : List 
     (some : 0 < most) (low : (most * level + beyond level task.spots.items reach)
     + two_ends level task.spots.items reach ≤ cap) where
   -- all that a run may reach from a token lies in reach
-  look_of : (assigned : Assigned) → IsInReach task assigned.used reach → AreHeld task assigned.used reach
-      → (stop index : ℕ) → IsStop task stop → own_in (node_at task stop) ≡ true
+  look_of : (assigned : Assigned) → (stop index : ℕ) → IsNear task assigned.used stop reach
       → IsOutlook task assigned (begun task assigned stop index) reach
-  look_of assigned reaches held stop index is own =
+  look_of assigned stop index near =
       record {
-        head = λ passes place leg at taken. reaches stop is (inl own) place leg at
+        head = λ passes place leg at taken. near.here place leg at
             (both_second (may_come (stop_in (node_at task leg.segment.to)) (begun task assigned stop index)
             leg.segment.to) (misses assigned.used leg.segment.borders.items) taken);
-        home = λ once passes place leg at later taken. reaches stop is (inl own) place leg at
+        home = λ once passes place leg at later taken. near.here place leg at
             (both_second (may_come (stop_in (node_at task leg.segment.to)) (begun task assigned stop index)
             leg.segment.to) (misses assigned.used leg.segment.borders.items) taken);
-        all = λ spot lies passes place leg at taken. held.all spot lies passes place leg at
+        all = λ spot lies passes place leg at taken. near.all spot lies passes place leg at
             (both_second (may_come (stop_in (node_at task leg.segment.to)) (begun task assigned stop index)
             leg.segment.to) (misses assigned.used leg.segment.borders.items) taken);
       }
@@ -121,17 +121,17 @@ module _ (task : Task) (fit : IsFit task) (ready : AreReady task) (reach : List 
       omega (arith, sides, spent)
 
   -- the next train runs
-  begin_low : (assigned : Assigned) → IsInReach task assigned.used reach → AreHeld task assigned.used reach
-      → length assigned.used ≡ 279 → get_or task.trains.items assigned.next 0 ≡ most → (count : ℕ)
+  pub begin_low : (assigned : Assigned) → length assigned.used ≡ 279 → get_or task.trains.items assigned.next 0 ≡ most → (count : ℕ)
       → AreEqual task (assigned.next + 1) count most → EarnAtMost task (assigned.next + 1 + count) bound
-      → (stop index : ℕ) (segment : Segment) (moves : List Move) → MayBegin task assigned stop index segment
+      → (stop index : ℕ) (segment : Segment) (moves : List Move) → IsNear task assigned.used stop reach
+      → MayBegin task assigned stop index segment
       → Completes task (partial (using assigned segment) (along task (begun task assigned stop index) segment)) moves
       → total_after task (partial (using assigned segment) (along task (begun task assigned stop index) segment)) moves
       ≤ assigned.total + cap + (count * cap + bound)
-  begin_low assigned reaches held whole same count equal rest stop index segment moves may completes =
+  begin_low assigned whole same count equal rest stop index segment moves near may completes =
       let is : IsStop task stop = is_stop task fit stop may.begins in
       let run : PartialRun = begun task assigned stop index in
-      let look : IsOutlook task assigned run reach = look_of assigned reaches held stop index is may.token in
+      let look : IsOutlook task assigned run reach = look_of assigned stop index near in
       let by : ByLeg task fit stop is.1 (legs_at task stop) (legs_of task ready stop is) assigned run index segment
       moves =
       by_leg task fit stop is.1 (legs_at task stop) (legs_of task ready stop is) assigned run whole index segment moves
@@ -149,7 +149,7 @@ module _ (task : Task) (fit : IsFit task) (ready : AreReady task) (reach : List 
         is_leg = by.is_leg;
         free = missed;
         lies =
-            reaches stop is (inl may.token) by.place_of by.leg by.is_leg missed;
+            near.here by.place_of by.leg by.is_leg missed;
         fits = fits.0;
         stop =
             (fits.0.to, fits.1);
@@ -164,17 +164,13 @@ module _ (task : Task) (fit : IsFit task) (ready : AreReady task) (reach : List 
       (using assigned by.leg.segment) (along task run by.leg.segment) =
       follows_go task fit ready assigned run reach look task.spots.items (counts_plain task assigned run) 0
       (goes_on task run) assigned run follows by.leg leads in
-      let lies : LiesAhead reach stop = elim (held.held stop is may.token) [
-        | inl none ↦ absurd (no_leg (legs_at task stop) by.place_of by.leg none by.is_leg)
-        | inr there ↦ there
-      ] in
       let came : may_come true run by.leg.segment.to ≡ true =
       subst (λ (b : Bool). may_come b run by.leg.segment.to ≡ true) fits.1
       (both_first (may_come (stop_in (node_at task by.leg.segment.to)) run by.leg.segment.to)
       (misses assigned.used by.leg.segment.borders.items) by.can) in
       let more : nat_lt 0 run.left ≡ true = both_first (nat_lt 0 run.left)
       (not (get_or run.visited by.leg.segment.to false)) came in
-      let first = first_spent assigned stop index same is lies more in
+      let first = first_spent assigned stop index same is near.lies more in
       let second = still_leg task fit ready assigned run reach look task.spots.items (counts_plain task assigned run)
       level 0 (goes_on task run) assigned run follows by.leg leads by.can in
       let small : value_in (node_at task stop) + value_in (node_at task by.leg.segment.to)
@@ -187,65 +183,78 @@ module _ (task : Task) (fit : IsFit task) (ready : AreReady task) (reach : List 
       (using assigned by.leg.segment) (along task run by.leg.segment) on next small by.completes in
       omega (arith, by.total, ran)
 
-  equal_later : (assigned : Assigned) (count : ℕ) → AreEqual task assigned.next (suc count) most
-      → AreEqual task (assigned.next + 1) count most
+module _ (task : Task) (fit : IsFit task) (ready : AreReady task) (reach : InReach) (bound : ℕ)
+    (some : 0 < reach.left) where
+  -- the next train runs: if no leg leads from where it begins, it does not
+  train_low : (assigned : Assigned) → AreCapped task assigned.used reach → length assigned.used ≡ 279
+      → get_or task.trains.items assigned.next 0 ≡ reach.left → (count : ℕ)
+      → AreEqual task (assigned.next + 1) count reach.left → EarnAtMost task (assigned.next + 1 + count) bound
+      → (stop index : ℕ) (segment : Segment) (moves : List Move) → MayBegin task assigned stop index segment
+      → Completes task (partial (using assigned segment) (along task (begun task assigned stop index) segment)) moves
+      → total_after task (partial (using assigned segment) (along task (begun task assigned stop index) segment)) moves
+      ≤ assigned.total + reach.cap + (count * reach.cap + bound)
+  train_low assigned capped whole same count equal rest stop index segment moves may completes =
+      let is : IsStop task stop = is_stop task fit stop may.begins in
+      elim (capped stop is may.token) [
+        | inl none ↦
+            let by : ByLeg task fit stop is.1 (legs_at task stop) (legs_of task ready stop is) assigned
+            (begun task assigned stop index) index segment moves =
+            by_leg task fit stop is.1 (legs_at task stop) (legs_of task ready stop is) assigned
+            (begun task assigned stop index) whole index segment moves may.leads may.taken completes in
+            absurd (no_leg (legs_at task stop) by.place_of by.leg none by.is_leg)
+        | inr from ↦
+            let near : IsNear task assigned.used stop from.at.near =
+            record { lies = from.at.lies; here = from.here; all = from.at.all } in
+            begin_low task fit ready from.at.near from.at.level reach.left reach.cap bound some from.at.low assigned
+            whole same count equal rest stop index segment moves near may completes
+      ]
+
+  equal_later : (assigned : Assigned) (count : ℕ) → AreEqual task assigned.next (suc count) reach.left
+      → AreEqual task (assigned.next + 1) count reach.left
   equal_later assigned count equal train less =
       let there : assigned.next + suc train ≡ assigned.next + 1 + train =
-      omega arith in subst (λ (n : ℕ). get_or task.trains.items n 0 ≡ most) there
+      omega arith in subst (λ (n : ℕ). get_or task.trains.items n 0 ≡ reach.left) there
       (equal (suc train) (omega (arith, less)))
 
   -- each of the trains of one kind earns at most this much
-  reach_low : (moves : List Move) (assigned : Assigned) → IsInReach task assigned.used reach
-      → AreHeld task assigned.used reach → length assigned.used ≡ 279 → (count : ℕ)
-      → AreEqual task assigned.next count most → EarnAtMost task (assigned.next + count) bound
+  reach_low : (moves : List Move) (assigned : Assigned) → AreCapped task assigned.used reach → length assigned.used ≡ 279 → (count : ℕ)
+      → AreEqual task assigned.next count reach.left → EarnAtMost task (assigned.next + count) bound
       → Completes task (between assigned) moves → total_after task (between assigned) moves
-      ≤ assigned.total + (count * cap + bound)
-  reach_low moves assigned reaches held whole zero equal rest completes =
+      ≤ assigned.total + (count * reach.cap + bound)
+  reach_low moves assigned capped whole zero equal rest completes =
       let same : assigned.next + 0 ≡ assigned.next = omega arith in
       omega (
         arith,
         rest_low task assigned bound (subst (λ (n : ℕ). EarnAtMost task n bound) same rest) whole moves
             completes,
       )
-  reach_low [] assigned reaches held whole (suc count) equal rest completes = omega arith
-  reach_low (pass ∷ moves) assigned reaches held whole (suc count) equal rest completes =
+  reach_low [] assigned capped whole (suc count) equal rest completes = omega arith
+  reach_low (pass ∷ moves) assigned capped whole (suc count) equal rest completes =
       let here : assigned.next + suc count ≡ assigned.next + 1 + count = omega arith in
-      one_more (total_after task (between (passed assigned)) moves) assigned.total count cap bound
-      (reach_low moves (passed assigned) reaches held whole count (equal_later assigned count equal)
+      one_more (total_after task (between (passed assigned)) moves) assigned.total count reach.cap bound
+      (reach_low moves (passed assigned) capped whole count (equal_later assigned count equal)
       (subst (λ (n : ℕ). EarnAtMost task n bound) here rest) completes.1)
-  reach_low (begin stop index segment ∷ moves) assigned reaches held whole (suc count) equal rest completes =
+  reach_low (begin stop index segment ∷ moves) assigned capped whole (suc count) equal rest completes =
       let here : assigned.next + suc count ≡ assigned.next + 1 + count = omega arith in
       let first : assigned.next + 0 ≡ assigned.next = omega arith in
-      let same : get_or task.trains.items assigned.next 0 ≡ most =
-      subst (λ (n : ℕ). get_or task.trains.items n 0 ≡ most) first (equal 0 (omega arith)) in
+      let same : get_or task.trains.items assigned.next 0 ≡ reach.left =
+      subst (λ (n : ℕ). get_or task.trains.items n 0 ≡ reach.left) first (equal 0 (omega arith)) in
       one_ran (total_after task (partial (using assigned segment) (along task (begun task assigned stop index) segment))
-      moves) assigned.total count cap bound
-      (begin_low assigned reaches held whole same count (equal_later assigned count equal)
+      moves) assigned.total count reach.cap bound
+      (train_low assigned capped whole same count (equal_later assigned count equal)
       (subst (λ (n : ℕ). EarnAtMost task n bound) here rest) stop index segment moves completes.0 completes.1)
-  reach_low (go index segment ∷ moves) assigned reaches held whole (suc count) equal rest completes = absurd completes.0
-  reach_low (turn index segment ∷ moves) assigned reaches held whole (suc count) equal rest completes =
+  reach_low (go index segment ∷ moves) assigned capped whole (suc count) equal rest completes = absurd completes.0
+  reach_low (turn index segment ∷ moves) assigned capped whole (suc count) equal rest completes =
       absurd completes.0
-  reach_low (finish ∷ moves) assigned reaches held whole (suc count) equal rest completes = absurd completes.0
+  reach_low (finish ∷ moves) assigned capped whole (suc count) equal rest completes = absurd completes.0
 
--- what is in reach is worth too little
-worth_low : (task : Task) (reach : List Bool) (worth : Worth) (most cap place : ℕ)
-    → IsWorth task.spots.items reach worth → place < worth.levels
-    → (most * (10 * place) + get_or worth.beyond place 0) + ((worth.first - 10 * place) + (worth.second - 10 * place))
-    ≤ cap → (most * (10 * place) + beyond (10 * place) task.spots.items reach)
-    + two_ends (10 * place) task.spots.items reach ≤ cap
-worth_low task reach worth most cap place known low least =
-    omega (arith, known.passed place low, known.two (10 * place), least)
-
-pub reach_earns : (task : Task) → IsFit task → AreReady task
-    → (assigned : Assigned) (reach : List Bool) (worth : Worth) (most cap best : ℕ) → IsInReach task assigned.used reach
-    → AreHeld task assigned.used reach → IsWorth task.spots.items reach worth → length assigned.used ≡ 279
-    → IsLeast worth most true true cap → ArePrunedByCap task assigned.next most cap assigned.total best
-    → EarnsAtMost task assigned best
-reach_earns task fit ready assigned reach worth most cap best reaches held known whole least capped moves completes =
+pub reach_earns : (task : Task) → IsFit task → AreReady task → (assigned : Assigned) (reach : InReach) (best : ℕ)
+    → AreCapped task assigned.used reach → length assigned.used ≡ 279
+    → ArePrunedByCap task assigned.next reach.left reach.cap assigned.total best → EarnsAtMost task assigned best
+reach_earns task fit ready assigned reach best are whole capped moves completes =
     omega (
       arith,
       capped.short,
-      reach_low task fit ready reach (10 * least.0) most cap capped.bound capped.some
-          (worth_low task reach worth most cap least.0 known least.1 least.2) moves assigned reaches held whole
-          capped.equal capped.are_equal capped.rest completes,
+      reach_low task fit ready reach capped.bound capped.some moves assigned are whole capped.equal
+          capped.are_equal capped.rest completes,
     )

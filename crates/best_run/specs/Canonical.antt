@@ -1,14 +1,15 @@
 -- What the trains that are left can reach. The borders that no leg from there crosses make no
 -- difference to them. So two states that differ only in such borders are alike: between runs, or
 -- with the same run begun.
-use Rattle.std.specs.Prelude.{◌≡◌, ℕ, ◌<◌, Bool, true, false, not, ◌&&◌, ◌||◌, ◌⊎◌, Option, Some, None, List, []}
+use Rattle.std.specs.Prelude.{◌≡◌, ℕ, ◌+◌, ◌*◌, ◌<◌, ◌≤◌, Bool, true, false, not, ◌&&◌, ◌||◌, ◌⊎◌, Option, Some, None, List, []}
 use Rattle.std.specs.Prelude.{length, get_or, replicate, slice_get}
 use Rattle.best_run.specs.declared.search_state.SearchState.{SearchState}
 use Rattle.best_run.specs.declared.state.Assigned.{Assigned}
 use Rattle.best_run.specs.declared.state.PartialRun.{PartialRun}
 use Rattle.search_task.specs.declared.task.Task.{Task}
 use Rattle.search_task.specs.declared.task.Leg.{Leg}
-use Rattle.best_run.specs.Ahead.{LiesAhead, Widens}
+use Rattle.best_run.specs.declared.canonical.InReach.{InReach}
+use Rattle.best_run.specs.Ahead.{LiesAhead, Widens, beyond, two_ends}
 use Rattle.search_task.specs.Marks.{Freer}
 use Rattle.best_run.specs.Kept.{IsBarred}
 use Rattle.search_task.specs.Spots.{ends_in, node_at, own_in, stop_in}
@@ -41,20 +42,51 @@ pub record Holds (stop : ℕ) (old new : List Bool) : Type 0 where
   pub over : (spot : ℕ) → LiesAhead new spot → LiesAhead old spot ⊎ (stop ≡ spot)
   pub lies : LiesAhead new stop
 
--- the tokens from which legs lead lie in reach, and all stops to which a run may come from a stop
--- that does
-pub record AreHeld (task : Task) (used reach : List Bool) : Type 0 where
-  pub held : (spot : ℕ) → IsStop task spot → own_in (node_at task spot) ≡ true
-      → (legs_at task spot ≡ []) ⊎ LiesAhead reach spot
-  pub all : (spot : ℕ) → LiesAhead reach spot → ends_in (node_at task spot) ≡ false → AllLead task used reach spot
+-- all stops to which a run may come from one that lies in reach do so too
+abbrev pub IsClosed : Task → List Bool → List Bool → Type 0
+IsClosed task used reach =
+    (spot : ℕ) → LiesAhead reach spot → ends_in (node_at task spot) ≡ false → AllLead task used reach spot
 
--- the tokens at listed stops before one lie in reach, and all stops to which a run may come from a
--- stop that lies in reach so far
-pub record ReachesBelow (task : Task) (used : List Bool) (most : ℕ) (reach : List Bool) : Type 0 where
+-- what is in reach of a run that sets out from a stop: the stop, and all to which it may come
+pub record IsNear (task : Task) (used : List Bool) (stop : ℕ) (near : List Bool) : Type 0 where
+  pub lies : LiesAhead near stop
+  pub here : AllLead task used near stop
+  pub all : IsClosed task used near
+
+-- a stop lies among some in reach, from which a run does not come to others; by some level, what
+-- they are worth is no more than the cap
+pub record IsCappedAt (task : Task) (used : List Bool) (reach : InReach) (spot : ℕ) : Type 0 where
+  pub near : List Bool
+  pub within : (other : ℕ) → LiesAhead near other → LiesAhead reach.ahead other
+  pub lies : LiesAhead near spot
+  pub all : IsClosed task used near
+  pub level : ℕ
+  pub low : (reach.left * level + beyond level task.spots.items near) + two_ends level task.spots.items near ≤ reach.cap
+
+-- a run that sets out from a stop comes to none but these
+pub record IsCappedFrom (task : Task) (used : List Bool) (reach : InReach) (spot : ℕ) : Type 0 where
+  pub at : IsCappedAt task used reach spot
+  pub here : AllLead task used at.near spot
+
+-- each run that begins at a token, if legs lead from there, earns no more than the cap
+abbrev pub AreCapped : Task → List Bool → InReach → Type 0
+AreCapped task used reach =
+    (spot : ℕ) → IsStop task spot → own_in (node_at task spot) ≡ true
+    → (legs_at task spot ≡ []) ⊎ IsCappedFrom task used reach spot
+
+-- what is in reach of a token is added
+pub record ReachesToken (task : Task) (used : List Bool) (stop : ℕ) (old new : InReach) : Type 0 where
+  pub left : new.left ≡ old.left
+  pub cap : old.cap ≤ new.cap
+  pub kept : (spot : ℕ) → LiesAhead old.ahead spot → LiesAhead new.ahead spot
+  pub from : ((spot : ℕ) → LiesAhead old.ahead spot → IsCappedAt task used old spot) → IsCappedFrom task used new stop
+  pub over : (spot : ℕ) → LiesAhead new.ahead spot → LiesAhead old.ahead spot ⊎ IsCappedAt task used new spot
+
+-- each stop in reach is capped, and so is each run that begins at a token at a listed stop before one
+pub record AreCappedBelow (task : Task) (used : List Bool) (most : ℕ) (reach : InReach) : Type 0 where
+  pub each : (spot : ℕ) → LiesAhead reach.ahead spot → IsCappedAt task used reach spot
   pub own : (spot : ℕ) → IsListed task.stops.items most spot → own_in (node_at task spot) ≡ true
-      → AllLead task used reach spot
-  pub held : (spot : ℕ) → IsListed task.stops.items most spot → own_in (node_at task spot) ≡ true → LiesAhead reach spot
-  pub all : (spot : ℕ) → LiesAhead reach spot → ends_in (node_at task spot) ≡ false → AllLead task used reach spot
+      → IsCappedFrom task used reach spot
 
 -- a run that has visited nothing
 abbrev pub anywhere : PartialRun

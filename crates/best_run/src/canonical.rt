@@ -1,12 +1,13 @@
 //! States that are alike to the trains that are left: they differ only in borders that neither the
 //! run begun nor one to come can cross.
-ghost use Rattle.std.specs.Prelude.{◌≡◌, ◌<◌, IsTrue, None, Some, length, true};
-ghost use Rattle.best_run.specs.Ahead.{IsWorth};
-ghost use Rattle.best_run.specs.Canonical.{AreHeld, AreOpen, Holds, IsCanonical, IsInReach, IsShut, IsShutOff, Opens};
+ghost use Rattle.std.specs.Prelude.{◌≡◌, ◌<◌, ◌≤◌, IsTrue, None, Some, false, length, true};
+ghost use Rattle.best_run.specs.Ahead.{IsWorth, LiesAhead};
+ghost use Rattle.best_run.specs.Canonical.{AreCapped, AreOpen, Holds, IsCanonical, IsInReach, IsNear, IsShut};
+ghost use Rattle.best_run.specs.Canonical.{IsShutOff, Opens, ReachesToken};
 ghost use Rattle.best_run.specs.Canonical.{ReachesAt, WidensTo, anywhere, sets_out};
 ghost use Rattle.search_task.specs.Fit.{IsFit};
 ghost use Rattle.best_run.specs.Moves.{EarnsAtMost};
-ghost use Rattle.search_task.specs.Spots.{node_at, stop_in};
+ghost use Rattle.search_task.specs.Spots.{ends_in, node_at, stop_in};
 ghost use Rattle.best_run.specs.Suffix.{AreBounds};
 ghost use Rattle.search_task.specs.Legs.{AreReady, IsStop};
 
@@ -18,6 +19,17 @@ use crate::state::{Assigned, PartialRun};
 use reach::SPOTS;
 use search_task::{Borders, Spots, Task};
 use tables::Amount;
+
+/// What is in reach of the trains that are left.
+#[derive(Drop)]
+pub(crate) struct InReach {
+    /// How many stops a run of the next train may visit, or how many spots there are.
+    pub(crate) left: usize,
+    /// The stops that a run may visit.
+    pub(crate) ahead: Spots,
+    /// The most that a run that may visit so many stops earns, in dollars.
+    pub(crate) cap: Amount,
+}
 
 /// Returns a run that has visited nothing, and may reach any stop.
 fn anywhere() -> PartialRun
@@ -67,23 +79,81 @@ fn hold(task: &Task, assigned: &Assigned, stop: usize, reach: &mut Outlook)
     }
 }
 
+/// Returns what is in reach of a run that sets out from a stop: the stop, and those to which it may
+/// come. Of a run that may visit this many stops, it is known what they are worth.
+fn reach_of(task: &Task, assigned: &Assigned, stop: usize, left: usize) -> Outlook
+    requires fit { IsFit task.now }
+    requires ready { AreReady task.now }
+    requires spot { stop < 744 }
+    requires stops { stop_in (node_at task.now stop) ≡ true }
+    ensures near { IsNear task.now assigned.now.used stop result.ahead }
+    ensures known { IsWorth task.now.spots.items result.ahead result.worth }
+{
+    let mut near = nothing_ahead(task, left);
+    hold(task, assigned, stop, &mut near);
+    reach_from(task, assigned, stop, &mut near);
+    near
+}
+
+/// Returns whether a stop lies in reach and may be passed: all that is in reach of it is in reach
+/// already.
+fn is_passed(task: &Task, stop: usize, ahead: &Spots) -> bool
+    requires fit { IsFit task.now }
+    requires spot { stop < 744 }
+    ensures lies { IsTrue result → LiesAhead ahead.now stop }
+    ensures passes { IsTrue result → ends_in (node_at task.now stop) ≡ false }
+{
+    let node = &task.spots[stop];
+    !node.ends && ahead.has(stop)
+}
+
+/// Adds to what is in reach what is in reach of a token, unless it is already.
+fn reach_token(task: &Task, assigned: &Assigned, stop: usize, reach: &mut InReach)
+    requires fit { IsFit task.now }
+    requires ready { AreReady task.now }
+    requires spot { stop < 744 }
+    requires stops { stop_in (node_at task.now stop) ≡ true }
+    requires left { reach.old.left ≤ 744 }
+    ensures { ReachesToken task.now assigned.now.used stop reach.old reach.new }
+{
+    if is_passed(task, stop, &reach.ahead) {
+        return;
+    }
+    let near = reach_of(task, assigned, stop, reach.left);
+    let most = near.worth.least(reach.left as Amount, true, true);
+    reach.ahead = reach.ahead.with(&near.ahead);
+    if most > reach.cap {
+        reach.cap = most;
+    }
+}
+
+/// Returns how many stops a train may visit, but no more than there are spots.
+fn left_to(most: usize) -> usize
+    ensures { result ≤ 744 }
+{
+    if most > SPOTS { SPOTS } else { most }
+}
+
 /// Returns the stops that a run of the trains that are left may visit: where it may begin, and to
-/// which it may come.
-pub(crate) fn reach(task: &Task, assigned: &Assigned) -> Outlook
+/// which it may come. A run of the next train earns no more than is in reach of the token where it
+/// begins.
+pub(crate) fn reach(task: &Task, assigned: &Assigned) -> InReach
     requires fit { IsFit task.now }
     requires ready { AreReady task.now }
     requires next { assigned.now.next < length task.now.trains.items }
     ensures reaches { IsInReach task.now assigned.now.used result.ahead }
-    ensures held { AreHeld task.now assigned.now.used result.ahead }
-    ensures known { IsWorth task.now.spots.items result.ahead result.worth }
+    ensures capped { AreCapped task.now assigned.now.used result }
 {
     let most = task.trains[assigned.next];
-    let mut reach = nothing_ahead(task, most);
+    let mut reach = InReach {
+        left: left_to(most),
+        ahead: Spots::none(),
+        cap: 0,
+    };
     for place in 0..task.stops.len() {
         let stop = task.stops[place];
         if task.spots[stop].own {
-            hold(task, assigned, stop, &mut reach);
-            reach_from(task, assigned, stop, &mut reach);
+            reach_token(task, assigned, stop, &mut reach);
         }
     }
     reach
@@ -95,7 +165,7 @@ pub(crate) fn reach(task: &Task, assigned: &Assigned) -> Outlook
 pub(crate) fn is_pruned_by_reach(
     task: &Task,
     assigned: &Assigned,
-    reach: &Outlook,
+    reach: &InReach,
     bounds: &[Amount],
     best: Amount,
 ) -> bool
@@ -103,18 +173,20 @@ pub(crate) fn is_pruned_by_reach(
     requires ready { AreReady task.now }
     requires bounds { AreBounds task.now bounds.now }
     requires next { assigned.now.next < length task.now.trains.items }
-    requires reaches { IsInReach task.now assigned.now.used reach.now.ahead }
-    requires held { AreHeld task.now assigned.now.used reach.now.ahead }
-    requires known { IsWorth task.now.spots.items reach.now.ahead reach.now.worth }
+    requires capped { AreCapped task.now assigned.now.used reach.now }
     ensures { IsTrue result → EarnsAtMost task.now assigned.now best }
 {
     assigned.marks_all_borders();
-    let most = task.trains[assigned.next];
-    if most > SPOTS {
-        return false;
-    }
-    let cap = reach.worth.least(most as Amount, true, true);
-    are_pruned_by_cap(task, assigned.next, most, cap, assigned.total, bounds, best)
+    let total = assigned.total;
+    are_pruned_by_cap(
+        task,
+        assigned.next,
+        reach.left,
+        reach.cap,
+        total,
+        bounds,
+        best,
+    )
 }
 
 /// Opens the legs from a stop that cross no used border.
@@ -194,18 +266,18 @@ pub(crate) fn canonical(task: &Task, assigned: &Assigned, reach: &Spots) -> Sear
 }
 
 /// Adds to what is in reach a stop, and what a run may reach from there.
-fn reach_at(task: &Task, assigned: &Assigned, stop: usize, reach: &mut Outlook)
+fn reach_at(task: &Task, assigned: &Assigned, stop: usize, ahead: &mut Spots)
     requires fit { IsFit task.now }
     requires ready { AreReady task.now }
     requires spot { stop < 744 }
     requires stops { stop_in (node_at task.now stop) ≡ true }
-    requires known { IsWorth task.now.spots.items reach.old.ahead reach.old.worth }
-    ensures reaches { ReachesAt task.now assigned.now.used stop reach.old.ahead
-        reach.new.ahead }
-    ensures known { IsWorth task.now.spots.items reach.new.ahead reach.new.worth }
+    ensures { ReachesAt task.now assigned.now.used stop ahead.old ahead.new }
 {
-    hold(task, assigned, stop, reach);
-    reach_from(task, assigned, stop, reach);
+    if is_passed(task, stop, ahead) {
+        return;
+    }
+    let near = reach_of(task, assigned, stop, SPOTS);
+    *ahead = ahead.with(&near.ahead);
 }
 
 /// Returns a state that is alike to one with a run begun. In it all borders are used that neither
@@ -219,11 +291,11 @@ pub(crate) fn canonical_begun(task: &Task, assigned: &Assigned, run: &PartialRun
     ensures { IsCanonical task.now assigned.now (Some run.now) result }
 {
     run.visited.is_whole();
-    let mut reach = reach(task, assigned);
-    reach_at(task, assigned, run.head, &mut reach);
-    reach_at(task, assigned, run.home, &mut reach);
+    let mut ahead = reach(task, assigned).ahead;
+    reach_at(task, assigned, run.head, &mut ahead);
+    reach_at(task, assigned, run.home, &mut ahead);
     SearchState {
-        assigned: shut_off(task, assigned, &reach.ahead),
-        run: Some(run.within(&reach.ahead)),
+        assigned: shut_off(task, assigned, &ahead),
+        run: Some(run.within(&ahead)),
     }
 }
