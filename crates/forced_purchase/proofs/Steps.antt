@@ -8,6 +8,7 @@ use Rattle.certs.specs.declared.share_deal.Sale.{Sale}
 use Rattle.events.specs.Event.{IsQuiet, round_begun_by}
 use Rattle.events.specs.declared.event.Event.{Event}
 use Rattle.events.specs.declared.event.Event.TheVariants as event
+use Rattle.events.specs.declared.ruling.Refusal.{Refusal}
 use Rattle.events.specs.declared.ruling.Refusal.TheVariants as refusal
 use Rattle.events.specs.declared.ruling.Ruling.{Ruling}
 use Rattle.events.specs.declared.ruling.Ruling.TheVariants.{Obeyed}
@@ -30,6 +31,7 @@ use Rattle.sheets.specs.Part.{Numbered}
 use Rattle.tables.specs.Roster.{companies}
 use Rattle.tables.specs.Steps.{iterate}
 use Rattle.tables.specs.declared.roster.Company.{Company}
+use Rattle.turns.specs.Ruling.{judged}
 
 -- a game is its seats and its events
 made_of : (game : Game) (seats : ℕ) (events : List Event) → game.seats ≡ seats → game.events ≡ events
@@ -79,6 +81,15 @@ raised due by old recorded new line sale none is_recorded seats events =
     made_of new recorded.seats (after_sale recorded.seats recorded.events by.president sale.company sale.shares) seats
     events ∙ ap (λ (game : Game). with_sale by game sale) is_recorded
     ∙ ap (raise_ruled by old line sale) (sym none)
+
+-- one that breaks a rule is recorded, and sells nothing
+pub raise_refused : (due : Bool) (by : Operator) (old new : Game) (line : Numbered) (sale : Sale)
+    (broken : Option Refusal) → raise_rule due by old line.condition sale ≡ broken → is_none broken ≡ false
+    → new ≡ with_ruling by old line (judged line.condition (order.Raise sale.company sale.shares) broken)
+    → new ≡ after_raise due by old line sale
+raise_refused due by old new line sale None is none recorded = absurd cc
+raise_refused due by old new line sale (Some rule) is none recorded =
+    recorded ∙ ap (raise_ruled by old line sale) (sym is)
 
 -- a test of nothing
 pub nothing : {A : Type 0} (found : Option A) → is_none found ≡ true → found ≡ None

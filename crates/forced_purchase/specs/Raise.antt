@@ -2,8 +2,8 @@
 -- lines of its orders are used in order. A line is refused, whatever its condition, if no purchase
 -- is due, and once the president does not fall short. Then come its condition and the rules of a
 -- sale. No sale may move the presidency of the company.
-use Rattle.std.specs.Prelude.{ℕ, Bool, ◌&&◌, ◌||◌, if◌then◌else◌, List, [], ◌∷◌, Option, Some, option_map, Result, Ok}
-use Rattle.std.specs.Prelude.{codes}
+use Rattle.std.specs.Prelude.{Bool, true, false, ◌&&◌, if◌then◌else◌, List, [], ◌∷◌, Option, Some, option_map, Result, Ok}
+use Rattle.std.specs.List.{filter}
 use Rattle.certs.specs.Sale.{sale_judgement}
 use Rattle.certs.specs.SaleAct.{after_sale}
 use Rattle.certs.specs.declared.share_deal.Sale.{Sale}
@@ -17,7 +17,6 @@ use Rattle.history.specs.Conditions.{is_met}
 use Rattle.totals.specs.LookBack.{Game, with_event}
 use Rattle.forced_purchase.specs.Shortfall.{falls_short}
 use Rattle.forced_purchase.specs.declared.operator.Operator.{Operator}
-use Rattle.order_grammar.specs.Words.{first_of_words, same_word, words_of}
 use Rattle.order_grammar.specs.declared.condition.Condition.{Condition}
 use Rattle.order_grammar.specs.declared.fault.Fault.{Fault}
 use Rattle.order_grammar.specs.declared.order.Order.{Order}
@@ -66,11 +65,14 @@ after_raise_line due by game line (Ok (order.Raise company shares)) =
     after_raise due by game line (record { company = company; shares = shares })
 after_raise_line due by game line other = game
 
--- the first word of a line is one with which a RAISE begins: that word, or IF
-abbrev pub may_spell_raise : List ℕ → Bool
-may_spell_raise text =
-    same_word (first_of_words (words_of text)) (codes "RAISE")
-    || same_word (first_of_words (words_of text)) (codes "IF")
+-- a line with this reading is a RAISE
+abbrev pub is_raise : Result Order Fault → Bool
+is_raise (Ok (order.Raise company shares)) = true
+is_raise other = false
+
+-- the RAISE lines among some
+abbrev pub raises_in : List Numbered → List Numbered
+raises_in lines = filter (λ line. is_raise line.reading) lines
 
 -- after the RAISE lines of the company's orders, in order
 abbrev pub after_raises : Bool → Operator → Game → List Numbered → Game

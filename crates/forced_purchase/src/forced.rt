@@ -11,33 +11,32 @@ ghost use Rattle.forced_purchase.specs.Shortfall.{falls_short, lack_of};
 ghost use Rattle.purchases.specs.Train.{has_trains};
 
 use crate::operator::Operator;
-use crate::raise::{rule_raises, sale_rule};
+use crate::raise::{HeldRaise, rule_raises, sale_rule};
 use crate::shortfall::{cheapest, falls_short, lack};
 use certs::{Sale, sell_block};
 use history::{Event, History, at_least_zero};
 use purchases::buy_train;
-use sheets::PartsLeft;
 use std::alloc::{AllocError, Global};
 use tables::{Amount, Company};
 
 /// Buys the train that a company without one must buy, or makes its president bankrupt. The RAISE
-/// lines of its orders are ruled first. Fails only if allocation fails.
+/// lines of its orders, those that were held, are ruled first. Fails only if allocation fails.
 #[tactic(auto, unfolding(crate::specs::Forced::after_forced))]
 pub fn buy_by_force(
     alloc: Global,
     history: &mut History,
     by: Operator,
-    orders: &mut PartsLeft,
+    raises: Vec<HeldRaise>,
 ) -> Result<(), AllocError>
     requires few { history.old.seats ≤ 6 }
     requires at_table { by.president.0 < history.old.seats }
     requires none { has_trains history.old.events by.company ≡ false }
     requires sound { IsSound history.old }
-    ensures after { OnOk result (history.new ≡ after_forced by orders.old.before history.old) }
+    ensures after { OnOk result (history.new ≡ after_forced by raises.items history.old) }
     ensures sound { OnOk result (IsSound history.new) }
 {
     history.record_event(Event::Forced(by.company))?;
-    rule_raises(history, by, orders, true)?;
+    rule_raises(history, by, raises, true)?;
     sell_singly(history, by)?;
     conclude(alloc, history, by)?;
     Ok(())

@@ -1,24 +1,78 @@
 //! RAISE: the president of a company sells shares to pay for the train that it must buy.
 //!
-//! The RAISE lines of its orders are used in order. A line is refused, whatever its condition, if
-//! no purchase is due, and once the president does not fall short. Then come its condition and the
-//! rules of a sale. No sale may move the presidency of the company.
-ghost use Rattle.std.specs.Prelude.{◌≡◌, ◌≤◌, ◌<◌, Ok, OnOk};
+//! The RAISE lines of its orders are used in order, once the turn ends: each is held over to then
+//! as it is read. A line is refused, whatever its condition, if no purchase is due, and once the
+//! president does not fall short. Then come its condition and the rules of a sale. No sale may move
+//! the presidency of the company.
+ghost use Rattle.std.specs.Prelude.{◌≡◌, ◌≤◌, ◌<◌, ◌++◌, ◌∷◌, [], IfOk, OnOk, is_none};
 ghost use Rattle.std.specs.Option.{option_copied};
+ghost use Rattle.events.specs.declared.event.Event.TheVariants as event;
 ghost use Rattle.history.specs.Sound.{IsSound};
-ghost use Rattle.forced_purchase.specs.Raise.{after_raise, after_raise_line, after_raises, may_spell_raise};
-ghost use Rattle.forced_purchase.specs.Raise.{needed_rule, raise_rule, sale_rule};
-ghost use Rattle.order_grammar.specs.declared.order.Order.TheVariants.{Raise};
-ghost use Rattle.sheets.specs.Part.{line_unread, line_with};
+ghost use Rattle.forced_purchase.specs.Raise.{after_raise_line, after_raises, needed_rule, raise_rule, raises_in};
+ghost use Rattle.forced_purchase.specs.Raise.{sale_rule};
+ghost use Rattle.sheets.specs.Part.{line_with};
+ghost use Rattle.totals.specs.LookBack.{with_event};
+ghost use Rattle.turns.specs.Ruling.{judged};
 
 use crate::operator::Operator;
 use crate::shortfall::falls_short;
 use certs::{Sale, may_sell, sell_block};
-use history::{History, Refusal, StockRule};
-use order_grammar::{Condition, Order, begins_with_word};
-use sheets::{PartsLeft, ReadLine, UnreadLine};
+use history::{Event, History, PackedLine, PackedRuling, Refusal, StockRule};
+use order_grammar::{Condition, Order};
+use sheets::ReadLine;
 use std::alloc::AllocError;
-use turns::record;
+use std::marker::Model;
+use tables::Seat;
+
+/// A RAISE of a company's orders that is held over to the end of the turn, in few bytes.
+#[derive(Debug, Drop)]
+pub struct HeldRaise {
+    line: ReadLine,
+    sale: Sale,
+    /// The order with its condition, as its ruling will keep it.
+    order: PackedLine,
+}
+
+/// In a contract it is its line.
+impl Model for HeldRaise {
+    ghost use Rattle.std.specs.Prelude.{◌≡◌};
+    ghost use Rattle.order_grammar.specs.Condition.{ordered};
+    ghost use Rattle.order_grammar.specs.declared.order.Order.TheVariants.{Raise};
+    ghost use Rattle.sheets.specs.Part.{Numbered, line_with};
+
+    ghost Value = { Numbered };
+
+    ghost view = { λ held. line_with held.line (Raise held.sale.company held.sale.shares) };
+
+    ghost invariant = { λ held. held.order
+        ≡ ordered held.line.condition (Raise held.sale.company held.sale.shares) };
+}
+
+/// Holds the order of this line over to the end of the turn if it is a RAISE: adds it to those that
+/// are held. Fails only if allocation fails.
+pub fn hold_if_raise(
+    raises: &mut Vec<HeldRaise>,
+    history: &History,
+    line: ReadLine,
+    order: &Order,
+) -> Result<(), AllocError>
+    ensures { OnOk result (raises.new.items
+        ≡ raises.old.items ++ raises_in (line_with line order.now ∷ [])) }
+{
+    match order {
+        Order::Raise { company, shares } => {
+            let (company, shares) = (*company, *shares);
+            let packed = history.pack(line.condition.as_ref(), order)?;
+            raises.push(HeldRaise {
+                line,
+                sale: Sale { company, shares },
+                order: packed,
+            })?;
+            Ok(())
+        }
+        _ => Ok(()),
+    }
+}
 
 /// Returns the first rule that a RAISE under this condition breaks, given whether a purchase is
 /// due. One that is not needed is refused whatever its condition.
@@ -68,12 +122,12 @@ pub(crate) fn sale_rule(history: &History, by: Operator, sale: Sale) -> Option<S
     }
 }
 
-/// Rules the RAISE lines of a company's orders, given whether a purchase is due. Fails only if
-/// allocation fails.
+/// Rules the RAISE lines of a company's orders, those that were held, given whether a purchase is
+/// due. Fails only if allocation fails.
 pub fn rule_raises(
     history: &mut History,
     by: Operator,
-    orders: &mut PartsLeft,
+    raises: Vec<HeldRaise>,
     due: bool,
 ) -> Result<(), AllocError>
     requires few { history.old.seats ≤ 6 }
@@ -81,96 +135,60 @@ pub fn rule_raises(
     requires sound { IsSound history.old }
     ensures seats { OnOk result (history.new.seats ≡ history.old.seats) }
     ensures after { OnOk result (history.new
-        ≡ after_raises due by history.old orders.old.before) }
+        ≡ after_raises due by history.old raises.items) }
     ensures sound { OnOk result (IsSound history.new) }
 {
-    while let Some(line) = orders.take_line() {
-        rule_if_raise(history, by, line, due)?;
+    let mut left = raises.into_iter();
+    while let Some(held) = left.next() {
+        rule_raise(history, by, held, due)?;
     }
     Ok(())
 }
 
-/// Rules a line of a company's orders if it is a RAISE. It is read only if its first word may begin
-/// one.
-fn rule_if_raise(
-    history: &mut History,
-    by: Operator,
-    line: UnreadLine,
-    due: bool,
-) -> Result<(), AllocError>
-    requires few { history.old.seats ≤ 6 }
-    requires at_table { by.president.0 < history.old.seats }
-    requires sound { IsSound history.old }
-    ensures seats { OnOk result (history.new.seats ≡ history.old.seats) }
-    ensures after { OnOk result (history.new ≡ after_raise_line due by history.old
-        (line_unread line.entry) (line_unread line.entry).reading) }
-    ensures sound { OnOk result (IsSound history.new) }
-{
-    order_grammar::laws::read_in_version_where_spelt();
-    if !may_be_raise(line.text) {
-        return Ok(());
-    }
-    let mut order = Order::Blank;
-    match line.read_into(&mut order) {
-        Ok(read) => rule_order_if_raise(history, by, read, &order, due),
-        Err(_) => Ok(()),
-    }
-}
-
-/// Returns whether the first word of a line is one with which a RAISE begins: that word, or IF.
-fn may_be_raise(line: &[u8]) -> bool
-    ensures { result ≡ may_spell_raise line.now }
-{
-    begins_with_word(line, b"RAISE") || begins_with_word(line, b"IF")
-}
-
-/// Rules the order of this line if it is a RAISE.
-fn rule_order_if_raise(
-    history: &mut History,
-    by: Operator,
-    line: ReadLine,
-    order: &Order,
-    due: bool,
-) -> Result<(), AllocError>
-    requires few { history.old.seats ≤ 6 }
-    requires at_table { by.president.0 < history.old.seats }
-    requires sound { IsSound history.old }
-    ensures seats { OnOk result (history.new.seats ≡ history.old.seats) }
-    ensures after { OnOk result (history.new ≡ after_raise_line due by history.old
-        (line_with line order.now) (Ok order.now)) }
-    ensures sound { OnOk result (IsSound history.new) }
-{
-    match order {
-        Order::Raise { company, shares } => {
-            let (company, shares) = (*company, *shares);
-            rule_raise(history, by, line, order, Sale { company, shares }, due)?;
-            Ok(())
-        }
-        _ => Ok(()),
-    }
-}
-
-/// Rules a RAISE in this line, and sells if it is obeyed.
+/// Rules a RAISE that was held, and sells if it is obeyed.
 fn rule_raise(
     history: &mut History,
     by: Operator,
-    line: ReadLine,
-    order: &Order,
-    sale: Sale,
+    held: HeldRaise,
     due: bool,
 ) -> Result<(), AllocError>
-    requires is { order.now ≡ Raise sale.company sale.shares }
     requires few { history.old.seats ≤ 6 }
     requires at_table { by.president.0 < history.old.seats }
     requires sound { IsSound history.old }
     ensures seats { OnOk result (history.new.seats ≡ history.old.seats) }
     ensures after { OnOk result (history.new
-        ≡ after_raise due by history.old (line_with line (Raise sale.company sale.shares)) sale) }
+        ≡ after_raise_line due by history.old held held.reading) }
     ensures sound { OnOk result (IsSound history.new) }
 {
+    let HeldRaise { line, sale, order } = held;
     let broken = raise_rule(history, by, line.condition.as_ref(), sale, due);
-    if record(history, by.president, line, order, broken)? {
+    if record_packed(history, by.president, line.number, order, broken)? {
         sell_block(history, by.president, sale)?;
     }
     Ok(())
+}
+
+/// Records what becomes of the packed order of the line with this number: it breaks this rule
+/// first, or none. Returns whether it is obeyed. Fails only if allocation fails.
+fn record_packed(
+    history: &mut History,
+    seat: Seat,
+    line: u32,
+    order: PackedLine,
+    broken: Option<Refusal>,
+) -> Result<bool, AllocError>
+    requires { IsSound history.old }
+    ensures ruling { OnOk result (history.new
+        ≡ with_event history.old (event.Ruled seat line
+        (judged order.condition order.order broken))) }
+    ensures obeyed { IfOk result (λ obeyed. obeyed ≡ is_none broken) }
+    ensures sound { OnOk result (IsSound history.new) }
+{
+    let obeyed = broken.is_none();
+    let ruling = match broken {
+        Some(rule) => PackedRuling::refused(rule, order),
+        None => PackedRuling::obeyed(order),
+    };
+    history.record_event(Event::Ruled { seat, line, ruling })?;
+    Ok(obeyed)
 }

@@ -18,6 +18,7 @@ pub mod TurnCalled
 pub mod OneCourse
 mod OneTurnCalled
 pub mod CompanyOrders
+pub mod HeldRaises
 pub mod TurnEvents
 pub mod TurnSteps
 pub mod TurnGames

@@ -1,7 +1,9 @@
 -- A company's turn that has begun, as its own record says it and as the game does.
 use Rattle.std.proofs.Common.{◌≡◌, ℕ, List, Option, Some, Result, subst, ap, ◌∙◌}
+use Rattle.forced_purchase.specs.Raise.{raises_in}
 use Rattle.forced_purchase.specs.declared.operator.Operator.{Operator}
 use Rattle.legal_runs.specs.declared.runner.RunnerFault.{RunnerFault}
+use Rattle.operating.proofs.HeldRaises.{ends_alone}
 use Rattle.operating.proofs.TurnCalled.{of_begun}
 use Rattle.operating.specs.Calls.{Earns, Makes}
 use Rattle.operating.specs.CompanyTurn.{state}
@@ -86,14 +88,16 @@ module _
         (subst (λ (by : Operator). Makes earns before (OrdersCall by turn.round lines (state turn) outcome) after)
         begun.is_by made))))
 
--- what ends a turn is what ends it once the company has paid or withheld
+-- what ends a turn, with the RAISE lines of its orders, is what ends it once the company has paid
+-- or withheld
 pub ended :
     (by : Operator) (ruled paid : CompanyTurn) (raises lines : List Numbered) (new : Game) → ruled.by ≡ by
-    → paid.by ≡ ruled.by → raises ≡ lines → state paid ≡ withheld_if_unpaid ruled.by.company (state ruled)
+    → paid.by ≡ ruled.by → raises ≡ raises_in lines → state paid ≡ withheld_if_unpaid ruled.by.company (state ruled)
     → EndLeads paid.by raises paid.history new
     → EndLeads by lines (withheld_if_unpaid by.company (state ruled)).game new
 ended by ruled paid raises lines new same stays are is leads =
     subst (λ (o : Operator). EndLeads by lines (withheld_if_unpaid o.company (state ruled)).game new) same
     (subst (λ (game : Game). EndLeads by lines game new) (ap (λ (turn : TurnState). turn.game) is)
+    (ends_alone by lines paid.history new
     (subst (λ (l : List Numbered). EndLeads by l paid.history new) are
-    (subst (λ (o : Operator). EndLeads o raises paid.history new) (stays ∙ same) leads)))
+    (subst (λ (o : Operator). EndLeads o raises paid.history new) (stays ∙ same) leads))))

@@ -1,9 +1,10 @@
 //! The orders that a president has for a company, ruled line by line. First comes a line's own
 //! fault, then its place, then its condition, and then the rules of its order.
-ghost use Rattle.std.specs.Prelude.{◌≡◌, ◌≢◌, ◌≤◌, IfErr, OnOk, true};
+ghost use Rattle.std.specs.Prelude.{◌≡◌, ◌≢◌, ◌≤◌, ◌++◌, ◌∷◌, [], IfErr, OnOk, true};
 ghost use Rattle.std.specs.Option.{option_copied};
 ghost use Rattle.legal_runs.specs.declared.runner.RunnerFault.TheVariants.{Refused};
 ghost use Rattle.events.specs.declared.ruling.Ruling.TheVariants.{Faulty};
+ghost use Rattle.forced_purchase.specs.Raise.{raises_in};
 ghost use Rattle.operating.specs.Calls.{Makes};
 ghost use Rattle.operating.specs.CompanyOrders.{AskedLeads, LineLeads, LinesLead, OrderLeads};
 ghost use Rattle.operating.specs.CompanyOrders.{is_held, is_ruled_there};
@@ -15,6 +16,7 @@ ghost use Rattle.sheets.specs.Part.{faulty_line, line_unread, line_with};
 ghost use Rattle.turns.specs.Small.{AreSmall, IsSmallOrder, IsSmallReading};
 
 use crate::company_turn::CompanyTurn;
+use forced_purchase::{HeldRaise, hold_if_raise};
 use history::{History, Refusal};
 use legal_runs::{Runner, RunnerFault};
 use order_grammar::{Condition, Fault, Order};
@@ -23,10 +25,11 @@ use std::alloc::AllocError;
 use turns::{record, record_fault};
 
 impl CompanyTurn {
-    /// Rules the lines of the company's orders.
+    /// Rules the lines of the company's orders, and adds the RAISE lines among them to `raises`.
     pub(crate) fn rule_lines<R: Runner>(
         &mut self,
         orders: &mut PartsLeft,
+        raises: &mut Vec<HeldRaise>,
         runner: &mut R,
     ) -> Result<(), RunnerFault>
         requires few { self.old.history.seats ≤ 6 }
@@ -39,21 +42,24 @@ impl CompanyTurn {
         ensures by { OnOk result (self.new.by ≡ self.old.by) }
         ensures seats { OnOk result (self.new.history.seats ≡ self.old.history.seats) }
         ensures order { OnOk result (IsInOrder self.new) }
+        ensures raises { OnOk result (raises.new.items
+            ≡ raises.old.items ++ raises_in orders.old.before) }
         ensures refuses { IfErr result (λ fault. fault ≡ Refused → R.may_refuse ≡ true) }
     {
         let mut order = Order::Blank;
         while let Some(line) = orders.take_line() {
-            self.rule_line(line, &mut order, runner)?;
+            self.rule_line(line, &mut order, raises, runner)?;
         }
         Ok(())
     }
 
-    /// Rules a line of the company's orders, and does what it orders if it is obeyed. Overwrites
-    /// `order`.
+    /// Rules a line of the company's orders, and does what it orders if it is obeyed. Adds it to
+    /// `raises` if it is a RAISE. Overwrites `order`.
     fn rule_line<R: Runner>(
         &mut self,
         line: UnreadLine,
         order: &mut Order,
+        raises: &mut Vec<HeldRaise>,
         runner: &mut R,
     ) -> Result<(), RunnerFault>
         requires few { self.old.history.seats ≤ 6 }
@@ -64,10 +70,15 @@ impl CompanyTurn {
         ensures calls { Makes R.earns runner.old (LineCalls self.old.by self.old.round
             (line_unread line.entry) (state self.old) (led_to (state self.new) result)) runner.new }
         ensures order { OnOk result (GoesOn self.old self.new) }
+        ensures raises { OnOk result (raises.new.items
+            ≡ raises.old.items ++ raises_in (line_unread line.entry ∷ [])) }
         ensures refuses { IfErr result (λ fault. fault ≡ Refused → R.may_refuse ≡ true) }
     {
         match line.read_into(order) {
-            Ok(read) => self.rule_asked(read, order, runner),
+            Ok(read) => {
+                hold_if_raise(raises, &self.history, read, order)?;
+                self.rule_asked(read, order, runner)
+            }
             Err(fault) => Ok(self.rule_faulty(line.number, fault)?),
         }
     }

@@ -110,10 +110,10 @@ impl CompanyTurn {
         ensures refuses { IfErr result (λ fault. fault ≡ Refused → R.may_refuse ≡ true) }
     {
         let mut lines = orders.duplicate();
-        self.rule_lines(&mut lines, runner)?;
+        let mut raises = Vec::new(self.alloc);
+        self.rule_lines(&mut lines, &mut raises, runner)?;
         self.withhold_if_unpaid()?;
-        let mut raises = orders.duplicate();
-        self.end(&mut raises)?;
+        self.end(raises)?;
         Ok(())
     }
 }

@@ -8,32 +8,31 @@ ghost use Rattle.operating.specs.TurnEnd.{EndLeads, IsDue};
 use crate::company_turn::CompanyTurn;
 use crate::map_state::update_map_state;
 use board::Board;
-use forced_purchase::{buy_by_force, rule_raises};
+use forced_purchase::{HeldRaise, buy_by_force, rule_raises};
 use history::History;
 use legal_runs::can_run;
 use purchases::has_trains;
-use sheets::PartsLeft;
 use std::alloc::AllocError;
 use tables::Company;
 
 impl CompanyTurn {
     /// Ends the turn once the company has paid or withheld: it buys a train if it must, and the
-    /// RAISE lines of its orders are ruled. Fails only if allocation fails.
-    pub(crate) fn end(&mut self, orders: &mut PartsLeft) -> Result<(), AllocError>
+    /// RAISE lines of its orders, those that were held, are ruled. Fails only if allocation fails.
+    pub(crate) fn end(&mut self, raises: Vec<HeldRaise>) -> Result<(), AllocError>
         requires few { self.old.history.seats ≤ 6 }
         requires at_table { self.old.by.president.0 < self.old.history.seats }
         requires order { IsInOrder self.old }
-        ensures turn { OnOk result (EndLeads self.old.by orders.old.before self.old.history
+        ensures turn { OnOk result (EndLeads self.old.by raises.items self.old.history
             self.new.history) }
         ensures sound { OnOk result (IsSound self.new.history) }
         ensures prefix { OnOk result (IsPrefix self.new.board.value self.old.history.events) }
     {
         let due = is_due(&mut *self.board, &self.history, self.by.company)?;
         if due {
-            buy_by_force(self.alloc, &mut self.history, self.by, orders)?;
+            buy_by_force(self.alloc, &mut self.history, self.by, raises)?;
             return Ok(());
         }
-        rule_raises(&mut self.history, self.by, orders, false)?;
+        rule_raises(&mut self.history, self.by, raises, false)?;
         Ok(())
     }
 }

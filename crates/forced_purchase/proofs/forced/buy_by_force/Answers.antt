@@ -30,12 +30,12 @@ conclude-requires-clause-at_table c =
 
 pub conclude-requires-clause-none : goal.conclude-requires-clause-none
 conclude-requires-clause-none c =
-    still_none c.args.by c.args.orders.now.before c.args.history.now c.record_event.new.self c.rule_raises.new.history
+    still_none c.args.by c.args.raises.items c.args.history.now c.record_event.new.self c.rule_raises.new.history
     c.sell_singly.new.history c.in_ok-record_event.ensures.ok c.in_ok-rule_raises.ensures.after
     c.in_ok-sell_singly.ensures.after c.requires.none
 
 pub returns-clause-after : goal.returns-clause-after
 returns-clause-after c =
-    forced_then c.args.by c.args.orders.now.before c.args.history.now c.record_event.new.self c.rule_raises.new.history
+    forced_then c.args.by c.args.raises.items c.args.history.now c.record_event.new.self c.rule_raises.new.history
     c.sell_singly.new.history c.conclude.new.history c.in_ok-record_event.ensures.ok
     c.in_ok-rule_raises.ensures.after c.in_ok-sell_singly.ensures.after c.in_ok-conclude.ensures.after

@@ -1,31 +1,31 @@
 -- A RAISE that breaks no rule sells what it says.
-use Rattle.std.proofs.Common.{◌≡◌, ◌≤◌, ◌<◌, true, Option, Some, is_none, refl, ap, sym, subst, ◌∙◌}
+use Rattle.std.proofs.Common.{◌≡◌, ◌≤◌, ◌<◌, true, false, Option, Some, is_none, refl, ap, sym, subst, ◌∙◌}
 use Rattle.certs.proofs.SaleAllowed.{may_sell_after}
 use Rattle.events.specs.declared.event.Event.TheVariants as event
 use Rattle.totals.specs.LookBack.{Game}
 use Rattle.order_grammar.specs.declared.condition.Condition.{Condition}
 use Rattle.order_grammar.specs.declared.order.Order.TheVariants.{Raise}
-use Rattle.forced_purchase.proofs.Steps.{nothing, raise_obeyed, raised}
+use Rattle.forced_purchase.proofs.Steps.{nothing, raise_obeyed, raise_refused, raised}
 use Rattle.purchases.proofs.Recorded.{recorded_obeyed}
-use Rattle.forced_purchase.specs.Raise.{raise_rule}
-use Rattle.sheets.specs.Part.{line_with}
+use Rattle.forced_purchase.specs.Raise.{after_raise_line, raise_rule}
+use Rattle.sheets.specs.Part.{Numbered, line_with}
 use Rattle.forced_purchase.proofs.raise.rule_raise.Goals as goal
 
 pub sell_block-requires-clause-few : goal.sell_block-requires-clause-few
-sell_block-requires-clause-few c = subst (λ (game : Game). game.seats ≤ 6) (sym c.in_ok-record.ensures.ruling)
-    c.requires.few
+sell_block-requires-clause-few c = subst (λ (game : Game). game.seats ≤ 6)
+    (sym c.in_ok-record_packed.ensures.ruling) c.requires.few
 
 pub sell_block-requires-clause-at_table : goal.sell_block-requires-clause-at_table
 sell_block-requires-clause-at_table c = subst (λ (game : Game). c.args.by.president.0 < game.seats)
-    (sym c.in_ok-record.ensures.ruling) c.requires.at_table
+    (sym c.in_ok-record_packed.ensures.ruling) c.requires.at_table
 
 pub sell_block-requires-clause-may : goal.sell_block-requires-clause-may
 sell_block-requires-clause-may c =
-    let none : is_none c.raise_rule-broken.result ≡ true = sym c.in_ok-record.ensures.obeyed ∙ c.if-branch.true in
-    may_sell_after c.args.history.now c.record.new.history
-    (event.Ruled c.args.by.president (line_with c.args.line (Raise c.args.sale.company c.args.sale.shares)).number
-    _) c.args.by.president c.args.sale (Some c.args.by.company)
-    (rw c.requires.is at c.in_ok-record.ensures.ruling)
+    let its = c.held.inside in
+    let none : is_none c.raise_rule-broken.result ≡ true = sym c.in_ok-record_packed.ensures.obeyed ∙ c.if-branch.true in
+    may_sell_after c.args.history.now c.record_packed.new.history
+    (event.Ruled c.args.by.president its.line.number _) c.args.by.president its.sale (Some c.args.by.company)
+    c.in_ok-record_packed.ensures.ruling
     (record {
       payment = refl;
       ownership = refl;
@@ -41,23 +41,38 @@ sell_block-requires-clause-may c =
       tile = refl;
       token = refl;
     })
-    (raise_obeyed c.args.due c.args.by c.args.history.now
-    (line_with c.args.line (Raise c.args.sale.company c.args.sale.shares)).condition c.args.sale
-    (ap (λ (its : Option Condition). raise_rule c.args.due c.args.by c.args.history.now its c.args.sale)
+    (raise_obeyed c.args.due c.args.by c.args.history.now its.line.condition its.sale
+    (ap (λ (under : Option Condition). raise_rule c.args.due c.args.by c.args.history.now under its.sale)
     (sym c.as_ref.ensures.value) ∙ sym c.raise_rule-broken.ensures ∙ nothing c.raise_rule-broken.result none))
 
 pub returns-in_ok-sell_block-clause-seats : goal.returns-in_ok-sell_block-clause-seats
 returns-in_ok-sell_block-clause-seats c = c.in_ok-sell_block.ensures.seats
-    ∙ ap (λ (game : Game). game.seats) c.in_ok-record.ensures.ruling
+    ∙ ap (λ (game : Game). game.seats) c.in_ok-record_packed.ensures.ruling
 
 pub returns-in_ok-sell_block-clause-after : goal.returns-in_ok-sell_block-clause-after
 returns-in_ok-sell_block-clause-after c =
-    let none : is_none c.raise_rule-broken.result ≡ true = sym c.in_ok-record.ensures.obeyed ∙ c.if-branch.true in
-    raised c.args.due c.args.by c.args.history.now c.record.new.history c.sell_block.new.history
-    (line_with c.args.line (Raise c.args.sale.company c.args.sale.shares)) c.args.sale
-    (ap (λ (its : Option Condition). raise_rule c.args.due c.args.by c.args.history.now its c.args.sale)
+    let its = c.held.inside in
+    let line = line_with its.line (Raise its.sale.company its.sale.shares) in
+    let none : is_none c.raise_rule-broken.result ≡ true = sym c.in_ok-record_packed.ensures.obeyed ∙ c.if-branch.true in
+    subst (λ (held : Numbered). c.sell_block.new.history
+    ≡ after_raise_line c.args.due c.args.by c.args.history.now held held.reading) c.held.view_is
+    (raised c.args.due c.args.by c.args.history.now c.record_packed.new.history c.sell_block.new.history line its.sale
+    (ap (λ (under : Option Condition). raise_rule c.args.due c.args.by c.args.history.now under its.sale)
     (sym c.as_ref.ensures.value) ∙ sym c.raise_rule-broken.ensures ∙ nothing c.raise_rule-broken.result none)
-    (recorded_obeyed c.args.history.now c.record.new.history c.args.by.president
-    (line_with c.args.line (Raise c.args.sale.company c.args.sale.shares))
-    (Raise c.args.sale.company c.args.sale.shares) c.raise_rule-broken.result (rw c.requires.is at c.in_ok-record.ensures.ruling) none)
-    c.in_ok-sell_block.ensures.seats c.in_ok-sell_block.ensures.events
+    (recorded_obeyed c.args.history.now c.record_packed.new.history c.args.by.president line
+    (Raise its.sale.company its.sale.shares) c.raise_rule-broken.result
+    (rw c.held.invariant at c.in_ok-record_packed.ensures.ruling) none)
+    c.in_ok-sell_block.ensures.seats c.in_ok-sell_block.ensures.events)
+
+pub returns-else-branch-clause-after : goal.returns-else-branch-clause-after
+returns-else-branch-clause-after c =
+    let its = c.held.inside in
+    let line = line_with its.line (Raise its.sale.company its.sale.shares) in
+    let some : is_none c.raise_rule-broken.result ≡ false = sym c.in_ok-record_packed.ensures.obeyed ∙ c.if-branch.false in
+    subst (λ (held : Numbered). c.record_packed.new.history
+    ≡ after_raise_line c.args.due c.args.by c.args.history.now held held.reading) c.held.view_is
+    (raise_refused c.args.due c.args.by c.args.history.now c.record_packed.new.history line its.sale
+    c.raise_rule-broken.result
+    (ap (λ (under : Option Condition). raise_rule c.args.due c.args.by c.args.history.now under its.sale)
+    (sym c.as_ref.ensures.value) ∙ sym c.raise_rule-broken.ensures) some
+    (rw c.held.invariant at c.in_ok-record_packed.ensures.ruling))

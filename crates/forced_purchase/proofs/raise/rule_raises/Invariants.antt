@@ -1,15 +1,18 @@
 -- What the lines that are left bring from here, all bring from the start.
 use Rattle.std.proofs.Common.{◌≡◌, length}
+use Rattle.std.specs.Vec.Iter.{into_iter_items, into_iter_len}
 use Rattle.history.specs.Sound.{IsSound}
 use Rattle.forced_purchase.specs.Raise.{after_raises}
 use Rattle.forced_purchase.proofs.raise.rule_raises.Given as goal
 
-abbrev pub invariant-loop-line : goal.invariant-loop-line
-invariant-loop-line l = record {
+abbrev pub invariant-loop-held : goal.invariant-loop-held
+invariant-loop-held l = record {
   seats : l.history.seats ≡ l.fn.history.seats;
-  after : after_raises l.due l.by l.history l.orders.before ≡ after_raises l.due l.by l.fn.history l.fn.orders.before;
+  after : after_raises l.due l.by l.history (into_iter_items l.left)
+      ≡ after_raises l.due l.by l.fn.history l.fn.raises.items;
   sound : IsSound l.history;
+  len : into_iter_len l.left ≡ length (into_iter_items l.left);
 }
 
-abbrev pub decreases-loop-line : goal.decreases-loop-line
-decreases-loop-line l = length l.orders.before
+abbrev pub decreases-loop-held : goal.decreases-loop-held
+decreases-loop-held l = into_iter_len l.left

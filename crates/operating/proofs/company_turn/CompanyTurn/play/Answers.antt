@@ -1,9 +1,10 @@
 -- The orders of a company lead where their lines do, then what it withholds by itself, and the end
 -- of its turn.
-use Rattle.std.proofs.Common.{◌≡◌, ℕ, ◌≤◌, ◌<◌, Ok, Err, Result, refl, ap, sym, subst, ◌∙◌}
+use Rattle.std.proofs.Common.{◌≡◌, ℕ, ◌≤◌, ◌<◌, List, ◌++◌, Ok, Err, Result, refl, ap, sym, subst, ◌∙◌}
 use Rattle.std.proofs.lemmas.Result.{err_from_is_err_and}
 use Rattle.legal_runs.specs.declared.runner.RunnerFault.{RunnerFault}
 use Rattle.legal_runs.specs.declared.runner.RunnerFault.TheVariants.{Memory}
+use Rattle.forced_purchase.specs.Raise.{raises_in}
 use Rattle.forced_purchase.specs.declared.operator.Operator.{Operator}
 use Rattle.operating.proofs.PayLemmas.{withheld_seats}
 use Rattle.operating.proofs.PrefixStays.{end_prefix}
@@ -15,7 +16,7 @@ use Rattle.operating.specs.CompanyOrders.{LinesLead}
 use Rattle.operating.specs.CompanyTurn.{state}
 use Rattle.operating.specs.TurnCalls.{OrdersCall, led_to}
 use Rattle.operating.specs.TurnState.{TurnState}
-use Rattle.sheets.specs.Part.{Parts}
+use Rattle.sheets.specs.Part.{Numbered, Parts}
 use Rattle.turns.specs.Small.{AreSmall}
 use Rattle.operating.proofs.company_turn.CompanyTurn.play.Goals as goal
 
@@ -50,10 +51,12 @@ returns-clause-turn g c =
       state ruled,
       subst (λ (parts : Parts). LinesLead old.by (state old) parts.before (state ruled)) c.duplicate-lines.ensures
           c.in_ok-rule_lines.ensures.turn,
-      ended old.by ruled c.withhold_if_unpaid.new.self c.duplicate-raises.result.before c.args.orders.now.before
+      ended old.by ruled c.withhold_if_unpaid.new.self c.rule_lines.new.raises.items c.args.orders.now.before
           c.end.new.self.history c.in_ok-rule_lines.ensures.by c.in_ok-withhold_if_unpaid.ensures.order.by
-          (ap (λ (parts : Parts). parts.before) c.duplicate-raises.ensures) c.in_ok-withhold_if_unpaid.ensures.turn
-          c.in_ok-end.ensures.turn,
+          (c.in_ok-rule_lines.ensures.raises
+          ∙ ap (λ (items : List Numbered). items ++ raises_in c.duplicate-lines.result.before) c.new-raises.ensures.items
+          ∙ ap (λ (parts : Parts). raises_in parts.before) c.duplicate-lines.ensures)
+          c.in_ok-withhold_if_unpaid.ensures.turn c.in_ok-end.ensures.turn,
     )
 
 pub returns-clause-calls : goal.returns-clause-calls
@@ -67,7 +70,7 @@ returns-clause-calls g c =
 
 pub returns-clause-prefix : goal.returns-clause-prefix
 returns-clause-prefix g c =
-    end_prefix c.withhold_if_unpaid.new.self.by c.duplicate-raises.result.before c.end.new.self.board.value
+    end_prefix c.withhold_if_unpaid.new.self.by c.rule_lines.new.raises.items c.end.new.self.board.value
     c.withhold_if_unpaid.new.self.history c.end.new.self.history c.in_ok-end.ensures.turn c.in_ok-end.ensures.prefix
 
 pub returns-in_err-withhold_if_unpaid-clause-calls : goal.returns-in_err-withhold_if_unpaid-clause-calls

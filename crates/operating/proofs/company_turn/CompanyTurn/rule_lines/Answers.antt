@@ -1,6 +1,7 @@
 use Rattle.std.proofs.Common.{◌≡◌, List, Ok, Err, Result, ap, sym, subst, ◌∙◌}
 use Rattle.std.proofs.lemmas.Result.{err_from_is_err_and}
 use Rattle.legal_runs.specs.declared.runner.RunnerFault.{RunnerFault}
+use Rattle.operating.proofs.HeldRaises.{held_all, held_on}
 use Rattle.operating.proofs.StaysInOrder.{after_line}
 use Rattle.operating.proofs.TurnCalled.{line_calls_end, line_calls_on, no_line_calls}
 use Rattle.operating.proofs.TurnLaws.{line_seats}
@@ -40,6 +41,8 @@ loop-line-preserved g c =
       round = on.round ∙ before.round;
       small = (subst AreSmall are before.small).1;
       order = after_line old new line line.reading c.in_ok-rule_line.ensures.turn on;
+      raises = held_on _ c.loop-line.raises.items c.rule_line.new.raises.items line _ _ are
+          c.in_ok-rule_line.ensures.raises before.raises;
     }
 
 pub rule_line-requires-clause-small : goal.rule_line-requires-clause-small
@@ -71,3 +74,6 @@ pub returns-clause-calls : goal.returns-clause-calls
 returns-clause-calls g c =
     c.loop-line.invariant.calls _ _ (no_line_calls g.R.Runner.earns c.args.self.now.by c.args.self.now.round _ _ _
     c.in_default.ensures.0)
+
+pub returns-clause-raises : goal.returns-clause-raises
+returns-clause-raises g c = held_all _ c.loop-line.raises.items _ c.in_default.ensures.0 c.loop-line.invariant.raises

@@ -1,4 +1,5 @@
-use Rattle.std.proofs.Common.{◌≡◌, length, Result}
+use Rattle.std.proofs.Common.{◌≡◌, ◌++◌, length, Result}
+use Rattle.forced_purchase.specs.Raise.{raises_in}
 use Rattle.legal_runs.specs.declared.runner.RunnerFault.{RunnerFault}
 use Rattle.operating.specs.Calls.{Makes}
 use Rattle.operating.specs.CompanyOrders.{LinesLead}
@@ -9,7 +10,7 @@ use Rattle.turns.specs.Small.{AreSmall}
 use Rattle.operating.proofs.company_turn.CompanyTurn.rule_lines.Given as goal
 
 -- where the lines that are left lead from here, all lead from the start; with the calls of those
--- the calls of these are all
+-- the calls of these are all, and with the RAISE lines among those these are all that are held
 abbrev pub invariant-loop-line : goal.invariant-loop-line
 invariant-loop-line g l = record {
   seats : l.self.history.seats ≡ l.fn.self.history.seats;
@@ -23,6 +24,7 @@ invariant-loop-line g l = record {
   round : l.self.round ≡ l.fn.self.round;
   small : AreSmall l.orders.before;
   order : IsInOrder l.self;
+  raises : l.raises.items ++ raises_in l.orders.before ≡ l.fn.raises.items ++ raises_in l.fn.orders.before;
 }
 
 abbrev pub decreases-loop-line : goal.decreases-loop-line
