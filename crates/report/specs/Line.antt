@@ -1,6 +1,6 @@
 -- An event as a line of the report: its words, separated by single spaces, and its LF.
-use Rattle.std.specs.Prelude.{ℕ, Bool, if◌then◌else◌, List, [], ◌∷◌, ◌++◌, Option, Some, None, map, codes, decimal}
-use Rattle.std.specs.Prelude.{unwrap_or, slice_get, ⊤}
+use Rattle.std.specs.Prelude.{ℕ, Bool, if◌then◌else◌, List, [], ◌∷◌, ◌++◌, Option, Some, None, codes, decimal}
+use Rattle.std.specs.Prelude.{unwrap_or, slice_get}
 use Rattle.events.specs.RuleCodes.{code_of_refusal}
 use Rattle.events.specs.RulingText.{order_text}
 use Rattle.events.specs.declared.event.Event.{Event}
@@ -21,9 +21,6 @@ use Rattle.order_grammar.specs.Fault.{code_of}
 use Rattle.order_grammar.specs.Order.{text_of_source}
 use Rattle.order_grammar.specs.declared.order.ShareSource.{ShareSource}
 use Rattle.order_grammar.specs.Print.{conditional_spelling, spaced, text_of_round}
-use Rattle.report.specs.declared.line.Field.{Field}
-use Rattle.report.specs.declared.line.Field.TheVariants.{Word, Name, Holds, Number, ShareCount, Source, On, Tile, In}
-use Rattle.report.specs.declared.line.Field.TheVariants.{Turned, At, OfRound, OrderOf}
 use Rattle.sheets.specs.File.{players_of}
 use Rattle.tables.specs.Chart.{price_of}
 use Rattle.tables.specs.Roster.{code_of_company, code_of_private}
@@ -150,95 +147,3 @@ event_line file (Aid seat company amount) =
     line_of (codes "AID") (name_of file seat ∷ code_of_company company ∷ decimal amount ∷ [])
 event_line file (Bankrupt seat) = line_of (codes "BANKRUPT") (name_of file seat ∷ [])
 event_line file Broken = line_of (codes "BROKEN") []
-
--- the event is of a private: its sale, a bid on it, its revenue, its closing, its purchase by a
--- company, or the price of SV
-abbrev pub IsOfPrivate : Event → Type 0
-IsOfPrivate (Sold private seat price) = ⊤
-IsOfPrivate (Bids private seat amount) = ⊤
-IsOfPrivate (Price price) = ⊤
-IsOfPrivate (Revenue private owner amount) = ⊤
-IsOfPrivate (Closed private) = ⊤
-IsOfPrivate (PrivateBought private company seller price) = ⊤
-IsOfPrivate other = ⊥
-
--- the event is of shares: they are given, bought or sold, or one is exchanged for MH
-abbrev pub IsOfShares : Event → Type 0
-IsOfShares (Given company seat shares) = ⊤
-IsOfShares (Bought company seat shares from price) = ⊤
-IsOfShares (Sells company seat shares price) = ⊤
-IsOfShares (Exchanged seat from) = ⊤
-IsOfShares other = ⊥
-
--- the event is of a company: its par value, its president, its float, or where its token moves
-abbrev pub IsOfCompany : Event → Type 0
-IsOfCompany (Par company price) = ⊤
-IsOfCompany (President company seat) = ⊤
-IsOfCompany (Floats company amount) = ⊤
-IsOfCompany (Moves company square) = ⊤
-IsOfCompany other = ⊥
-
--- the event is of a company's turn: its home, a tile, a token, a run, a dividend, or what it
--- withholds
-abbrev pub IsOfTurn : Event → Type 0
-IsOfTurn (Home company place) = ⊤
-IsOfTurn (Laid company lay cost) = ⊤
-IsOfTurn (Token company place cost) = ⊤
-IsOfTurn (Runs company revenue) = ⊤
-IsOfTurn (Dividend company holder amount) = ⊤
-IsOfTurn (Withheld company amount) = ⊤
-IsOfTurn other = ⊥
-
--- the event is of trains: one that is traded in, bought, rusted or discarded, or the phase that one
--- begins
-abbrev pub IsOfTrains : Event → Type 0
-IsOfTrains (Traded company kind) = ⊤
-IsOfTrains (Train company kind from price) = ⊤
-IsOfTrains (Phase kind) = ⊤
-IsOfTrains (Rusted owner kind) = ⊤
-IsOfTrains (Discarded company kind) = ⊤
-IsOfTrains other = ⊥
-
--- the event is of a forced purchase: that it is due, what the president pays, or that the president
--- is bankrupt
-abbrev pub IsOfForce : Event → Type 0
-IsOfForce (Forced company) = ⊤
-IsOfForce (Aid seat company amount) = ⊤
-IsOfForce (Bankrupt seat) = ⊤
-IsOfForce other = ⊥
-
--- a field of a line as its text
-abbrev pub field_text : List ℕ → Field → List ℕ
-field_text file (Word word) = word.now
-field_text file (Name seat) = name_of file seat
-field_text file (Holds holder) = holder_text file holder
-field_text file (Number number) = decimal number
-field_text file (ShareCount shares) = decimal shares
-field_text file (Source source) = text_of_source source
-field_text file (On square) = text_of_square square
-field_text file (Tile tile) = text_of_tile tile
-field_text file (In hex) = text_of_hex hex
-field_text file (Turned rotation) = text_of_rotation rotation
-field_text file (At place) = text_of_place place
-field_text file (OfRound round) = text_of_round round
-field_text file (OrderOf ruling) = order_text ruling.now
-
--- fields as their texts
-abbrev pub field_texts : List ℕ → List Field → List (List ℕ)
-field_texts file fields = map (field_text file) fields
-
--- a line of these fields, with its LF
-abbrev pub line_of_fields : List ℕ → Field → List Field → List ℕ
-line_of_fields file first fields = line_of (field_text file first) (field_texts file fields)
-
--- a line that begins with a word
-abbrev pub line_of_word : List ℕ → List ℕ → List Field → List ℕ
-line_of_word file word fields = line_of word (field_texts file fields)
-
--- a line that begins with a word and a company's code
-abbrev pub line_of_company : List ℕ → List ℕ → Company → List Field → List ℕ
-line_of_company file word company fields = line_of word (code_of_company company ∷ field_texts file fields)
-
--- a line that begins with a player's name
-abbrev pub line_of_seat : List ℕ → Seat → List Field → List ℕ
-line_of_seat file seat fields = line_of (name_of file seat) (field_texts file fields)

@@ -1,55 +1,26 @@
-ghost use Rattle.std.specs.Prelude.{◌≡◌, OnOk};
+ghost use Rattle.std.specs.Prelude.{◌≡◌, ◌∷◌, [], OnOk, codes, decimal};
 ghost use Rattle.report.specs.Column.{Adds};
-ghost use Rattle.report.specs.Line.{IsOfCompany, IsOfForce, IsOfPrivate, IsOfShares, IsOfTrains, IsOfTurn, event_line};
-ghost use Rattle.report.specs.Line.{exchange_line, field_text, lay_line, line_of_company, line_of_fields, line_of_seat};
-ghost use Rattle.report.specs.Line.{line_of_word, name_of, private_line, ruled_line, text_of_seller, text_of_square};
-ghost use Rattle.report.specs.Line.{text_of_train_owner};
+ghost use Rattle.report.specs.Line.{event_line, exchange_line, holder_text, lay_line, line_of, name_of, ruled_line};
+ghost use Rattle.report.specs.Line.{ruling_words, text_of_seller, text_of_square, text_of_train_owner};
+ghost use Rattle.report.specs.Line.{train_line};
+ghost use Rattle.map_tables.specs.Text.{text_of_place};
+ghost use Rattle.order_grammar.specs.Order.{text_of_source};
+ghost use Rattle.order_grammar.specs.Print.{spaced, text_of_round};
+ghost use Rattle.tables.specs.Chart.{price_of};
+ghost use Rattle.tables.specs.Roster.{code_of_company};
 
-use Field::{
-    At, Holds, In, Name, Number, OfRound, On, OrderOf, ShareCount, Source, Tile, Turned, Word,
-};
 use history::{Event, Holder, PackedRuling, TrainSeller, Verdict};
-use map_tables::{Hex, Lay, Place, Rotation, TileNo};
+use itoa::Integer;
+use map_tables::{Lay, Place};
 use order_grammar::{ShareSource, print_number, print_round};
 use sheets::Sheets;
 use std::alloc::AllocError;
-use tables::{Amount, Company, Private, Round, Seat, Square, price};
-
-/// A field of a line of the report.
-#[derive(Clone, Copy)]
-pub(crate) enum Field<'a> {
-    /// A word or a code.
-    Word(&'a str),
-    /// The name of a seat's player.
-    Name(Seat),
-    /// A player's name or a company's code.
-    Holds(Holder),
-    /// A number.
-    Number(u32),
-    /// A number of shares.
-    ShareCount(u8),
-    /// Where shares are bought that no seat owns.
-    Source(ShareSource),
-    /// A square of the stock market.
-    On(Square),
-    /// A tile.
-    Tile(TileNo),
-    /// A hex of the map.
-    In(Hex),
-    /// How far a tile is turned.
-    Turned(Rotation),
-    /// A place of the map.
-    At(Place),
-    /// A round.
-    OfRound(Round),
-    /// The spelling of a ruling's order under its condition, if it has one.
-    OrderOf(&'a PackedRuling),
-}
+use tables::{Amount, Company, Kind, Round, Seat, Square, price};
 
 /// The letters of the rows of the stock market.
 const ROWS: &[u8] = b"ABCDEFGHIJK";
 
-/// Adds an event as its line.
+/// Adds an event as its line: a row of fields, separated by single spaces, with its LF.
 pub(crate) fn push_event(
     out: &mut Vec<u8>,
     sheets: &Sheets,
@@ -58,132 +29,324 @@ pub(crate) fn push_event(
     ensures { OnOk result (Adds out.old out.new (event_line sheets.now event.now)) }
 {
     match event {
-        Event::Round(round) => push_line_of_word(out, sheets, "ROUND", &[OfRound(*round)]),
+        Event::Round(round) => push_begun(out, round),
         Event::Ruled { seat, line, ruling } => push_ruled(out, sheets, *seat, *line, ruling),
-        Event::Passes(seat) => push_line_of_seat(out, sheets, *seat, &[Word("PASSES")]),
-        Event::Left { seat, lines } => push_line_of_word(
-            out,
-            sheets,
-            "LEFT",
-            &[Name(*seat), Number(*lines)],
-        ),
-        Event::Sold { .. }
-        | Event::Bids { .. }
-        | Event::Price { .. }
-        | Event::Revenue { .. }
-        | Event::Closed(_)
-        | Event::PrivateBought { .. } => { push_of_private(out, sheets, event) }
-        Event::Given { .. }
-        | Event::Bought { .. }
-        | Event::Sells { .. }
-        | Event::Exchanged { .. } => { push_of_shares(out, sheets, event) }
-        Event::Par { .. } | Event::President { .. } | Event::Floats { .. } | Event::Moves { .. } =>
-            { push_of_company(out, sheets, event) }
-        Event::Home { .. }
-        | Event::Laid { .. }
-        | Event::Token { .. }
-        | Event::Runs { .. }
-        | Event::Dividend { .. }
-        | Event::Withheld { .. } => { push_of_turn(out, sheets, event) }
-        Event::Traded { .. }
-        | Event::Train { .. }
-        | Event::Phase(_)
-        | Event::Rusted { .. }
-        | Event::Discarded { .. } => { push_of_trains(out, sheets, event) }
-        Event::Forced(_) | Event::Aid { .. } | Event::Bankrupt(_) => {
-            push_of_force(out, sheets, event)
-        }
-        Event::Broken => push_line_of_word(out, sheets, "BROKEN", &[]),
-    }
-}
-
-/// Adds an event of a private as its line: its sale, a bid on it, its revenue, its closing, its
-/// purchase by a company, or the price of SV.
-fn push_of_private(out: &mut Vec<u8>, sheets: &Sheets, event: &Event) -> Result<(), AllocError>
-    requires { IsOfPrivate event.now }
-    ensures { OnOk result (Adds out.old out.new (event_line sheets.now event.now)) }
-{
-    match event {
+        Event::Passes(seat) => push_one(out, name(sheets, *seat), b"PASSES"),
+        Event::Left { seat, lines } => push_one_sum(out, b"LEFT", name(sheets, *seat), *lines),
         Event::Sold {
             private,
             seat,
             price,
-        } => push_line_of_private(out, sheets, "SOLD", *private, Holder::Seat(*seat), *price),
+        } => push_two_sum(
+            out,
+            b"SOLD",
+            private.code().as_bytes(),
+            name(sheets, *seat),
+            *price,
+        ),
         Event::Bids {
             private,
             seat,
             amount,
-        } => push_line_of_private(out, sheets, "BIDS", *private, Holder::Seat(*seat), *amount),
-        Event::Price { price } => push_line_of_word(
+        } => push_two_sum(
             out,
-            sheets,
-            "PRICE",
-            &[Word("SV"), Number(*price)],
+            b"BIDS",
+            private.code().as_bytes(),
+            name(sheets, *seat),
+            *amount,
         ),
+        Event::Price { price } => push_one_sum(out, b"PRICE", b"SV", *price),
         Event::Revenue {
             private,
             owner,
             amount,
-        } => push_line_of_private(out, sheets, "REVENUE", *private, *owner, *amount),
-        Event::Closed(private) => push_line_of_word(out, sheets, "CLOSED", &[Word(private.code())]),
-        Event::PrivateBought {
-            private,
-            company,
-            price,
-            ..
-        } => {
-            let buyer = Holder::Company(*company);
-            push_line_of_private(out, sheets, "PRIVATE", *private, buyer, *price)
-        }
-        _ => unreachable!(),
-    }
-}
-
-/// Adds an event of a company's shares as its line: a gift of them, a purchase, a sale, or MH
-/// exchanged for a share of NYC.
-fn push_of_shares(out: &mut Vec<u8>, sheets: &Sheets, event: &Event) -> Result<(), AllocError>
-    requires { IsOfShares event.now }
-    ensures { OnOk result (Adds out.old out.new (event_line sheets.now event.now)) }
-{
-    match event {
+        } => push_two_sum(
+            out,
+            b"REVENUE",
+            private.code().as_bytes(),
+            holder(sheets, *owner),
+            *amount,
+        ),
         Event::Given {
             company,
             seat,
             shares,
-        } => {
-            let fields = [Name(*seat), ShareCount(*shares)];
-            push_line_of_company(out, sheets, "GIVEN", *company, &fields)
-        }
+        } => push_two_sum(
+            out,
+            b"GIVEN",
+            code(*company),
+            name(sheets, *seat),
+            Amount::from(*shares),
+        ),
+        Event::Par { company, price } => push_one_sum(out, b"PAR", code(*company), *price),
+        Event::President { company, seat } => push_two(
+            out,
+            b"PRESIDENT",
+            code(*company),
+            name(sheets, *seat),
+        ),
         Event::Bought {
             company,
             seat,
             shares,
             from,
             price,
-        } => {
-            let fields = [
-                Name(*seat),
-                ShareCount(*shares),
-                Source(*from),
-                Number(*price),
-            ];
-            push_line_of_company(out, sheets, "BOUGHT", *company, &fields)
-        }
+        } => push_bought(out, *company, name(sheets, *seat), *shares, *from, *price),
         Event::Sells {
             company,
             seat,
             shares,
             price,
-        } => {
-            let fields = [Name(*seat), ShareCount(*shares), Number(*price)];
-            push_line_of_company(out, sheets, "SELLS", *company, &fields)
-        }
+        } => push_sells(out, *company, name(sheets, *seat), *shares, *price),
         Event::Exchanged { seat, from } => push_exchanged(out, sheets, *seat, *from),
-        _ => unreachable!(),
+        Event::Floats { company, amount } => push_one_sum(out, b"FLOATS", code(*company), *amount),
+        Event::Moves { company, square } => push_moves(out, *company, *square),
+        Event::Home { company, place } => push_home(out, *company, *place),
+        Event::Laid { company, lay, cost } => push_laid(out, *company, *lay, *cost),
+        Event::Token {
+            company,
+            place,
+            cost,
+        } => push_token(out, *company, *place, *cost),
+        Event::Withheld { company, amount } => push_one_sum(
+            out,
+            b"WITHHELD",
+            code(*company),
+            *amount,
+        ),
+        Event::Runs { company, revenue } => push_one_sum(out, b"RUNS", code(*company), *revenue),
+        Event::Dividend {
+            company,
+            holder: paid,
+            amount,
+        } => push_two_sum(
+            out,
+            b"DIVIDEND",
+            code(*company),
+            holder(sheets, *paid),
+            *amount,
+        ),
+        Event::Traded { company, kind } => push_two(
+            out,
+            b"TRADED",
+            code(*company),
+            kind.code().as_bytes(),
+        ),
+        Event::Train {
+            company,
+            kind,
+            from,
+            price,
+        } => push_train(out, *company, *kind, *from, *price),
+        Event::Phase(kind) => push_one(out, b"PHASE", kind.code().as_bytes()),
+        Event::Rusted { owner, kind } => push_two(
+            out,
+            b"RUSTED",
+            train_owner(*owner),
+            kind.code().as_bytes(),
+        ),
+        Event::Discarded { company, kind } => push_two(
+            out,
+            b"DISCARDED",
+            code(*company),
+            kind.code().as_bytes(),
+        ),
+        Event::Closed(private) => push_one(out, b"CLOSED", private.code().as_bytes()),
+        Event::PrivateBought {
+            private,
+            company,
+            price,
+            ..
+        } => push_two_sum(
+            out,
+            b"PRIVATE",
+            private.code().as_bytes(),
+            code(*company),
+            *price,
+        ),
+        Event::Forced(company) => push_one(out, b"FORCED", code(*company)),
+        Event::Aid {
+            seat,
+            company,
+            amount,
+        } => push_two_sum(out, b"AID", name(sheets, *seat), code(*company), *amount),
+        Event::Bankrupt(seat) => push_one(out, b"BANKRUPT", name(sheets, *seat)),
+        Event::Broken => out.extend_from_slice(b"BROKEN\n"),
     }
 }
 
-/// Adds the line of a seat's exchange of MH for a share of NYC.
+/// Adds the line of a word and a text.
+fn push_one(out: &mut Vec<u8>, word: &[u8], text: &[u8]) -> Result<(), AllocError>
+    ensures { OnOk result (Adds out.old out.new (line_of word.now (text.now ∷ []))) }
+{
+    out.extend_from_slice(word)?;
+    push_text(out, text)?;
+    push_end(out)
+}
+
+/// Adds the line of a word and two texts.
+fn push_two(out: &mut Vec<u8>, word: &[u8], first: &[u8], second: &[u8]) -> Result<(), AllocError>
+    ensures { OnOk result
+        (Adds out.old out.new (line_of word.now (first.now ∷ second.now ∷ []))) }
+{
+    out.extend_from_slice(word)?;
+    push_text(out, first)?;
+    push_text(out, second)?;
+    push_end(out)
+}
+
+/// Adds the line of a word and three texts.
+fn push_three(
+    out: &mut Vec<u8>,
+    word: &[u8],
+    first: &[u8],
+    second: &[u8],
+    third: &[u8],
+) -> Result<(), AllocError>
+    ensures { OnOk result
+        (Adds out.old out.new (line_of word.now (first.now ∷ second.now ∷ third.now ∷ []))) }
+{
+    out.extend_from_slice(word)?;
+    push_text(out, first)?;
+    push_text(out, second)?;
+    push_text(out, third)?;
+    push_end(out)
+}
+
+/// Adds the line of a word, a text and a sum.
+fn push_one_sum(out: &mut Vec<u8>, word: &[u8], text: &[u8], sum: Amount) -> Result<(), AllocError>
+    ensures { OnOk result
+        (Adds out.old out.new (line_of word.now (text.now ∷ decimal sum ∷ []))) }
+{
+    out.extend_from_slice(word)?;
+    push_text(out, text)?;
+    push_number(out, sum)?;
+    push_end(out)
+}
+
+/// Adds the line of a word, two texts and a sum.
+fn push_two_sum(
+    out: &mut Vec<u8>,
+    word: &[u8],
+    first: &[u8],
+    second: &[u8],
+    sum: Amount,
+) -> Result<(), AllocError>
+    ensures { OnOk result (Adds out.old out.new
+        (line_of word.now (first.now ∷ second.now ∷ decimal sum ∷ []))) }
+{
+    out.extend_from_slice(word)?;
+    push_text(out, first)?;
+    push_text(out, second)?;
+    push_number(out, sum)?;
+    push_end(out)
+}
+
+/// Adds the line of a round that begins.
+fn push_begun(out: &mut Vec<u8>, round: &Round) -> Result<(), AllocError>
+    ensures { OnOk result
+        (Adds out.old out.new (line_of (codes "ROUND") (text_of_round round.now ∷ []))) }
+{
+    out.extend_from_slice(b"ROUND ")?;
+    print_round(out, round)?;
+    push_end(out)
+}
+
+/// Adds the line of what became of a line of a seat's sheet.
+fn push_ruled(
+    out: &mut Vec<u8>,
+    sheets: &Sheets,
+    seat: Seat,
+    line: u32,
+    ruling: &PackedRuling,
+) -> Result<(), AllocError>
+    ensures { OnOk result (Adds out.old out.new (ruled_line sheets.now seat line ruling.now)) }
+{
+    push_name(out, sheets, seat)?;
+    push_number(out, line)?;
+    push_ruling(out, ruling)?;
+    push_end(out)
+}
+
+/// Adds what became of a line, and its order under its condition, if it has one.
+fn push_ruling(out: &mut Vec<u8>, ruling: &PackedRuling) -> Result<(), AllocError>
+    ensures { OnOk result (Adds out.old out.new (spaced (ruling_words ruling.now))) }
+{
+    match ruling.verdict() {
+        Verdict::Obeyed => {
+            out.extend_from_slice(b" OBEYED ")?;
+            ruling.print_order(out)
+        }
+        Verdict::Refused(rule) => {
+            push_refused(out, rule.code())?;
+            out.push(b' ')?;
+            ruling.print_order(out)
+        }
+        Verdict::Faulty(fault) => push_refused(out, fault.code()),
+    }
+}
+
+/// Adds that a line is refused, with the code for why.
+fn push_refused(out: &mut Vec<u8>, code: &str) -> Result<(), AllocError>
+    ensures { OnOk result
+        (Adds out.old out.new (spaced (codes "REFUSED" ∷ code.now ∷ []))) }
+{
+    out.extend_from_slice(b" REFUSED")?;
+    push_text(out, code.as_bytes())
+}
+
+/// Adds the line of shares that a player buys.
+fn push_bought(
+    out: &mut Vec<u8>,
+    company: Company,
+    name: &[u8],
+    shares: u8,
+    from: ShareSource,
+    price: Amount,
+) -> Result<(), AllocError>
+    ensures { OnOk result (Adds out.old out.new (line_of (codes "BOUGHT") (code_of_company company
+        ∷ name.now ∷ decimal shares ∷ text_of_source from ∷ decimal price ∷ []))) }
+{
+    out.extend_from_slice(b"BOUGHT")?;
+    push_shares(out, company, name, shares)?;
+    push_text(out, from.text())?;
+    push_number(out, price)?;
+    push_end(out)
+}
+
+/// Adds the line of shares that a player sells.
+fn push_sells(
+    out: &mut Vec<u8>,
+    company: Company,
+    name: &[u8],
+    shares: u8,
+    price: Amount,
+) -> Result<(), AllocError>
+    ensures { OnOk result (Adds out.old out.new (line_of (codes "SELLS") (code_of_company company
+        ∷ name.now ∷ decimal shares ∷ decimal price ∷ []))) }
+{
+    out.extend_from_slice(b"SELLS")?;
+    push_shares(out, company, name, shares)?;
+    push_number(out, price)?;
+    push_end(out)
+}
+
+/// Adds a company, a player's name and a number of shares.
+fn push_shares(
+    out: &mut Vec<u8>,
+    company: Company,
+    name: &[u8],
+    shares: u8,
+) -> Result<(), AllocError>
+    ensures { OnOk result (Adds out.old out.new
+        (spaced (code_of_company company ∷ name.now ∷ decimal shares ∷ []))) }
+{
+    push_text(out, code(company))?;
+    push_text(out, name)?;
+    push_number(out, shares)
+}
+
+/// Adds the line of a player's exchange of MH for a share of NYC.
 fn push_exchanged(
     out: &mut Vec<u8>,
     sheets: &Sheets,
@@ -192,261 +355,138 @@ fn push_exchanged(
 ) -> Result<(), AllocError>
     ensures { OnOk result (Adds out.old out.new (exchange_line sheets.now seat from)) }
 {
-    push_line_of_word(
-        out,
-        sheets,
-        "EXCHANGED",
-        &[Word("MH"), Name(seat), Source(from)],
-    )
+    push_three(out, b"EXCHANGED", b"MH", name(sheets, seat), from.text())
 }
 
-/// Adds an event of a company as its line: its par value, its president, its float, or where its
-/// token moves.
-fn push_of_company(out: &mut Vec<u8>, sheets: &Sheets, event: &Event) -> Result<(), AllocError>
-    requires { IsOfCompany event.now }
-    ensures { OnOk result (Adds out.old out.new (event_line sheets.now event.now)) }
+/// Adds the line of a company's token that moves to a square of the stock market.
+fn push_moves(out: &mut Vec<u8>, company: Company, square: Square) -> Result<(), AllocError>
+    ensures { OnOk result (Adds out.old out.new (line_of (codes "MOVES") (code_of_company company
+        ∷ decimal (price_of square) ∷ text_of_square square ∷ []))) }
 {
-    match event {
-        Event::Par { company, price } => {
-            push_line_of_company(out, sheets, "PAR", *company, &[Number(*price)])
-        }
-        Event::President { company, seat } => {
-            push_line_of_company(out, sheets, "PRESIDENT", *company, &[Name(*seat)])
-        }
-        Event::Floats { company, amount } => {
-            push_line_of_company(out, sheets, "FLOATS", *company, &[Number(*amount)])
-        }
-        Event::Moves { company, square } => {
-            let fields = [Number(price(*square)), On(*square)];
-            push_line_of_company(out, sheets, "MOVES", *company, &fields)
-        }
-        _ => unreachable!(),
-    }
+    out.extend_from_slice(b"MOVES")?;
+    push_text(out, code(company))?;
+    push_number(out, price(square))?;
+    out.push(b' ')?;
+    push_square(out, square)?;
+    push_end(out)
 }
 
-/// Adds an event of a company's turn in an operating round as its line: its home, a tile, a token,
-/// a run, a dividend, or what it withholds.
-fn push_of_turn(out: &mut Vec<u8>, sheets: &Sheets, event: &Event) -> Result<(), AllocError>
-    requires { IsOfTurn event.now }
-    ensures { OnOk result (Adds out.old out.new (event_line sheets.now event.now)) }
+/// Adds the line of the token of a company's home.
+fn push_home(out: &mut Vec<u8>, company: Company, place: Place) -> Result<(), AllocError>
+    ensures { OnOk result (Adds out.old out.new
+        (line_of (codes "HOME") (code_of_company company ∷ text_of_place place ∷ []))) }
 {
-    match event {
-        Event::Home { company, place } => {
-            push_line_of_company(out, sheets, "HOME", *company, &[At(*place)])
-        }
-        Event::Laid { company, lay, cost } => push_laid(out, sheets, *company, *lay, *cost),
-        Event::Token {
-            company,
-            place,
-            cost,
-        } => push_line_of_company(out, sheets, "TOKEN", *company, &[At(*place), Number(*cost)]),
-        Event::Runs { company, revenue } => {
-            push_line_of_company(out, sheets, "RUNS", *company, &[Number(*revenue)])
-        }
-        Event::Dividend {
-            company,
-            holder,
-            amount,
-        } => {
-            let fields = [Holds(*holder), Number(*amount)];
-            push_line_of_company(out, sheets, "DIVIDEND", *company, &fields)
-        }
-        Event::Withheld { company, amount } => {
-            push_line_of_company(out, sheets, "WITHHELD", *company, &[Number(*amount)])
-        }
-        _ => unreachable!(),
-    }
+    push_two(out, b"HOME", code(company), place.text().as_slice())
 }
 
-/// Adds an event of trains as its line: one that is traded in, bought, rusted or discarded, or the
-/// phase that one begins.
-fn push_of_trains(out: &mut Vec<u8>, sheets: &Sheets, event: &Event) -> Result<(), AllocError>
-    requires { IsOfTrains event.now }
-    ensures { OnOk result (Adds out.old out.new (event_line sheets.now event.now)) }
+/// Adds the line of a token that a company places.
+fn push_token(
+    out: &mut Vec<u8>,
+    company: Company,
+    place: Place,
+    cost: Amount,
+) -> Result<(), AllocError>
+    ensures { OnOk result (Adds out.old out.new (line_of (codes "TOKEN") (code_of_company company
+        ∷ text_of_place place ∷ decimal cost ∷ []))) }
 {
-    match event {
-        Event::Traded { company, kind } => {
-            push_line_of_company(out, sheets, "TRADED", *company, &[Word(kind.code())])
-        }
-        Event::Train {
-            company,
-            kind,
-            from,
-            price,
-        } => {
-            let fields = [Word(kind.code()), Word(seller_word(*from)), Number(*price)];
-            push_line_of_company(out, sheets, "TRAIN", *company, &fields)
-        }
-        Event::Phase(kind) => push_line_of_word(out, sheets, "PHASE", &[Word(kind.code())]),
-        Event::Rusted { owner, kind } => {
-            let fields = [Word(train_owner_word(*owner)), Word(kind.code())];
-            push_line_of_word(out, sheets, "RUSTED", &fields)
-        }
-        Event::Discarded { company, kind } => {
-            push_line_of_company(out, sheets, "DISCARDED", *company, &[Word(kind.code())])
-        }
-        _ => unreachable!(),
-    }
-}
-
-/// Adds an event of a forced purchase as its line: that it is due, what the president pays, or that
-/// the president is bankrupt.
-fn push_of_force(out: &mut Vec<u8>, sheets: &Sheets, event: &Event) -> Result<(), AllocError>
-    requires { IsOfForce event.now }
-    ensures { OnOk result (Adds out.old out.new (event_line sheets.now event.now)) }
-{
-    match event {
-        Event::Forced(company) => push_line_of_word(out, sheets, "FORCED", &[Word(company.code())]),
-        Event::Aid {
-            seat,
-            company,
-            amount,
-        } => {
-            let fields = [Name(*seat), Word(company.code()), Number(*amount)];
-            push_line_of_word(out, sheets, "AID", &fields)
-        }
-        Event::Bankrupt(seat) => push_line_of_word(out, sheets, "BANKRUPT", &[Name(*seat)]),
-        _ => unreachable!(),
-    }
-}
-
-/// Returns the word for where a company buys a train: the code of a company that sells it.
-fn seller_word(seller: TrainSeller) -> &'static str
-    ensures { result.now ≡ text_of_seller seller }
-{
-    match seller {
-        TrainSeller::Bank => "BANK",
-        TrainSeller::BankPool => "POOL",
-        TrainSeller::Company(company) => company.code(),
-    }
-}
-
-/// Returns a company's code, or the word for the bank pool if there is no owner.
-fn train_owner_word(owner: Option<Company>) -> &'static str
-    ensures { result.now ≡ text_of_train_owner owner }
-{
-    match owner {
-        Some(company) => company.code(),
-        None => "POOL",
-    }
+    push_two_sum(out, b"TOKEN", code(company), place.text().as_slice(), cost)
 }
 
 /// Adds the line of a tile that a company lays.
-fn push_laid(
-    out: &mut Vec<u8>,
-    sheets: &Sheets,
-    company: Company,
-    lay: Lay,
-    cost: Amount,
-) -> Result<(), AllocError>
+fn push_laid(out: &mut Vec<u8>, company: Company, lay: Lay, cost: Amount) -> Result<(), AllocError>
     ensures { OnOk result (Adds out.old out.new (lay_line company lay cost)) }
 {
-    let (tile, hex, turned) = (Tile(lay.tile), In(lay.hex), Turned(lay.rot));
+    out.extend_from_slice(b"LAID")?;
+    push_text(out, code(company))?;
+    push_number(out, lay.tile.number())?;
+    push_text(out, lay.hex.text().as_slice())?;
+    push_number(out, lay.rot.turns())?;
     if lay.swap {
-        let fields = [tile, hex, turned, Word("SWAP"), Number(cost)];
-        return push_line_of_company(out, sheets, "LAID", company, &fields);
+        push_text(out, b"SWAP")?;
+        push_number(out, cost)?;
+        return push_end(out);
     }
-    let fields = [tile, hex, turned, Number(cost)];
-    push_line_of_company(out, sheets, "LAID", company, &fields)
+    push_number(out, cost)?;
+    push_end(out)
 }
 
-/// Adds a line that begins with a word.
-fn push_line_of_word(
+/// Adds the line of a train that a company buys.
+fn push_train(
     out: &mut Vec<u8>,
-    sheets: &Sheets,
-    word: &str,
-    fields: &[Field],
-) -> Result<(), AllocError>
-    ensures { OnOk result (Adds out.old out.new (line_of_word sheets.now word.now fields.now)) }
-{
-    push_line(out, sheets, &Word(word), fields)
-}
-
-/// Adds a line that begins with the name of a seat's player.
-fn push_line_of_seat(
-    out: &mut Vec<u8>,
-    sheets: &Sheets,
-    seat: Seat,
-    fields: &[Field],
-) -> Result<(), AllocError>
-    ensures { OnOk result (Adds out.old out.new (line_of_seat sheets.now seat fields.now)) }
-{
-    push_line(out, sheets, &Name(seat), fields)
-}
-
-/// Adds a line of a company: a word, its code, and further fields.
-fn push_line_of_company(
-    out: &mut Vec<u8>,
-    sheets: &Sheets,
-    word: &str,
     company: Company,
-    fields: &[Field],
+    kind: Kind,
+    from: TrainSeller,
+    price: Amount,
 ) -> Result<(), AllocError>
-    ensures { OnOk result
-        (Adds out.old out.new (line_of_company sheets.now word.now company fields.now)) }
+    ensures { OnOk result (Adds out.old out.new (train_line company kind from price)) }
 {
-    push_field(out, sheets, &Word(word))?;
+    out.extend_from_slice(b"TRAIN")?;
+    push_text(out, code(company))?;
+    push_text(out, kind.code().as_bytes())?;
+    push_text(out, seller(from))?;
+    push_number(out, price)?;
+    push_end(out)
+}
+
+/// Adds a text after a space.
+fn push_text(out: &mut Vec<u8>, text: &[u8]) -> Result<(), AllocError>
+    ensures { OnOk result (Adds out.old out.new (32 ∷ text.now)) }
+{
     out.push(b' ')?;
-    push_line(out, sheets, &Word(company.code()), fields)
+    out.extend_from_slice(text)
 }
 
-/// Adds a line of a private, a holder and a sum of money.
-fn push_line_of_private(
-    out: &mut Vec<u8>,
-    sheets: &Sheets,
-    word: &str,
-    private: Private,
-    holder: Holder,
-    amount: Amount,
-) -> Result<(), AllocError>
-    ensures { OnOk result
-        (Adds out.old out.new (private_line sheets.now word.now private holder amount)) }
+/// Adds a number after a space.
+fn push_number<I: Integer>(out: &mut Vec<u8>, number: I) -> Result<(), AllocError>
+    ensures { OnOk result (Adds out.old out.new (32 ∷ I.text number)) }
 {
-    push_line_of_word(
-        out,
-        sheets,
-        word,
-        &[Word(private.code()), Holds(holder), Number(amount)],
-    )
+    out.push(b' ')?;
+    print_number(out, number)
 }
 
-/// Adds a line of these fields, separated by single spaces, with its LF.
-fn push_line(
-    out: &mut Vec<u8>,
-    sheets: &Sheets,
-    first: &Field,
-    fields: &[Field],
-) -> Result<(), AllocError>
-    ensures { OnOk result (Adds out.old out.new (line_of_fields sheets.now first.now fields.now)) }
+/// Adds the LF of a line.
+fn push_end(out: &mut Vec<u8>) -> Result<(), AllocError>
+    ensures { OnOk result (Adds out.old out.new (10 ∷ [])) }
 {
-    push_field(out, sheets, first)?;
-    for field in fields {
-        out.push(b' ')?;
-        push_field(out, sheets, field)?;
-    }
     out.push(b'\n')?;
     Ok(())
 }
 
-/// Adds a field.
-fn push_field(out: &mut Vec<u8>, sheets: &Sheets, field: &Field) -> Result<(), AllocError>
-    ensures { OnOk result (Adds out.old out.new (field_text sheets.now field.now)) }
+/// Returns a player's name or a company's code.
+fn holder<'a>(sheets: &'a Sheets, holder: Holder) -> &'a [u8]
+    ensures { result.now ≡ holder_text sheets.now holder }
 {
-    match field {
-        Word(word) => out.extend_from_slice(word.as_bytes()),
-        Name(seat) => push_name(out, sheets, *seat),
-        Holds(Holder::Seat(seat)) => push_name(out, sheets, *seat),
-        Holds(Holder::Company(company)) => out.extend_from_slice(company.code().as_bytes()),
-        Number(number) => print_number(out, *number),
-        ShareCount(shares) => print_number(out, *shares),
-        Source(source) => out.extend_from_slice(source.text()),
-        On(square) => push_square(out, *square),
-        Tile(tile) => print_number(out, tile.number()),
-        In(hex) => out.extend_from_slice(hex.text().as_slice()),
-        Turned(rotation) => print_number(out, rotation.turns()),
-        At(place) => out.extend_from_slice(place.text().as_slice()),
-        OfRound(round) => print_round(out, round),
-        OrderOf(ruling) => ruling.print_order(out),
+    match holder {
+        Holder::Seat(seat) => name(sheets, seat),
+        Holder::Company(company) => code(company),
+    }
+}
+
+/// Returns a company's code.
+fn code(company: Company) -> &'static [u8]
+    ensures { result.now ≡ code_of_company company }
+{
+    company.code().as_bytes()
+}
+
+/// Returns the word for where a company buys a train: the code of a company that sells it.
+fn seller(seller: TrainSeller) -> &'static [u8]
+    ensures { result.now ≡ text_of_seller seller }
+{
+    match seller {
+        TrainSeller::Bank => b"BANK",
+        TrainSeller::BankPool => b"POOL",
+        TrainSeller::Company(company) => code(company),
+    }
+}
+
+/// Returns a company's code, or the word for the bank pool if there is no owner.
+fn train_owner(owner: Option<Company>) -> &'static [u8]
+    ensures { result.now ≡ text_of_train_owner owner }
+{
+    match owner {
+        Some(company) => code(company),
+        None => b"POOL",
     }
 }
 
@@ -459,41 +499,6 @@ pub fn push_square(out: &mut Vec<u8>, square: Square) -> Result<(), AllocError>
         out.push(*letter)?;
     }
     print_number(out, square.column)
-}
-
-/// Adds what became of a line of a seat's sheet.
-fn push_ruled(
-    out: &mut Vec<u8>,
-    sheets: &Sheets,
-    seat: Seat,
-    line: u32,
-    ruling: &PackedRuling,
-) -> Result<(), AllocError>
-    ensures { OnOk result (Adds out.old out.new (ruled_line sheets.now seat line ruling.now)) }
-{
-    match ruling.verdict() {
-        Verdict::Obeyed => {
-            let fields = [Number(line), Word("OBEYED"), OrderOf(ruling)];
-            push_line_of_seat(out, sheets, seat, &fields)
-        }
-        Verdict::Refused(rule) => push_line_of_seat(
-            out,
-            sheets,
-            seat,
-            &[
-                Number(line),
-                Word("REFUSED"),
-                Word(rule.code()),
-                OrderOf(ruling),
-            ],
-        ),
-        Verdict::Faulty(fault) => push_line_of_seat(
-            out,
-            sheets,
-            seat,
-            &[Number(line), Word("REFUSED"), Word(fault.code())],
-        ),
-    }
 }
 
 /// Adds the name of a seat's player; nothing for a seat that nobody has. Fails only if allocation

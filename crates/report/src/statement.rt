@@ -1,9 +1,7 @@
-ghost use Rattle.std.specs.Prelude.{◌≡◌, ◌∷◌, ◌<◌, [], OnOk, length};
+ghost use Rattle.std.specs.Prelude.{◌≡◌, ◌∷◌, ◌++◌, [], OnOk, length};
 ghost use Rattle.std.specs.Fmt.{signed_decimal};
 ghost use Rattle.std.specs.Option.{ForSome};
-ghost use Rattle.certs.specs.Counted.{counted_of};
-ghost use Rattle.certs.specs.Holdings.{AreHoldingsAt};
-ghost use Rattle.certs.specs.Rows.{HasPlace};
+ghost use Rattle.events.specs.declared.event.Shareholder.TheVariants.{Seat as OfSeat};
 ghost use Rattle.totals.specs.LookBack.{owner_in};
 ghost use Rattle.report.specs.Column.{Adds, at_right};
 ghost use Rattle.report.specs.Statement.{AreOwnersIn, bank_line_at, cash_column_at, code_owned, codes_owned};
@@ -12,17 +10,15 @@ ghost use Rattle.report.specs.Statement.{holdings, codes_of_kind, codes_of_train
 ghost use Rattle.report.specs.Statement.{player_lines_at, president_name, started_line_at, statement_at, shares_column};
 ghost use Rattle.report.specs.Statement.{trains_text};
 ghost use Rattle.sheets.specs.File.{players_of};
-ghost use Rattle.treasury.specs.Accounts.{AreAccountsAt, HasAccount};
 
 use crate::column::{push_left, push_right};
 use crate::line::{name, push_name};
-use certs::Holdings;
-use history::{GameView, History, Holder, Owners, Party, ShareCount, Shareholder, at_least_zero};
+use certs::counted_now;
+use history::{GameView, Holder, Owners, Party, ShareCount, Shareholder, at_least_zero};
 use order_grammar::NAME_MOST;
 use sheets::Sheets;
 use std::alloc::AllocError;
 use tables::{Company, Kind, Money, Private, Seat, Square, price};
-use treasury::Accounts;
 
 /// The width of the column of names.
 const NAME_WIDTH: usize = NAME_MOST;
@@ -42,137 +38,135 @@ const COUNT_WIDTH: usize = 3;
 /// The width of the column of tokens.
 const TOKEN_WIDTH: usize = 2;
 
-/// A game as it stood, with who owns and holds what in it and what each party has, read once.
-#[derive(Clone, Copy)]
-pub(crate) struct Snapshot<'a> {
-    view: GameView<'a>,
-    owners: Owners,
-    accounts: Accounts,
-    holdings: Holdings,
-    ghost owned: { AreOwnersIn view.events.now owners },
-    ghost kept: { AreAccountsAt view accounts },
-    ghost held: { AreHoldingsAt view holdings },
-}
-
-impl<'a> Snapshot<'a> {
-    /// Returns a game as it stands.
-    pub(crate) fn of(history: &'a History) -> Snapshot<'a>
-        ensures seats { result.view.seats ≡ history.now.seats }
-        ensures events { result.view.events.now ≡ history.now.events }
-    {
-        let view = history.now();
-        Snapshot {
-            view,
-            owners: view.owners(),
-            accounts: Accounts::of(history),
-            holdings: Holdings::of(history),
-        }
-    }
-
-    /// Returns a game as it stood.
-    pub(crate) fn at(view: GameView<'a>) -> Snapshot<'a>
-        ensures seats { result.view.seats ≡ view.entry.seats }
-        ensures events { result.view.events.now ≡ view.entry.events.now }
-    {
-        Snapshot {
-            view,
-            owners: view.owners(),
-            accounts: Accounts::at(&view),
-            holdings: Holdings::at(&view),
-        }
-    }
-}
-
 /// Adds the statement of what everybody holds.
 pub(crate) fn push_statement(
     out: &mut Vec<u8>,
     sheets: &Sheets,
-    snapshot: &Snapshot,
+    view: &GameView,
 ) -> Result<(), AllocError>
-    requires { snapshot.now.view.seats ≡ length (players_of sheets.now) }
-    ensures { OnOk result (Adds out.old out.new (statement_at sheets.now snapshot.now.view)) }
+    requires { view.now.seats ≡ length (players_of sheets.now) }
+    ensures { OnOk result (Adds out.old out.new (statement_at sheets.now view.now)) }
 {
-    push_players(out, sheets, snapshot)?;
-    push_companies(out, sheets, snapshot)?;
-    push_bank(out, snapshot)
+    push_players(out, sheets, view)?;
+    push_companies(out, sheets, view)?;
+    push_bank(out, view)
 }
 
 /// Adds the players' lines.
 #[tactic(auto, unfolding(crate::specs::Statement::player_lines))]
-fn push_players(out: &mut Vec<u8>, sheets: &Sheets, snapshot: &Snapshot) -> Result<(), AllocError>
-    requires { snapshot.now.view.seats ≡ length (players_of sheets.now) }
-    ensures { OnOk result (Adds out.old out.new (player_lines_at sheets.now snapshot.now.view)) }
+fn push_players(out: &mut Vec<u8>, sheets: &Sheets, view: &GameView) -> Result<(), AllocError>
+    requires { view.now.seats ≡ length (players_of sheets.now) }
+    ensures { OnOk result (Adds out.old out.new (player_lines_at sheets.now view.now)) }
 {
     for seat in 0..sheets.seats() {
-        push_player(out, sheets, snapshot, Seat(seat as u8))?;
+        push_player(out, sheets, view, Seat(seat as u8))?;
     }
     Ok(())
 }
 
 /// Adds the lines of the started companies.
 #[tactic(auto, unfolding(crate::specs::Statement::company_lines))]
-fn push_companies(out: &mut Vec<u8>, sheets: &Sheets, snapshot: &Snapshot) -> Result<(), AllocError>
-    ensures { OnOk result (Adds out.old out.new (company_lines_at sheets.now snapshot.now.view)) }
+fn push_companies(out: &mut Vec<u8>, sheets: &Sheets, view: &GameView) -> Result<(), AllocError>
+    ensures { OnOk result (Adds out.old out.new (company_lines_at sheets.now view.now)) }
 {
     for company in &Company::ALL {
-        push_company(out, sheets, snapshot, *company)?;
+        push_company(out, sheets, view, *company)?;
     }
     Ok(())
 }
 
 /// Adds the bank's line.
 #[tactic(auto, unfolding(crate::specs::Statement::bank_line))]
-fn push_bank(out: &mut Vec<u8>, snapshot: &Snapshot) -> Result<(), AllocError>
-    ensures { OnOk result (Adds out.old out.new (bank_line_at snapshot.now.view)) }
+fn push_bank(out: &mut Vec<u8>, view: &GameView) -> Result<(), AllocError>
+    ensures { OnOk result (Adds out.old out.new (bank_line_at view.now)) }
 {
     out.extend_from_slice(b"BANK ")?;
-    push_cash(out, snapshot, Party::Bank)?;
+    push_cash(out, view, Party::Bank)?;
     out.push(b'\n')?;
     Ok(())
 }
 
-/// Adds a player's line: name, cash, counted certificates, shares by company, privates. The seat is
-/// one of six.
+/// Adds a player's line: name, cash, counted certificates, shares by company, privates.
 #[tactic(auto, unfolding(crate::specs::Statement::player_line))]
 fn push_player(
     out: &mut Vec<u8>,
     sheets: &Sheets,
-    snapshot: &Snapshot,
+    view: &GameView,
     seat: Seat,
 ) -> Result<(), AllocError>
-    requires { seat.0 < 6 }
     ensures { OnOk result
-        (Adds out.old out.new (player_line_at sheets.now snapshot.now.view seat)) }
+        (Adds out.old out.new (player_line_at sheets.now view.now seat)) }
 {
     out.extend_from_slice(b"PLAYER ")?;
     push_left(out, name(sheets, seat), NAME_WIDTH)?;
-    push_cash(out, snapshot, Party::of_seat(seat))?;
-    push_counted(out, snapshot, seat)?;
-    push_holdings(out, snapshot, seat)?;
-    push_privates(out, snapshot, seat)?;
+    push_cash(out, view, Party::of_seat(seat))?;
+    push_counted(out, view, seat)?;
+    push_holdings(out, view, seat)?;
+    push_privates(out, view, seat)?;
     out.push(b'\n')?;
     Ok(())
 }
 
-/// Adds the shares of each company that a seat holds. The seat is one of six.
+/// Adds the shares of each company that a seat holds, in roster order.
 #[tactic(auto, unfolding(crate::specs::Statement::holdings))]
-fn push_holdings(out: &mut Vec<u8>, snapshot: &Snapshot, seat: Seat) -> Result<(), AllocError>
-    requires { seat.0 < 6 }
-    ensures { OnOk result (Adds out.old out.new (holdings snapshot.now.view.events.now seat)) }
+fn push_holdings(out: &mut Vec<u8>, view: &GameView, seat: Seat) -> Result<(), AllocError>
+    ensures { OnOk result (Adds out.old out.new (holdings view.now.events.now seat)) }
 {
-    for company in &Company::ALL {
-        push_shares(out, snapshot, *company, Shareholder::Seat(seat))?;
-    }
-    Ok(())
+    push_four(
+        out,
+        view,
+        seat,
+        Company::Pennsylvania,
+        Company::NewYorkCentral,
+        Company::CanadianPacific,
+        Company::BaltimoreOhio,
+    )?;
+    push_four(
+        out,
+        view,
+        seat,
+        Company::ChesapeakeOhio,
+        Company::Erie,
+        Company::NewHaven,
+        Company::BostonMaine,
+    )
+}
+
+/// Adds the shares of four companies that a seat holds.
+#[tactic(auto, unfolding(crate::specs::Statement::shares_column))]
+fn push_four(
+    out: &mut Vec<u8>,
+    view: &GameView,
+    seat: Seat,
+    first: Company,
+    second: Company,
+    third: Company,
+    fourth: Company,
+) -> Result<(), AllocError>
+    ensures { OnOk result (Adds out.old out.new
+        (shares_column view.now.events.now first (OfSeat seat)
+        ++ shares_column view.now.events.now second (OfSeat seat)
+        ++ shares_column view.now.events.now third (OfSeat seat)
+        ++ shares_column view.now.events.now fourth (OfSeat seat))) }
+{
+    let place = Shareholder::Seat(seat);
+    push_counts(
+        out,
+        view.shares(first, place),
+        view.shares(second, place),
+        view.shares(third, place),
+        view.shares(fourth, place),
+    )
 }
 
 /// Adds the codes of a seat's privates, each after a space.
 #[tactic(auto, unfolding(crate::specs::Statement::codes_owned))]
-fn push_privates(out: &mut Vec<u8>, snapshot: &Snapshot, seat: Seat) -> Result<(), AllocError>
-    ensures { OnOk result (Adds out.old out.new (codes_owned snapshot.now.view.events.now seat)) }
+fn push_privates(out: &mut Vec<u8>, view: &GameView, seat: Seat) -> Result<(), AllocError>
+    ensures { OnOk result (Adds out.old out.new (codes_owned view.now.events.now seat)) }
 {
+    let owners = view.owners();
     for private in &Private::ALL {
-        push_private(out, snapshot, seat, *private)?;
+        push_private(out, view, &owners, seat, *private)?;
     }
     Ok(())
 }
@@ -180,14 +174,16 @@ fn push_privates(out: &mut Vec<u8>, snapshot: &Snapshot, seat: Seat) -> Result<(
 /// Adds the code of a private after a space, if the seat owns it.
 fn push_private(
     out: &mut Vec<u8>,
-    snapshot: &Snapshot,
+    view: &GameView,
+    owners: &Owners,
     seat: Seat,
     private: Private,
 ) -> Result<(), AllocError>
+    requires { AreOwnersIn view.now.events.now owners.now }
     ensures { OnOk result
-        (Adds out.old out.new (code_owned snapshot.now.view.events.now seat private)) }
+        (Adds out.old out.new (code_owned view.now.events.now seat private)) }
 {
-    if owns(&snapshot.owners, seat, private) {
+    if owns(owners, seat, private) {
         out.push(b' ')?;
         out.extend_from_slice(private.code().as_bytes())?;
     }
@@ -209,15 +205,15 @@ pub(crate) fn owns(owners: &Owners, seat: Seat, private: Private) -> bool
 fn push_company(
     out: &mut Vec<u8>,
     sheets: &Sheets,
-    snapshot: &Snapshot,
+    view: &GameView,
     company: Company,
 ) -> Result<(), AllocError>
     ensures { OnOk result
-        (Adds out.old out.new (started_line_at sheets.now snapshot.now.view company)) }
+        (Adds out.old out.new (started_line_at sheets.now view.now company)) }
 {
-    match snapshot.view.square(company) {
+    match view.square(company) {
         None => Ok(()),
-        Some(square) => push_started(out, sheets, snapshot, company, square),
+        Some(square) => push_started(out, sheets, view, company, square),
     }
 }
 
@@ -226,18 +222,18 @@ fn push_company(
 fn push_started(
     out: &mut Vec<u8>,
     sheets: &Sheets,
-    snapshot: &Snapshot,
+    view: &GameView,
     company: Company,
     square: Square,
 ) -> Result<(), AllocError>
     ensures { OnOk result
-        (Adds out.old out.new (company_line_at sheets.now snapshot.now.view company square)) }
+        (Adds out.old out.new (company_line_at sheets.now view.now company square)) }
 {
     out.extend_from_slice(b"COMPANY ")?;
     push_left(out, company.code().as_bytes(), CODE_WIDTH)?;
-    push_figures(out, snapshot, company, square)?;
-    push_president(out, sheets, snapshot.view.president(company))?;
-    push_trains(out, snapshot, company)?;
+    push_figures(out, view, company, square)?;
+    push_president(out, sheets, view.president(company))?;
+    push_trains(out, view, company)?;
     out.push(b'\n')?;
     Ok(())
 }
@@ -247,52 +243,49 @@ fn push_started(
 #[tactic(auto, unfolding(crate::specs::Statement::company_figures))]
 fn push_figures(
     out: &mut Vec<u8>,
-    snapshot: &Snapshot,
+    view: &GameView,
     company: Company,
     square: Square,
 ) -> Result<(), AllocError>
     ensures { OnOk result
-        (Adds out.old out.new (company_figures_at snapshot.now.view company square)) }
+        (Adds out.old out.new (company_figures_at view.now company square)) }
 {
-    push_cash(out, snapshot, Party::of_company(company))?;
+    push_cash(out, view, Party::of_company(company))?;
     push_right(out, price(square), PRICE_WIDTH)?;
-    push_shares(out, snapshot, company, Shareholder::InitialOffering)?;
-    push_shares(out, snapshot, company, Shareholder::BankPool)?;
-    push_right(out, snapshot.view.tokens_placed(company), TOKEN_WIDTH)
+    push_shares(out, view, company, Shareholder::InitialOffering)?;
+    push_shares(out, view, company, Shareholder::BankPool)?;
+    push_right(out, view.tokens_placed(company), TOKEN_WIDTH)
 }
 
-/// Adds the cash of a party in its column. A seat is one of six.
+/// Adds the cash of a party in its column.
 #[tactic(auto, unfolding(crate::specs::Statement::cash_column))]
-fn push_cash(out: &mut Vec<u8>, snapshot: &Snapshot, party: Party) -> Result<(), AllocError>
-    requires { HasAccount party }
-    ensures { OnOk result (Adds out.old out.new (cash_column_at snapshot.now.view party)) }
+fn push_cash(out: &mut Vec<u8>, view: &GameView, party: Party) -> Result<(), AllocError>
+    ensures { OnOk result (Adds out.old out.new (cash_column_at view.now party)) }
 {
-    push_right(out, snapshot.accounts.cash(party), CASH_WIDTH)
+    push_right(out, view.cash(party), CASH_WIDTH)
 }
 
-/// Adds the shares of a company that lie at a place in their column. A seat is one of six.
+/// Adds the shares of a company that lie at a place in their column.
 #[tactic(auto, unfolding(crate::specs::Statement::shares_column))]
 fn push_shares(
     out: &mut Vec<u8>,
-    snapshot: &Snapshot,
+    view: &GameView,
     company: Company,
     place: Shareholder,
 ) -> Result<(), AllocError>
-    requires { HasPlace place }
     ensures { OnOk result
-        (Adds out.old out.new (shares_column snapshot.now.view.events.now company place)) }
+        (Adds out.old out.new (shares_column view.now.events.now company place)) }
 {
-    push_count(out, snapshot.holdings.shares(company, place))
+    push_count(out, view.shares(company, place))
 }
 
-/// Adds how many certificates of a seat count in their column. The seat is one of six.
+/// Adds how many certificates of a seat count in their column.
 #[tactic(auto, unfolding(crate::specs::Statement::counted_column))]
-fn push_counted(out: &mut Vec<u8>, snapshot: &Snapshot, seat: Seat) -> Result<(), AllocError>
-    requires { seat.0 < 6 }
+fn push_counted(out: &mut Vec<u8>, view: &GameView, seat: Seat) -> Result<(), AllocError>
     ensures { OnOk result
-        (Adds out.old out.new (counted_column snapshot.now.view.events.now seat)) }
+        (Adds out.old out.new (counted_column view.now.events.now seat)) }
 {
-    push_count(out, certificates(snapshot, seat))
+    push_count(out, counted_now(view, seat))
 }
 
 /// Adds a number of certificates or shares in its column. Nearly all have one digit.
@@ -303,6 +296,90 @@ fn push_count(out: &mut Vec<u8>, count: ShareCount) -> Result<(), AllocError>
         Some(digit) => push_digit(out, digit),
         None => push_right(out, count, COUNT_WIDTH),
     }
+}
+
+/// Adds four numbers of shares, each in its column. Nearly all have one digit.
+fn push_counts(
+    out: &mut Vec<u8>,
+    first: ShareCount,
+    second: ShareCount,
+    third: ShareCount,
+    fourth: ShareCount,
+) -> Result<(), AllocError>
+    ensures { OnOk result (Adds out.old out.new
+        (at_right 3 (signed_decimal first) ++ at_right 3 (signed_decimal second)
+        ++ at_right 3 (signed_decimal third) ++ at_right 3 (signed_decimal fourth))) }
+{
+    let digits = (
+        digit_of(first),
+        digit_of(second),
+        digit_of(third),
+        digit_of(fourth),
+    );
+    if let (Some(first), Some(second), Some(third), Some(fourth)) = digits {
+        return push_digits(out, first, second, third, fourth);
+    }
+    push_each(out, first, second, third, fourth)
+}
+
+/// Adds four numbers of shares, of any number of digits.
+fn push_each(
+    out: &mut Vec<u8>,
+    first: ShareCount,
+    second: ShareCount,
+    third: ShareCount,
+    fourth: ShareCount,
+) -> Result<(), AllocError>
+    ensures { OnOk result (Adds out.old out.new
+        (at_right 3 (signed_decimal first) ++ at_right 3 (signed_decimal second)
+        ++ at_right 3 (signed_decimal third) ++ at_right 3 (signed_decimal fourth))) }
+{
+    push_triple(out, first, second, third)?;
+    push_count(out, fourth)?;
+    Ok(())
+}
+
+/// Adds three numbers of shares, of any number of digits.
+fn push_triple(
+    out: &mut Vec<u8>,
+    first: ShareCount,
+    second: ShareCount,
+    third: ShareCount,
+) -> Result<(), AllocError>
+    ensures { OnOk result (Adds out.old out.new
+        (at_right 3 (signed_decimal first) ++ at_right 3 (signed_decimal second)
+        ++ at_right 3 (signed_decimal third))) }
+{
+    push_pair(out, first, second)?;
+    push_count(out, third)?;
+    Ok(())
+}
+
+/// Adds two numbers of shares, of any number of digits.
+fn push_pair(out: &mut Vec<u8>, first: ShareCount, second: ShareCount) -> Result<(), AllocError>
+    ensures { OnOk result (Adds out.old out.new
+        (at_right 3 (signed_decimal first) ++ at_right 3 (signed_decimal second))) }
+{
+    push_count(out, first)?;
+    push_count(out, second)
+}
+
+/// Adds four digits, each at the right of a column of certificates or shares.
+#[tactic(auto, unfolding(crate::specs::Column::at_right))]
+fn push_digits(
+    out: &mut Vec<u8>,
+    first: u8,
+    second: u8,
+    third: u8,
+    fourth: u8,
+) -> Result<(), AllocError>
+    ensures { OnOk result (Adds out.old out.new
+        (at_right 3 (first ∷ []) ++ at_right 3 (second ∷ [])
+        ++ at_right 3 (third ∷ []) ++ at_right 3 (fourth ∷ []))) }
+{
+    out.extend_from_slice(&[
+        b' ', b' ', first, b' ', b' ', second, b' ', b' ', third, b' ', b' ', fourth,
+    ])
 }
 
 /// Returns the digit of a number that has one.
@@ -324,16 +401,6 @@ fn push_digit(out: &mut Vec<u8>, digit: u8) -> Result<(), AllocError>
     out.extend_from_slice(&[b' ', b' ', digit])
 }
 
-/// Returns how many certificates of a seat count against the limit. The seat is one of six.
-fn certificates(snapshot: &Snapshot, seat: Seat) -> ShareCount
-    requires { seat.0 < 6 }
-    ensures { result ≡ counted_of snapshot.now.view.events.now seat }
-{
-    // A law, which does nothing when it runs: the tables count what the events say.
-    certs::laws::counted_by_the_game();
-    snapshot.holdings.counted(seat)
-}
-
 /// Adds the name of a president after a space.
 fn push_president(
     out: &mut Vec<u8>,
@@ -351,12 +418,12 @@ fn push_president(
 
 /// Adds the trains of a company, least first, each as its kind after a space.
 #[tactic(auto, unfolding(crate::specs::Statement::trains_text))]
-fn push_trains(out: &mut Vec<u8>, snapshot: &Snapshot, company: Company) -> Result<(), AllocError>
+fn push_trains(out: &mut Vec<u8>, view: &GameView, company: Company) -> Result<(), AllocError>
     ensures { OnOk result
-        (Adds out.old out.new (trains_text snapshot.now.view.events.now company)) }
+        (Adds out.old out.new (trains_text view.now.events.now company)) }
 {
     for kind in &Kind::ALL {
-        push_trains_of_kind(out, snapshot, company, *kind)?;
+        push_trains_of_kind(out, view, company, *kind)?;
     }
     Ok(())
 }
@@ -364,17 +431,17 @@ fn push_trains(out: &mut Vec<u8>, snapshot: &Snapshot, company: Company) -> Resu
 /// Adds the trains of a kind that a company has, each as its kind after a space.
 fn push_trains_of_kind(
     out: &mut Vec<u8>,
-    snapshot: &Snapshot,
+    view: &GameView,
     company: Company,
     kind: Kind,
 ) -> Result<(), AllocError>
     ensures { OnOk result
-        (Adds out.old out.new (codes_of_trains snapshot.now.view.events.now company kind)) }
+        (Adds out.old out.new (codes_of_trains view.now.events.now company kind)) }
 {
     push_kind(
         out,
         kind,
-        at_least_zero(Money::from(snapshot.view.trains(Some(company), kind))),
+        at_least_zero(Money::from(view.trains(Some(company), kind))),
     )
 }
 

@@ -8,8 +8,8 @@ ghost use Rattle.sheets.specs.File.{players_of};
 
 use crate::end_worth::push_worths;
 use crate::line::{push_event, push_name};
-use crate::statement::{Snapshot, push_statement};
-use history::{Event, History, Walk};
+use crate::statement::push_statement;
+use history::{Event, GameView, History, Walk};
 use order_grammar::{Fault, Version, print_number, print_round};
 use rounds::{End, Game};
 use sheets::{FileFault, Sheets};
@@ -118,7 +118,7 @@ fn push_round_between(
     let history = game.history();
     let events = history.events();
     walk.go(end);
-    let stood = Snapshot::at(walk.view(history.seats()));
+    let stood = walk.view(history.seats());
     push_round(out, game.sheets(), &stood, &events[begun..end])
 }
 
@@ -137,7 +137,7 @@ pub(crate) fn push_last_round(
         return Ok(());
     }
     let last = &events[begin_of_last_round(events)..];
-    push_round(out, sheets, &Snapshot::of(history), last)
+    push_round(out, sheets, &history.now(), last)
 }
 
 /// Adds the text of a round: the lines of its events, and the statement of the game as it stood
@@ -145,12 +145,12 @@ pub(crate) fn push_last_round(
 fn push_round(
     out: &mut Vec<u8>,
     sheets: &Sheets,
-    stood: &Snapshot,
+    stood: &GameView,
     events: &[Event],
 ) -> Result<(), AllocError>
-    requires { stood.now.view.seats ≡ length (players_of sheets.now) }
+    requires { stood.now.seats ≡ length (players_of sheets.now) }
     ensures { OnOk result
-        (Adds out.old out.new (round_with_statement_at sheets.now stood.now.view events.now)) }
+        (Adds out.old out.new (round_with_statement_at sheets.now stood.now events.now)) }
 {
     for event in events {
         push_event(out, sheets, event)?;
