@@ -91,6 +91,10 @@ try_scripts_elsewhere() {
   set -- "$?"
   round_part "$game.report" > "$scratch/part"
   judge './desk called in games/' "$1" 0 "$scratch/part" none
+  echo 'GAME 1831 1' | ./umpire report > "$scratch/out" 2> "$scratch/err"
+  set -- "$?"
+  echo 'FILE REFUSED F1' > "$scratch/part"
+  judge './umpire with a file that is refused' "$1" 2 "$scratch/part" 'umpire: `./desk check` says which line .*'
 }
 
 # check_words: with the word quick it leaves out what runs the proved programs.
