@@ -4,7 +4,7 @@ use Rattle.std.proofs.Common.{if◌then◌else◌, ◌⊎◌, inl, inr, List, []
 use Rattle.std.specs.List.{AllByRecursion}
 use Rattle.std.proofs.lemmas.Bool.{eqb-true, eq-eqb, le-leb}
 use Rattle.reach.specs.Position.{Position, IsAmong}
-use Rattle.tables.specs.Train.{place_of_kind, same_kind, stops_of}
+use Rattle.tables.specs.Train.{index_of_kind, same_kind, stops_of}
 use Rattle.tables.specs.declared.rolling_stock.Kind.{Kind}
 use Rattle.tables.specs.declared.rolling_stock.Kind.TheVariants.{Two, Three, Four, Five, Six, Diesel}
 use Rattle.tables.specs.declared.roster.Company.{Company}
@@ -23,7 +23,7 @@ kind_at (suc (suc (suc zero))) = Five
 kind_at (suc (suc (suc (suc zero)))) = Six
 kind_at (suc (suc (suc (suc (suc n))))) = Diesel
 
-kind_back : (kind : Kind) → kind_at (place_of_kind kind) ≡ kind
+kind_back : (kind : Kind) → kind_at (index_of_kind kind) ≡ kind
 kind_back Two = refl
 kind_back Three = refl
 kind_back Four = refl
@@ -32,10 +32,10 @@ kind_back Six = refl
 kind_back Diesel = refl
 
 pub kind_is : (a b : Kind) → same_kind a b ≡ true → a ≡ b
-kind_is a b same = sym (kind_back a) ∙ (ap kind_at (eqb-true (place_of_kind a) (place_of_kind b) same) ∙ kind_back b)
+kind_is a b same = sym (kind_back a) ∙ (ap kind_at (eqb-true (index_of_kind a) (index_of_kind b) same) ∙ kind_back b)
 
 pub same_itself : (kind : Kind) → same_kind kind kind ≡ true
-same_itself kind = eq-eqb (place_of_kind kind) (place_of_kind kind) refl
+same_itself kind = eq-eqb (index_of_kind kind) (index_of_kind kind) refl
 
 -- a run crosses no border of some
 abbrev pub Avoids : List ℕ → TrainRun → Type 0

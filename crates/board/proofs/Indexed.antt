@@ -21,7 +21,7 @@ use Rattle.map_tables.specs.declared.track.Link.{Link}
 use Rattle.reach.proofs.Spots.{order_low, same_order}
 use Rattle.reach.specs.Reached.{stop_order}
 use Rattle.tables.proofs.Companies.{company_is}
-use Rattle.tables.specs.Roster.{place_of_company, same_company}
+use Rattle.tables.specs.Roster.{index_of_company, same_company}
 use Rattle.tables.specs.declared.roster.Company.{Company}
 use Rattle.tables.specs.declared.roster.Company.TheVariants.{Pennsylvania}
 
@@ -121,7 +121,7 @@ count_by_stop counts (Some part) stop low = count_next counts part stop (low par
     (same_stop (joined_stop_of part) stop) refl
 
 -- each company has its own place under 8
-company_low : (company : Company) → place_of_company company < 8
+company_low : (company : Company) → index_of_company company < 8
 company_low Pennsylvania = omega arith
 company_low company = omega arith
 
@@ -130,10 +130,10 @@ holder_apart : (a b : Stop) (of other : Company) → (same_stop a b && same_comp
     → holder_order b other ≢ holder_order a of
 holder_apart a b of other apart same =
     let stops : stop_order a ≡ stop_order b = omega (arith, same, company_low of, company_low other) in
-    let places : place_of_company of ≡ place_of_company other =
+    let places : index_of_company of ≡ index_of_company other =
     omega (arith, same, company_low of, company_low other) in
     let alike : same_stop a b ≡ true = stop_is_same a b (same_order a b stops) in
-    let company : same_company of other ≡ true = eq-eqb (place_of_company of) (place_of_company other) places in
+    let company : same_company of other ≡ true = eq-eqb (index_of_company of) (index_of_company other) places in
     let wrong : true ≡ false = sym (ap (λ s. s && same_company of other) alike ∙ company) ∙ apart in cc
 
 or_none : (x : Bool) → (x || false) ≡ x

@@ -14,12 +14,12 @@ use Rattle.map_tables.specs.declared.place.Place.{Place}
 use Rattle.map_tables.specs.declared.place.Stop.{Stop}
 use Rattle.map_tables.specs.declared.track.Link.{Link}
 use Rattle.reach.specs.Reached.{stop_order}
-use Rattle.tables.specs.Roster.{place_of_company}
+use Rattle.tables.specs.Roster.{index_of_company}
 use Rattle.tables.specs.declared.roster.Company.{Company}
 
 -- the place of a company at a stop
 abbrev pub holder_order : Stop → Company → ℕ
-holder_order stop company = 8 * stop_order stop + place_of_company company
+holder_order stop company = 8 * stop_order stop + index_of_company company
 
 -- an index has a map state
 pub record IsIndex (lays : List Lay) (laid : List (Place × Company)) (tiles : List (Option Lay))

@@ -42,9 +42,9 @@ use Rattle.map_tables.specs.declared.tiles.TileNo.{TileNo}
 use Rattle.map_tables.specs.declared.track.Link.{Link}
 use Rattle.reach.specs.Position.{IsAmong, Position}
 use Rattle.reach.specs.Reached.{ReachesLink, ReachesStop}
-use Rattle.tables.specs.Roster.{place_of_private, privates}
+use Rattle.tables.specs.Roster.{index_of_private, privates}
 use Rattle.tables.specs.Rules.{Rule, first_broken}
-use Rattle.tables.specs.Train.{place_of_kind}
+use Rattle.tables.specs.Train.{index_of_kind}
 use Rattle.tables.specs.declared.roster.Company.{Company}
 use Rattle.tables.specs.declared.rolling_stock.Kind.{Kind}
 use Rattle.tables.specs.declared.rolling_stock.Kind.TheVariants.{Three, Five}
@@ -74,8 +74,8 @@ is_none_left lays tile = nat_le (entry_of tile).count (on_map_of lays tile)
 unfoldable pub is_colour_closed : Kind → Colour → Bool
 is_colour_closed phase White = false
 is_colour_closed phase Yellow = false
-is_colour_closed phase Green = nat_lt (place_of_kind phase) (place_of_kind Three)
-is_colour_closed phase Brown = nat_lt (place_of_kind phase) (place_of_kind Five)
+is_colour_closed phase Green = nat_lt (index_of_kind phase) (index_of_kind Three)
+is_colour_closed phase Brown = nat_lt (index_of_kind phase) (index_of_kind Five)
 
 -- the place of a colour in the order of colours
 abbrev pub place_of_colour : Colour → ℕ
@@ -100,7 +100,7 @@ loses_track lays lay = list_any (λ old. not (is_kept (laid_links_of lay) old)) 
 -- whether a hex is one of a private that a player owns
 unfoldable pub is_blocked : Asker → Hex → Bool
 is_blocked asker hex =
-    list_any (λ private. slice_index_or asker.player_privates (place_of_private private) false
+    list_any (λ private. slice_index_or asker.player_privates (index_of_private private) false
     && list_any (λ one. same_hex one hex) (hexes_of_private private)) privates
 
 -- what a lay on a hex costs: its terrain, with the first tile

@@ -11,13 +11,13 @@ use Rattle.map_tables.specs.declared.hex.Hex.{Hex}
 use Rattle.map_tables.specs.declared.hex.Hex.TheVariants.{B20, F16}
 use Rattle.map_tables.specs.declared.lay.Lay.{Lay}
 use Rattle.map_tables.specs.declared.tiles.TileNo.TheVariants.{T57}
-use Rattle.tables.specs.Roster.{place_of_private}
+use Rattle.tables.specs.Roster.{index_of_private}
 use Rattle.tables.specs.declared.roster.Private.{Private}
 use Rattle.tables.specs.declared.roster.Private.TheVariants.{ChamplainStLawrence, DelawareHudson}
 
 -- the company owns a private
 abbrev pub is_owner : Asker → Private → Bool
-is_owner asker private = slice_index_or asker.own_privates (place_of_private private) false
+is_owner asker private = slice_index_or asker.own_privates (index_of_private private) false
 
 -- no tile lies on a hex
 abbrev pub has_no_tile : List Lay → Hex → Bool

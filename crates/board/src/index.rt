@@ -9,13 +9,11 @@ ghost use Rattle.map_tables.specs.declared.place.Stop.{Stop};
 
 use crate::kept_links::KeptLinks;
 use map_tables::{HEXES, Hex, Lay, Links, Place, Stop, joined_stop, laid_links};
-use tables::Company;
-
-/// How many places there are for stops on the map: two in each hex.
-const STOPS: usize = 2 * HEXES;
+use reach::{STOPS, stop_order};
+use tables::{COMPANIES, Company};
 
 /// How many places there are for tokens: one of each company at each stop.
-const HOLDERS: usize = 8 * STOPS;
+const HOLDERS: usize = COMPANIES * STOPS;
 
 /// What lies, so that it is found at once: the tile on each hex with its links, how many tokens
 /// name each stop, and whose.
@@ -27,20 +25,12 @@ pub(crate) struct Index {
     holders: [bool; HOLDERS],
 }
 
-/// Returns the place of a stop in the order of the map.
-fn order_of(stop: Stop) -> usize
-    ensures order { result ≡ stop_order stop }
-    ensures low { result < 186 }
-{
-    2 * stop.hex.index() + stop.number.index()
-}
-
 /// Returns the place of a company at a stop.
 fn holder_of(stop: Stop, company: Company) -> usize
     ensures order { result ≡ holder_order stop company }
     ensures low { result < 1488 }
 {
-    8 * order_of(stop) + company.place()
+    COMPANIES * stop_order(stop) + company.index()
 }
 
 impl Index {
@@ -74,7 +64,7 @@ impl Index {
     pub(crate) fn count_at(&self, stop: Stop) -> usize
         ensures { result ≡ slice_index_or self.now.counts (stop_order stop) 0 }
     {
-        self.counts[order_of(stop)]
+        self.counts[stop_order(stop)]
     }
 
     /// Returns whether a token of a company names a stop.
@@ -108,7 +98,7 @@ impl Index {
             return;
         };
         let stop = joined_stop(part);
-        self.counts[order_of(stop)] += 1;
+        self.counts[stop_order(stop)] += 1;
         self.holders[holder_of(stop, company)] = true;
     }
 }

@@ -7,9 +7,7 @@ ghost use Rattle.board.specs.LayRules.{is_colour_closed, is_kept, is_lay_used, i
 ghost use Rattle.board.specs.LayRules.{lay_answer_of, lay_cost_of, loses_track, on_map_of, needs_no_track};
 ghost use Rattle.board.specs.LayRules.{place_of_colour};
 ghost use Rattle.map_tables.specs.Hex.{same_hex};
-ghost use Rattle.map_tables.specs.Laws.{link_order};
 ghost use Rattle.map_tables.specs.Place.{joined_hex};
-ghost use Rattle.map_tables.specs.Track.{end_order};
 ghost use Rattle.map_tables.specs.declared.hex.Hex.{Hex};
 ghost use Rattle.tables.specs.Rules.{first_broken};
 
@@ -188,8 +186,8 @@ fn is_colour_closed(phase: Kind, colour: Colour) -> bool
 {
     match colour {
         Colour::White | Colour::Yellow => false,
-        Colour::Green => phase.place() < Kind::Three.place(),
-        Colour::Brown => phase.place() < Kind::Five.place(),
+        Colour::Green => phase.index() < Kind::Three.index(),
+        Colour::Brown => phase.index() < Kind::Five.index(),
     }
 }
 
@@ -210,27 +208,7 @@ fn place_of_colour(colour: Colour) -> u8
 fn is_kept(links: &[Link], old: Link) -> bool
     ensures { result ≡ is_kept links.now old }
 {
-    links
-        .iter()
-        .any(|link| link_order(*link) == link_order(old))
-}
-
-/// Returns the place of a link in the order of a hex's links.
-fn link_order(link: Link) -> usize
-    ensures { result ≡ link_order link }
-{
-    8 * end_order(link.a) + end_order(link.b)
-}
-
-/// Returns the place of an end in the order of a hex's ends.
-fn end_order(end: TrackEnd) -> usize
-    ensures place { result ≡ end_order end }
-    ensures few { result < 8 }
-{
-    match end {
-        TrackEnd::Side(side) => side.number(),
-        TrackEnd::Stop(number) => 6 + number.index(),
-    }
+    links.iter().any(|link| link.order() == old.order())
 }
 
 /// Returns whether a hex is one of a private that a player owns.
@@ -238,7 +216,7 @@ fn end_order(end: TrackEnd) -> usize
 fn is_blocked(asker: &Asker, hex: Hex) -> bool
     ensures { result ≡ is_blocked asker.now hex }
 {
-    Private::ALL.iter().any(|private| asker.player_privates[private.place()]
+    Private::ALL.iter().any(|private| asker.player_privates[private.index()]
         && is_one_of(hex, private_hexes(*private)))
 }
 

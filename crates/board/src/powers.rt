@@ -54,5 +54,5 @@ pub(crate) fn is_dh_token(asker: &Asker, hex: Hex) -> bool
 fn is_owner(asker: &Asker, private: Private) -> bool
     ensures { result ≡ is_owner asker.now private }
 {
-    asker.own_privates[private.place()]
+    asker.own_privates[private.index()]
 }

@@ -22,7 +22,7 @@ use Rattle.map_tables.proofs.HexTables.{same_hex-true}
 use Rattle.reach.specs.Lawful.{IsLawful}
 use Rattle.reach.specs.Position.{AtStop, InHex, value_of}
 use Rattle.std.specs.Prelude.{nat_lt}
-use Rattle.tables.specs.Train.{place_of_kind}
+use Rattle.tables.specs.Train.{index_of_kind}
 use Rattle.tables.specs.declared.rolling_stock.Kind.{Kind}
 use Rattle.tables.specs.declared.rolling_stock.Kind.TheVariants.{Five}
 
@@ -37,7 +37,7 @@ of_tile printed laid hex (Some lay) there =
 -- a printed value in any phase
 of_print : ValuesAreAtMost80 → (phase : Kind) (hex : Hex) → value_in phase (print_of hex).value ≤ 80
 of_print values phase hex =
-    elim (nat_lt (place_of_kind phase) (place_of_kind Five)) as
+    elim (nat_lt (index_of_kind phase) (index_of_kind Five)) as
     (λ b. cond b (print_of hex).value.before_phase_five (print_of hex).value.from_phase_five ≤ 80) [
       | true ↦ (values.0 hex).0
       | false ↦ (values.0 hex).1

@@ -18,7 +18,7 @@ use Rattle.map_tables.specs.declared.print.PrintedValue.{PrintedValue}
 use Rattle.map_tables.specs.declared.track.Link.{Link}
 use Rattle.reach.specs.Lawful.{IsLawful}
 use Rattle.reach.specs.Position.{AtStop, InHex, Position}
-use Rattle.tables.specs.Train.{place_of_kind}
+use Rattle.tables.specs.Train.{index_of_kind}
 use Rattle.tables.specs.declared.roster.Company.{Company}
 use Rattle.tables.specs.declared.rolling_stock.Kind.{Kind}
 use Rattle.tables.specs.declared.rolling_stock.Kind.TheVariants.{Five}
@@ -44,7 +44,7 @@ with_token laid place company = record laid { tokens = laid.tokens ++ (place, co
 -- a printed value in a phase
 abbrev pub value_in : Kind → PrintedValue → ℕ
 value_in phase value =
-    if nat_lt (place_of_kind phase) (place_of_kind Five) then value.before_phase_five else value.from_phase_five
+    if nat_lt (index_of_kind phase) (index_of_kind Five) then value.before_phase_five else value.from_phase_five
 
 -- what each of its stops is worth
 abbrev pub value_on : Kind → List Lay → Hex → ℕ

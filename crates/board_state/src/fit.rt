@@ -60,7 +60,7 @@ fn have_bad_side(lays: &[Lay]) -> bool
 }
 
 /// Returns the place of a kind of tile among the kinds.
-fn place_of_kind(kind: TileKind) -> u8
+fn index_of_kind(kind: TileKind) -> u8
     ensures { result ≡ place_of_tile_kind kind }
 {
     match kind {
@@ -79,7 +79,7 @@ fn takes(hex: HexKind, tile: TileKind) -> bool
     ensures { result ≡ takes hex tile }
 {
     match hex {
-        HexKind::Open(kind) => place_of_kind(kind) == place_of_kind(tile),
+        HexKind::Open(kind) => index_of_kind(kind) == index_of_kind(tile),
         HexKind::Grey | HexKind::Red => false,
     }
 }

@@ -33,7 +33,7 @@ pub fn same_stop(a: Stop, b: Stop) -> bool
 pub fn same_company(a: Company, b: Company) -> bool
     ensures { result ≡ same_company a b }
 {
-    a.place() == b.place()
+    a.index() == b.index()
 }
 
 /// Returns whether a place names a stop, or a part of it.
@@ -50,7 +50,7 @@ pub(crate) fn names(stop: Stop, place: Place) -> bool
 pub(crate) fn value_in(phase: Kind, value: PrintedValue) -> Amount
     ensures { result ≡ value_in phase value }
 {
-    if phase.place() < Kind::Five.place() {
+    if phase.index() < Kind::Five.index() {
         value.before_phase_five
     } else {
         value.from_phase_five

@@ -139,7 +139,7 @@ fn group_of(ranking: &Ranking, trains: &[Kind], kind: Kind) -> Group
         kind,
         count: trains
             .iter()
-            .filter(|train| train.place() == kind.place())
+            .filter(|train| train.index() == kind.index())
             .count(),
         may_earn: ranking.may_begin(kind),
     }

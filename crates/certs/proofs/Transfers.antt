@@ -10,7 +10,7 @@ use Rattle.events.specs.declared.event.Shareholder.{Shareholder}
 use Rattle.events.specs.declared.event.Shareholder.TheVariants.{InitialOffering, BankPool, Seat as OfSeat}
 use Rattle.events.specs.declared.event.Transfer.{Transfer}
 use Rattle.totals.specs.Shares.{brought_to, same_shareholder, taken_from}
-use Rattle.tables.specs.Roster.{place_of_company}
+use Rattle.tables.specs.Roster.{index_of_company}
 use Rattle.tables.specs.declared.roster.Company.{Company}
 
 -- places are the same where their indices are
@@ -31,38 +31,38 @@ part_is true shares = refl
 part_is false shares = refl
 
 -- what goes to or from a place of the company of the transfer
-part_here : (of at : Company) (place other : Shareholder) (shares : ℕ) → place_of_company of ≡ place_of_company at
-    → pos (if place_of_company of == place_of_company
+part_here : (of at : Company) (place other : Shareholder) (shares : ℕ) → index_of_company of ≡ index_of_company at
+    → pos (if index_of_company of == index_of_company
     at then (if same_shareholder place other then shares else 0) else 0)
     ≡ (if index_of place == index_of other then pos shares else pos 0)
 part_here of at place other shares same =
-    let yes : (place_of_company of == place_of_company at) ≡ true = grind (arith, nat_tests) in
+    let yes : (index_of_company of == index_of_company at) ≡ true = grind (arith, nat_tests) in
     ap (λ (b : Bool). pos (if b then (if same_shareholder place other then shares else 0) else 0)) yes
     ∙ ap (λ (b : Bool). pos (if b then shares else 0)) (same_index place other)
     ∙ part_is (index_of place == index_of other) shares
 
 -- what goes to or from a place of another company
 part_elsewhere : (of at : Company) (place other : Shareholder) (shares : ℕ)
-    → (place_of_company of ≡ place_of_company at → ⊥)
-    → pos 0 ≡ pos (if place_of_company of == place_of_company
+    → (index_of_company of ≡ index_of_company at → ⊥)
+    → pos 0 ≡ pos (if index_of_company of == index_of_company
     at then (if same_shareholder place other then shares else 0) else 0)
 part_elsewhere of at place other shares apart =
-    let no : (place_of_company of == place_of_company at) ≡ false = grind (arith, nat_tests) in
+    let no : (index_of_company of == index_of_company at) ≡ false = grind (arith, nat_tests) in
     sym (ap (λ (b : Bool). pos (if b then (if same_shareholder place other then shares else 0) else 0)) no)
 
 -- the shares at a place after a transfer, where its company's row changed so there
 pub rows_after : (rows : List (List ℤ)) (row : List ℤ) (transfer : Transfer) (at : ℕ)
-    → at ≡ place_of_company transfer.company → at < length rows → (company : Company) (place : Shareholder)
+    → at ≡ index_of_company transfer.company → at < length rows → (company : Company) (place : Shareholder)
     → get_or row (index_of place) (pos 0) ≡ (get_or (get_or rows at []) (index_of place) (pos 0) +ℤ
     (if index_of transfer.to == index_of place then pos transfer.shares else pos 0)) -ℤ
     (if index_of transfer.from == index_of place then pos transfer.shares else pos 0)
-    → get_or (get_or (set rows at row) (place_of_company company) []) (index_of place) (pos 0)
-    ≡ (get_or (get_or rows (place_of_company company) []) (index_of place) (pos 0) +ℤ pos
+    → get_or (get_or (set rows at row) (index_of_company company) []) (index_of place) (pos 0)
+    ≡ (get_or (get_or rows (index_of_company company) []) (index_of place) (pos 0) +ℤ pos
     (brought_to company place (Some transfer))) -ℤ pos (taken_from company place (Some transfer))
 rows_after rows row transfer at at_is within company place moved =
     let i : ℕ = index_of place in
-    let k : ℕ = place_of_company company in
-    elim (cases_eq (place_of_company transfer.company) k) [
+    let k : ℕ = index_of_company company in
+    elim (cases_eq (index_of_company transfer.company) k) [
       | inl same ↦
           let at_k : at ≡ k = at_is ∙ same in
           ap (λ (n : ℕ). get_or (get_or (set rows at row) n []) i (pos 0)) (sym at_k)

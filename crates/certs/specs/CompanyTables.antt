@@ -7,12 +7,12 @@ use Rattle.events.specs.declared.event.Event.{Event}
 use Rattle.events.specs.declared.event.Shareholder.{Shareholder}
 use Rattle.totals.specs.Shares.{president_of, shares_of, square_of}
 use Rattle.totals.specs.Totals.{at_company}
-use Rattle.tables.specs.Roster.{place_of_company}
+use Rattle.tables.specs.Roster.{index_of_company}
 use Rattle.tables.specs.declared.roster.Company.{Company}
 
 -- the shares of a company at a place, by the rows
 abbrev pub shares_in_rows : List (List ℤ) → Company → Shareholder → ℤ
-shares_in_rows rows company place = slice_index_or (slice_index_or rows (place_of_company company) []) (index_of place)
+shares_in_rows rows company place = slice_index_or (slice_index_or rows (index_of_company company) []) (index_of place)
     (pos 0)
 
 -- the row of a company has its shares

@@ -8,7 +8,7 @@ use Rattle.events.specs.declared.event.Transfer.{Transfer}
 use Rattle.totals.specs.LookBack.{Game, owner_in, owner_of}
 use Rattle.totals.specs.Shares.{brought_to, president_of, shares_of, square_of, taken_from}
 use Rattle.totals.specs.declared.look_back.GameView.{GameView}
-use Rattle.tables.specs.Roster.{place_of_company}
+use Rattle.tables.specs.Roster.{index_of_company}
 use Rattle.tables.specs.declared.roster.Company.{Company}
 use Rattle.tables.specs.declared.roster.Private.{Private}
 use Rattle.tables.specs.declared.seat.Seat.{Seat}
@@ -17,15 +17,15 @@ use Rattle.tables.specs.declared.squares.Square.{Square}
 -- the shares of a company at a place
 abbrev pub shares_in : Holdings → Company → Shareholder → ℤ
 shares_in holdings company place =
-    slice_index_or (slice_index_or holdings.shares (place_of_company company) []) (index_of place) (pos 0)
+    slice_index_or (slice_index_or holdings.shares (index_of_company company) []) (index_of place) (pos 0)
 
 -- the president of a company, as it was last said
 abbrev pub president_in : Holdings → Company → Option Seat
-president_in holdings company = slice_index_or holdings.presidents (place_of_company company) None
+president_in holdings company = slice_index_or holdings.presidents (index_of_company company) None
 
 -- the square of a company
 abbrev pub square_in : Holdings → Company → Option Square
-square_in holdings company = slice_index_or holdings.squares (place_of_company company) None
+square_in holdings company = slice_index_or holdings.squares (index_of_company company) None
 
 -- the holdings are those of a game
 pub record AreHoldingsOf (game : Game) (holdings : Holdings) : Type 0 where

@@ -26,7 +26,7 @@ impl Certificates for Holdings {
     ghost certificates = { certificates_by };
 
     fn certificates_of(&self, seat: Seat, company: Company) -> ShareCount {
-        let place = company.place();
+        let place = company.index();
         let shares = self.shares(company, Shareholder::Seat(seat));
         certificates_of(seat, self.squares[place], self.presidents[place], shares)
     }

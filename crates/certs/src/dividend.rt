@@ -9,10 +9,7 @@ ghost use Rattle.totals.specs.Shares.{shares_of};
 use history::{Event, History, Holder, Shareholder, at_least_zero};
 use market::move_token_right;
 use std::alloc::AllocError;
-use tables::{Amount, Company, Seat};
-
-/// How many shares a company has.
-const SHARES: Amount = 10;
+use tables::{Amount, Company, SHARES, Seat};
 
 /// Pays a revenue in dollars for the shares of a company from the bank: a tenth of it for each share
 /// that a seat holds, seat by seat, and as much to the company for each in the bank pool. Its token

@@ -51,7 +51,7 @@ impl Holdings {
     pub fn shares(&self, company: Company, place: Shareholder) -> ShareCount
         ensures { result ≡ shares_in self.now company place }
     {
-        self.shares[company.place()]
+        self.shares[company.index()]
             .get(index_of(place))
             .copied()
             .unwrap_or(0)
@@ -63,7 +63,7 @@ impl Holdings {
         requires { pos transfer.shares ≤ℤ shares_in self.old transfer.company transfer.from }
         ensures { MovesShares self.old self.new transfer }
     {
-        let place = transfer.company.place();
+        let place = transfer.company.index();
         let mut shares = self.shares;
         shares[place] = moved(
             shares[place],

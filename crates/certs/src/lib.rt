@@ -31,6 +31,6 @@ pub use dividend::pay_out;
 pub use holdings::Holdings;
 pub use president::successor;
 pub use purchase::{is_over_six, market_price, may_buy, share_price};
-pub use sale::may_sell;
+pub use sale::{may_sell, none_is_left};
 pub use sell::{record_president, sell_block};
 pub use share_deal::{Purchase, Sale};

@@ -40,7 +40,7 @@ impl Holdings {
     pub fn president(&self, company: Company) -> Option<Seat>
         ensures { result ≡ presiding_in self.now company }
     {
-        let old = self.presidents[company.place()]?;
+        let old = self.presidents[company.index()]?;
         Some(with_most(self, company, self.seats, old))
     }
 }

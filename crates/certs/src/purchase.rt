@@ -6,6 +6,7 @@ ghost use Rattle.certs.specs.Purchase.{is_no_par, is_over_six, is_second, is_sho
 ghost use Rattle.certs.specs.Purchase.{market_price_of, purchase_judgement, share_price_of};
 ghost use Rattle.events.specs.declared.event.Shareholder.TheVariants.{Seat as OfSeat};
 ghost use Rattle.totals.specs.Shares.{par_of, shares_of, square_of};
+ghost use Rattle.tables.specs.Chart.{price_most};
 ghost use Rattle.tables.specs.Roster.{certificate_limit_of};
 
 use crate::counted_certificates::{counted_now, counts_on};
@@ -108,8 +109,8 @@ fn cost(now: &GameView, purchase: Purchase) -> Money
 /// market price in the pool.
 pub fn share_price(now: &GameView, company: Company, from: ShareSource) -> Money
     ensures price { result ≡ pos (share_price_of now.now.events.now company from) }
-    ensures small { unwrap_or (par_of now.now.events.now company) 0 ≤ 350 →
-        share_price_of now.now.events.now company from ≤ 350 }
+    ensures small { unwrap_or (par_of now.now.events.now company) 0 ≤ price_most →
+        share_price_of now.now.events.now company from ≤ price_most }
 {
     match from {
         ShareSource::InitialOffering => now.par(company).unwrap_or(0),
@@ -121,7 +122,7 @@ pub fn share_price(now: &GameView, company: Company, from: ShareSource) -> Money
 /// none.
 pub fn market_price(now: &GameView, company: Company) -> Amount
     ensures price { result ≡ market_price_of now.now.events.now company }
-    ensures small { result ≤ 350 }
+    ensures small { result ≤ price_most }
 {
     match now.square(company) {
         Some(square) => price(square),

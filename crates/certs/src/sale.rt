@@ -8,13 +8,7 @@ ghost use Rattle.totals.specs.Shares.{shares_of};
 
 use crate::share_deal::Sale;
 use history::{GameView, History, ShareCount, Shareholder, StockRule};
-use tables::{Company, Round, Seat, rules};
-
-/// The most shares of a company that the bank pool may hold.
-const POOL_MOST: ShareCount = 5;
-
-/// The shares of a president's certificate.
-const PRESIDENT_SHARES: ShareCount = 2;
+use tables::{Company, POOL_SHARES_MOST, PRESIDENT_SHARES, Round, Seat, rules};
 
 /// Checks whether a seat may sell. A sale to pay for a train names the operating company. The error
 /// is the first rule that the sale breaks, of S2 to S5 and S9.
@@ -73,7 +67,7 @@ fn is_not_held(now: &GameView, seat: Seat, sale: Sale) -> bool
 fn is_over_five(now: &GameView, sale: Sale) -> bool
     ensures { result ≡ is_over_five now.now.events.now sale }
 {
-    would_be_pooled(now, sale) > POOL_MOST
+    would_be_pooled(now, sale) > ShareCount::from(POOL_SHARES_MOST)
 }
 
 /// Returns what the bank pool would hold of the company.
@@ -93,11 +87,11 @@ fn must_stay(now: &GameView, seat: Seat, sale: Sale, operating: Option<Company>)
 }
 
 /// Returns whether the president would keep fewer than two shares, and no other seat has two.
-fn none_is_left(now: &GameView, seat: Seat, sale: Sale) -> bool
+pub fn none_is_left(now: &GameView, seat: Seat, sale: Sale) -> bool
     ensures { result ≡ none_is_left now.now.seats now.now.events.now seat sale }
 {
-    would_keep(now, seat, sale) < PRESIDENT_SHARES
-        && !another_has(now, sale.company, seat, PRESIDENT_SHARES)
+    let least = ShareCount::from(PRESIDENT_SHARES);
+    would_keep(now, seat, sale) < least && !another_has(now, sale.company, seat, least)
 }
 
 /// Returns whether the sale is of the operating company, and another seat would have strictly more

@@ -19,7 +19,7 @@ pub(crate) fn index_of(place: Shareholder) -> usize
     match place {
         Shareholder::InitialOffering => 0,
         Shareholder::BankPool => 1,
-        Shareholder::Seat(seat) => 2 + seat.number(),
+        Shareholder::Seat(seat) => 2 + seat.index(),
     }
 }
 

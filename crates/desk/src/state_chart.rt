@@ -26,7 +26,7 @@ const LETTERS: [&str; 8] = ["P", "N", "C", "B", "O", "E", "H", "M"];
 
 /// Returns the letter that stands for a company's token.
 pub(crate) fn letter(company: Company) -> &'static str {
-    LETTERS[company.place()]
+    LETTERS[company.index()]
 }
 
 /// Adds the stock market: the prices of each row, with the zones, and below them the tokens.

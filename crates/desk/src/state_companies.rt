@@ -147,7 +147,7 @@ fn push_share_heading(out: &mut Vec<u8>, sheets: &Sheets) -> Result<(), AllocErr
     fill(out, "\nSHARES    PAR  IPO POOL", &[])?;
     for seat in 0..sheets.seats() {
         let seat = Seat::at(seat);
-        let column = Column(PLAYERS + PLAYER * seat.number());
+        let column = Column(PLAYERS + PLAYER * seat.index());
         fill(out, "% %", &[column, Bytes(name(sheets, seat))])?;
     }
     fill(out, "\n", &[])
@@ -177,7 +177,7 @@ fn push_shares(out: &mut Vec<u8>, stood: &Stood, company: Company) -> Result<(),
         push(
             out,
             &[
-                Column(PLAYERS + PLAYER * seat.number()),
+                Column(PLAYERS + PLAYER * seat.index()),
                 Right(4, history.shares(company, Shareholder::Seat(seat))),
                 Words(if president == Some(seat) { "*" } else { "" }),
             ],

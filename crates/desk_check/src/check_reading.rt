@@ -153,10 +153,10 @@ impl Reader<'_, '_> {
         let Ok(Order::Company(company)) = read.order() else {
             return None;
         };
-        if let Some(first) = self.begun[company.place()] {
+        if let Some(first) = self.begun[company.index()] {
             return Some(Said::Again(*company, first));
         }
-        self.begun[company.place()] = Some(line.number);
+        self.begun[company.index()] = Some(line.number);
         let president = other_president(self.view?, *company, head.sent.seat)?;
         Some(Said::Presided(*company, president))
     }
@@ -211,7 +211,7 @@ impl Reader<'_, '_> {
     /// Returns whether a sheet has no orders for a company that operates, over which its player
     /// presides.
     fn is_silent(&self, sent: Sent, company: Company) -> bool {
-        let begun = self.begun[company.place()];
+        let begun = self.begun[company.index()];
         let Some(view) = self.view else {
             return false;
         };

@@ -27,7 +27,7 @@ pub fn push_of_stock(
     seat: Seat,
 ) -> Result<(), AllocError> {
     let history = stood.history;
-    if seat.number() >= history.seats() || history.seats() > 6 {
+    if seat.index() >= history.seats() || history.seats() > 6 {
         return Ok(());
     }
     let moves = deals(alloc, history, seat)?;

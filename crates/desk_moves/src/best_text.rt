@@ -90,7 +90,7 @@ fn may_have(phase: Kind, trains: &[Kind]) -> Result<(), MovesFault> {
     for kind in &Kind::ALL {
         let named = trains
             .iter()
-            .filter(|other| other.place() == kind.place())
+            .filter(|other| other.index() == kind.index())
             .count();
         if named > 0 && has_rusted(*kind, phase) {
             return Err(MovesFault::Asked(NoAnswer::Rusted));
@@ -110,7 +110,7 @@ fn may_have(phase: Kind, trains: &[Kind]) -> Result<(), MovesFault> {
 /// Returns whether trains of a kind have rusted by a phase.
 fn has_rusted(kind: Kind, phase: Kind) -> bool {
     match rusts(kind) {
-        Some(by) => by.place() <= phase.place(),
+        Some(by) => by.index() <= phase.index(),
         None => false,
     }
 }

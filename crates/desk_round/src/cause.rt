@@ -1,6 +1,5 @@
 //! Which cause of a rule it was that refused a line, of a rule with several.
 ghost use Rattle.std.specs.Prelude.{◌≡◌};
-ghost use Rattle.certs.specs.Sale.{another_has, kept_after, none_is_left};
 ghost use Rattle.desk_round.specs.Cause.{cause_above, cause_in_orders, cause_in_turn, cause_of};
 ghost use Rattle.desk_round.specs.Cause.{cause_of_lay, cause_of_pay, cause_of_price, cause_of_purchase, cause_of_raise};
 ghost use Rattle.desk_round.specs.Cause.{cause_of_run, cause_of_sale, cause_of_stay, cause_of_trade};
@@ -13,17 +12,12 @@ ghost use Rattle.purchases.specs.Train.{may_be_traded};
 
 use crate::done::{Done, last_done};
 use crate::sheet_line::LinePlace;
-use certs::Sale;
+use certs::{Sale, none_is_left};
 use desk_base::Cause;
-use history::{
-    GameView, LayRule, OpeningRule, Refusal, RunRule, ShareCount, Shareholder, StockRule, TrainRule,
-};
+use history::{GameView, LayRule, OpeningRule, Refusal, RunRule, StockRule, TrainRule};
 use order_grammar::{Offer, Order, TrainSource};
 use purchases::has_trains;
 use tables::{Amount, Company, Kind, Round, Seat};
-
-/// The shares of a president's certificate.
-const PRESIDENT_SHARES: ShareCount = 2;
 
 /// Returns why a line of a round has no place where it stands.
 pub(crate) fn cause_out_of_place(round: Round, place: LinePlace) -> Cause
@@ -304,34 +298,4 @@ fn cause_of_sale(view: &GameView, seat: Seat, sale: Sale) -> Cause
     } else {
         Cause::PresidencyMoves
     }
-}
-
-/// Returns whether the president would keep fewer than two shares, and no other seat has two.
-fn none_is_left(view: &GameView, seat: Seat, sale: Sale) -> bool
-    ensures { result ≡ none_is_left view.now.seats view.now.events.now seat sale }
-{
-    would_keep(view, seat, sale) < PRESIDENT_SHARES
-        && !another_has(view, sale.company, seat, PRESIDENT_SHARES)
-}
-
-/// Returns what the seat would keep of the company.
-fn would_keep(view: &GameView, seat: Seat, sale: Sale) -> ShareCount
-    ensures { result ≡ kept_after view.now.events.now seat sale }
-{
-    view.shares(sale.company, Shareholder::Seat(seat)) - ShareCount::from(sale.shares)
-}
-
-/// Returns whether another seat has at least this many shares of a company.
-fn another_has(view: &GameView, company: Company, seat: Seat, least: ShareCount) -> bool
-    ensures { result
-        ≡ another_has view.now.seats view.now.events.now company seat least }
-{
-    let mut other = seat;
-    for _ in 1..view.seats {
-        other = other.left(view.seats);
-        if view.shares(company, Shareholder::Seat(other)) >= least {
-            return true;
-        }
-    }
-    false
 }

@@ -17,7 +17,7 @@ use certs::{Sale, sell_block};
 use history::{Event, History, at_least_zero};
 use purchases::buy_train;
 use std::alloc::{AllocError, Global};
-use tables::{Amount, Company};
+use tables::{Amount, COMPANIES, Company, POOL_SHARES_MOST};
 
 /// Buys the train that a company without one must buy, or makes its president bankrupt. The RAISE
 /// lines of its orders, those that were held, are ruled first. Fails only if allocation fails.
@@ -42,8 +42,8 @@ pub fn buy_by_force(
     Ok(())
 }
 
-/// Upper bound on the shares that can be sold: 8 companies times the 5 shares that the pool takes.
-const SALES_MOST: usize = 40;
+/// Upper bound on the shares that can be sold: those of all companies that the pool takes.
+const SALES_MOST: usize = COMPANIES * POOL_SHARES_MOST as usize;
 
 /// Sells shares of the president one at a time, until they do not fall short or may sell none.
 #[tactic(auto, unfolding(crate::specs::Forced::sold_singly))]

@@ -4,25 +4,22 @@
 //! as it is read. A line is refused, whatever its condition, if no purchase is due, and once the
 //! president does not fall short. Then come its condition and the rules of a sale. No sale may move
 //! the presidency of the company.
-ghost use Rattle.std.specs.Prelude.{◌≡◌, ◌≤◌, ◌<◌, ◌++◌, ◌∷◌, [], IfOk, OnOk, is_none};
+ghost use Rattle.std.specs.Prelude.{◌≡◌, ◌≤◌, ◌<◌, ◌++◌, ◌∷◌, [], OnOk};
 ghost use Rattle.std.specs.Option.{option_copied};
-ghost use Rattle.events.specs.declared.event.Event.TheVariants as event;
 ghost use Rattle.history.specs.Sound.{IsSound};
 ghost use Rattle.forced_purchase.specs.Raise.{after_raise_line, after_raises, needed_rule, raise_rule, raises_in};
 ghost use Rattle.forced_purchase.specs.Raise.{sale_rule};
 ghost use Rattle.sheets.specs.Part.{line_with};
-ghost use Rattle.totals.specs.LookBack.{with_event};
-ghost use Rattle.turns.specs.Ruling.{judged};
 
 use crate::operator::Operator;
 use crate::shortfall::falls_short;
 use certs::{Sale, may_sell, sell_block};
-use history::{Event, History, PackedLine, PackedRuling, Refusal, StockRule};
+use history::{History, PackedLine, Refusal, StockRule};
 use order_grammar::{Condition, Order};
 use sheets::ReadLine;
 use std::alloc::AllocError;
 use std::marker::Model;
-use tables::Seat;
+use turns::record_packed;
 
 /// A RAISE of a company's orders that is held over to the end of the turn, in few bytes.
 #[derive(Debug, Drop)]
@@ -166,29 +163,4 @@ fn rule_raise(
         sell_block(history, by.president, sale)?;
     }
     Ok(())
-}
-
-/// Records what becomes of the packed order of the line with this number: it breaks this rule
-/// first, or none. Returns whether it is obeyed. Fails only if allocation fails.
-fn record_packed(
-    history: &mut History,
-    seat: Seat,
-    line: u32,
-    order: PackedLine,
-    broken: Option<Refusal>,
-) -> Result<bool, AllocError>
-    requires { IsSound history.old }
-    ensures ruling { OnOk result (history.new
-        ≡ with_event history.old (event.Ruled seat line
-        (judged order.condition order.order broken))) }
-    ensures obeyed { IfOk result (λ obeyed. obeyed ≡ is_none broken) }
-    ensures sound { OnOk result (IsSound history.new) }
-{
-    let obeyed = broken.is_none();
-    let ruling = match broken {
-        Some(rule) => PackedRuling::refused(rule, order),
-        None => PackedRuling::obeyed(order),
-    };
-    history.record_event(Event::Ruled { seat, line, ruling })?;
-    Ok(obeyed)
 }

@@ -13,7 +13,7 @@ use Rattle.totals.specs.Bids.{bid_of, bid_said, bids_elsewhere_of, tied_on}
 use Rattle.totals.specs.LookBack.{Game, with_event}
 use Rattle.history.proofs.Soundness.{BidsStand}
 use Rattle.history.specs.Sound.{BiddersAreSeated, BidsAreSmall, BidsDiffer}
-use Rattle.tables.specs.Roster.{place_of_private, privates, same_private}
+use Rattle.tables.specs.Roster.{index_of_private, privates, same_private}
 use Rattle.tables.specs.Seat.{seat_at}
 use Rattle.tables.specs.declared.roster.Private.{Private}
 use Rattle.tables.specs.declared.seat.Seat.{Seat}
@@ -46,13 +46,13 @@ pub bid_silent : (private : Private) (seat : Seat) (amount : ℕ) (by : Seat) (o
     → same_private other private ≡ false → bid_said other by (bidding_of (Bids private seat amount)) ≡ None
 bid_silent private seat amount by other apart =
     ap (λ same. if same && (seat.0 == by.0) then Some (Some amount) else None)
-    (same_either_way (place_of_private private) (place_of_private other) ∙ apart)
+    (same_either_way (index_of_private private) (index_of_private other) ∙ apart)
 
 -- and so does a sale
 pub sale_silent : (private : Private) (seat : Seat) (price : ℕ) (by : Seat) (other : Private)
     → same_private other private ≡ false → bid_said other by (bidding_of (Sold private seat price)) ≡ None
 sale_silent private seat price by other apart =
-    ap (λ same. if same then Some None else None) (same_either_way (place_of_private private) (place_of_private other)
+    ap (λ same. if same then Some None else None) (same_either_way (index_of_private private) (index_of_private other)
     ∙ apart)
 
 -- what a bid ties

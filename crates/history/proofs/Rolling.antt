@@ -14,7 +14,7 @@ use Rattle.totals.proofs.Choices.{both, same_company_is, truth}
 use Rattle.totals.proofs.EventAtEnd.{trains_at_before, trains_at_end}
 use Rattle.totals.specs.Trains.{TrainsAreHeld, one_if, same_train_place, train_goes, trains_at, trains_held}
 use Rattle.totals.specs.Trains.{trains_sold}
-use Rattle.tables.specs.Train.{place_of_kind, same_kind, trains_of}
+use Rattle.tables.specs.Train.{index_of_kind, same_kind, trains_of}
 use Rattle.tables.specs.declared.rolling_stock.Kind.{Kind}
 use Rattle.tables.specs.declared.rolling_stock.Kind.TheVariants.{Two, Three, Four, Five, Six, Diesel}
 use Rattle.tables.specs.declared.roster.Company.{Company}
@@ -26,14 +26,14 @@ kind_at place =
     3 then Five else if place == 4 then Six else Diesel
 
 -- is the kind
-kind_at_place : (kind : Kind) → kind_at (place_of_kind kind) ≡ kind
+kind_at_place : (kind : Kind) → kind_at (index_of_kind kind) ≡ kind
 kind_at_place Two = refl
 kind_at_place other = refl
 
 -- kinds of one place are the same
 pub same_kind_is : (a b : Kind) → same_kind a b ≡ true → a ≡ b
 same_kind_is a b same =
-    sym (kind_at_place a) ∙ ap kind_at ((Decides-eqb (place_of_kind a) (place_of_kind b)).0 same) ∙ kind_at_place b
+    sym (kind_at_place a) ∙ ap kind_at ((Decides-eqb (index_of_kind a) (index_of_kind b)).0 same) ∙ kind_at_place b
 
 -- places that are the same
 pub same_train_place_is : (a b : TrainPlace) → same_train_place a b ≡ true → a ≡ b

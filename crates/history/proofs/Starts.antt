@@ -24,7 +24,7 @@ use Rattle.totals.specs.Shares.{is_floated, par_of, par_said, president_of, pres
 use Rattle.totals.specs.Shares.{square_said}
 use Rattle.history.specs.Sound.{IsLed, IsSound, least_offered}
 use Rattle.tables.specs.Chart.{par_square_of}
-use Rattle.tables.specs.Roster.{place_of_company, same_company}
+use Rattle.tables.specs.Roster.{index_of_company, same_company}
 use Rattle.tables.specs.declared.roster.Company.{Company}
 use Rattle.tables.specs.declared.roster.Company.TheVariants.{Pennsylvania, NewYorkCentral}
 use Rattle.tables.specs.declared.roster.Private.TheVariants.{CamdenAmboy, MohawkHudson}
@@ -99,7 +99,7 @@ least_eight events other = omega arith
 
 -- a company is itself
 company_itself : (company : Company) → same_company company company ≡ true
-company_itself company = (Decides-eqb (place_of_company company) (place_of_company company)).1 refl
+company_itself company = (Decides-eqb (index_of_company company) (index_of_company company)).1 refl
 
 -- a seat is itself
 itself : (n a : ℕ) → (if n == n then a else 0) ≡ a

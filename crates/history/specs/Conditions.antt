@@ -8,7 +8,7 @@ use Rattle.totals.specs.Trains.{phase_of}
 use Rattle.order_grammar.specs.declared.condition.Condition.{Condition}
 use Rattle.order_grammar.specs.declared.condition.Condition.TheVariants.{Price, Phase, Floated}
 use Rattle.tables.specs.Chart.{price_of}
-use Rattle.tables.specs.Train.{place_of_kind}
+use Rattle.tables.specs.Train.{index_of_kind}
 use Rattle.tables.specs.declared.rolling_stock.Kind.{Kind}
 use Rattle.tables.specs.declared.squares.Square.{Square}
 
@@ -19,7 +19,7 @@ is_priced_at_least sum (Some square) = nat_le sum (price_of square)
 
 -- a phase is that of a kind or a later one
 abbrev pub has_begun : Kind → Kind → Bool
-has_begun kind phase = nat_le (place_of_kind kind) (place_of_kind phase)
+has_begun kind phase = nat_le (index_of_kind kind) (index_of_kind phase)
 
 -- a condition holds
 abbrev pub holds : List Event → Condition → Bool

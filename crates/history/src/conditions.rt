@@ -44,5 +44,5 @@ fn is_priced_at_least(sum: Amount, square: Option<Square>) -> bool
 fn has_begun(kind: Kind, phase: Kind) -> bool
     ensures { result ≡ has_begun kind phase }
 {
-    kind.place() <= phase.place()
+    kind.index() <= phase.index()
 }

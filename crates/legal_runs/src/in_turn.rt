@@ -70,5 +70,5 @@ fn has_enough(trains: &[Kind], claimed: &[ClaimedRun], kind: Kind) -> bool
 fn same_kind(kind: Kind, other: Kind) -> bool
     ensures { result ≡ same_kind kind other }
 {
-    kind.place() == other.place()
+    kind.index() == other.index()
 }

@@ -1,7 +1,6 @@
 ghost use Rattle.std.specs.List.{list_any};
 ghost use Rattle.std.specs.Prelude.{◌≡◌, ◌<◌, IfSome, find};
 ghost use Rattle.map_tables.specs.Border.{neighbour_of};
-ghost use Rattle.map_tables.specs.Track.{end_order};
 ghost use Rattle.reach.specs.Position.{links_of};
 ghost use Rattle.legal_runs.specs.Named.{is_hex, leg_to, same_link, side_towards, step_between, step_over};
 
@@ -123,15 +122,15 @@ fn same_link(link: Link, other: Link) -> bool
     ensures { result ≡ same_link link other }
 {
     link.hex.index() == other.hex.index()
-        && order(link.a) == order(other.a)
-        && order(link.b) == order(other.b)
+        && link.a.order() == other.a.order()
+        && link.b.order() == other.b.order()
 }
 
 /// Returns the step from one end of a hex to another by the link that would join them.
 fn step_over(hex: Hex, from: TrackEnd, to: TrackEnd) -> WalkStep
     ensures { result ≡ step_over hex from to }
 {
-    if order(to) < order(from) {
+    if to.order() < from.order() {
         WalkStep {
             link: Link {
                 hex,
@@ -149,16 +148,5 @@ fn step_over(hex: Hex, from: TrackEnd, to: TrackEnd) -> WalkStep
             },
             turned: false,
         }
-    }
-}
-
-/// Returns the place of an end among the ends of a hex.
-pub(crate) fn order(end: TrackEnd) -> usize
-    ensures value { result ≡ end_order end }
-    ensures bound { result < 8 }
-{
-    match end {
-        TrackEnd::Side(side) => side.number(),
-        TrackEnd::Stop(number) => 6 + number.index(),
     }
 }

@@ -9,7 +9,6 @@ ghost use Rattle.reach.specs.Walk.{entered_at};
 ghost use Rattle.reach.specs.declared.walk.WalkStep.{WalkStep};
 ghost use Rattle.legal_runs.specs.TwoTrain.{CanRun, LeadsFrom, LeadsOn, LeavesToken, none_used};
 
-use crate::leg::order;
 use crate::used::Used;
 use map_tables::{HEXES, Hex, Link, Stop, StopNumber};
 use reach::{Network, Spot, WalkStep, stop_order};
@@ -173,5 +172,5 @@ fn is_entered(step: WalkStep, spot: Spot) -> bool
     ensures { IsTrue result ↔ (entered_at step ≡ spot) }
 {
     let entered = step.entered();
-    entered.hex.index() == spot.hex.index() && order(entered.end) == order(spot.end)
+    entered.hex.index() == spot.hex.index() && entered.end.order() == spot.end.order()
 }

@@ -3,11 +3,11 @@ ghost use Rattle.map_tables.specs.Border.{adjacent, neighbour_of};
 
 use crate::hex::Hex::*;
 use crate::hex::{HEXES, Hex};
-use crate::side::Side;
+use crate::side::{PerSide, Side};
 
 /// The hexes at the sides of each hex, south-west first; `None` off the map, and if the border
 /// between the two is closed. A hex here is found at once, and not by its row and column.
-static NEIGHBOURS: [[Option<Hex>; 6]; HEXES] = [
+static NEIGHBOURS: [PerSide<Option<Hex>>; HEXES] = [
     [None, None, None, None, Some(A11), Some(B10)],
     [Some(B10), Some(A9), None, None, None, Some(B12)],
     [Some(B16), None, None, None, Some(A19), Some(B18)],

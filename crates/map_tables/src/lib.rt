@@ -37,7 +37,7 @@ pub use print::{
 };
 pub use rules::{LayRule, RunRule, TokenRule};
 pub use run::{RUN_LEAST, RUN_MOST, Run};
-pub use side::{Rotation, Side};
+pub use side::{PerSide, Rotation, SIDES, Side};
 pub use text::{PLACE_TEXT_MOST, PlaceText};
 pub use tiles::{Colour, TILES, TileEntry, TileKind, TileNo, tile, tile_track};
-pub use track::{LINKS_MOST, Link, Links, Track, TrackEnd, TrackSegment, turned};
+pub use track::{ENDS, LINKS_MOST, Link, Links, Track, TrackEnd, TrackSegment, turned};

@@ -1,6 +1,12 @@
 ghost use Rattle.std.specs.Prelude.{◌≡◌, ◌<◌};
 ghost use Rattle.map_tables.specs.Side.{facing_of, number_of, rotation_of, turned_side, turns_of};
 
+/// How many sides a hex has.
+pub const SIDES: usize = 6;
+
+/// A value for each side of a hex: that of a side is at its number.
+pub type PerSide<T> = [T; SIDES];
+
 /// A side of a hex, in order round the hex from 0 to 5.
 #[derive(Clone, Copy, Debug, PartialEq, Eq)]
 pub enum Side {
@@ -14,7 +20,7 @@ pub enum Side {
 
 impl Side {
     /// The six sides, in order.
-    pub const ALL: [Side; 6] = [
+    pub const ALL: PerSide<Side> = [
         Side::SouthWest,
         Side::West,
         Side::NorthWest,
@@ -49,7 +55,7 @@ impl Side {
     pub fn turned(self, rotation: Rotation) -> Side
         ensures { result ≡ turned_side rotation self }
     {
-        Side::ALL[(self.number() + rotation.turns()) % 6]
+        Side::ALL[(self.number() + rotation.turns()) % SIDES]
     }
 }
 
@@ -66,7 +72,7 @@ pub enum Rotation {
 
 impl Rotation {
     /// The six rotations, in order.
-    pub const ALL: [Rotation; 6] = [
+    pub const ALL: [Rotation; SIDES] = [
         Rotation::Zero,
         Rotation::One,
         Rotation::Two,

@@ -10,10 +10,7 @@ use history::{GameView, History};
 use order_grammar::Order;
 use privates::judge;
 use std::alloc::{AllocError, Global};
-use tables::{Amount, Money, Private, Seat, face};
-
-/// What a bid is over the face, and over each earlier bid on the private, at least.
-const STEP: Amount = 5;
+use tables::{Amount, BID_STEP, Money, Private, Seat, face};
 
 /// What a seat may do as its turn of an opening begins.
 #[derive(Drop)]
@@ -98,9 +95,9 @@ fn push_bid(
 fn least_bid(history: &History, private: Private) -> Amount
     ensures { result ≡ least_bid_of history.now.events private }
 {
-    let least = face(private).saturating_add(STEP);
+    let least = face(private).saturating_add(BID_STEP);
     match history.now().greatest_bid(private) {
-        Some(bid) => least.max(bid.saturating_add(STEP)),
+        Some(bid) => least.max(bid.saturating_add(BID_STEP)),
         None => least,
     }
 }

@@ -47,7 +47,7 @@ use Rattle.order_grammar.specs.declared.order.Order.TheVariants as order
 use Rattle.reach.specs.Position.{Position, IsAmong}
 use Rattle.reach.specs.declared.walk.WalkStep.{WalkStep}
 use Rattle.sheets.specs.Part.{Numbered}
-use Rattle.tables.specs.Train.{place_of_kind, same_kind}
+use Rattle.tables.specs.Train.{index_of_kind, same_kind}
 use Rattle.tables.specs.declared.rolling_stock.Kind.{Kind}
 use Rattle.tables.specs.declared.rolling_stock.Kind.TheVariants.{Two, Three, Four, Five, Six, Diesel}
 use Rattle.tables.specs.declared.roster.Company.{Company}
@@ -286,9 +286,9 @@ module _ (by : Operator) (first : TurnState) where
         set = set_more runs kind steps have.set (run_legal runs now kind run ran judged have)
             (run_room runs now kind run ran judged have);
         marks = crossed_used (all_crossed (walks_of runs)) done.borders steps have.marks;
-        for_each = length-set done.trains (place_of_kind kind) (has_run done kind +ℤ pos 1) ∙ have.for_each;
+        for_each = length-set done.trains (index_of_kind kind) (has_run done kind +ℤ pos 1) ∙ have.for_each;
         counted = λ other.
-            counted_more done.trains (place_of_kind kind) (place_of_kind other)
+            counted_more done.trains (index_of_kind kind) (index_of_kind other)
             (in_number other (trains_that_run runs)) (in_number kind (trains_that_run runs))
             (omega (arith, kind_low kind, have.for_each)) (have.counted kind) (have.counted other);
         sum = omega (arith, have.sum, ap (λ (position : Position). earned position steps) have.map_state);

@@ -31,12 +31,12 @@ use Rattle.order_grammar.specs.declared.order.Order.{Order}
 use Rattle.order_grammar.specs.declared.order.Order.TheVariants as order
 use Rattle.sheets.specs.Part.{Numbered}
 use Rattle.tables.proofs.Rules.{not_broken}
-use Rattle.tables.specs.Train.{place_of_kind}
+use Rattle.tables.specs.Train.{index_of_kind}
 use Rattle.tables.specs.declared.rolling_stock.Kind.{Kind}
 use Rattle.tables.specs.declared.rolling_stock.Kind.TheVariants.{Two, Three, Four, Five, Six, Diesel}
 
 -- each kind has a place
-pub kind_low : (kind : Kind) → place_of_kind kind < 6
+pub kind_low : (kind : Kind) → index_of_kind kind < 6
 kind_low kind = grind arith
 
 -- a count is over 0
@@ -89,13 +89,13 @@ or_holds false b is none = cc
 -- once a train has run
 with_run : (best : Bool) (runs : Runs) (ran : CompletedRun) → AreKept best runs → AreKept best (with_ran runs ran)
 with_run best runs ran are =
-    let at : ℕ = place_of_kind ran.kind in
+    let at : ℕ = index_of_kind ran.kind in
     let count : ℤ = has_run runs ran.kind +ℤ pos 1 in
     let before : pos 0 ≤ℤ has_run runs ran.kind = are.least ran.kind in
     let low : at < length runs.trains = omega (arith, kind_low ran.kind, are.for_each) in
     record {
       for_each = length-set runs.trains at count ∙ are.for_each;
-      least = λ kind. least_set runs.trains at (place_of_kind kind) count low (omega (arith, ints, before))
+      least = λ kind. least_set runs.trains at (index_of_kind kind) count low (omega (arith, ints, before))
           (are.least kind);
       none = λ none.
           absurd (or_holds best (list_any is_some_run (set runs.trains at count))

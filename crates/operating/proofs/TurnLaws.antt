@@ -26,7 +26,7 @@ use Rattle.forced_purchase.specs.declared.operator.Operator.{Operator}
 use Rattle.order_grammar.specs.declared.fault.Fault.{Fault}
 use Rattle.order_grammar.specs.declared.order.Order.{Order}
 use Rattle.sheets.specs.Part.{Numbered}
-use Rattle.tables.specs.Train.{place_of_kind}
+use Rattle.tables.specs.Train.{index_of_kind}
 use Rattle.tables.specs.declared.roster.Company.{Company}
 
 -- neither of two
@@ -109,7 +109,7 @@ turns_keep_all file round company old new turn =
 
 -- the phase is the same in a later game, or a later one
 abbrev GoesOn : Game → Game → Type 0
-GoesOn before after = place_of_kind (phase_of before.events) ≤ place_of_kind (phase_of after.events)
+GoesOn before after = index_of_kind (phase_of before.events) ≤ index_of_kind (phase_of after.events)
 
 -- and so it is in a turn
 pub phases_go_on_in_turns : PhasesGoOnInTurns
@@ -118,13 +118,13 @@ phases_go_on_in_turns file round company old new turn =
     (record {
       on = record { same = λ game. omega arith; both = λ a b c one two. omega arith };
       others = λ game its is no_tile no_train no_phase. omega
-          (arith, ap place_of_kind (phase_kept game.events its no_phase));
+          (arith, ap index_of_kind (phase_kept game.events its no_phase));
       lays = λ game asker lay cost rules. omega (
         arith,
-        ap place_of_kind
+        ap index_of_kind
             (phase_kept game.events (event.Laid company lay cost) refl),
       );
       purchases = λ game kind from rules. phases_go_on game company (purchase_of kind from);
     })
-    (λ game its is no_tile no_train no_phase. omega (arith, ap place_of_kind (phase_kept game.events its no_phase)))
+    (λ game its is no_tile no_train no_phase. omega (arith, ap index_of_kind (phase_kept game.events its no_phase)))
     file round old new turn

@@ -4,7 +4,7 @@ use Rattle.std.specs.Prelude.{ℕ, Bool, List, ℤ, ◌≡◌, ◌+◌, ◌*◌,
 use Rattle.std.specs.Prelude.{◌^◌, ◌≤ℤ◌, ◌+ℤ◌, slice_set}
 use Rattle.legal_runs.specs.Law.{unused}
 use Rattle.operating.specs.declared.completed_runs.CompletedRun.{CompletedRun}
-use Rattle.tables.specs.Train.{place_of_kind}
+use Rattle.tables.specs.Train.{index_of_kind}
 use Rattle.tables.specs.declared.rolling_stock.Kind.{Kind}
 
 -- how many of each kind have run, by the place of the kind, the borders that are used, and what the
@@ -26,7 +26,7 @@ no_runs = record { trains = replicate 6 (pos 0); borders = replicate 279 false; 
 
 -- how many trains of a kind have run in the turn
 abbrev pub has_run : RunsOfTurn → Kind → ℤ
-has_run runs kind = slice_index_or runs.trains (place_of_kind kind) (pos 0)
+has_run runs kind = slice_index_or runs.trains (index_of_kind kind) (pos 0)
 
 -- as many trains of a kind as may have run if one more is still to be counted
 abbrev pub runs_most : ℤ
@@ -43,7 +43,7 @@ pub record IsCounted (runs : RunsOfTurn) (ran : CompletedRun) : Type 0 where
 -- once a train has run
 abbrev pub with_ran : RunsOfTurn → CompletedRun → RunsOfTurn
 with_ran runs ran = record {
-  trains = slice_set runs.trains (place_of_kind ran.kind) (has_run runs ran.kind +ℤ pos 1);
+  trains = slice_set runs.trains (index_of_kind ran.kind) (has_run runs ran.kind +ℤ pos 1);
   borders = ran.borders;
   revenue = runs.revenue + ran.earned;
 }

@@ -5,7 +5,7 @@ use Rattle.totals.specs.LookBack.{Game}
 use Rattle.totals.specs.Trains.{phase_of}
 use Rattle.operating.specs.Turn.{IsCompanyTurn}
 use Rattle.purchases.specs.TrainLaws.{AllTrainsAreThere}
-use Rattle.tables.specs.Train.{place_of_kind}
+use Rattle.tables.specs.Train.{index_of_kind}
 use Rattle.tables.specs.declared.roster.Company.{Company}
 use Rattle.tables.specs.declared.round.Round.{Round}
 
@@ -13,7 +13,7 @@ use Rattle.tables.specs.declared.round.Round.{Round}
 abbrev pub PhasesGoOnInTurns : Type 0
 PhasesGoOnInTurns =
     (file : List ℕ) (round : Round) (company : Company) (old new : Game) →
-    IsCompanyTurn file round company old new → place_of_kind (phase_of old.events) ≤ place_of_kind (phase_of new.events)
+    IsCompanyTurn file round company old new → index_of_kind (phase_of old.events) ≤ index_of_kind (phase_of new.events)
 
 -- if all trains are there before a company's turn, they are there after it
 abbrev pub TurnsKeepAll : Type 0

@@ -71,7 +71,7 @@ impl Runs {
         requires { IsCounted self.old ran.now }
         ensures { self.new ≡ with_ran self.old ran.now }
     {
-        self.trains[ran.kind.place()] += 1;
+        self.trains[ran.kind.index()] += 1;
         self.borders = ran.borders;
         self.revenue += ran.earned;
     }
@@ -95,6 +95,6 @@ impl Runs {
     pub(crate) fn of_kind(&self, kind: Kind) -> TrainCount
         ensures { result ≡ has_run self.now kind }
     {
-        self.trains[kind.place()]
+        self.trains[kind.index()]
     }
 }

@@ -39,7 +39,7 @@ pub fn has_home_token(history: &History, company: Company) -> bool
 fn has_token(tokens: &[(Place, Company)], stop: Stop, company: Company) -> bool
     ensures { result ≡ has_token tokens.now stop company }
 {
-    tokens.iter().any(|token| names(stop, token.0) && token.1.place() == company.place())
+    tokens.iter().any(|token| names(stop, token.0) && token.1.index() == company.index())
 }
 
 /// Returns whether a place names a stop, or a part of it.

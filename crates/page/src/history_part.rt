@@ -132,7 +132,7 @@ fn value_of(entry: &Entry, series: Series) -> Option<usize>
 {
     match series {
         Series::Worth(seat) => Some(within(*entry.worths.get(seat)?)),
-        Series::Price(company) => Some(within(Money::from(entry.prices[company.place()]?))),
+        Series::Price(company) => Some(within(Money::from(entry.prices[company.index()]?))),
     }
 }
 

@@ -56,7 +56,7 @@ impl<'a> Scene<'a> {
     /// Returns the name of the player of a seat; no letters for a seat that nobody has.
     pub(crate) fn name(&self, seat: Seat) -> &'a [u8] {
         let names = self.names;
-        match names.get(seat.number()) {
+        match names.get(seat.index()) {
             Some(name) => name,
             None => &[],
         }
@@ -64,7 +64,7 @@ impl<'a> Scene<'a> {
 
     /// Returns whether the player of a seat owes a sheet for the next round.
     pub(crate) fn owes(&self, seat: Seat) -> bool {
-        match self.owe.get(seat.number()) {
+        match self.owe.get(seat.index()) {
             Some(owes) => *owes,
             None => false,
         }

@@ -90,7 +90,7 @@ pub(crate) fn put_signs(out: &mut Writer) {
 
 /// Adds the token of a company, the small one, and the ring that keeps a slot for it.
 fn put_tokens(out: &mut Writer, company: Company) {
-    let livery = &LIVERIES[company.place()];
+    let livery = &LIVERIES[company.index()];
     begin_sign(out, "t", company);
     put_disc(out, 14, livery.fill, "2");
     put_letter(out, if livery.is_dark { "z zw" } else { "z" }, 6, company);
@@ -171,7 +171,7 @@ pub(crate) fn put_legend(out: &mut Writer) {
     out.end();
     put_sign_legend(out);
     for company in Company::ALL {
-        let number = company.place() as i32;
+        let number = company.index() as i32;
         let place = COMPANIES.plus(Point {
             x: 92 * (number / 4),
             y: 34 * (number % 4),

@@ -91,7 +91,7 @@ fn entry_of(history: &History, round: Round) -> Entry {
     let mut prices = [None; COMPANIES];
     for company in Company::ALL {
         if let Some(square) = view.square(company) {
-            prices[company.place()] = Some(price(square));
+            prices[company.index()] = Some(price(square));
         }
     }
     Entry {

@@ -4,10 +4,10 @@ use crate::curve::{Curve, Way, track_of};
 use crate::look::{Look, Stops};
 use crate::piece::PagePiece::{At, Number, Point as To, Words};
 use crate::point::Point;
-use crate::strands::{ENDS, end_number, strands};
+use crate::strands::strands;
 use crate::tag::{Attr, Tag};
 use crate::writer::Writer;
-use map_tables::{Link, StopNumber};
+use map_tables::{ENDS, Link, StopNumber};
 use tables::{Company, Money};
 
 /// What lies in a slot of a city.
@@ -50,7 +50,7 @@ pub fn draw_track(out: &mut Writer, look: &Look) {
 /// Returns whether some link is in a strand.
 fn has_strand(links: &[Link], strands: &[usize; ENDS], strand: usize) -> bool {
     for link in links {
-        if strands[end_number(link.a)] == strand {
+        if strands[link.a.order()] == strand {
             return true;
         }
     }
@@ -69,7 +69,7 @@ fn draw_strand(
     out.begin_as(Tag::Path, class);
     out.attr(Attr::D);
     for (link, curve) in links.iter().zip(track) {
-        if strands[end_number(link.a)] == strand {
+        if strands[link.a.order()] == strand {
             out.put(&[Words("M"), To(curve.from)]);
             put_way(out, curve.way, curve.to);
         }

@@ -12,7 +12,7 @@ const LETTERS: [&str; 8] = ["P", "N", "C", "B", "O", "E", "H", "M"];
 
 /// Returns the letter of a company's token.
 pub fn letter(company: Company) -> &'static str {
-    LETTERS[company.place()]
+    LETTERS[company.index()]
 }
 
 impl Writer {

@@ -10,10 +10,7 @@ ghost use Rattle.tables.specs.Rules.{first_broken};
 use crate::bank::{is_cheapest, is_short};
 use history::{Event, GameView, History, OpeningRule};
 use std::alloc::AllocError;
-use tables::{Amount, Private, Seat, face, rules};
-
-/// How far a bid must be over the face, and over each earlier bid on the private, at least.
-const STEP: u64 = 5;
+use tables::{Amount, BID_STEP, Private, Seat, face, rules};
 
 /// Returns the first rule that a bid breaks.
 pub(crate) fn judge_bid(
@@ -41,7 +38,7 @@ pub(crate) fn judge_bid(
 fn is_too_low(view: &GameView, private: Private, amount: Amount) -> bool
     ensures { result ≡ is_too_low view.now.events.now private amount }
 {
-    if u64::from(amount) < u64::from(face(private)) + STEP {
+    if u64::from(amount) < u64::from(face(private)) + u64::from(BID_STEP) {
         return true;
     }
     is_near(amount, view.greatest_bid(private))
@@ -52,7 +49,7 @@ fn is_near(amount: Amount, bid: Option<Amount>) -> bool
     ensures { result ≡ is_near amount bid }
 {
     match bid {
-        Some(bid) => u64::from(amount) < u64::from(bid) + STEP,
+        Some(bid) => u64::from(amount) < u64::from(bid) + u64::from(BID_STEP),
         None => false,
     }
 }

@@ -3,13 +3,10 @@ ghost use Rattle.std.specs.Int.{int_max, int_min};
 ghost use Rattle.privates.specs.Auction.{BidsDiffer, LimitsHold, ahead, auction_of, greater_of, highest_bid, limit_by};
 ghost use Rattle.privates.specs.Auction.{second_limit, winner_among, with_limit};
 
-use tables::{Money, Seat};
+use tables::{BID_STEP, Money, Seat};
 
 /// A bidder: the seat, its bid and its limit, in dollars.
 type Bidder = (Seat, Money, Money);
-
-/// What the winner pays above the second limit, in dollars.
-const STEP: Money = 5;
 
 /// Returns the winner of an auction among some bidders, each with a bid and a limit, and what the
 /// winner pays, in dollars. The greatest limit wins, and among equal limits the higher bid. The
@@ -36,7 +33,7 @@ pub fn auction(bidders: &[(Seat, Money, Money)]) -> (Seat, Money)
 fn price(winner: Bidder, highest: Money, second: Money) -> Money
     ensures { result ≡ int_max highest (int_min (limit_by winner) (second +ℤ pos 5)) }
 {
-    highest.max(winner.2.min(second.saturating_add(STEP)))
+    highest.max(winner.2.min(second.saturating_add(Money::from(BID_STEP))))
 }
 
 /// Returns the winner among a bidder and others.

@@ -15,7 +15,7 @@ use Rattle.totals.specs.Trains.{one_if, phase_of, same_train_place, train_comes,
 use Rattle.purchases.proofs.TrainSteps.{IsPassedOn, OfClosings, OfDiscards, OfRustings, OfTrades}
 use Rattle.purchases.specs.TrainLaws.{AllTrainsAreThereAtFirst, OthersKeepAll, OthersKeepStanding, TrainsAreAll}
 use Rattle.purchases.specs.TrainLaws.{has_come, trains_there}
-use Rattle.tables.specs.Train.{place_of_kind, rusting_of, same_kind}
+use Rattle.tables.specs.Train.{index_of_kind, rusting_of, same_kind}
 use Rattle.tables.specs.declared.rolling_stock.Kind.{Kind}
 use Rattle.tables.specs.declared.rolling_stock.Kind.TheVariants.{Two, Three, Four, Five, Six, Diesel}
 
@@ -136,10 +136,10 @@ others_keep_all events event none no_phase all =
                 events event place.OutOfPlay kind none,
           );
       begun = λ later. subst (λ p. 0 < trains_sold (events ++ event ∷ []) p) (sym phase)
-          (let was = all.begun (subst (λ p. 0 < place_of_kind p) phase later) in omega
+          (let was = all.begun (subst (λ p. 0 < index_of_kind p) phase later) in omega
           (arith, sold_same events event (phase_of events) none));
       latest = λ kind sold. let was = all.latest kind
-          (subst (λ n. 0 < n) (sold_same events event kind none) sold) in omega (arith, ap place_of_kind phase);
+          (subst (λ n. 0 < n) (sold_same events event kind none) sold) in omega (arith, ap index_of_kind phase);
       in_order = λ earlier later number there numbered before sold. sold_same events event earlier none
           ∙ all.in_order earlier later number there numbered before
           (subst (λ n. 0 < n) (sold_same events event later none) sold);

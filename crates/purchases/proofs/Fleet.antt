@@ -31,7 +31,7 @@ use Rattle.purchases.specs.Train.{begins_phase, bought, is_on_sale, train_judgem
 use Rattle.purchases.specs.TrainLaws.{PurchasesKeepAll, TrainsAreAll, has_come}
 use Rattle.purchases.specs.declared.train.TrainPurchase.{TrainPurchase}
 use Rattle.tables.proofs.Rules.{not_broken}
-use Rattle.tables.specs.Train.{kinds, place_of_kind, rusting_of, same_kind, trains_of}
+use Rattle.tables.specs.Train.{kinds, index_of_kind, rusting_of, same_kind, trains_of}
 use Rattle.tables.specs.declared.rolling_stock.Kind.{Kind}
 use Rattle.tables.specs.declared.rolling_stock.Kind.TheVariants.{Two, Three, Four, Five, Six, Diesel}
 use Rattle.tables.specs.declared.roster.Company.{Company}
@@ -173,8 +173,8 @@ had_left game buyer purchase kind number fair bank is there =
 
 -- the kinds are sold in their order after a purchase
 in_order_then : (game : Game) (buyer : Company) (purchase : TrainPurchase) → IsFair game buyer purchase
-    → (earlier later : Kind) (number : ℕ) → (trains_of earlier).number ≡ Some number → place_of_kind earlier < 4
-    → place_of_kind earlier < place_of_kind later → 0 < trains_sold (bought game buyer purchase).events later
+    → (earlier later : Kind) (number : ℕ) → (trains_of earlier).number ≡ Some number → index_of_kind earlier < 4
+    → index_of_kind earlier < index_of_kind later → 0 < trains_sold (bought game buyer purchase).events later
     → trains_sold (bought game buyer purchase).events earlier ≡ number
 in_order_then game buyer purchase fair earlier later number there numbered before sold =
     let early = (is_bought game buyer purchase earlier).sold in
@@ -194,7 +194,7 @@ in_order_then game buyer purchase fair earlier later number there numbered befor
           elim (sold_or_not buyer purchase earlier) [
             | inl no_earlier ↦ omega arith
             | inr also ↦ absurd (let same : earlier ≡ later = sym also.1.0 ∙ now.1.0 in let place =
-                ap place_of_kind same in omega arith)
+                ap index_of_kind same in omega arith)
           ]
     ]
 
@@ -203,15 +203,15 @@ not_now : (phase : Kind) (rusting : Option Kind) → has_come phase rusting ≡ 
 not_now phase None stays = refl
 not_now phase (Some kind) stays =
     elim (truth (same_kind kind phase)) [
-      | inl same ↦ absurd (let is = ap place_of_kind (same_kind_is kind phase same) in let later : place_of_kind phase
-          < place_of_kind kind = grind (arith, nat_tests, stays) in omega arith)
+      | inl same ↦ absurd (let is = ap index_of_kind (same_kind_is kind phase same) in let later : index_of_kind phase
+          < index_of_kind kind = grind (arith, nat_tests, stays) in omega arith)
       | inr apart ↦ apart
     ]
 
 -- what has rusted and does not rust now rusted at an earlier kind
 rusted_before : (phase : Kind) (rusting : Option Kind) → has_come phase rusting ≡ true
     → rusts_at rusting phase ≡ false → (kind : Kind)
-    × ((rusting ≡ Some kind) × (place_of_kind kind < place_of_kind phase))
+    × ((rusting ≡ Some kind) × (index_of_kind kind < index_of_kind phase))
 rusted_before phase None come not_now = absurd (cc)
 rusted_before phase (Some kind) come not_now = (kind, (refl, grind (arith, nat_tests, come, not_now)))
 
@@ -228,19 +228,19 @@ not_later sold phase kind none begins = grind (arith, nat_tests, none, begins)
 latest_then : (game : Game) (buyer : Company) (purchase : TrainPurchase)
     → begins_phase game.events purchase.from purchase.kind ≡ false → IsFair game buyer purchase → (kind : Kind)
     → 0 < trains_sold (bought game buyer purchase).events kind
-    → place_of_kind kind ≤ place_of_kind (phase_of game.events)
+    → index_of_kind kind ≤ index_of_kind (phase_of game.events)
 latest_then game buyer purchase begins fair kind sold =
     let now = (is_bought game buyer purchase kind).sold in
     elim (sold_or_not buyer purchase kind) [
       | inl none ↦ fair.all.latest kind (omega arith)
       | inr one ↦
           let begins_none : (trains_sold game.events kind == 0
-          && nat_lt (place_of_kind (phase_of game.events)) (place_of_kind kind)) ≡ false =
+          && nat_lt (index_of_kind (phase_of game.events)) (index_of_kind kind)) ≡ false =
           ap (λ (k : Kind). begins_phase game.events seller.Bank k) (sym one.1.0)
           ∙ ap (λ (from : TrainSeller). begins_phase game.events from purchase.kind) (sym one.0) ∙ begins in
           elim (zero_or_more (trains_sold game.events kind)) [
-            | inl nothing ↦ not_later (trains_sold game.events kind) (place_of_kind (phase_of game.events))
-                (place_of_kind kind) nothing begins_none
+            | inl nothing ↦ not_later (trains_sold game.events kind) (index_of_kind (phase_of game.events))
+                (index_of_kind kind) nothing begins_none
             | inr some ↦ fair.all.latest kind some
           ]
     ]
@@ -269,16 +269,16 @@ no_phase game buyer purchase begins fair =
             there_is after.events kind number,
             (is_bought game buyer purchase kind).out,
           );
-      begun = λ later. let was = fair.all.begun (subst (λ (p : Kind). 0 < place_of_kind p) phase later) in subst
+      begun = λ later. let was = fair.all.begun (subst (λ (p : Kind). 0 < index_of_kind p) phase later) in subst
           (λ (p : Kind). 0 < trains_sold after.events p) (sym phase)
           (omega (arith, (is_bought game buyer purchase (phase_of game.events)).sold));
-      latest = λ kind sold. subst (λ (p : Kind). place_of_kind kind ≤ place_of_kind p) (sym phase)
+      latest = λ kind sold. subst (λ (p : Kind). index_of_kind kind ≤ index_of_kind p) (sym phase)
           (latest_then game buyer purchase begins fair kind sold);
       in_order = in_order_then game buyer purchase fair;
     }
 
 -- it had not rusted before where it has not rusted
-never_come : (before after : Kind) (rusting : Option Kind) → place_of_kind before ≤ place_of_kind after
+never_come : (before after : Kind) (rusting : Option Kind) → index_of_kind before ≤ index_of_kind after
     → has_come after rusting ≡ false → has_come before rusting ≡ false
 never_come before after None later stays = refl
 never_come before after (Some kind) later stays = grind (arith, nat_tests, stays)
@@ -309,10 +309,10 @@ one_more game buyer purchase bank = one_by (purchase.from) purchase.kind buyer b
 
 -- a kind that rusts is early, and earlier than the one that rusts it
 rusts_early : (phase kind : Kind) → rusts_at (rusting_of kind) phase ≡ true
-    → (place_of_kind kind < 4) × (place_of_kind kind < place_of_kind phase)
-rusts_early phase Two rusts = (omega arith, omega (arith, ap place_of_kind (same_kind_is Four phase rusts)))
-rusts_early phase Three rusts = (omega arith, omega (arith, ap place_of_kind (same_kind_is Six phase rusts)))
-rusts_early phase Four rusts = (omega arith, omega (arith, ap place_of_kind (same_kind_is Diesel phase rusts)))
+    → (index_of_kind kind < 4) × (index_of_kind kind < index_of_kind phase)
+rusts_early phase Two rusts = (omega arith, omega (arith, ap index_of_kind (same_kind_is Four phase rusts)))
+rusts_early phase Three rusts = (omega arith, omega (arith, ap index_of_kind (same_kind_is Six phase rusts)))
+rusts_early phase Four rusts = (omega arith, omega (arith, ap index_of_kind (same_kind_is Diesel phase rusts)))
 rusts_early phase Five rusts = absurd (cc)
 rusts_early phase Six rusts = absurd (cc)
 rusts_early phase Diesel rusts = absurd (cc)
@@ -377,12 +377,12 @@ new_phase game buyer purchase begins fair =
             one_more game buyer
                 purchase bank,
           ));
-      latest = λ one sold. subst (λ (p : Kind). place_of_kind one ≤ place_of_kind p) (sym phase) (
+      latest = λ one sold. subst (λ (p : Kind). index_of_kind one ≤ index_of_kind p) (sym phase) (
           let was = phase_sold there kind one in
           let now = (is_bought game buyer purchase one).sold in
           elim (sold_or_not buyer purchase one) [
             | inl none ↦ let before = fair.all.latest one (omega arith) in omega arith
-            | inr this ↦ omega (arith, ap place_of_kind this.1.0)
+            | inr this ↦ omega (arith, ap index_of_kind this.1.0)
           ]);
       in_order = λ earlier other number has numbered before sold.
           let early = phase_sold there kind earlier in

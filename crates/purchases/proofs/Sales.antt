@@ -23,7 +23,7 @@ use Rattle.purchases.specs.Train.{are_left, bought, cost_of, first_left, is_kind
 use Rattle.purchases.specs.Train.{with_trade}
 use Rattle.purchases.specs.TrainLaws.{TrainsAreAll}
 use Rattle.purchases.specs.declared.train.TrainPurchase.{TrainPurchase}
-use Rattle.tables.specs.Train.{place_of_kind, same_kind, trains_of}
+use Rattle.tables.specs.Train.{index_of_kind, same_kind, trains_of}
 use Rattle.tables.specs.declared.rolling_stock.Kind.{Kind}
 use Rattle.tables.specs.declared.rolling_stock.Kind.TheVariants.{Two, Three, Four, Five, Six, Diesel}
 use Rattle.tables.specs.declared.roster.Company.{Company}
@@ -117,41 +117,41 @@ same_place a b same = (Decides-eqb a b).0 same
 
 -- none of an earlier kind is left than the first that is
 gone : (two three four five six : Bool) (earlier kind : Kind) → is_kind (first_of two three four five six) kind ≡ true
-    → place_of_kind earlier < place_of_kind kind → left_of earlier two three four five six ≡ false
+    → index_of_kind earlier < index_of_kind kind → left_of earlier two three four five six ≡ false
 gone true three four five six earlier kind first before =
-    let at = same_place 0 (place_of_kind kind) first in absurd (omega arith)
+    let at = same_place 0 (index_of_kind kind) first in absurd (omega arith)
 gone false three four five six Two kind first before = refl
 gone false true four five six Three kind first before = let at =
-    same_place 1 (place_of_kind kind) first in absurd (omega arith)
+    same_place 1 (index_of_kind kind) first in absurd (omega arith)
 gone false true four five six Four kind first before = let at =
-    same_place 1 (place_of_kind kind) first in absurd (omega arith)
+    same_place 1 (index_of_kind kind) first in absurd (omega arith)
 gone false true four five six Five kind first before = let at =
-    same_place 1 (place_of_kind kind) first in absurd (omega arith)
+    same_place 1 (index_of_kind kind) first in absurd (omega arith)
 gone false true four five six Six kind first before = let at =
-    same_place 1 (place_of_kind kind) first in absurd (omega arith)
+    same_place 1 (index_of_kind kind) first in absurd (omega arith)
 gone false true four five six Diesel kind first before = let at =
-    same_place 1 (place_of_kind kind) first in absurd (omega arith)
+    same_place 1 (index_of_kind kind) first in absurd (omega arith)
 gone false false four five six Three kind first before = refl
 gone false false true five six Four kind first before = let at =
-    same_place 2 (place_of_kind kind) first in absurd (omega arith)
+    same_place 2 (index_of_kind kind) first in absurd (omega arith)
 gone false false true five six Five kind first before = let at =
-    same_place 2 (place_of_kind kind) first in absurd (omega arith)
+    same_place 2 (index_of_kind kind) first in absurd (omega arith)
 gone false false true five six Six kind first before = let at =
-    same_place 2 (place_of_kind kind) first in absurd (omega arith)
+    same_place 2 (index_of_kind kind) first in absurd (omega arith)
 gone false false true five six Diesel kind first before = let at =
-    same_place 2 (place_of_kind kind) first in absurd (omega arith)
+    same_place 2 (index_of_kind kind) first in absurd (omega arith)
 gone false false false five six Four kind first before = refl
 gone false false false true six Five kind first before = let at =
-    same_place 3 (place_of_kind kind) first in absurd (omega arith)
+    same_place 3 (index_of_kind kind) first in absurd (omega arith)
 gone false false false true six Six kind first before = let at =
-    same_place 3 (place_of_kind kind) first in absurd (omega arith)
+    same_place 3 (index_of_kind kind) first in absurd (omega arith)
 gone false false false true six Diesel kind first before = let at =
-    same_place 3 (place_of_kind kind) first in absurd (omega arith)
+    same_place 3 (index_of_kind kind) first in absurd (omega arith)
 gone false false false false six Five kind first before = refl
 gone false false false false true Six kind first before = let at =
-    same_place 4 (place_of_kind kind) first in absurd (omega arith)
+    same_place 4 (index_of_kind kind) first in absurd (omega arith)
 gone false false false false true Diesel kind first before = let at =
-    same_place 4 (place_of_kind kind) first in absurd (omega arith)
+    same_place 4 (index_of_kind kind) first in absurd (omega arith)
 gone false false false false false Six kind first before = refl
 gone false false false false false Diesel kind first before = absurd (cc)
 
@@ -163,7 +163,7 @@ all_sold (Some m) sold n none is =
     subst (λ (k : ℕ). k ≤ sold) same (grind (arith, nat_tests, none))
 
 -- a kind is left where that is so by which are
-left_is : (events : List Event) (kind : Kind) → place_of_kind kind < 5
+left_is : (events : List Event) (kind : Kind) → index_of_kind kind < 5
     → left_of kind (is_left events Two) (is_left events Three) (is_left events Four) (is_left events Five)
     (is_left events Six) ≡ is_left events kind
 left_is events Two numbered = refl
@@ -176,7 +176,7 @@ left_is events Diesel numbered = absurd (omega arith)
 -- all trains of an earlier kind but the 6 are sold where the bank sells one
 pub earlier_sold : (game : Game) (kind earlier : Kind) (number : ℕ) → is_on_sale game.events seller.Bank kind ≡ true
     → TrainsAreHeld game.events → TrainsAreAll game.events → (trains_of earlier).number ≡ Some number
-    → place_of_kind earlier < 4 → place_of_kind earlier < place_of_kind kind → trains_sold game.events earlier ≡ number
+    → index_of_kind earlier < 4 → index_of_kind earlier < index_of_kind kind → trains_sold game.events earlier ≡ number
 earlier_sold game kind earlier number sells held all there numbered before =
     let events = game.events in
     elim (either (is_kind (first_left events) kind) (same_kind kind Diesel && nat_lt 0 (trains_sold events Six))
@@ -195,18 +195,18 @@ earlier_sold game kind earlier number sells held all there numbered before =
 
 -- no kind is later than the 6 among those of which the first is sold
 six_is_last : (two three four five six : Bool) (kind : Kind) → is_kind (first_of two three four five six) kind ≡ true
-    → 4 < place_of_kind kind → ⊥
-six_is_last true three four five six kind first later = let at = same_place 0 (place_of_kind kind) first in omega arith
-six_is_last false true four five six kind first later = let at = same_place 1 (place_of_kind kind) first in omega arith
-six_is_last false false true five six kind first later = let at = same_place 2 (place_of_kind kind) first in omega arith
+    → 4 < index_of_kind kind → ⊥
+six_is_last true three four five six kind first later = let at = same_place 0 (index_of_kind kind) first in omega arith
+six_is_last false true four five six kind first later = let at = same_place 1 (index_of_kind kind) first in omega arith
+six_is_last false false true five six kind first later = let at = same_place 2 (index_of_kind kind) first in omega arith
 six_is_last false false false true six kind first later = let at =
-    same_place 3 (place_of_kind kind) first in omega arith
+    same_place 3 (index_of_kind kind) first in omega arith
 six_is_last false false false false true kind first later = let at =
-    same_place 4 (place_of_kind kind) first in omega arith
+    same_place 4 (index_of_kind kind) first in omega arith
 six_is_last false false false false false kind first later = absurd (cc)
 
 -- and none than the D
-no_later : (kind : Kind) → 5 < place_of_kind kind → ⊥
+no_later : (kind : Kind) → 5 < index_of_kind kind → ⊥
 no_later Two later = omega arith
 no_later Three later = omega arith
 no_later Four later = omega arith
@@ -217,7 +217,7 @@ no_later Diesel later = omega arith
 -- the bank has sold a 6 where it sells a D, and a train of each kind in between
 pub between_sold : (game : Game) (kind : Kind) → is_on_sale game.events seller.Bank kind ≡ true
     → TrainsAreHeld game.events → TrainsAreAll game.events → (earlier : Kind)
-    → place_of_kind earlier < place_of_kind kind → 0 < trains_sold game.events earlier
+    → index_of_kind earlier < index_of_kind kind → 0 < trains_sold game.events earlier
 between_sold game kind sells held all Two before =
     omega (arith, earlier_sold game kind Two 6 sells held all refl (omega arith) before)
 between_sold game kind sells held all Three before =

@@ -21,7 +21,7 @@ use Rattle.purchases.specs.TrainLaws.{PhasesGoOn}
 use Rattle.purchases.specs.declared.train.TrainPurchase.{TrainPurchase}
 use Rattle.tables.specs.Roster.{companies, privates, same_company}
 use Rattle.tables.specs.Steps.{iterate}
-use Rattle.tables.specs.Train.{kinds, place_of_kind, rusting_of, same_kind}
+use Rattle.tables.specs.Train.{kinds, index_of_kind, rusting_of, same_kind}
 use Rattle.tables.specs.declared.rolling_stock.Kind.{Kind}
 use Rattle.tables.specs.declared.rolling_stock.Kind.TheVariants.{Two, Five}
 use Rattle.tables.specs.declared.roster.Company.{Company}
@@ -200,10 +200,10 @@ both_of false b is = absurd (cc)
 
 -- one that a purchase begins is later
 pub later_begins : (events : List Event) (from : TrainSeller) (kind : Kind) → begins_phase events from kind ≡ true
-    → place_of_kind (phase_of events) < place_of_kind kind
+    → index_of_kind (phase_of events) < index_of_kind kind
 later_begins events seller.Bank kind begins =
     let both_hold = both_of (trains_sold events kind == 0)
-    (nat_lt (place_of_kind (phase_of events)) (place_of_kind kind)) begins in
+    (nat_lt (index_of_kind (phase_of events)) (index_of_kind kind)) begins in
     grind (arith, nat_tests, both_hold.1)
 later_begins events seller.BankPool kind begins = absurd (cc)
 later_begins events (seller.Company owner) kind begins = absurd (cc)
@@ -211,16 +211,16 @@ later_begins events (seller.Company owner) kind begins = absurd (cc)
 -- the phase after a purchase
 phase_after : (game : Game) (buyer : Company) (purchase : TrainPurchase) (begins : Bool)
     → begins_phase game.events purchase.from purchase.kind ≡ begins
-    → place_of_kind (phase_of game.events) ≤ place_of_kind
+    → index_of_kind (phase_of game.events) ≤ index_of_kind
     (phase_of (if begins then with_phase (bought game buyer purchase) purchase.kind else bought game buyer
     purchase).events)
 phase_after game buyer purchase true begins =
     let there = bought game buyer purchase in
     let is = phase_then there purchase.kind in
     let later = later_begins game.events purchase.from purchase.kind begins in
-    omega (arith, ap place_of_kind is)
+    omega (arith, ap index_of_kind is)
 phase_after game buyer purchase false begins =
-    omega (arith, ap place_of_kind (phase_bought game buyer purchase))
+    omega (arith, ap index_of_kind (phase_bought game buyer purchase))
 
 -- phases never go back
 pub phases_go_on : PhasesGoOn

@@ -24,7 +24,7 @@ use Rattle.order_grammar.specs.declared.order.Offer.{Offer}
 use Rattle.order_grammar.specs.declared.order.Offer.TheVariants as offer
 use Rattle.tables.specs.Roster.{face_of, same_private}
 use Rattle.tables.specs.Rules.{Rule, first_broken}
-use Rattle.tables.specs.Train.{place_of_kind}
+use Rattle.tables.specs.Train.{index_of_kind}
 use Rattle.tables.specs.declared.rolling_stock.Kind.TheVariants.{Three}
 use Rattle.tables.specs.declared.roster.Company.{Company}
 use Rattle.tables.specs.declared.roster.Private.{Private}
@@ -33,7 +33,7 @@ use Rattle.tables.specs.declared.seat.Seat.{Seat}
 
 -- phase 3 has not begun
 abbrev pub is_too_early : List Event → Bool
-is_too_early events = nat_lt (place_of_kind (phase_of events)) (place_of_kind Three)
+is_too_early events = nat_lt (index_of_kind (phase_of events)) (index_of_kind Three)
 
 -- the price is under half of the face value, or over twice that
 abbrev pub is_wrong_price : Private → ℕ → Bool

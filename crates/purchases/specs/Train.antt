@@ -30,7 +30,7 @@ use Rattle.order_grammar.specs.declared.order.TrainSource.{TrainSource}
 use Rattle.order_grammar.specs.declared.order.TrainSource.TheVariants as source
 use Rattle.tables.specs.Roster.{same_company}
 use Rattle.tables.specs.Rules.{Rule, first_broken}
-use Rattle.tables.specs.Train.{limit_of, place_of_kind, same_kind, trains_of}
+use Rattle.tables.specs.Train.{limit_of, index_of_kind, same_kind, trains_of}
 use Rattle.tables.specs.declared.rolling_stock.Kind.{Kind}
 use Rattle.tables.specs.declared.rolling_stock.Kind.TheVariants.{Two, Three, Four, Five, Six, Diesel}
 use Rattle.tables.specs.declared.roster.Company.{Company}
@@ -206,7 +206,7 @@ bought game company purchase =
 -- the purchase is that of the first train of a later kind from the bank
 abbrev pub begins_phase : List Event → TrainSeller → Kind → Bool
 begins_phase events seller.Bank kind =
-    trains_sold events kind == 0 && nat_lt (place_of_kind (phase_of events)) (place_of_kind kind)
+    trains_sold events kind == 0 && nat_lt (index_of_kind (phase_of events)) (index_of_kind kind)
 begins_phase events seller.BankPool kind = false
 begins_phase events (seller.Company company) kind = false
 

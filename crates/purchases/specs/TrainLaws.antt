@@ -8,7 +8,7 @@ use Rattle.totals.specs.LookBack.{Game}
 use Rattle.totals.specs.Trains.{TrainsAreHeld, phase_of, trains_in_play, trains_sold}
 use Rattle.purchases.specs.Train.{after_train, train_judgement}
 use Rattle.purchases.specs.declared.train.TrainPurchase.{TrainPurchase}
-use Rattle.tables.specs.Train.{place_of_kind, rusting_of, trains_of}
+use Rattle.tables.specs.Train.{index_of_kind, rusting_of, trains_of}
 use Rattle.tables.specs.declared.rolling_stock.Kind.{Kind}
 use Rattle.tables.specs.declared.roster.Company.{Company}
 
@@ -16,12 +16,12 @@ use Rattle.tables.specs.declared.roster.Company.{Company}
 abbrev pub PhasesGoOn : Type 0
 PhasesGoOn =
     (game : Game) (buyer : Company) (purchase : TrainPurchase) →
-    place_of_kind (phase_of game.events) ≤ place_of_kind (phase_of (after_train game buyer purchase).events)
+    index_of_kind (phase_of game.events) ≤ index_of_kind (phase_of (after_train game buyer purchase).events)
 
 -- the first train of this kind has come by a phase, if it is that of a kind
 abbrev pub has_come : Kind → Option Kind → Bool
 has_come phase None = false
-has_come phase (Some rusting) = not (nat_lt (place_of_kind phase) (place_of_kind rusting))
+has_come phase (Some rusting) = not (nat_lt (index_of_kind phase) (index_of_kind rusting))
 
 -- the trains of a kind have rusted
 abbrev pub have_rusted : List Event → Kind → Bool
@@ -40,10 +40,10 @@ pub record TrainsAreAll (events : List Event) : Type 0 where
       → trains_there events kind number ≡ pos number
   pub after : (kind : Kind) (number : ℕ) → (trains_of kind).number ≡ Some number → have_rusted events kind ≡ true
       → trains_there events kind number ≡ pos 0
-  pub begun : 0 < place_of_kind (phase_of events) → 0 < trains_sold events (phase_of events)
-  pub latest : (kind : Kind) → 0 < trains_sold events kind → place_of_kind kind ≤ place_of_kind (phase_of events)
+  pub begun : 0 < index_of_kind (phase_of events) → 0 < trains_sold events (phase_of events)
+  pub latest : (kind : Kind) → 0 < trains_sold events kind → index_of_kind kind ≤ index_of_kind (phase_of events)
   pub in_order : (earlier later : Kind) (number : ℕ) → (trains_of earlier).number ≡ Some number
-      → place_of_kind earlier < 4 → place_of_kind earlier < place_of_kind later → 0 < trains_sold events later
+      → index_of_kind earlier < 4 → index_of_kind earlier < index_of_kind later → 0 < trains_sold events later
       → trains_sold events earlier ≡ number
 
 -- the trains of a kind are as many as they should be, and nobody has a negative number

@@ -57,7 +57,7 @@ fn is_too_dear(view: &GameView, company: Company, price: Amount) -> bool
 fn is_too_early(view: &GameView) -> bool
     ensures { result ≡ is_too_early view.now.events.now }
 {
-    view.phase().place() < Kind::Three.place()
+    view.phase().index() < Kind::Three.index()
 }
 
 /// Returns whether a price is under half of the face value, or over twice that.

@@ -306,7 +306,7 @@ fn begins_phase(history: &History, from: TrainSeller, kind: Kind) -> bool
 {
     match from {
         TrainSeller::Bank => {
-            history.now().trains_sold(kind) == 0 && history.phase().place() < kind.place()
+            history.now().trains_sold(kind) == 0 && history.phase().index() < kind.index()
         }
         TrainSeller::BankPool | TrainSeller::Company(_) => false,
     }

@@ -16,11 +16,8 @@ use crate::network::Network;
 use crate::stop_numbers::{SPOTS, spot_number};
 use crate::walk::{Spot, WalkStep};
 use arrayvec::ArrayVec;
-use map_tables::{HEXES, Hex, Link, Place, Stop, StopNumber, TrackEnd, joined_stop};
+use map_tables::{ENDS, HEXES, Hex, Link, Place, SIDES, Stop, StopNumber, TrackEnd, joined_stop};
 use tables::Company;
-
-/// How many ends a hex has: six sides and two stops.
-const ENDS: usize = 8;
 
 /// The ends of the map's hexes at which some walk of the company has arrived, or may begin, and
 /// which of them are still to be looked at. No more wait than are marked, so the table has room.
@@ -55,7 +52,7 @@ impl Marks {
     pub(crate) fn has_stop(&self, stop: Stop) -> bool
         ensures { IsTrue result ↔ IsMarkedStop self.now.marks stop }
     {
-        let number = 8 * stop.hex.index() + 6 + stop.number.index();
+        let number = ENDS * stop.hex.index() + SIDES + stop.number.index();
         self.is_marked(number) && joined_stop(stop) == stop
     }
 
@@ -311,7 +308,7 @@ fn mark_listed<N: Network>(
 fn stop_of(token: (Place, Company), company: Company) -> Option<Stop>
     ensures { result ≡ stop_of_token company token }
 {
-    if token.1.place() == company.place() {
+    if token.1.index() == company.index() {
         token.0.stop()
     } else {
         None

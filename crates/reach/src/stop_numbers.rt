@@ -4,13 +4,13 @@ ghost use Rattle.reach.specs.Reached.{stop_order};
 ghost use Rattle.reach.specs.Search.{spot_number};
 
 use crate::walk::Spot;
-use map_tables::{HEXES, Stop, TrackEnd, joined_stop};
+use map_tables::{ENDS, HEXES, SIDES, Stop, TrackEnd, joined_stop};
 
 /// How many stops the hexes of the map may have.
 pub const STOPS: usize = 2 * HEXES;
 
 /// How many spots the hexes of the map have: six sides and two stops each.
-pub const SPOTS: usize = 8 * HEXES;
+pub const SPOTS: usize = ENDS * HEXES;
 
 /// Returns the place of a stop in the order of the map, by the hex that is named.
 pub fn stop_order(stop: Stop) -> usize
@@ -27,13 +27,13 @@ pub fn spot_number(spot: Spot) -> usize
     ensures bound { result < 744 }
 {
     match spot.end {
-        TrackEnd::Side(side) => 8 * spot.hex.index() + side.number(),
+        TrackEnd::Side(side) => ENDS * spot.hex.index() + side.number(),
         TrackEnd::Stop(number) => {
             let stop = joined_stop(Stop {
                 hex: spot.hex,
                 number,
             });
-            8 * stop.hex.index() + 6 + stop.number.index()
+            ENDS * stop.hex.index() + SIDES + stop.number.index()
         }
     }
 }

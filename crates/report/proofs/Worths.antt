@@ -7,6 +7,7 @@ use Rattle.std.proofs.lemmas.List.Sums.{sum_by_more}
 use Rattle.std.specs.Prelude.{negsuc}
 use mir.Syntax.{w128}
 use mir.Val.{of_z, to_z}
+use Rattle.tables.specs.Chart.{price_most}
 use Rattle.totals.specs.LookBack.{IsModerate}
 use Rattle.totals.specs.Trains.{at_least_zero}
 
@@ -16,7 +17,7 @@ not_many (pos n) moderate = let over = moderate.not_over in omega (arith, ints, 
 not_many (negsuc n) moderate = omega arith
 
 -- so what is paid for each of them fits
-pub worth_fits : (shares price : ℕ) → shares ≤ 2 ^ 100 → price ≤ 350 → shares * price ≤ 2 ^ 109
+pub worth_fits : (shares price : ℕ) → shares ≤ 2 ^ 100 → price ≤ price_most → shares * price ≤ 2 ^ 109
 worth_fits shares price many small = let most = mul-le-mul many small in omega (arith, most)
 
 -- one more value is added to those of the first n

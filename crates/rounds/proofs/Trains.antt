@@ -8,7 +8,7 @@ use Rattle.purchases.specs.TrainLaws.{AllTrainsAreThere, AllTrainsAreThereAtFirs
 use Rattle.operating.specs.TrainLaws.{PhasesGoOnInTurns, TurnsKeepAll}
 use Rattle.rounds.proofs.RoundSteps.{in_each_game, of_round}
 use Rattle.rounds.specs.Trains.{PhasesGoOnInRounds, AllTrainsAreThereInEachGame}
-use Rattle.tables.specs.Train.{place_of_kind}
+use Rattle.tables.specs.Train.{index_of_kind}
 
 -- trains are in each game
 pub trains_are_there : AllTrainsAreThereAtFirst → OthersKeepStanding → TurnsKeepAll → AllTrainsAreThereInEachGame
@@ -23,7 +23,7 @@ trains_are_there first others turns =
 
 -- the phase is the same after a longer list, or a later one
 abbrev PhaseGoesOn : List Event → List Event → Type 0
-PhaseGoesOn before after = place_of_kind (phase_of before) ≤ place_of_kind (phase_of after)
+PhaseGoesOn before after = index_of_kind (phase_of before) ≤ index_of_kind (phase_of after)
 
 -- so phases go on
 pub phases_go_on : PhasesGoOnInTurns → PhasesGoOnInRounds
@@ -32,7 +32,7 @@ phases_go_on turns file old new round =
     (record {
       same = λ events. omega arith;
       both = λ a b c one two. omega arith;
-      aside = λ events event says. omega (arith, ap place_of_kind (phase_kept events event says.phase));
+      aside = λ events event says. omega (arith, ap index_of_kind (phase_kept events event says.phase));
     })
-    turns file (λ events round. omega (arith, ap place_of_kind (phase_kept events (event.Round round) refl)))
+    turns file (λ events round. omega (arith, ap index_of_kind (phase_kept events (event.Round round) refl)))
     round.round old.game new.game round.played

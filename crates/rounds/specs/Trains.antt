@@ -3,7 +3,7 @@ use Rattle.std.specs.Prelude.{ℕ, ◌≤◌, List}
 use Rattle.totals.specs.Trains.{phase_of}
 use Rattle.purchases.specs.TrainLaws.{AllTrainsAreThere}
 use Rattle.rounds.specs.Play.{AreRounds, Between, IsRound, before_play}
-use Rattle.tables.specs.Train.{place_of_kind}
+use Rattle.tables.specs.Train.{index_of_kind}
 
 -- After any rounds of a file's game, the trains of a kind in the bank, its pool and the companies
 -- are as many as at first, until they rust. After that there are none. Nobody has a negative number
@@ -17,4 +17,4 @@ AllTrainsAreThereInEachGame =
 abbrev pub PhasesGoOnInRounds : Type 0
 PhasesGoOnInRounds =
     (file : List ℕ) (old new : Between) →
-    IsRound file old new → place_of_kind (phase_of old.game.events) ≤ place_of_kind (phase_of new.game.events)
+    IsRound file old new → index_of_kind (phase_of old.game.events) ≤ index_of_kind (phase_of new.game.events)

@@ -16,7 +16,7 @@ use crate::outgoing_segment::Stretch;
 use crate::segments::Segments;
 use crate::task::{Node, Task};
 use legal_runs::border_to;
-use map_tables::{HEXES, Hex, Stop, StopNumber, TrackEnd, neighbour};
+use map_tables::{ENDS, HEXES, Hex, SIDES, Stop, StopNumber, TrackEnd, neighbour};
 use reach::{Network, SPOTS, Spot, WalkStep, spot_number};
 use std::alloc::{AllocError, Global};
 use tables::{Company, Kind};
@@ -96,12 +96,6 @@ fn stop_node<N: Network>(network: &N, company: Company, stop: Stop) -> Node
         ends: network.red(stop) || network.full(stop, company),
     }
 }
-
-/// How many ends of a hex have numbers of their own.
-pub(crate) const ENDS: usize = 8;
-
-/// How many of these are sides.
-pub(crate) const SIDES: usize = 6;
 
 /// Returns the number of a stop, by its place among the ends of its hex.
 fn stop_numbered(place: usize) -> StopNumber

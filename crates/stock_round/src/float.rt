@@ -6,13 +6,10 @@ ghost use Rattle.stock_round.specs.Float.{floated_at, is_to_float, with_float};
 use crate::prices::par_value;
 use history::{Event, History, ShareCount, Shareholder};
 use std::alloc::AllocError;
-use tables::{Amount, Company};
+use tables::{Company, SHARES};
 
 /// The most shares that are left in the initial offering of a company that floats.
 const FLOAT_MOST: ShareCount = 4;
-
-/// How many times its par value a company has when it floats.
-const SHARES_OF_COMPANY: Amount = 10;
 
 /// Floats a company, if few enough of its shares are left in the initial offering and it has not
 /// floated yet: the bank pays it ten times its par value.
@@ -47,7 +44,7 @@ fn float(history: &mut History, company: Company) -> Result<(), AllocError>
         (unwrap_or (par_of history.old.events company) 0)) }
     ensures sound { OnOk result (IsSound history.new) }
 {
-    let amount = SHARES_OF_COMPANY * par_value(history, company);
+    let amount = SHARES * par_value(history, company);
     history.append(Event::Floats { company, amount })?;
     history.record_broken()?;
     Ok(())

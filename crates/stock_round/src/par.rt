@@ -10,10 +10,7 @@ use certs::{Purchase, may_buy};
 use history::{Event, History, StockRule};
 use order_grammar::ShareSource;
 use std::alloc::AllocError;
-use tables::{Amount, Company, Seat};
-
-/// The shares of a president's certificate.
-const PRESIDENT_SHARES: u8 = 2;
+use tables::{Amount, Company, PRESIDENT_SHARES, Seat};
 
 /// Returns the first rule that a seat breaks if it sets this par value, in dollars, in a turn in
 /// which it has bought of this company or of none; `None` if it breaks none.

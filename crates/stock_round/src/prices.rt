@@ -3,6 +3,7 @@ ghost use Rattle.std.specs.Int.RustNames.{unsigned_abs};
 ghost use Rattle.certs.specs.Purchase.{share_price_of};
 ghost use Rattle.totals.specs.Shares.{par_of};
 ghost use Rattle.history.specs.Sound.{IsLed};
+ghost use Rattle.tables.specs.Chart.{price_most};
 
 use certs::share_price;
 use history::History;
@@ -13,7 +14,7 @@ use tables::{Amount, Company, Money};
 pub(crate) fn share_cost(history: &History, company: Company, from: ShareSource) -> Amount
     requires { IsLed history.now.events company }
     ensures price { result ≡ share_price_of history.now.events company from }
-    ensures small { result ≤ 350 }
+    ensures small { result ≤ price_most }
 {
     amount_of(share_price(&history.now(), company, from))
 }
@@ -22,7 +23,7 @@ pub(crate) fn share_cost(history: &History, company: Company, from: ShareSource)
 pub(crate) fn par_value(history: &History, company: Company) -> Amount
     requires { IsLed history.now.events company }
     ensures par { result ≡ unwrap_or (par_of history.now.events company) 0 }
-    ensures small { result ≤ 350 }
+    ensures small { result ≤ price_most }
 {
     match history.par(company) {
         Some(par) => amount_of(par),
@@ -33,7 +34,7 @@ pub(crate) fn par_value(history: &History, company: Company) -> Amount
 /// Returns a small sum of money as an amount.
 fn amount_of(sum: Money) -> Amount
     requires sum { pos (unsigned_abs sum) ≡ sum }
-    requires small { unsigned_abs sum ≤ 350 }
+    requires small { unsigned_abs sum ≤ price_most }
     ensures { result ≡ unsigned_abs sum }
 {
     sum as Amount

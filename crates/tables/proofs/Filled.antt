@@ -6,7 +6,7 @@ use Rattle.std.proofs.lemmas.Bool.Decides.{nat_tests}
 use Rattle.std.proofs.lemmas.Grind.{get_or-set_at}
 use Rattle.std.proofs.lemmas.Int.{ints}
 use Rattle.std.proofs.lemmas.List.{get_or-set_same, get_or-set_other}
-use Rattle.tables.specs.Roster.{companies, place_of_company}
+use Rattle.tables.specs.Roster.{companies, index_of_company}
 use Rattle.tables.specs.declared.roster.Company.{Company}
 use Rattle.tables.specs.declared.roster.Company.TheVariants.{Pennsylvania, NewYorkCentral, CanadianPacific}
 use Rattle.tables.specs.declared.roster.Company.TheVariants.{BaltimoreOhio, ChesapeakeOhio, Erie, NewHaven, BostonMaine}
@@ -25,7 +25,7 @@ filled_more {A} P d table n entry within is before k less =
 -- what holds of each entry of a table by the roster holds of each company's
 pub at_places : {A : Type 0} (P : Company → A → Type 0) (d : A) (table : List A)
     → ((k : ℕ) → k < 8 → P (get_or companies k Pennsylvania) (get_or table k d)) → (company : Company)
-    → P company (get_or table (place_of_company company) d)
+    → P company (get_or table (index_of_company company) d)
 at_places P d table each Pennsylvania = each 0 (omega arith)
 at_places P d table each NewYorkCentral = each 1 (omega arith)
 at_places P d table each CanadianPacific = each 2 (omega arith)

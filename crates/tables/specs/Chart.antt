@@ -7,6 +7,10 @@ use Rattle.tables.specs.declared.squares.Square.{Square}
 use Rattle.tables.specs.declared.squares.Zone.{Zone}
 use Rattle.tables.specs.declared.squares.Zone.TheVariants.{White, Yellow, Orange, Brown}
 
+-- the greatest price of the chart, in dollars
+abbrev pub price_most : ℕ
+price_most = 350
+
 -- what is printed at a place of the chart: a price in a zone, or no square; and whether it is
 -- marked as a par value
 pub record Printed : Type 0 where

@@ -15,19 +15,19 @@ companies =
     ∷ company.ChesapeakeOhio ∷ company.Erie ∷ company.NewHaven ∷ company.BostonMaine ∷ []
 
 -- the place of a company in the roster
-abbrev pub place_of_company : Company → ℕ
-place_of_company company.Pennsylvania = 0
-place_of_company company.NewYorkCentral = 1
-place_of_company company.CanadianPacific = 2
-place_of_company company.BaltimoreOhio = 3
-place_of_company company.ChesapeakeOhio = 4
-place_of_company company.Erie = 5
-place_of_company company.NewHaven = 6
-place_of_company company.BostonMaine = 7
+abbrev pub index_of_company : Company → ℕ
+index_of_company company.Pennsylvania = 0
+index_of_company company.NewYorkCentral = 1
+index_of_company company.CanadianPacific = 2
+index_of_company company.BaltimoreOhio = 3
+index_of_company company.ChesapeakeOhio = 4
+index_of_company company.Erie = 5
+index_of_company company.NewHaven = 6
+index_of_company company.BostonMaine = 7
 
 -- two companies are the same
 abbrev pub same_company : Company → Company → Bool
-same_company a b = place_of_company a == place_of_company b
+same_company a b = index_of_company a == index_of_company b
 
 -- the code of a company
 abbrev pub code_of_company : Company → List ℕ
@@ -46,17 +46,17 @@ privates =
     SchuylkillValley ∷ ChamplainStLawrence ∷ DelawareHudson ∷ MohawkHudson ∷ CamdenAmboy ∷ BaltimoreOhio ∷ []
 
 -- the place of a private in the roster
-abbrev pub place_of_private : Private → ℕ
-place_of_private SchuylkillValley = 0
-place_of_private ChamplainStLawrence = 1
-place_of_private DelawareHudson = 2
-place_of_private MohawkHudson = 3
-place_of_private CamdenAmboy = 4
-place_of_private BaltimoreOhio = 5
+abbrev pub index_of_private : Private → ℕ
+index_of_private SchuylkillValley = 0
+index_of_private ChamplainStLawrence = 1
+index_of_private DelawareHudson = 2
+index_of_private MohawkHudson = 3
+index_of_private CamdenAmboy = 4
+index_of_private BaltimoreOhio = 5
 
 -- two privates are the same
 abbrev pub same_private : Private → Private → Bool
-same_private a b = place_of_private a == place_of_private b
+same_private a b = index_of_private a == index_of_private b
 
 -- the code of a private
 abbrev pub code_of_private : Private → List ℕ

@@ -9,17 +9,17 @@ abbrev pub kinds : List Kind
 kinds = Two ∷ Three ∷ Four ∷ Five ∷ Six ∷ Diesel ∷ []
 
 -- the place of a kind among the kinds
-abbrev pub place_of_kind : Kind → ℕ
-place_of_kind Two = 0
-place_of_kind Three = 1
-place_of_kind Four = 2
-place_of_kind Five = 3
-place_of_kind Six = 4
-place_of_kind Diesel = 5
+abbrev pub index_of_kind : Kind → ℕ
+index_of_kind Two = 0
+index_of_kind Three = 1
+index_of_kind Four = 2
+index_of_kind Five = 3
+index_of_kind Six = 4
+index_of_kind Diesel = 5
 
 -- two kinds are the same
 abbrev pub same_kind : Kind → Kind → Bool
-same_kind a b = place_of_kind a == place_of_kind b
+same_kind a b = index_of_kind a == index_of_kind b
 
 -- the code of a kind
 abbrev pub code_of_kind : Kind → List ℕ

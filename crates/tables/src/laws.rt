@@ -1,11 +1,11 @@
 //! The laws of the definitions. Each is the contract of a function that does nothing.
 ghost use Rattle.std.specs.Prelude.{◌≡◌, map};
 ghost use Rattle.std.specs.List.{range_with_len};
-ghost use Rattle.tables.specs.Roster.{companies, place_of_company, place_of_private, privates};
+ghost use Rattle.tables.specs.Roster.{companies, index_of_company, index_of_private, privates};
 ghost use Rattle.tables.specs.Round.{RoundsAreInOrder};
 ghost use Rattle.tables.specs.Rules.{FirstOfThoseBroken, KeptWhereNoneIsBroken};
 ghost use Rattle.tables.specs.Steps.{StepsEndOnce};
-ghost use Rattle.tables.specs.Train.{kinds, place_of_kind};
+ghost use Rattle.tables.specs.Train.{kinds, index_of_kind};
 ghost use Rattle.tables.specs.Turns.{TurnsComeNearer, TurnsEndOnce, TurnsEndSoon};
 
 use crate::rolling_stock::Kind;
@@ -15,11 +15,11 @@ use crate::roster::{Company, Private};
 /// its place.
 pub fn rosters_in_order()
     ensures companies { Company.ALL ≡ companies }
-    ensures company_places { map place_of_company companies ≡ range_with_len 0 8 }
+    ensures company_places { map index_of_company companies ≡ range_with_len 0 8 }
     ensures privates { Private.ALL ≡ privates }
-    ensures private_places { map place_of_private privates ≡ range_with_len 0 6 }
+    ensures private_places { map index_of_private privates ≡ range_with_len 0 6 }
     ensures kinds { Kind.ALL ≡ kinds }
-    ensures kind_places { map place_of_kind kinds ≡ range_with_len 0 6 }
+    ensures kind_places { map index_of_kind kinds ≡ range_with_len 0 6 }
 {}
 
 /// States that rounds are in order: the openings, then each stock round followed by the operating

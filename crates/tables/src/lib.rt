@@ -22,8 +22,8 @@ mod squares;
 pub use chart::{par_square, price, square, zone};
 pub use rolling_stock::{KINDS, Kind, PerKind, Trains, limit, rounds_in_set, rusts, train};
 pub use roster::{
-    COMPANIES, Company, PRIVATES, PerCompany, PerPrivate, Private, face, revenue, token_price,
-    tokens,
+    BID_STEP, COMPANIES, Company, POOL_SHARES_MOST, PRESIDENT_SHARES, PRIVATES, PerCompany,
+    PerPrivate, Private, SHARES, face, revenue, token_price, tokens,
 };
 pub use round::{NUMBER_MOST, OPERATING_MOST, Round};
 pub use rule_table::{Printed, RuleRow, rule_with_code};

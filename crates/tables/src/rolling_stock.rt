@@ -1,5 +1,5 @@
 ghost use Rattle.std.specs.Prelude.{◌≡◌, ◌<◌, codes};
-ghost use Rattle.tables.specs.Train.{code_of_kind, limit_of, place_of_kind, rounds_in_set_of, rusting_of, stops_of};
+ghost use Rattle.tables.specs.Train.{code_of_kind, limit_of, index_of_kind, rounds_in_set_of, rusting_of, stops_of};
 ghost use Rattle.tables.specs.Train.{trains_of};
 
 use crate::seat::Amount;
@@ -60,9 +60,9 @@ impl Kind {
     }
 
     /// Returns its place among the kinds, from 0: its place in `ALL`.
-    pub fn place(self) -> usize
-        ensures place { result ≡ place_of_kind self }
-        ensures within { result < 6 }
+    pub fn index(self) -> usize
+        ensures value { result ≡ index_of_kind self }
+        ensures bound { result < 6 }
     {
         match self {
             Kind::Two => 0,

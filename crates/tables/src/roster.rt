@@ -1,5 +1,5 @@
 ghost use Rattle.std.specs.Prelude.{◌≡◌, ◌<◌, codes};
-ghost use Rattle.tables.specs.Roster.{code_of_company, code_of_private, face_of, place_of_company, place_of_private};
+ghost use Rattle.tables.specs.Roster.{code_of_company, code_of_private, face_of, index_of_company, index_of_private};
 ghost use Rattle.tables.specs.Roster.{revenue_of, token_price_of, token_supply_of};
 
 use crate::seat::Amount;
@@ -7,13 +7,25 @@ use crate::seat::Amount;
 /// How many companies there are.
 pub const COMPANIES: usize = 8;
 
+/// How many shares a company has.
+pub const SHARES: Amount = 10;
+
+/// How many of them the president's certificate stands for.
+pub const PRESIDENT_SHARES: u8 = 2;
+
+/// The most shares of a company that the bank pool may hold.
+pub const POOL_SHARES_MOST: u8 = 5;
+
 /// How many privates there are.
 pub const PRIVATES: usize = 6;
 
-/// A value for each company, in roster order: that of a company is at its `place`.
+/// How many dollars a bid must be over the face of its private, and over every other bid on it.
+pub const BID_STEP: Amount = 5;
+
+/// A value for each company, in roster order: that of a company is at its `index`.
 pub type PerCompany<T> = [T; COMPANIES];
 
-/// A value for each private, in roster order: that of a private is at its `place`.
+/// A value for each private, in roster order: that of a private is at its `index`.
 pub type PerPrivate<T> = [T; PRIVATES];
 
 /// A share company, in roster order. The default is the first of them.
@@ -67,10 +79,10 @@ impl Company {
         }
     }
 
-    /// Returns the company's place in the roster, from 0: its place in `ALL`.
-    pub fn place(self) -> usize
-        ensures place { result ≡ place_of_company self }
-        ensures within { result < 8 }
+    /// Returns its place in the roster, from 0: its place in `ALL`.
+    pub fn index(self) -> usize
+        ensures value { result ≡ index_of_company self }
+        ensures bound { result < 8 }
     {
         match self {
             Company::Pennsylvania => 0,
@@ -127,10 +139,10 @@ impl Private {
         }
     }
 
-    /// Returns the private's place in the roster, from 0: its place in `ALL`.
-    pub fn place(self) -> usize
-        ensures place { result ≡ place_of_private self }
-        ensures within { result < 6 }
+    /// Returns its place in the roster, from 0: its place in `ALL`.
+    pub fn index(self) -> usize
+        ensures value { result ≡ index_of_private self }
+        ensures bound { result < 6 }
     {
         match self {
             Private::SchuylkillValley => 0,

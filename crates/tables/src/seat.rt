@@ -14,18 +14,18 @@ pub type Amount = u32;
 pub struct Seat(pub u8);
 
 impl Seat {
-    /// Returns the seat with this number, which is under 256.
-    pub fn at(number: usize) -> Seat
-        requires { number < 256 }
-        ensures { result ≡ seat_at number }
+    /// Returns the seat at a place in the order of the players line. The place is under 256.
+    pub fn at(index: usize) -> Seat
+        requires { index < 256 }
+        ensures { result ≡ seat_at index }
     {
-        Seat(number as u8)
+        Seat(index as u8)
     }
 
-    /// Returns its number, from 0.
-    pub fn number(self) -> usize
-        ensures number { result ≡ self.0 }
-        ensures within { result < 256 }
+    /// Returns its place in the order of the players line, from 0.
+    pub fn index(self) -> usize
+        ensures value { result ≡ self.0 }
+        ensures bound { result < 256 }
     {
         usize::from(self.0)
     }

@@ -24,8 +24,8 @@ use Rattle.totals.specs.Totals.{train_row}
 use Rattle.totals.specs.LookBack.{IsModerate, balance, paid_by, paid_to, same_party}
 use Rattle.totals.specs.Shares.{brought_to, same_shareholder, taken_from}
 use Rattle.totals.specs.Trains.{any_comes, any_goes, one_if, same_train_place, train_comes, train_goes}
-use Rattle.tables.specs.Roster.{place_of_company, same_company}
-use Rattle.tables.specs.Train.{place_of_kind, same_kind}
+use Rattle.tables.specs.Roster.{index_of_company, same_company}
+use Rattle.tables.specs.Train.{index_of_kind, same_kind}
 use Rattle.tables.specs.declared.rolling_stock.Kind.{Kind}
 use Rattle.tables.specs.declared.roster.Company.{Company}
 
@@ -65,23 +65,23 @@ plus_same : (k a b : ℕ) → (a == b) ≡ (k + a == k + b)
 plus_same k a b = grind (arith, cases_eq a b, eq-eqb a b, eq-eqb (k + a) (k + b))
 
 -- a company has a place under 8
-pub company_low : (company : Company) → place_of_company company < 8
+pub company_low : (company : Company) → index_of_company company < 8
 company_low company = grind arith
 
 -- parties have different entries
 same_entry : (a b : Party) → same_party a b ≡ (party_entry a == party_entry b)
 same_entry party.Bank party.Bank = refl
 same_entry party.Bank (party.Holder (holder.Seat b)) = grind (arith, eq-eqb 0 (9 + b.0))
-same_entry party.Bank (party.Holder (holder.Company b)) = grind (arith, eq-eqb 0 (1 + place_of_company b))
+same_entry party.Bank (party.Holder (holder.Company b)) = grind (arith, eq-eqb 0 (1 + index_of_company b))
 same_entry (party.Holder (holder.Seat a)) party.Bank = grind (arith, eq-eqb (9 + a.0) 0)
-same_entry (party.Holder (holder.Company a)) party.Bank = grind (arith, eq-eqb (1 + place_of_company a) 0)
+same_entry (party.Holder (holder.Company a)) party.Bank = grind (arith, eq-eqb (1 + index_of_company a) 0)
 same_entry (party.Holder (holder.Seat a)) (party.Holder (holder.Seat b)) = plus_same 9 a.0 b.0
 same_entry (party.Holder (holder.Company a)) (party.Holder (holder.Company b)) =
-    plus_same 1 (place_of_company a) (place_of_company b)
+    plus_same 1 (index_of_company a) (index_of_company b)
 same_entry (party.Holder (holder.Seat a)) (party.Holder (holder.Company b)) =
-    grind (arith, company_low b, eq-eqb (9 + a.0) (1 + place_of_company b))
+    grind (arith, company_low b, eq-eqb (9 + a.0) (1 + index_of_company b))
 same_entry (party.Holder (holder.Company a)) (party.Holder (holder.Seat b)) =
-    grind (arith, company_low a, eq-eqb (1 + place_of_company a) (9 + b.0))
+    grind (arith, company_low a, eq-eqb (1 + index_of_company a) (9 + b.0))
 
 -- a payment moves its amount from its entry to its other
 pub payment_moved :
@@ -124,7 +124,7 @@ part_by_entry :
 part_by_entry a b at place shares =
     both_tests (same_company a b) (same_shareholder at place) shares
     ∙ ap (λ test. if same_company a b && test then shares else 0) (same_row at place)
-    ∙ ap (λ test. if test then shares else 0) (row_same (place_of_company a) (place_of_company b) (row_of at)
+    ∙ ap (λ test. if test then shares else 0) (row_same (index_of_company a) (index_of_company b) (row_of at)
     (row_of place) (company_low a) (company_low b))
 
 -- a transfer moves its shares from its entry to its other
@@ -152,18 +152,18 @@ same_train_row train_place.BankPool train_place.OutOfPlay = refl
 same_train_row train_place.OutOfPlay train_place.Bank = refl
 same_train_row train_place.OutOfPlay train_place.BankPool = refl
 same_train_row train_place.OutOfPlay train_place.OutOfPlay = refl
-same_train_row train_place.Bank (train_place.Company b) = grind (arith, eq-eqb 0 (2 + place_of_company b))
-same_train_row train_place.BankPool (train_place.Company b) = grind (arith, eq-eqb 1 (2 + place_of_company b))
+same_train_row train_place.Bank (train_place.Company b) = grind (arith, eq-eqb 0 (2 + index_of_company b))
+same_train_row train_place.BankPool (train_place.Company b) = grind (arith, eq-eqb 1 (2 + index_of_company b))
 same_train_row train_place.OutOfPlay (train_place.Company b) =
-    grind (arith, company_low b, eq-eqb 10 (2 + place_of_company b))
-same_train_row (train_place.Company a) train_place.Bank = grind (arith, eq-eqb (2 + place_of_company a) 0)
-same_train_row (train_place.Company a) train_place.BankPool = grind (arith, eq-eqb (2 + place_of_company a) 1)
+    grind (arith, company_low b, eq-eqb 10 (2 + index_of_company b))
+same_train_row (train_place.Company a) train_place.Bank = grind (arith, eq-eqb (2 + index_of_company a) 0)
+same_train_row (train_place.Company a) train_place.BankPool = grind (arith, eq-eqb (2 + index_of_company a) 1)
 same_train_row (train_place.Company a) train_place.OutOfPlay =
-    grind (arith, company_low a, eq-eqb (2 + place_of_company a) 10)
-same_train_row (train_place.Company a) (train_place.Company b) = plus_same 2 (place_of_company a) (place_of_company b)
+    grind (arith, company_low a, eq-eqb (2 + index_of_company a) 10)
+same_train_row (train_place.Company a) (train_place.Company b) = plus_same 2 (index_of_company a) (index_of_company b)
 
 -- a kind has a place under 8
-kind_low : (kind : Kind) → place_of_kind kind < 8
+kind_low : (kind : Kind) → index_of_kind kind < 8
 kind_low kind = grind arith
 
 -- a place has one of eleven rows
@@ -183,7 +183,7 @@ train_by_entry :
     ≡ (if train_entry at a == train_entry place b then 1 else 0)
 train_by_entry a b at place =
     ap (λ test. one_if (same_kind a b && test)) (same_train_row at place)
-    ∙ ap one_if (row_same (place_of_kind a) (place_of_kind b) (train_row at) (train_row place) (kind_low a)
+    ∙ ap one_if (row_same (index_of_kind a) (index_of_kind b) (train_row at) (train_row place) (kind_low a)
     (kind_low b))
 
 -- a train moves from its entry to its other

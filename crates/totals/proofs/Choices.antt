@@ -3,7 +3,7 @@ use Rattle.std.proofs.Common.{◌≡◌, ◌≢◌, ℕ, ◌==◌, ◌⊎◌, in
 use Rattle.std.proofs.Common.{None, is_some, refl, sym, ap, ◌∙◌, arith}
 use Rattle.std.proofs.lemmas.Bool.Decides.{Decides-eqb, nat_tests}
 use Rattle.std.specs.Option.{option_or}
-use Rattle.tables.specs.Roster.{place_of_company, same_company}
+use Rattle.tables.specs.Roster.{index_of_company, same_company}
 use Rattle.tables.specs.declared.roster.Company.{Company}
 use Rattle.tables.specs.declared.roster.Company.TheVariants.{Pennsylvania, NewYorkCentral, CanadianPacific}
 use Rattle.tables.specs.declared.roster.Company.TheVariants.{BaltimoreOhio, ChesapeakeOhio, Erie, NewHaven, BostonMaine}
@@ -65,7 +65,7 @@ company_at place =
     4 then ChesapeakeOhio else if place == 5 then Erie else if place == 6 then NewHaven else BostonMaine
 
 -- is the company
-company_at_place : (company : Company) → company_at (place_of_company company) ≡ company
+company_at_place : (company : Company) → company_at (index_of_company company) ≡ company
 company_at_place Pennsylvania = refl
 company_at_place NewYorkCentral = refl
 company_at_place CanadianPacific = refl
@@ -78,5 +78,5 @@ company_at_place BostonMaine = refl
 -- companies of one place are the same
 pub same_company_is : (a b : Company) → same_company a b ≡ true → a ≡ b
 same_company_is a b same =
-    sym (company_at_place a) ∙ ap company_at ((Decides-eqb (place_of_company a) (place_of_company b)).0 same)
+    sym (company_at_place a) ∙ ap company_at ((Decides-eqb (index_of_company a) (index_of_company b)).0 same)
     ∙ company_at_place b

@@ -6,7 +6,7 @@ use Rattle.std.proofs.lemmas.Int.{ints}
 use Rattle.events.specs.declared.event.Event.{Event}
 use Rattle.totals.proofs.Tied.{none_standing}
 use Rattle.totals.specs.Totals.{IsBalance, IsCounted, at_company, balance_at, bid_in, count_at, sale_in}
-use Rattle.tables.specs.Roster.{place_of_company}
+use Rattle.tables.specs.Roster.{index_of_company}
 use Rattle.tables.specs.declared.roster.Company.{Company}
 use Rattle.tables.specs.declared.roster.Company.TheVariants as company
 use Rattle.tables.specs.declared.roster.Private.{Private}
@@ -62,7 +62,7 @@ no_count n entry = none_counted _ (same_throughout 0 n entry)
 
 -- each row of a table of eight
 row_throughout : {A : Type 0} (row : List A) (company : Company)
-    → slice_index_or (replicate 8 row) (place_of_company company) [] ≡ row
+    → slice_index_or (replicate 8 row) (index_of_company company) [] ≡ row
 row_throughout row company.Pennsylvania = refl
 row_throughout row company.NewYorkCentral = refl
 row_throughout row company.CanadianPacific = refl

@@ -16,7 +16,7 @@ use Rattle.events.specs.declared.event.Party.{Party}
 use Rattle.events.specs.declared.event.Party.TheVariants as party
 use Rattle.events.specs.declared.event.Payment.{Payment}
 use Rattle.totals.specs.declared.owners.Owners.{Owners}
-use Rattle.tables.specs.Roster.{start_money_of, bank_start_of, face_of, place_of_private, privates, same_company}
+use Rattle.tables.specs.Roster.{start_money_of, bank_start_of, face_of, index_of_private, privates, same_company}
 use Rattle.tables.specs.Roster.{same_private}
 use Rattle.tables.specs.Seat.{left_of, seat_at}
 use Rattle.tables.specs.declared.roster.Private.{Private}
@@ -155,11 +155,11 @@ cheapest_of events = first_unsold (is_sold events) privates
 
 -- the owner of a private, by what was said last of each
 abbrev pub owner_in : Owners → Private → Option Holder
-owner_in owners private = option_flatten (slice_index_or owners.said (place_of_private private) None)
+owner_in owners private = option_flatten (slice_index_or owners.said (index_of_private private) None)
 
 -- a private has been sold, by what was said last of each
 abbrev pub is_sold_in : Owners → Private → Bool
-is_sold_in owners private = is_some (slice_index_or owners.said (place_of_private private) None)
+is_sold_in owners private = is_some (slice_index_or owners.said (index_of_private private) None)
 
 -- the cheapest private that is unsold, by what was said last of each
 abbrev pub cheapest_in : Owners → Option Private

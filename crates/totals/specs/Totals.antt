@@ -25,9 +25,9 @@ use Rattle.totals.specs.Shares.{taken_from}
 use Rattle.totals.specs.Trains.{any_comes, any_goes, one_if, train_comes, train_goes}
 use Rattle.totals.specs.declared.totals.Totals.{Totals}
 use Rattle.totals.specs.declared.owners.Owners.{Owners}
-use Rattle.tables.specs.Roster.{place_of_company, place_of_private}
+use Rattle.tables.specs.Roster.{index_of_company, index_of_private}
 use Rattle.tables.specs.Seat.{seat_at}
-use Rattle.tables.specs.Train.{place_of_kind}
+use Rattle.tables.specs.Train.{index_of_kind}
 use Rattle.tables.specs.declared.rolling_stock.Kind.{Kind}
 use Rattle.tables.specs.declared.roster.Company.{Company}
 use Rattle.tables.specs.declared.roster.Private.{Private}
@@ -35,7 +35,7 @@ use Rattle.tables.specs.declared.seat.Seat.{Seat}
 
 -- what the totals have as the last word on a private's owner
 abbrev pub word_in : Owners → Private → Option (Option Holder)
-word_in owners private = slice_index_or owners.said (place_of_private private) None
+word_in owners private = slice_index_or owners.said (index_of_private private) None
 
 -- what the list says last of a private's owner
 abbrev pub word_on : List Event → Private → Option (Option Holder)
@@ -47,15 +47,15 @@ float_on events company = last_said (λ event. float_said company (floated_by ev
 
 -- what a table has for a company
 abbrev pub at_company : {A : Type 0} → List (Option A) → Company → Option A
-at_company table company = slice_index_or table (place_of_company company) None
+at_company table company = slice_index_or table (index_of_company company) None
 
 -- what a table has as a seat's standing bid on a private, or as its limit for one
 abbrev pub bid_in : List (List (Option ℕ)) → Private → ℕ → Option ℕ
-bid_in bids private number = slice_index_or (slice_index_or bids (place_of_private private) []) number None
+bid_in bids private number = slice_index_or (slice_index_or bids (index_of_private private) []) number None
 
 -- what a table has for a private
 abbrev pub at_private : {A : Type 0} → List (Option A) → Private → Option A
-at_private table private = slice_index_or table (place_of_private private) None
+at_private table private = slice_index_or table (index_of_private private) None
 
 -- this place, if an event speaks
 abbrev pub here_if : {A : Type 0} → Option A → ℕ → Option ℕ
@@ -68,7 +68,7 @@ arrival_on events company = last_place_from (λ event. square_said company (squa
 -- the entry of a party in a table of cash
 abbrev pub party_entry : Party → ℕ
 party_entry party.Bank = 0
-party_entry (party.Holder (holder.Company company)) = 1 + place_of_company company
+party_entry (party.Holder (holder.Company company)) = 1 + index_of_company company
 party_entry (party.Holder (holder.Seat seat)) = 9 + seat.0
 
 -- the party has an entry: a seat is one of six
@@ -83,7 +83,7 @@ row_of (OfSeat seat) = 2 + seat.0
 
 -- the entry of the shares of a company at a place
 abbrev pub shares_entry : Company → Shareholder → ℕ
-shares_entry company place = 8 * row_of place + place_of_company company
+shares_entry company place = 8 * row_of place + index_of_company company
 
 -- the place has entries: a seat is one of six
 abbrev pub HasShares : Shareholder → Type 0
@@ -93,12 +93,12 @@ HasShares place = row_of place < 8
 abbrev pub train_row : TrainPlace → ℕ
 train_row train_place.Bank = 0
 train_row train_place.BankPool = 1
-train_row (train_place.Company company) = 2 + place_of_company company
+train_row (train_place.Company company) = 2 + index_of_company company
 train_row train_place.OutOfPlay = 10
 
 -- the entry of the trains of a kind at a place
 abbrev pub train_entry : TrainPlace → Kind → ℕ
-train_entry place kind = 8 * train_row place + place_of_kind kind
+train_entry place kind = 8 * train_row place + index_of_kind kind
 
 -- an entry of a table of counts
 abbrev pub count_at : List ℕ → ℕ → ℕ
@@ -106,11 +106,11 @@ count_at counts entry = slice_index_or counts entry 0
 
 -- what a table has of a company's turn
 abbrev pub flag_of : List Bool → Company → Bool
-flag_of flags company = slice_index_or flags (place_of_company company) false
+flag_of flags company = slice_index_or flags (index_of_company company) false
 
 -- what a table has of a seat's sale of shares of a company
 abbrev pub sale_in : List (List Bool) → Company → Seat → Bool
-sale_in sales company seat = slice_index_or (slice_index_or sales (place_of_company company) []) seat.0 false
+sale_in sales company seat = slice_index_or (slice_index_or sales (index_of_company company) []) seat.0 false
 
 -- the event says no more than what became of a line, that a seat passes, or how many lines are left
 abbrev pub says_little : Event → Bool
@@ -193,7 +193,7 @@ pub record AreTotalsOf (totals : Totals) (events : List Event) : Type 0 where
       IsBalance (λ e. one_if (any_comes owner (train_moved e))) (λ e. one_if (any_goes owner (train_moved e))) events
       (train_count_balance totals.train_owners owner)
   pub tokens : (company : Company) → IsCounted (tokens_placed events company) events
-      (count_at totals.tokens (place_of_company company))
+      (count_at totals.tokens (index_of_company company))
   pub operated : (company : Company) → flag_of totals.operated company ≡ has_operated events company
   pub sales : (company : Company) (seat : Seat) → seat.0 < 6
       → sale_in totals.sales company seat ≡ has_sold_in_round events company seat

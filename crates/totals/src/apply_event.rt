@@ -12,7 +12,7 @@ ghost use Rattle.totals.specs.Totals.{at_company, bid_in, count_at, flag_of, fla
 ghost use Rattle.totals.specs.LookBack.{in_round};
 ghost use Rattle.totals.specs.Operating.{rulings_then, tokens_placed, turn_said};
 ghost use Rattle.totals.specs.Shares.{float_said, par_said, president_said, sale_said, same_shareholder, square_said};
-ghost use Rattle.tables.specs.Roster.{place_of_company};
+ghost use Rattle.tables.specs.Roster.{index_of_company};
 ghost use Rattle.tables.specs.Seat.{seat_at};
 
 use crate::bids::apply_bid_on;
@@ -39,7 +39,7 @@ pub(crate) fn apply_par(pars: &mut PerCompany<Option<Amount>>, event: &Event)
         ≡ option_or (par_said company (par_set event.now)) (at_company pars.old company) }
 {
     if let Some(par) = event.par() {
-        pars[par.company.place()] = Some(par.price);
+        pars[par.company.index()] = Some(par.price);
     }
 }
 
@@ -49,7 +49,7 @@ pub(crate) fn apply_square(squares: &mut PerCompany<Option<Square>>, event: &Eve
         ≡ option_or (square_said company (square_set event.now)) (at_company squares.old company) }
 {
     if let Some(placement) = event.square() {
-        squares[placement.company.place()] = Some(placement.square);
+        squares[placement.company.index()] = Some(placement.square);
     }
 }
 
@@ -60,7 +60,7 @@ pub(crate) fn apply_president(presidents: &mut PerCompany<Option<Seat>>, event: 
         (at_company presidents.old company) }
 {
     if let Some(office) = event.office() {
-        presidents[office.company.place()] = Some(office.president);
+        presidents[office.company.index()] = Some(office.president);
     }
 }
 
@@ -70,7 +70,7 @@ pub(crate) fn apply_float(floats: &mut PerCompany<Option<Company>>, event: &Even
         ≡ option_or (float_said company (floated_by event.now)) (at_company floats.old company) }
 {
     if let Some(company) = event.floated() {
-        floats[company.place()] = Some(company);
+        floats[company.index()] = Some(company);
     }
 }
 
@@ -84,7 +84,7 @@ pub(crate) fn apply_bids(bids: &mut PerPrivate<PerSeat<Option<Amount>>>, bidding
         Some(Bidding::Ended(private)) => private,
         None => return,
     };
-    apply_bid_on(&mut bids[private.place()], private, bidding);
+    apply_bid_on(&mut bids[private.index()], private, bidding);
 }
 
 /// Applies a bid that is made, in a table of the greatest bids by the places of the privates.
@@ -96,7 +96,7 @@ pub(crate) fn apply_greatest_bid(
         ≡ greater_bid (bid_made private bidding) (at_private greatest.old private) }
 {
     if let Some(Bidding::Made(private, bid)) = bidding {
-        let place = private.place();
+        let place = private.index();
         greatest[place] = greater_bid(bid.amount, greatest[place]);
     }
 }
@@ -136,20 +136,20 @@ pub(crate) fn apply_arrival(arrivals: &mut PerCompany<Option<usize>>, place: usi
         (at_company arrivals.old company) }
 {
     if let Some(placement) = event.square() {
-        arrivals[placement.company.place()] = Some(place);
+        arrivals[placement.company.index()] = Some(place);
     }
 }
 
 /// Applies the token that an event places, in a table of how many each company has placed.
 pub(crate) fn apply_token(tokens: &mut PerCompany<usize>, event: &Event)
-    ensures { (company : Company) → count_at tokens.old (place_of_company company) < 2 ^ 63 →
-        count_at tokens.new (place_of_company company)
-        ≡ count_at tokens.old (place_of_company company)
+    ensures { (company : Company) → count_at tokens.old (index_of_company company) < 2 ^ 63 →
+        count_at tokens.new (index_of_company company)
+        ≡ count_at tokens.old (index_of_company company)
         + tokens_placed (event.now ∷ []) company }
 {
     if let Some((_, company)) = event.token() {
-        let count = tokens[company.place()];
-        tokens[company.place()] = count.saturating_add(1);
+        let count = tokens[company.index()];
+        tokens[company.index()] = count.saturating_add(1);
     }
 }
 
@@ -165,7 +165,7 @@ pub(crate) fn apply_turn(operated: &mut PerCompany<bool>, event: &Event)
         return;
     }
     if let Some(company) = event.operated() {
-        operated[company.place()] = true;
+        operated[company.index()] = true;
     }
 }
 
@@ -188,7 +188,7 @@ pub(crate) fn apply_sale(sales: &mut PerCompany<PerSeat<bool>>, event: &Event)
     }
     if let Some(transfer) = event.transfer() {
         apply_sale_of(
-            &mut sales[transfer.company.place()],
+            &mut sales[transfer.company.index()],
             transfer.from,
             transfer.to,
         );
@@ -202,7 +202,7 @@ fn apply_sale_of(sales: &mut PerSeat<bool>, from: Shareholder, to: Shareholder)
         || (same_shareholder from (OfSeat seat) && same_shareholder to BankPool)) }
 {
     if let (Shareholder::Seat(seat), Shareholder::BankPool) = (from, to) {
-        let number = seat.number();
+        let number = seat.index();
         if number < PLAYERS_MOST {
             sales[number] = true;
         }
@@ -227,7 +227,7 @@ pub(crate) fn apply_ruling(rulings: &mut PerSeat<usize>, event: &Event)
         return;
     }
     if let Some(seat) = event.ruled() {
-        let number = seat.number();
+        let number = seat.index();
         if number < PLAYERS_MOST {
             rulings[number] = rulings[number].saturating_add(1);
         }
@@ -281,7 +281,7 @@ pub(crate) fn apply_par_order(orders: &mut PerSeat<Option<Amount>>, event: &Even
         (slice_index_or orders.old seat.0 None) }
 {
     if let Some(seat) = event.ruled() {
-        let number = seat.number();
+        let number = seat.index();
         if number < PLAYERS_MOST {
             apply(&mut orders[number], ParOrdered(seat).word(event));
         }

@@ -23,8 +23,11 @@ pub(crate) const SHARE_PLACES: usize = COMPANIES * (2 + PLAYERS_MOST);
 /// How many places of trains there are: the bank, the bank pool, the companies, and out of play.
 pub(crate) const TRAIN_PLACES: usize = 2 + COMPANIES + 1;
 
-/// How many entries a table of trains has: for each place the kinds, and two that stay empty.
-pub(crate) const TRAIN_ENTRIES: usize = TRAIN_PLACES * (KINDS + 2);
+/// How many entries a place of trains has: the kinds, and two that stay empty.
+const TRAIN_COLUMNS: usize = KINDS + 2;
+
+/// How many entries a table of trains has.
+pub(crate) const TRAIN_ENTRIES: usize = TRAIN_PLACES * TRAIN_COLUMNS;
 
 /// Returns a balance with a change, which is a sum of money or minus one.
 fn changed(balance: Money, change: Money) -> Money
@@ -69,8 +72,8 @@ pub(crate) fn entry_of_party(party: Party) -> usize
 {
     match party {
         Party::Bank => 0,
-        Party::Holder(Holder::Company(company)) => 1 + company.place(),
-        Party::Holder(Holder::Seat(seat)) => 9 + seat.number(),
+        Party::Holder(Holder::Company(company)) => 1 + company.index(),
+        Party::Holder(Holder::Seat(seat)) => 9 + seat.index(),
     }
 }
 
@@ -98,9 +101,9 @@ pub(crate) fn entry_of_shares(company: Company, place: Shareholder) -> usize
     let row = match place {
         Shareholder::InitialOffering => 0,
         Shareholder::BankPool => 1,
-        Shareholder::Seat(seat) => 2 + seat.number(),
+        Shareholder::Seat(seat) => 2 + seat.index(),
     };
-    8 * row + company.place()
+    COMPANIES * row + company.index()
 }
 
 /// Applies the shares that an event moves.
@@ -132,7 +135,7 @@ pub(crate) fn row_of_trains(place: TrainPlace) -> usize
     match place {
         TrainPlace::Bank => 0,
         TrainPlace::BankPool => 1,
-        TrainPlace::Company(company) => 2 + company.place(),
+        TrainPlace::Company(company) => 2 + company.index(),
         TrainPlace::OutOfPlay => 10,
     }
 }
@@ -142,7 +145,7 @@ pub(crate) fn entry_of_train(place: TrainPlace, kind: Kind) -> usize
     ensures entry { result ≡ train_entry place kind }
     ensures within { result < 88 }
 {
-    8 * row_of_trains(place) + kind.place()
+    TRAIN_COLUMNS * row_of_trains(place) + kind.index()
 }
 
 /// Applies the train that an event moves.

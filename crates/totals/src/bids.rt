@@ -24,9 +24,9 @@ impl GameView<'_> {
     pub fn standing_bid(&self, private: Private, seat: Seat) -> Option<Amount>
         ensures { result ≡ bid_of self.now.events.now private seat }
     {
-        let number = seat.number();
+        let number = seat.index();
         match self.totals() {
-            Some(totals) if number < PLAYERS_MOST => totals.bids[private.place()][number],
+            Some(totals) if number < PLAYERS_MOST => totals.bids[private.index()][number],
             _ => last_said(&BidOn(private, seat), self.events).flatten(),
         }
     }
@@ -52,7 +52,7 @@ impl GameView<'_> {
         ensures { AreStanding self.now.events.now private result }
     {
         match self.totals() {
-            Some(totals) => totals.bids[private.place()],
+            Some(totals) => totals.bids[private.index()],
             None => [None; PLAYERS_MOST],
         }
     }
@@ -63,7 +63,7 @@ impl GameView<'_> {
         ensures { result ≡ greatest_bid_of self.now.events.now private }
     {
         match self.totals() {
-            Some(totals) => totals.greatest_bids[private.place()],
+            Some(totals) => totals.greatest_bids[private.index()],
             None => None,
         }
     }
@@ -73,9 +73,9 @@ impl GameView<'_> {
     pub fn limit(&self, private: Private, seat: Seat) -> Option<Amount>
         ensures { result ≡ bid_limit_of self.now.events.now private seat }
     {
-        let number = seat.number();
+        let number = seat.index();
         match self.totals() {
-            Some(totals) if number < PLAYERS_MOST => totals.limits[private.place()][number],
+            Some(totals) if number < PLAYERS_MOST => totals.limits[private.index()][number],
             _ => last_said(&InRound(LimitOn(private, seat)), self.events).flatten(),
         }
     }
@@ -85,7 +85,7 @@ impl GameView<'_> {
     pub fn par_ordered(&self, seat: Seat) -> Option<Amount>
         ensures { result ≡ par_ordered_of self.now.events.now seat }
     {
-        let number = seat.number();
+        let number = seat.index();
         match self.totals() {
             Some(totals) if number < PLAYERS_MOST => totals.par_orders[number],
             _ => last_said(&ParOrdered(seat), self.events),
@@ -145,7 +145,7 @@ pub(crate) fn apply_bid_on(
 {
     match bidding {
         Some(Bidding::Made(other, bid)) => {
-            let number = bid.seat.number();
+            let number = bid.seat.index();
             if other == private && number < PLAYERS_MOST {
                 standing[number] = Some(bid.amount);
             }

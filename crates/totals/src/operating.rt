@@ -12,7 +12,7 @@ impl GameView<'_> {
         ensures { result ≡ tokens_placed self.now.events.now company }
     {
         match self.totals() {
-            Some(totals) => totals.tokens[company.place()],
+            Some(totals) => totals.tokens[company.index()],
             None => 0,
         }
     }
@@ -22,7 +22,7 @@ impl GameView<'_> {
         ensures { result ≡ has_operated self.now.events.now company }
     {
         match self.totals() {
-            Some(totals) => totals.operated[company.place()],
+            Some(totals) => totals.operated[company.index()],
             None => false,
         }
     }
@@ -31,7 +31,7 @@ impl GameView<'_> {
     pub fn rulings_in_round(&self, seat: Seat) -> usize
         ensures { result ≡ rulings_in_round self.now.events.now seat }
     {
-        let number = seat.number();
+        let number = seat.index();
         match self.totals() {
             Some(totals) if number < PLAYERS_MOST => totals.rulings[number],
             _ => count_rulings(self.events, seat),

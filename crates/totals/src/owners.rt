@@ -32,7 +32,7 @@ impl Owners {
             ≡ option_or (owner_said private (ownership_of event.now)) (word_in self.old private) }
     {
         if let Some(ownership) = event.ownership() {
-            self.said[ownership.private.place()] = Some(ownership.owner);
+            self.said[ownership.private.index()] = Some(ownership.owner);
         }
     }
 
@@ -40,14 +40,14 @@ impl Owners {
     pub fn owner(&self, private: Private) -> Option<Holder>
         ensures { result ≡ owner_in self.now private }
     {
-        self.said[private.place()].flatten()
+        self.said[private.index()].flatten()
     }
 
     /// Returns whether a private has been sold.
     pub fn is_sold(&self, private: Private) -> bool
         ensures { result ≡ is_sold_in self.now private }
     {
-        self.said[private.place()].is_some()
+        self.said[private.index()].is_some()
     }
 
     /// Returns the first private in roster order that is unsold.

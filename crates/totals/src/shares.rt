@@ -10,7 +10,7 @@ use crate::event_folds::{InRound, balance, last_said};
 use crate::event_topics::{SaleBy, Shares};
 use crate::look_back::GameView;
 use events::Shareholder;
-use tables::{Amount, COMPANIES, Company, Money, PLAYERS_MOST, PerCompany, Seat, Square};
+use tables::{Amount, COMPANIES, Company, Money, PLAYERS_MOST, PerCompany, SHARES, Seat, Square};
 
 /// A number of shares of a company: what came in minus what went out, from 0 to 10 in a sound game.
 pub type ShareCount = i128;
@@ -42,7 +42,7 @@ impl GameView<'_> {
         ensures { result ≡ par_of self.now.events.now company }
     {
         match self.totals() {
-            Some(totals) => totals.pars[company.place()],
+            Some(totals) => totals.pars[company.index()],
             None => None,
         }
     }
@@ -59,7 +59,7 @@ impl GameView<'_> {
         ensures { result ≡ is_floated self.now.events.now company }
     {
         match self.totals() {
-            Some(totals) => totals.floats[company.place()].is_some(),
+            Some(totals) => totals.floats[company.index()].is_some(),
             None => false,
         }
     }
@@ -68,9 +68,9 @@ impl GameView<'_> {
     pub fn has_sold_in_round(&self, company: Company, seat: Seat) -> bool
         ensures { result ≡ has_sold_in_round self.now.events.now company seat }
     {
-        let number = seat.number();
+        let number = seat.index();
         match self.totals() {
-            Some(totals) if number < PLAYERS_MOST => totals.sales[company.place()][number],
+            Some(totals) if number < PLAYERS_MOST => totals.sales[company.index()][number],
             _ => last_said(&InRound(SaleBy(company, seat)), self.events)
                 .flatten()
                 .is_some(),
@@ -82,7 +82,7 @@ impl GameView<'_> {
         ensures { result ≡ square_of self.now.events.now company }
     {
         match self.totals() {
-            Some(totals) => totals.squares[company.place()],
+            Some(totals) => totals.squares[company.index()],
             None => None,
         }
     }
@@ -104,7 +104,7 @@ impl GameView<'_> {
         ensures { result ≡ arrival_of self.now.events.now company }
     {
         match self.totals() {
-            Some(totals) => totals.arrivals[company.place()].unwrap_or(0),
+            Some(totals) => totals.arrivals[company.index()].unwrap_or(0),
             None => 0,
         }
     }
@@ -114,7 +114,7 @@ impl GameView<'_> {
         ensures { result ≡ president_of self.now.events.now company }
     {
         match self.totals() {
-            Some(totals) => totals.presidents[company.place()],
+            Some(totals) => totals.presidents[company.index()],
             None => None,
         }
     }
@@ -136,7 +136,7 @@ fn start_shares(place: Shareholder) -> Amount
     ensures { result ≡ start_shares place }
 {
     match place {
-        Shareholder::InitialOffering => 10,
+        Shareholder::InitialOffering => SHARES,
         _ => 0,
     }
 }

@@ -9,7 +9,7 @@ use Rattle.events.specs.declared.event.Holder.TheVariants as holder
 use Rattle.events.specs.declared.event.Party.{Party}
 use Rattle.events.specs.declared.event.Party.TheVariants as party
 use Rattle.totals.specs.LookBack.{Game, IsModerate, cash_of}
-use Rattle.tables.specs.Roster.{place_of_company}
+use Rattle.tables.specs.Roster.{index_of_company}
 use Rattle.tables.specs.Seat.{seat_at}
 use Rattle.tables.specs.declared.roster.Company.{Company}
 use Rattle.tables.specs.declared.seat.Seat.{Seat}
@@ -31,7 +31,7 @@ pub accounts_of : (game : Game) (accounts : Accounts) (seats : ℕ) (events : Li
     accounts.bank ≡ cash_of seats events party.Bank →
     ((number : ℕ) → number < 6 → get_or accounts.seats number (pos 0)
     ≡ cash_of seats events (party_at (seat_at number))) →
-    ((company : Company) → get_or accounts.companies (place_of_company company) (pos 0)
+    ((company : Company) → get_or accounts.companies (index_of_company company) (pos 0)
     ≡ cash_of seats events (party.Holder (holder.Company company))) →
     AreAccountsOf game accounts
 accounts_of game accounts seats events same_seats same_events bank of_seats of_companies party.Bank has =
@@ -46,7 +46,7 @@ accounts_of game accounts seats events same_seats same_events bank of_seats of_c
 -- accounts are moderate where those of the bank, the seats and the companies are
 pub moderate_of : (accounts : Accounts) → IsModerate accounts.bank
     → ((number : ℕ) → number < 6 → IsModerate (get_or accounts.seats number (pos 0))) →
-    ((company : Company) → IsModerate (get_or accounts.companies (place_of_company company) (pos 0)))
+    ((company : Company) → IsModerate (get_or accounts.companies (index_of_company company) (pos 0)))
     → AreModerate accounts
 moderate_of accounts bank of_seats of_companies party.Bank has = bank
 moderate_of accounts bank of_seats of_companies (party.Holder (holder.Seat seat)) has = of_seats seat.0 has
@@ -54,7 +54,7 @@ moderate_of accounts bank of_seats of_companies (party.Holder (holder.Company co
 
 -- a change of a company's account
 pub company_changed : (accounts : Accounts) (company : Company) (change cash : ℤ) (place : ℕ)
-    → place ≡ place_of_company company →
+    → place ≡ index_of_company company →
     place < length accounts.companies → cash ≡ get_or accounts.companies place (pos 0) +ℤ change → (other : Party)
     → HasAccount other →
     cash_in (record accounts { companies = set accounts.companies place cash }) other
@@ -63,9 +63,9 @@ company_changed accounts company change cash place is_place within is party.Bank
 company_changed accounts company change cash place is_place within is (party.Holder (holder.Seat seat)) has =
     omega (arith, ints)
 company_changed accounts company change cash place is_place within is (party.Holder (holder.Company other)) has =
-    entry_changed accounts.companies place (place_of_company other) change cash within is
-    ∙ ap (λ (n : ℕ). get_or accounts.companies (place_of_company other) (pos 0) +ℤ
-    (if n == place_of_company other then change else pos 0)) is_place
+    entry_changed accounts.companies place (index_of_company other) change cash within is
+    ∙ ap (λ (n : ℕ). get_or accounts.companies (index_of_company other) (pos 0) +ℤ
+    (if n == index_of_company other then change else pos 0)) is_place
 
 -- where a seat has no account, a change of what it has changes no account
 pub no_account : (accounts : Accounts) (seat : Seat) (change : ℤ) → 6 ≤ seat.0 → (other : Party) → HasAccount other →

@@ -10,7 +10,7 @@ use Rattle.events.specs.declared.event.Party.{Party}
 use Rattle.events.specs.declared.event.Party.TheVariants as party
 use Rattle.totals.specs.LookBack.{Game, IsModerate, cash_of, same_party}
 use Rattle.totals.specs.declared.look_back.GameView.{GameView}
-use Rattle.tables.specs.Roster.{place_of_company}
+use Rattle.tables.specs.Roster.{index_of_company}
 use Rattle.tables.specs.Seat.{seat_at}
 use Rattle.tables.specs.declared.roster.Company.{Company}
 use Rattle.treasury.specs.declared.accounts.Accounts.{Accounts}
@@ -26,7 +26,7 @@ abbrev pub cash_in : Accounts → Party → ℤ
 cash_in accounts party.Bank = accounts.bank
 cash_in accounts (party.Holder (holder.Seat seat)) = slice_index_or accounts.seats seat.0 (pos 0)
 cash_in accounts (party.Holder (holder.Company company)) =
-    slice_index_or accounts.companies (place_of_company company) (pos 0)
+    slice_index_or accounts.companies (index_of_company company) (pos 0)
 
 -- each account holds what its party has in a game
 abbrev pub AreAccountsOf : Game → Accounts → Type 0
@@ -78,9 +78,9 @@ AreModerateForSeats cash = (number : ℕ) → number < 6 → IsModerate (slice_i
 -- the cash of each company
 abbrev pub AreOfCompanies : ℕ → List Event → List ℤ → Type 0
 AreOfCompanies seats events cash =
-    (company : Company) → slice_index_or cash (place_of_company company) (pos 0)
+    (company : Company) → slice_index_or cash (index_of_company company) (pos 0)
     ≡ cash_of seats events (party.Holder (holder.Company company))
 
 -- no company has, or owes, more than 2 ^ 100
 abbrev pub AreModerateForCompanies : List ℤ → Type 0
-AreModerateForCompanies cash = (company : Company) → IsModerate (slice_index_or cash (place_of_company company) (pos 0))
+AreModerateForCompanies cash = (company : Company) → IsModerate (slice_index_or cash (index_of_company company) (pos 0))

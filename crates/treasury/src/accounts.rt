@@ -66,9 +66,9 @@ impl Accounts {
         match party {
             Party::Bank => self.bank,
             Party::Holder(Holder::Seat(seat)) => {
-                self.seats.get(seat.number()).copied().unwrap_or(0)
+                self.seats.get(seat.index()).copied().unwrap_or(0)
             }
-            Party::Holder(Holder::Company(company)) => self.companies[company.place()],
+            Party::Holder(Holder::Company(company)) => self.companies[company.index()],
         }
     }
 
@@ -118,7 +118,7 @@ impl Accounts {
     {
         match holder {
             Holder::Seat(seat) => self.add_to_seat(seat, change),
-            Holder::Company(company) => self.companies[company.place()] += change,
+            Holder::Company(company) => self.companies[company.index()] += change,
         }
     }
 
@@ -128,7 +128,7 @@ impl Accounts {
             HasAccount party → FitsSigned w128 (cash_in self.old party +ℤ change) }
         ensures { IsAdded self.old self.new (party.Holder (holder.Seat seat)) change }
     {
-        let number = seat.number();
+        let number = seat.index();
         if number >= PLAYERS_MOST {
             return;
         }

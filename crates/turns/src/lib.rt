@@ -22,4 +22,4 @@ mod turn;
 
 pub use playing::play_round;
 pub use rules::TurnRules;
-pub use ruling::{Family, record, record_fault, rule_line, rule_order};
+pub use ruling::{Family, record, record_fault, record_packed, rule_line, rule_order};

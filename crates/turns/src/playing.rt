@@ -44,7 +44,7 @@ pub fn play_round<T: TurnRules>(
     begin(rules, &mut history, round)?;
     let mut unruled = rule_all_standing(rules, &mut history, sheets, round)?;
     let unruled = unruled.as_mut_slice();
-    take_turns(rules, &mut history, first.number(), unruled)?;
+    take_turns(rules, &mut history, first.index(), unruled)?;
     rules.close(&mut history)?;
     record_all_left(rules, &mut history, unruled)?;
     Ok(history)
@@ -136,7 +136,7 @@ fn take_turns<T: TurnRules>(
     let mut passes = 0;
     while passes < seats && !rules.is_over(history) {
         passes = play_turn(rules, history, unruled, seat, passes)?;
-        seat = Seat::at(seat).left(seats).number();
+        seat = Seat::at(seat).left(seats).index();
     }
     Ok(())
 }

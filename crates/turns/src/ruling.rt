@@ -11,7 +11,7 @@ ghost use Rattle.sheets.specs.Place.{placed as placed_reading};
 ghost use Rattle.tables.specs.declared.seat.Seat.{Seat as SeatNumber};
 ghost use Rattle.turns.specs.Ruling.{IsOrderToDo, judged, line_ruling, under};
 
-use history::{Event, History, PackedRuling, Refusal};
+use history::{Event, History, PackedLine, PackedRuling, Refusal};
 use order_grammar::{Fault, Order};
 use sheets::{ReadLine, UnreadLine};
 use std::alloc::AllocError;
@@ -147,16 +147,31 @@ pub fn record(
     ensures sound { OnOk result (IsSound history.new) }
 {
     let packed = history.pack(line.condition.as_ref(), order)?;
+    record_packed(history, seat, line.number, packed, broken)
+}
+
+/// Records what becomes of the packed order of the line with this number: it breaks this rule
+/// first, or none. Returns whether it is obeyed. Fails only if allocation fails.
+pub fn record_packed(
+    history: &mut History,
+    seat: Seat,
+    line: u32,
+    order: PackedLine,
+    broken: Option<Refusal>,
+) -> Result<bool, AllocError>
+    requires { IsSound history.old }
+    ensures ruling { OnOk result (history.new
+        ≡ with_event history.old (event.Ruled seat line
+        (judged order.condition order.order broken))) }
+    ensures obeyed { IfOk result (λ obeyed. obeyed ≡ is_none broken) }
+    ensures sound { OnOk result (IsSound history.new) }
+{
     let obeyed = broken.is_none();
     let ruling = match broken {
-        Some(rule) => PackedRuling::refused(rule, packed),
-        None => PackedRuling::obeyed(packed),
+        Some(rule) => PackedRuling::refused(rule, order),
+        None => PackedRuling::obeyed(order),
     };
-    history.record_event(Event::Ruled {
-        seat,
-        line: line.number,
-        ruling,
-    })?;
+    history.record_event(Event::Ruled { seat, line, ruling })?;
     Ok(obeyed)
 }
 

@@ -8,8 +8,8 @@ use Rattle.turns.proofs.playing.play_round.Goals as goal
 
 pub take_turns-requires-clause-first : goal.take_turns-requires-clause-first
 take_turns-requires-clause-first g c =
-    let first : c.number.result ≡ (priority_of c.args.history.seats c.args.history.events).0 =
-    c.number.ensures.number ∙ ap (λ (s : Seat). s.0) (c.priority-first.ensures
+    let first : c.index.result ≡ (priority_of c.args.history.seats c.args.history.events).0 =
+    c.index.ensures.value ∙ ap (λ (s : Seat). s.0) (c.priority-first.ensures
     ∙ ap (λ (seats : ℕ). priority_of seats c.now.result.events.now) c.now.ensures.seats
     ∙ ap (priority_of c.args.history.seats) c.now.ensures.events)
     in
@@ -24,14 +24,14 @@ take_turns-requires-clause-first g c =
 
 pub returns-clause-round : goal.returns-clause-round
 returns-clause-round g c =
-    let first : c.number.result ≡ (priority_of c.args.history.seats c.args.history.events).0 =
-    c.number.ensures.number ∙ ap (λ (s : Seat). s.0) (c.priority-first.ensures
+    let first : c.index.result ≡ (priority_of c.args.history.seats c.args.history.events).0 =
+    c.index.ensures.value ∙ ap (λ (s : Seat). s.0) (c.priority-first.ensures
     ∙ ap (λ (seats : ℕ). priority_of seats c.now.result.events.now) c.now.ensures.seats
     ∙ ap (priority_of c.args.history.seats) c.now.ensures.events)
     in
     whole_round g.T.TurnRules.rules c.args.sheets.now c.args.round c.args.history c.begin.new.history
     c.rule_all_standing.new.history c.take_turns.new.history c.close.new.history c.record_all_left.new.history
-    c.number.result (map written_turns_of c.as_mut_slice-unruled.result.now) (map written_turns_of c.take_turns.new.unruled)
+    c.index.result (map written_turns_of c.as_mut_slice-unruled.result.now) (map written_turns_of c.take_turns.new.unruled)
     c.requires.seats c.in_ok-begin.ensures.event c.in_ok-unruled.ensures.seats c.in_ok-unruled.ensures.events
     (ap (λ (unruled : List Parts). map written_turns_of unruled) c.as_mut_slice-unruled.ensures.value
     ∙ c.in_ok-unruled.ensures.left) first c.in_ok-take_turns.ensures.seats c.in_ok-take_turns.ensures.turns

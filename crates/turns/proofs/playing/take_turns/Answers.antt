@@ -37,14 +37,14 @@ loop-passes-preserved g c =
     let unended : rules.over c.loop-passes.history.events ≡ false = sym c.is_over.ensures ∙ c.if-not-is_over.true in
     let fewer : c.loop-passes.passes < seats = omega arith in
     let stepped = one_turn rules seats c.loop-passes.history.seats _ c.loop-passes.history.events
-    c.play_turn.new.history.events c.loop-passes.seat c.number-seat.result c.loop-passes.passes
+    c.play_turn.new.history.events c.loop-passes.seat c.index-seat.result c.loop-passes.passes
     c.in_ok-passes.passes c.at.result c.left.result (map written_turns_of c.loop-passes.unruled)
     (map written_turns_of c.play_turn.new.unruled) c.loop-passes.invariant.seats c.requires.seats c.at.ensures
-    c.left.ensures c.number-seat.ensures.number c.in_ok-passes.ensures.turn in
+    c.left.ensures c.index-seat.ensures.value c.in_ok-passes.ensures.turn in
     let some : 0 < seats = omega arith in
     let within : (left_of seats c.at.result).0 < seats = left_within seats (Some c.at.result) some in
-    let next : c.number-seat.result ≡ (left_of seats c.at.result).0 =
-    c.number-seat.ensures.number ∙ ap (λ (s : Seat). s.0) c.left.ensures
+    let next : c.index-seat.result ≡ (left_of seats c.at.result).0 =
+    c.index-seat.ensures.value ∙ ap (λ (s : Seat). s.0) c.left.ensures
     ∙ ap (λ (n : ℕ). (left_of n c.at.result).0) (sym c.requires.seats)
     in
     record {
@@ -68,10 +68,10 @@ loop-passes-smaller g c =
     let here : InPlay (List Event) Numbered = in_play c.loop-passes.history.events c.loop-passes.seat
     c.loop-passes.passes (map written_turns_of c.loop-passes.unruled) in
     let stepped = one_turn rules seats c.loop-passes.history.seats _ c.loop-passes.history.events
-    c.play_turn.new.history.events c.loop-passes.seat c.number-seat.result c.loop-passes.passes
+    c.play_turn.new.history.events c.loop-passes.seat c.index-seat.result c.loop-passes.passes
     c.in_ok-passes.passes c.at.result c.left.result (map written_turns_of c.loop-passes.unruled)
     (map written_turns_of c.play_turn.new.unruled) c.loop-passes.invariant.seats c.requires.seats c.at.ensures
-    c.left.ensures c.number-seat.ensures.number c.in_ok-passes.ensures.turn in
+    c.left.ensures c.index-seat.ensures.value c.in_ok-passes.ensures.turn in
     subst (λ (next : InPlay (List Event) Numbered). turns_most (turns_of rules seats) next
     < turns_most (turns_of rules seats) here) (sym stepped)
     (turns_most_falls (turns_of rules seats) here (no_lines rules seats g.met.T.TurnRules.idle)

@@ -7,32 +7,32 @@ use Rattle.certs.proofs.holdings.Holdings.transfer.Goals as goal
 
 pub invariant_of-self : goal.invariant_of-self
 invariant_of-self c =
-    let within : c.place-place.result < length c.args.self.now.shares = search rules in
+    let within : c.index-place.result < length c.args.self.now.shares = search rules in
     record {
-      bounded = bounded_set c.args.self.now.shares c.place-place.result c.moved.result within
+      bounded = bounded_set c.args.self.now.shares c.index-place.result c.moved.result within
           c.moved.ensures.bounded c.args.self.now.bounded;
     }
 
 pub returns : goal.returns
 returns c =
-    let within : c.place-place.result < length c.args.self.now.shares = search rules in
+    let within : c.index-place.result < length c.args.self.now.shares = search rules in
     let transfer = c.args.transfer in
     let moved : (k : ℕ) → k < 8 → get_or c.moved.result k (pos 0)
-    ≡ (get_or (get_or c.args.self.now.shares c.place-place.result []) k (pos 0) +ℤ
+    ≡ (get_or (get_or c.args.self.now.shares c.index-place.result []) k (pos 0) +ℤ
     (if index_of transfer.to == k then pos transfer.shares else pos 0)) -ℤ
     (if index_of transfer.from == k then pos transfer.shares else pos 0) =
     λ k low.
     c.moved.ensures.moved k low
-    ∙ ap (λ (n : ℕ). (get_or (get_or c.args.self.now.shares c.place-place.result []) k (pos 0) +ℤ
+    ∙ ap (λ (n : ℕ). (get_or (get_or c.args.self.now.shares c.index-place.result []) k (pos 0) +ℤ
     (if n == k then pos transfer.shares else pos 0)) -ℤ
     (if c.index_of.result == k then pos transfer.shares else pos 0)) c.index_of-2.ensures
-    ∙ ap (λ (n : ℕ). (get_or (get_or c.args.self.now.shares c.place-place.result []) k (pos 0) +ℤ
+    ∙ ap (λ (n : ℕ). (get_or (get_or c.args.self.now.shares c.index-place.result []) k (pos 0) +ℤ
     (if index_of transfer.to == k then pos transfer.shares else pos 0)) -ℤ
     (if n == k then pos transfer.shares else pos 0)) c.index_of.ensures
     in
     record {
-      shares = λ company place has. rows_after c.args.self.now.shares c.moved.result transfer c.place-place.result
-          c.place-place.ensures.place within company place (moved (index_of place) has);
+      shares = λ company place has. rows_after c.args.self.now.shares c.moved.result transfer c.index-place.result
+          c.index-place.ensures.value within company place (moved (index_of place) has);
       seats = refl;
       presidents = refl;
       squares = refl;

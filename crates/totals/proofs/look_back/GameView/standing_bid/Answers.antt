@@ -5,5 +5,5 @@ use Rattle.totals.proofs.look_back.GameView.standing_bid.Goals as goal
 pub returns-in-Some : goal.returns-in-Some
 returns-in-Some c =
     let all : AreTotalsOf c.in-Some.totals.now c.args.self.now.events.now = c.in-Some.ensures in
-    let low : c.args.seat.0 < 6 = omega (arith, c.number-number.ensures.number, c.if-number-lt-PLAYERS_MOST.true) in
-    rw (c.number-number.ensures.number, c.place.ensures.place) (all.bids c.args.private c.args.seat.0 low)
+    let low : c.args.seat.0 < 6 = omega (arith, c.index-number.ensures.value, c.if-number-lt-PLAYERS_MOST.true) in
+    rw (c.index-number.ensures.value, c.index.ensures.value) (all.bids c.args.private c.args.seat.0 low)

@@ -5,7 +5,7 @@ use Rattle.totals.specs.Totals.{party_entry, shares_entry, train_entry, train_ro
 use Rattle.totals.specs.LookBack.{paid_by, paid_to}
 use Rattle.totals.specs.Shares.{brought_to, taken_from}
 use Rattle.totals.specs.Trains.{any_comes, any_goes, one_if, train_comes, train_goes}
-use Rattle.tables.specs.Roster.{place_of_company, place_of_private}
+use Rattle.tables.specs.Roster.{index_of_company, index_of_private}
 use Rattle.totals.proofs.totals.Totals.start.Goals as goal
 
 pub returns : goal.returns
@@ -13,7 +13,7 @@ returns c = record {
   event_count = refl;
   owners = c.unsold.ensures.word;
   bids = no_bid;
-  greatest_bids = λ private. same_throughout None 6 (place_of_private private);
+  greatest_bids = λ private. same_throughout None 6 (index_of_private private);
   sv_price = refl;
   actor = refl;
   round = refl;
@@ -36,8 +36,8 @@ returns c = record {
   train_owners = λ owner.
       no_balance (λ e. one_if (any_comes owner (train_moved e))) (λ e. one_if (any_goes owner (train_moved e))) 11
       (train_row (train_owner_place owner));
-  tokens = λ company. no_count 8 (place_of_company company);
-  operated = λ company. same_throughout false 8 (place_of_company company);
+  tokens = λ company. no_count 8 (index_of_company company);
+  operated = λ company. same_throughout false 8 (index_of_company company);
   sales = λ company seat low. no_sale company seat;
   rulings = λ seat low. no_count 6 seat.0;
   limits = λ private seat low. c.no_limits.ensures private seat.0 low;
