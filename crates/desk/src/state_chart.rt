@@ -7,7 +7,7 @@ use desk_base::Piece::{Bytes, Column, Right, Words};
 use desk_base::{fill, push};
 use history::{GameView, History};
 use std::alloc::AllocError;
-use tables::{Company, Money, Zone, price, square, zone};
+use tables::{Company, Money, PerCompany, Zone, price, square, zone};
 
 /// How many rows the chart has.
 const ROWS: u8 = 11;
@@ -22,7 +22,7 @@ const SQUARE: usize = 4;
 const SHOWN: usize = 3;
 
 /// The letters that stand for the companies' tokens, in the order of the companies.
-const LETTERS: [&str; 8] = ["P", "N", "C", "B", "O", "E", "H", "M"];
+const LETTERS: PerCompany<&str> = ["P", "N", "C", "B", "O", "E", "H", "M"];
 
 /// Returns the letter that stands for a company's token.
 pub(crate) fn letter(company: Company) -> &'static str {

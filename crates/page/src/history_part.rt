@@ -12,7 +12,7 @@ use crate::tiles_part::begin_section;
 use crate::worth_history::Entry;
 use picture::PagePiece::{Name, Number, Round, Words};
 use picture::{Attr, Point, Tag, Writer, letter};
-use tables::{COMPANIES, Company, Money, PerCompany, Seat};
+use tables::{COMPANIES, Company, Money, PerCompany, PerSeat, Seat};
 
 /// What a line of a chart shows.
 #[derive(Clone, Copy)]
@@ -24,7 +24,7 @@ enum Series {
 }
 
 /// The lines of the players, by their seats.
-const WORTHS: [Series; 6] = [
+const WORTHS: PerSeat<Series> = [
     Series::Worth(0),
     Series::Worth(1),
     Series::Worth(2),
@@ -34,7 +34,7 @@ const WORTHS: [Series; 6] = [
 ];
 
 /// The lines of the companies, in the order of the roster.
-const PRICES: [Series; 8] = [
+const PRICES: PerCompany<Series> = [
     Series::Price(Company::Pennsylvania),
     Series::Price(Company::NewYorkCentral),
     Series::Price(Company::CanadianPacific),
@@ -46,7 +46,7 @@ const PRICES: [Series; 8] = [
 ];
 
 /// The colours of the players' lines, by their seats.
-const INKS: [&str; 6] = [
+const INKS: PerSeat<&str> = [
     "#1f4e9c", "#b3261e", "#1f7a3d", "#7a3b8f", "#9a5b00", "#333",
 ];
 

@@ -1,8 +1,9 @@
 //! The signs that pictures of a page refer to, and the legend of the map.
 
+use map_tables::PerSide;
 use picture::PagePiece::{At, Words};
 use picture::{Attr, Point, Tag, Writer, letter};
-use tables::Company;
+use tables::{Company, PerCompany};
 
 /// What the token of a company looks like.
 struct Livery {
@@ -12,7 +13,7 @@ struct Livery {
 }
 
 /// What the tokens look like, in the order of the roster.
-const LIVERIES: [Livery; 8] = [
+const LIVERIES: PerCompany<Livery> = [
     Livery {
         fill: "#1f7a3d",
         is_dark: true,
@@ -145,7 +146,7 @@ pub(crate) fn put_line_colour(out: &mut Writer, company: Company) {
 }
 
 /// The numbers of the sides in the legend: a tick and where the number stands.
-const SIDES: [(&str, Point); 6] = [
+const SIDES: PerSide<(&str, Point)> = [
     ("M-39 67l6-10", Point { x: -28, y: 56 }),
     ("M-78 0l11 0", Point { x: -56, y: 8 }),
     ("M-39-67l6 10", Point { x: -28, y: -40 }),

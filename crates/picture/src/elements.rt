@@ -5,10 +5,10 @@ use crate::piece::PagePiece::{At, Words};
 use crate::point::Point;
 use crate::tag::{Attr, Tag};
 use crate::writer::Writer;
-use tables::Company;
+use tables::{Company, PerCompany};
 
 /// The letters of the companies' tokens, in the order of the roster.
-const LETTERS: [&str; 8] = ["P", "N", "C", "B", "O", "E", "H", "M"];
+const LETTERS: PerCompany<&str> = ["P", "N", "C", "B", "O", "E", "H", "M"];
 
 /// Returns the letter of a company's token.
 pub fn letter(company: Company) -> &'static str {

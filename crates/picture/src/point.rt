@@ -2,7 +2,7 @@
 ghost use Rattle.std.specs.Prelude.{◌≡◌};
 ghost use Rattle.picture.specs.Points.{border_point};
 
-use map_tables::Side;
+use map_tables::{PerSide, Side};
 
 /// A point of a picture. A side of a hex is 60 long; `x` grows to the right and `y` downwards.
 #[derive(Clone, Copy, Default)]
@@ -43,35 +43,35 @@ macro_rules! round {
 }
 
 /// Half way from the centre to the middle of each side.
-const HALF_WAY: [Point; 6] = round!(-13 23, -26 0, -13 -23, 13 -23, 26 0, 13 23);
+const HALF_WAY: PerSide<Point> = round!(-13 23, -26 0, -13 -23, 13 -23, 26 0, 13 23);
 
 /// Two thirds of that way.
-const FAR: [Point; 6] = round!(-17 30, -35 0, -17 -30, 17 -30, 35 0, 17 30);
+const FAR: PerSide<Point> = round!(-17 30, -35 0, -17 -30, 17 -30, 35 0, 17 30);
 
 /// The middle of the gentle curve past each side, between the two sides next to it.
-const GENTLE: [Point; 6] = round!(-7 12, -14 0, -7 -12, 7 -12, 14 0, 7 12);
+const GENTLE: PerSide<Point> = round!(-7 12, -14 0, -7 -12, 7 -12, 14 0, 7 12);
 
 /// How far a stop that leans to an end of such a curve is moved towards the side past which it
 /// goes.
-const LEANING: [Point; 6] = round!(-2 3, -4 0, -2 -3, 2 -3, 4 0, 2 3);
+const LEANING: PerSide<Point> = round!(-2 3, -4 0, -2 -3, 2 -3, 4 0, 2 3);
 
 /// The middle of the sharp curve round the corner behind each side.
-const SHARP: [Point; 6] = round!(-26 15, -26 -15, 0 -30, 26 -15, 26 15, 0 30);
+const SHARP: PerSide<Point> = round!(-26 15, -26 -15, 0 -30, 26 -15, 26 15, 0 30);
 
 /// A city on that curve.
-const SHARP_CITY: [Point; 6] = round!(-24 14, -24 -14, 0 -28, 24 -14, 24 14, 0 28);
+const SHARP_CITY: PerSide<Point> = round!(-24 14, -24 -14, 0 -28, 24 -14, 24 14, 0 28);
 
 /// How far the slots of a city of two on that curve lie from its place.
-const SHARP_SLOT: [Point; 6] = round!(8 13, 8 -13, 15 0, 8 13, 8 -13, 15 0);
+const SHARP_SLOT: PerSide<Point> = round!(8 13, 8 -13, 15 0, 8 13, 8 -13, 15 0);
 
 /// The number of a city of two slots on that curve.
-const SHARP_NUMBER: [Point; 6] = round!(-11 6, -11 -6, 0 -13, 11 -6, 11 6, 0 13);
+const SHARP_NUMBER: PerSide<Point> = round!(-11 6, -11 -6, 0 -13, 11 -6, 11 6, 0 13);
 
 /// Labels in the corners behind the sides.
-const CORNER: [Point; 6] = round!(-35 20, -35 -20, 0 -32, 35 -20, 35 20, 0 32);
+const CORNER: PerSide<Point> = round!(-35 20, -35 -20, 0 -32, 35 -20, 35 20, 0 32);
 
 /// The number of each side, outside, in pictures of tiles.
-const DIGIT: [Point; 6] = round!(-32 59, -60 4, -32 -51, 32 -51, 60 4, 32 59);
+const DIGIT: PerSide<Point> = round!(-32 59, -60 4, -32 -51, 32 -51, 60 4, 32 59);
 
 /// Returns the middle of a side.
 pub fn border_point(side: Side) -> Point

@@ -26,11 +26,11 @@ pub fn push_right<I: Integer>(out: &mut Vec<u8>, number: I, width: usize) -> Res
     out.extend_from_slice(digits)
 }
 
+/// Adds spaces. Fails only if allocation fails.
 fn push_spaces(out: &mut Vec<u8>, count: usize) -> Result<(), AllocError>
     ensures { OnOk result (Adds out.old out.new (replicate count 32)) }
 {
-    for _ in 0..count {
-        out.push(b' ')?;
-    }
-    Ok(())
+    // A text as long as no `usize` says could not be allocated.
+    let len = out.len().checked_add(count).ok_or(AllocError)?;
+    out.resize(len, b' ')
 }
