@@ -4,8 +4,6 @@ use Rattle.std.proofs.lemmas.List.{get_or-map, map-append, take_more}
 use Rattle.map_tables.specs.Hex.{hexes, index_of}
 use Rattle.map_tables.specs.declared.hex.Hex.{Hex}
 use Rattle.map_tables.specs.declared.hex.Hex.TheVariants.{A9}
-use Rattle.map_tables.specs.declared.track.Link.{Link}
-use Rattle.reach.specs.Position.{Position, links_of}
 use Rattle.reach.proofs.Hexes.{index_low}
 use Rattle.map_tables.proofs.HexTables.{hex_at_index}
 
@@ -23,12 +21,11 @@ more_entries f g xs x ys n d below before is =
     ∙ (sym (map-append g (take n ys) (get_or ys n d ∷ [])) ∙ ap (map g) (sym (take_more ys n d below)))))
 
 -- the entry of a hex has its links
-pub entry_of : {X : Type 0} (f : X → List Link) (table : List X) (position : Position) (hex : Hex) (d : X)
-    → map f table ≡ map (links_of position) hexes → length table ≡ 93
-    → f (get_or table (index_of hex) d) ≡ links_of position hex
-entry_of f table position hex d are whole =
+pub entry_of : {X Y : Type 0} (f : X → List Y) (g : Hex → List Y) (table : List X) (hex : Hex) (d : X)
+    → map f table ≡ map g hexes → length table ≡ 93 → f (get_or table (index_of hex) d) ≡ g hex
+entry_of {X} {Y} f g table hex d are whole =
     let low : index_of hex < length table = omega (arith, index_low hex, whole) in
     let here : index_of hex < length hexes = omega (arith, index_low hex, hexes_are_93) in
     sym (get_or-map f table (index_of hex) d [] low)
-    ∙ (ap (λ (l : List (List Link)). get_or l (index_of hex) []) are
-    ∙ (get_or-map (links_of position) hexes (index_of hex) A9 [] here ∙ ap (links_of position) (hex_at_index hex)))
+    ∙ (ap (λ (l : List (List Y)). get_or l (index_of hex) []) are
+    ∙ (get_or-map g hexes (index_of hex) A9 [] here ∙ ap g (hex_at_index hex)))

@@ -19,4 +19,5 @@ pub mod Going
 pub mod SettingOut
 pub mod KnownStops
 pub mod HexLinks
+pub mod LinkEnds
 pub mod Read

@@ -5,6 +5,7 @@ pub mod HoldingLaws
 pub mod Digits
 pub mod Example
 pub mod Ranking
+pub mod LinkEnds
 pub mod HexLinks
 pub mod KnownStops
 pub mod Walked

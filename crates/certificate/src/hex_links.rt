@@ -1,16 +1,19 @@
 //! The links of all hexes, as a walk looks them up.
-ghost use Rattle.std.specs.Prelude.{◌≡◌, length};
+ghost use Rattle.std.specs.Prelude.{◌≡◌, length, map};
 ghost use Rattle.reach.specs.Position.{Position, links_of};
+ghost use Rattle.certificate.specs.LinkEnds.{ends_of};
 
+use crate::link_ends::{HexEnds, LinkEnds};
 use arrayvec::ArrayVec;
-use map_tables::{HEXES, Hex, Link, Links};
+use map_tables::{HEXES, Hex};
 use reach::Network;
 
-/// The links of each hex of a network, which is asked for them once. Allocates nothing.
+/// The links of each hex of a network, which is asked for them once. They are kept in few bytes,
+/// since a table of links is made, and moved, for each tree. Allocates nothing.
 #[derive(Drop)]
 pub(crate) struct HexLinks {
     /// The links by the places of the hexes in their order.
-    hexes: ArrayVec<Links, HEXES>,
+    hexes: ArrayVec<HexEnds, HEXES>,
     ghost whole: { length hexes.items ≡ 93 },
 }
 
@@ -23,17 +26,18 @@ impl HexLinks {
     {
         let mut hexes = ArrayVec::new();
         for hex in &Hex::ALL {
-            hexes.push(network.links(*hex));
+            hexes.push(HexEnds::of(&network.links(*hex)));
         }
         HexLinks { hexes }
     }
 
-    /// Returns the links of a hex, in order.
-    pub(crate) fn at(&self, hex: Hex) -> &[Link]
+    /// Returns the ends of the links of a hex, in order.
+    pub(crate) fn at(&self, hex: Hex) -> &[LinkEnds]
         ensures { (position : Position) → AreHexLinks position self.now →
-            result.now ≡ links_of position hex }
+            result.now ≡ map ends_of (links_of position hex) }
     {
         let hexes = self.hexes.as_slice();
-        hexes[hex.index()].as_slice()
+        let entry = &hexes[hex.index()];
+        entry.links()
     }
 }

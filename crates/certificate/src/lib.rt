@@ -29,6 +29,7 @@ mod hex;
 mod hex_links;
 mod known_stops;
 pub mod laws;
+mod link_ends;
 mod ranking;
 mod reader;
 mod tree;

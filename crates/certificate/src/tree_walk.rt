@@ -5,6 +5,9 @@ ghost use Rattle.std.specs.Prelude.{Some, false, get_or, length, drop, option_ma
 ghost use Rattle.std.specs.List.{list_any};
 ghost use Rattle.map_tables.specs.Place.{joined_stop_of};
 ghost use Rattle.map_tables.specs.declared.place.Stop.{Stop};
+ghost use Rattle.map_tables.specs.Track.{end_order};
+ghost use Rattle.map_tables.specs.declared.track.Link.{Link};
+ghost use Rattle.map_tables.specs.declared.track.TrackEnd.{TrackEnd};
 ghost use Rattle.reach.specs.Position.{IsAmong, Position, is_red, links_of, value_of};
 ghost use Rattle.reach.specs.Reached.{stop_order};
 ghost use Rattle.reach.specs.Walk.{across, entered_at, left_at, stop_of};
@@ -12,6 +15,7 @@ ghost use Rattle.reach.specs.declared.walk.WalkStep.{WalkStep};
 ghost use Rattle.legal_runs.specs.Fault.{has_token, is_full};
 ghost use Rattle.legal_runs.specs.Legal.{listed, visited};
 ghost use Rattle.legal_runs.specs.Set.{TrainRun, revenue_of};
+ghost use Rattle.certificate.specs.LinkEnds.{ends_of, place_left, way_into};
 ghost use Rattle.certificate.specs.Tree.{bound, from_stop, goes_over, leads_on, node_if, run_borders, setting_out};
 ghost use Rattle.certificate.specs.Tree.{taken_borders, with_step, with_steps, steps_at, steps_by, steps_from};
 ghost use Rattle.certificate.specs.Walked.{capped};
@@ -20,10 +24,11 @@ ghost use Rattle.certificate.specs.Walking.{IsBetweenRuns, WalksOver, may_take, 
 ghost use Rattle.certificate.specs.Walking.{trains_of_tree};
 
 use crate::decider::{Decider, Decision};
+use crate::link_ends::{LinkEnds, end_at, order};
 use crate::tree::Tree;
 use legal_runs::{Used, border_to};
-use map_tables::{Hex, Link, Stop, TrackEnd};
-use reach::{Network, Spot, StopMarks, WalkStep, twin};
+use map_tables::{Hex, Stop, TrackEnd};
+use reach::{Network, Spot, StopMarks, twin};
 use tables::Kind;
 
 /// A run that is begun, and the trains after it.
@@ -79,18 +84,16 @@ impl Begun {
     }
 }
 
-/// Returns the step that enters a link at an end.
-fn step_into(link: Link, end: TrackEnd) -> Option<WalkStep>
-    ensures { listed result ≡ steps_by end link }
+/// Returns the place of the end to which a link leads from an end, which is given by its place.
+fn leads_to(ends: LinkEnds, entered: u8) -> Option<u8>
+    ensures { (link : Link) (end : TrackEnd) → ends_of link ≡ ends → end_order end ≡ entered →
+        result ≡ option_map place_left (way_into end link) }
 {
-    if link.a == end {
-        return Some(WalkStep {
-            link,
-            turned: false,
-        });
+    if ends.a == entered {
+        return Some(ends.b);
     }
-    if link.b == end {
-        return Some(WalkStep { link, turned: true });
+    if ends.b == entered {
+        return Some(ends.a);
     }
     None
 }
@@ -272,8 +275,11 @@ fn follow<N: Network, D: Decider>(
     ensures used { used.new ≡ used.old }
     ensures seen { seen.new ≡ seen.old }
 {
-    for link in tree.links.at(at.hex) {
-        if !take(network, tree, *link, at, begun, used, seen, decider) {
+    let entered = order(at.end);
+    for ends in tree.links.at(at.hex) {
+        if !take(
+            network, tree, *ends, entered, at, begun, used, seen, decider,
+        ) {
             return false;
         }
     }
@@ -286,7 +292,8 @@ fn follow<N: Network, D: Decider>(
 fn take<N: Network, D: Decider>(
     network: &N,
     tree: &Tree,
-    link: Link,
+    ends: LinkEnds,
+    entered: u8,
     at: Spot,
     begun: &Begun,
     used: &mut Used,
@@ -294,8 +301,10 @@ fn take<N: Network, D: Decider>(
     decider: &mut D,
 ) -> bool
     ensures walks { (assigned : List TrainRun) (steps : List WalkStep) (stops : List Stop) →
+        (link : Link) →
         IsOnRun (N.position network.now) tree.now begun.now used.old seen.old assigned steps stops →
-        IsAmong link (links_of (N.position network.now) at.hex) →
+        IsAmong link (links_of (N.position network.now) at.hex) → ends_of link ≡ ends →
+        end_order at.end ≡ entered →
         ((step : WalkStep) → entered_at step ≡ at → Continues steps stops step) →
         let node = node_at tree.now begun.now assigned steps in
         let test = may_take (reached_in tree.now) node at.end in
@@ -305,10 +314,13 @@ fn take<N: Network, D: Decider>(
     ensures used { used.new ≡ used.old }
     ensures seen { seen.new ≡ seen.old }
 {
-    let Some(step) = step_into(link, at.end) else {
+    let Some(place) = leads_to(ends, entered) else {
         return true;
     };
-    let left = step.left();
+    let left = Spot {
+        hex: at.hex,
+        end: end_at(place),
+    };
     let Some(stop) = left.stop() else {
         return cross(network, tree, left, begun, used, seen, decider);
     };

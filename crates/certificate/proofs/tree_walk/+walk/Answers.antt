@@ -1,4 +1,5 @@
 -- The walk goes over the children of each node, in their order, and leaves the marks as they were.
+use Rattle.std.proofs.Common.{◌≤◌, Option, map, unwrap_or}
 use Rattle.std.proofs.Common.{◌≡◌, ◌<◌, rules, ℕ, ◌-◌, Bool, true, false, not, ◌&&◌, count_by, option_map, if◌then◌else◌, Some, None, List, [], ◌∷◌, ◌++◌, length, get_or, set, replicate, refl, ap, sym, ◌∙◌, subst, arith}
 use Rattle.map_tables.specs.Border.{neighbour_of}
 use Rattle.map_tables.specs.declared.hex.Hex.{Hex}
@@ -20,6 +21,8 @@ use Rattle.reach.proofs.Looking.{twin_joined}
 use Rattle.legal_runs.specs.Fault.{has_border, has_stop}
 use Rattle.legal_runs.specs.Legal.{border_of, visited}
 use Rattle.legal_runs.specs.Set.{TrainRun}
+use Rattle.certificate.specs.LinkEnds.{ends_of, place_left, way_into}
+use Rattle.certificate.specs.declared.link_ends.LinkEnds.{LinkEnds}
 use Rattle.certificate.specs.Tree.{Node, children, for_each, from_stop, goes_over, is_free_end, is_last_stop, node_if}
 use Rattle.certificate.specs.Tree.{run_borders, setting_out, taken_borders, with_step, with_steps, steps_at, steps_by}
 use Rattle.certificate.specs.Tree.{steps_from}
@@ -28,6 +31,8 @@ use Rattle.certificate.specs.Walking.{AreCrossed, Continues, LeavesOver, IsOnRun
 use Rattle.certificate.proofs.Going.{hexes_steps, no_step_found, none_ahead, one_cut, one_end, one_hex, one_split}
 use Rattle.certificate.proofs.Going.{over_none, step_enters, step_found, thing_ends, thing_over, things_over, up_ends}
 use Rattle.certificate.proofs.Going.{beyond_it, default_link, default_stop, up_over, up_whole}
+use Rattle.certificate.proofs.LinkEnds.{default_step, ends_there, left_is, link_high, link_low, no_step_there, place_there}
+use Rattle.certificate.proofs.LinkEnds.{step_there, ways}
 use Rattle.certificate.proofs.Places.{none_is}
 use Rattle.certificate.proofs.OnRun.{and_false, and_true, border_continues, children_at_border, children_at_stop, finished_crossed, finished_is_between, finishing_is, is_free, is_last, no_beyond, not_free, same_node, seen_false, on_run_at_stop, on_run_over, same_state, stop_continues, takes_no_stop, takes_over, takes_stop, two_stops, with_run}
 use Rattle.certificate.proofs.SettingOut.{left_from}
@@ -269,8 +274,8 @@ leave-returns-clause-walks g t c = λ assigned steps stops at_node continues nam
     (subst (λ (b : Bool). WalksOver g.D.Decider.decides position tree c.args.decider.now first b c.follow-2.new.decider)
     c.if-not-follow.false walk) later)
 
-pub follow-loop-link-init : goal.follow-loop-link-init
-follow-loop-link-init g t c = (
+pub follow-loop-ends-init : goal.follow-loop-ends-init
+follow-loop-ends-init g t c = (
   refl,
   refl,
   λ assigned steps stops at_node continues.
@@ -279,17 +284,13 @@ follow-loop-link-init g t c = (
       let at = c.args.at in
       let node : Node = node_at tree c.args.begun.now assigned steps in
       let test : WalkStep → Bool = may_take (reached_in tree) node at.end in
-      let items : List Link = c.at-link-items.result.now in
       let all : List Node = with_steps test node (steps_at position at.hex at.end) in
-      subst (λ (l : List Link). LeavesOver g.D.Decider.decides position tree c.args.decider.now all c.args.decider.now
-      (with_steps test node (for_each (steps_by at.end) l)))
-      (sym (c.at-link-items.ensures position at_node.tree_is.links))
-      (none_ahead g.D.Decider.decides position tree c.args.decider.now all),
+      none_ahead g.D.Decider.decides position tree c.args.decider.now all,
 )
 
 pub follow-take-requires : goal.follow-take-requires
 follow-take-requires g t c = λ lifetimes within.
-    (omega (arith, ap (λ (u : List Bool). count_by not u) c.loop-link.invariant.0), (search rules, search rules))
+    (omega (arith, ap (λ (u : List Bool). count_by not u) c.loop-ends.invariant.0), (search rules, search rules))
 
 pub follow-returns-then-not-take-clause-walks : goal.follow-returns-then-not-take-clause-walks
 follow-returns-then-not-take-clause-walks g t c = λ assigned steps stops at_node continues.
@@ -298,50 +299,54 @@ follow-returns-then-not-take-clause-walks g t c = λ assigned steps stops at_nod
     let at = c.args.at in
     let node : Node = node_at tree c.args.begun.now assigned steps in
     let test : WalkStep → Bool = may_take (reached_in tree) node at.end in
-    let items : List Link = c.at-link-items.result.now in
+    let items : List Link = links_of position at.hex in
     let all : List Node = with_steps test node (steps_at position at.hex at.end) in
-    let is : items ≡ links_of position at.hex = c.at-link-items.ensures position at_node.tree_is.links in
-    let link : Link = get_or items c.loop-link.link-index default_link in
-    let among : IsAmong link (links_of position at.hex) =
-    subst (λ (l : List Link). IsAmong link l) is (among_at items c.loop-link.link-index default_link c.loop-link-test.true) in
-    let walk = c.take.ensures.walks assigned steps stops
-    (same_state position tree c.args.begun.now c.args.used.now c.args.seen.now c.loop-link.used c.loop-link.seen
-    assigned steps stops c.loop-link.invariant.0 c.loop-link.invariant.1 at_node) among continues in
+    let held : List LinkEnds = c.at-ends-items.result.now in
+    let is : held ≡ map ends_of items = c.at-ends-items.ensures position at_node.tree_is.links in
+    let link : Link = get_or items c.loop-ends.ends-index default_link in
+    let low : c.loop-ends.ends-index < length items = link_low items held c.loop-ends.ends-index is c.loop-ends-test.true in
+    let among : IsAmong link items = among_at items c.loop-ends.ends-index default_link low in
+    let walk = c.take.ensures.walks assigned steps stops link
+    (same_state position tree c.args.begun.now c.args.used.now c.args.seen.now c.loop-ends.used c.loop-ends.seen
+    assigned steps stops c.loop-ends.invariant.0 c.loop-ends.invariant.1 at_node) among
+    (ends_there items held c.loop-ends.ends-index is low) (sym c.order-entered.ensures) continues in
     thing_ends g.D.Decider.decides position tree (steps_by at.end) test node items c.args.decider.now
-    c.loop-link.decider c.take.new.decider all c.loop-link.link-index default_link c.loop-link-test.true
-    (c.loop-link.invariant.2 assigned steps stops at_node continues) (subst
-    (λ (b : Bool). WalksOver g.D.Decider.decides position tree c.loop-link.decider
+    c.loop-ends.decider c.take.new.decider all c.loop-ends.ends-index default_link low
+    (c.loop-ends.invariant.2 assigned steps stops at_node continues) (subst
+    (λ (b : Bool). WalksOver g.D.Decider.decides position tree c.loop-ends.decider
     (with_steps test node (steps_by at.end link)) b c.take.new.decider) c.if-not-take.true walk)
 
 pub follow-returns-then-not-take-clause-used : goal.follow-returns-then-not-take-clause-used
-follow-returns-then-not-take-clause-used g t c = c.take.ensures.used ∙ c.loop-link.invariant.0
+follow-returns-then-not-take-clause-used g t c = c.take.ensures.used ∙ c.loop-ends.invariant.0
 
 pub follow-returns-then-not-take-clause-seen : goal.follow-returns-then-not-take-clause-seen
-follow-returns-then-not-take-clause-seen g t c = c.take.ensures.seen ∙ c.loop-link.invariant.1
+follow-returns-then-not-take-clause-seen g t c = c.take.ensures.seen ∙ c.loop-ends.invariant.1
 
-pub follow-loop-link-preserved : goal.follow-loop-link-preserved
-follow-loop-link-preserved g t c = (
-  c.take.ensures.used ∙ c.loop-link.invariant.0,
-  c.take.ensures.seen ∙ c.loop-link.invariant.1,
+pub follow-loop-ends-preserved : goal.follow-loop-ends-preserved
+follow-loop-ends-preserved g t c = (
+  c.take.ensures.used ∙ c.loop-ends.invariant.0,
+  c.take.ensures.seen ∙ c.loop-ends.invariant.1,
   λ assigned steps stops at_node continues.
       let position = g.N.Network.position c.args.network.now in
       let tree = c.args.tree.now in
       let at = c.args.at in
       let node : Node = node_at tree c.args.begun.now assigned steps in
       let test : WalkStep → Bool = may_take (reached_in tree) node at.end in
-      let items : List Link = c.at-link-items.result.now in
+      let items : List Link = links_of position at.hex in
       let all : List Node = with_steps test node (steps_at position at.hex at.end) in
-      let is : items ≡ links_of position at.hex = c.at-link-items.ensures position at_node.tree_is.links in
-      let link : Link = get_or items c.loop-link.link-index default_link in
-      let among : IsAmong link (links_of position at.hex) =
-      subst (λ (l : List Link). IsAmong link l) is (among_at items c.loop-link.link-index default_link c.loop-link-test.true) in
-      let walk = c.take.ensures.walks assigned steps stops
-      (same_state position tree c.args.begun.now c.args.used.now c.args.seen.now c.loop-link.used c.loop-link.seen
-      assigned steps stops c.loop-link.invariant.0 c.loop-link.invariant.1 at_node) among continues in
+      let held : List LinkEnds = c.at-ends-items.result.now in
+      let is : held ≡ map ends_of items = c.at-ends-items.ensures position at_node.tree_is.links in
+      let link : Link = get_or items c.loop-ends.ends-index default_link in
+      let low : c.loop-ends.ends-index < length items = link_low items held c.loop-ends.ends-index is c.loop-ends-test.true in
+      let among : IsAmong link items = among_at items c.loop-ends.ends-index default_link low in
+      let walk = c.take.ensures.walks assigned steps stops link
+      (same_state position tree c.args.begun.now c.args.used.now c.args.seen.now c.loop-ends.used c.loop-ends.seen
+      assigned steps stops c.loop-ends.invariant.0 c.loop-ends.invariant.1 at_node) among
+      (ends_there items held c.loop-ends.ends-index is low) (sym c.order-entered.ensures) continues in
       thing_over g.D.Decider.decides position tree (steps_by at.end) test node items c.args.decider.now
-      c.loop-link.decider c.take.new.decider all c.loop-link.link-index default_link c.loop-link-test.true
-      (c.loop-link.invariant.2 assigned steps stops at_node continues) (subst
-      (λ (b : Bool). WalksOver g.D.Decider.decides position tree c.loop-link.decider
+      c.loop-ends.decider c.take.new.decider all c.loop-ends.ends-index default_link low
+      (c.loop-ends.invariant.2 assigned steps stops at_node continues) (subst
+      (λ (b : Bool). WalksOver g.D.Decider.decides position tree c.loop-ends.decider
       (with_steps test node (steps_by at.end link)) b c.take.new.decider) c.if-not-take.false walk),
 )
 
@@ -352,87 +357,106 @@ follow-returns-clause-walks g t c = λ assigned steps stops at_node continues.
     let at = c.args.at in
     let node : Node = node_at tree c.args.begun.now assigned steps in
     let test : WalkStep → Bool = may_take (reached_in tree) node at.end in
-    let items : List Link = c.at-link-items.result.now in
+    let items : List Link = links_of position at.hex in
     let all : List Node = with_steps test node (steps_at position at.hex at.end) in
+    let held : List LinkEnds = c.at-ends-items.result.now in
+    let is : held ≡ map ends_of items = c.at-ends-items.ensures position at_node.tree_is.links in
+    let high : length items ≤ c.loop-ends.ends-index = link_high items held c.loop-ends.ends-index is c.loop-ends-test.false in
     things_over g.D.Decider.decides position tree (steps_by at.end) test node items c.args.decider.now
-    c.loop-link.decider all c.loop-link.link-index c.loop-link-test.false
-    (c.loop-link.invariant.2 assigned steps stops at_node continues)
+    c.loop-ends.decider all c.loop-ends.ends-index high
+    (c.loop-ends.invariant.2 assigned steps stops at_node continues)
 
 pub follow-returns-clause-used : goal.follow-returns-clause-used
-follow-returns-clause-used g t c = c.loop-link.invariant.0
+follow-returns-clause-used g t c = c.loop-ends.invariant.0
 
 pub follow-returns-clause-seen : goal.follow-returns-clause-seen
-follow-returns-clause-seen g t c = c.loop-link.invariant.1
+follow-returns-clause-seen g t c = c.loop-ends.invariant.1
 
 pub take-returns-in_default-clause-walks : goal.take-returns-in_default-clause-walks
-take-returns-in_default-clause-walks g t c = λ assigned steps stops at_node among continues.
+take-returns-in_default-clause-walks g t c = λ assigned steps stops link at_node among ends from continues.
     let position = g.N.Network.position c.args.network.now in
     let tree = c.args.tree.now in
     let at = c.args.at in
-    let link = c.args.link in
+    let found : Option WalkStep = way_into at.end link in
+    let way : c.leads_to.result ≡ option_map place_left found = c.leads_to.ensures link at.end ends from in
     let node : Node = node_at tree c.args.begun.now assigned steps in
     let test : WalkStep → Bool = may_take (reached_in tree) node at.end in
     over_none g.D.Decider.decides position tree c.args.decider.now (with_steps test node (steps_by at.end link))
-    (no_step_found test node at.end link c.step_into.result c.in_default.is c.step_into.ensures)
+    (no_step_found test node at.end link found (no_step_there found (sym way ∙ c.in_default.is)) (ways at.end link))
 
 pub take-returns-in_default-stop-clause-walks : goal.take-returns-in_default-stop-clause-walks
-take-returns-in_default-stop-clause-walks g t c = λ assigned steps stops at_node among continues.
+take-returns-in_default-stop-clause-walks g t c = λ assigned steps stops link at_node among ends from continues.
     let position = g.N.Network.position c.args.network.now in
     let tree = c.args.tree.now in
     let at = c.args.at in
-    let link = c.args.link in
+    let found : Option WalkStep = way_into at.end link in
+    let way : c.leads_to.result ≡ option_map place_left found = c.leads_to.ensures link at.end ends from in
     let node : Node = node_at tree c.args.begun.now assigned steps in
     let test : WalkStep → Bool = may_take (reached_in tree) node at.end in
-    let step : WalkStep = c.in-Some.step in
+    let at_place : option_map place_left found ≡ Some c.in-Some.place = sym way ∙ c.in-Some.is in
+    let step : WalkStep = unwrap_or found default_step in
+    let some : found ≡ Some step = step_there found c.in-Some.place at_place in
     let made : Node = with_step node step in
     let one : node_if (test step) made ≡ with_steps test node (steps_by at.end link) =
-    step_found test node at.end link c.step_into.result step c.in-Some.is c.step_into.ensures in
-    let enters : entered_at step ≡ at = step_enters position at_node.tree_is.lawful at link c.step_into.result step
-    among c.in-Some.is c.step_into.ensures in
-    let none : stop_of (left_at step) ≡ None = sym (c.stop.ensures ∙ ap stop_of c.left-left.ensures) ∙ c.in_default-stop.is in
-    let walk = c.cross.ensures.walks assigned steps stops step at_node (continues step enters) (sym c.left-left.ensures)
+    step_found test node at.end link found step some (ways at.end link) in
+    let enters : entered_at step ≡ at = step_enters position at_node.tree_is.lawful at link found step among some
+    (ways at.end link) in
+    let leaves : left_at step ≡ spot_at at.hex c.end_at.result = left_is step at c.in-Some.place c.end_at.result enters
+    (place_there found c.in-Some.place at_place) c.end_at.ensures in
+    let none : stop_of (left_at step) ≡ None = sym (c.stop.ensures ∙ ap stop_of (sym leaves)) ∙ c.in_default-stop.is in
+    let walk = c.cross.ensures.walks assigned steps stops step at_node (continues step enters) leaves
     (sym c.stop.ensures ∙ c.in_default-stop.is) in
     subst (λ (l : List Node). WalksOver g.D.Decider.decides position tree c.args.decider.now l c.cross.result c.cross.new.decider)
     (ap (λ (b : Bool). node_if b made) (sym (takes_over (reached_in tree) node at.end step none)) ∙ one) walk
 
 pub take-returns-in_default-end-clause-walks : goal.take-returns-in_default-end-clause-walks
-take-returns-in_default-end-clause-walks g t c = λ assigned steps stops at_node among continues.
+take-returns-in_default-end-clause-walks g t c = λ assigned steps stops link at_node among ends from continues.
     let position = g.N.Network.position c.args.network.now in
     let tree = c.args.tree.now in
     let at = c.args.at in
-    let link = c.args.link in
+    let found : Option WalkStep = way_into at.end link in
+    let way : c.leads_to.result ≡ option_map place_left found = c.leads_to.ensures link at.end ends from in
     let node : Node = node_at tree c.args.begun.now assigned steps in
     let test : WalkStep → Bool = may_take (reached_in tree) node at.end in
-    let step : WalkStep = c.in-Some.step in
+    let at_place : option_map place_left found ≡ Some c.in-Some.place = sym way ∙ c.in-Some.is in
+    let step : WalkStep = unwrap_or found default_step in
+    let some : found ≡ Some step = step_there found c.in-Some.place at_place in
     let made : Node = with_step node step in
     let one : node_if (test step) made ≡ with_steps test node (steps_by at.end link) =
-    step_found test node at.end link c.step_into.result step c.in-Some.is c.step_into.ensures in
-    let enters : entered_at step ≡ at = step_enters position at_node.tree_is.lawful at link c.step_into.result step
-    among c.in-Some.is c.step_into.ensures in
+    step_found test node at.end link found step some (ways at.end link) in
+    let enters : entered_at step ≡ at = step_enters position at_node.tree_is.lawful at link found step among some
+    (ways at.end link) in
+    let leaves : left_at step ≡ spot_at at.hex c.end_at.result = left_is step at c.in-Some.place c.end_at.result enters
+    (place_there found c.in-Some.place at_place) c.end_at.ensures in
     let stop : Stop = c.in-Some-stop.stop in
-    let left : stop_of (left_at step) ≡ Some stop = sym (c.stop.ensures ∙ ap stop_of c.left-left.ensures) ∙ c.in-Some-stop.is in
+    let left : stop_of (left_at step) ≡ Some stop = sym (c.stop.ensures ∙ ap stop_of (sym leaves)) ∙ c.in-Some-stop.is in
     over_none g.D.Decider.decides position tree c.args.decider.now (with_steps test node (steps_by at.end link))
     (sym one ∙ ap (λ (b : Bool). node_if b made) (takes_no_stop (reached_in tree) node at.end c.in_default-end.field-0 step stop
     c.in_default-end.is left))
 
 pub take-returns-then-not-reaches-clause-walks : goal.take-returns-then-not-reaches-clause-walks
-take-returns-then-not-reaches-clause-walks g t c = λ assigned steps stops at_node among continues.
+take-returns-then-not-reaches-clause-walks g t c = λ assigned steps stops link at_node among ends from continues.
     let position = g.N.Network.position c.args.network.now in
     let tree = c.args.tree.now in
     let at = c.args.at in
-    let link = c.args.link in
+    let found : Option WalkStep = way_into at.end link in
+    let way : c.leads_to.result ≡ option_map place_left found = c.leads_to.ensures link at.end ends from in
     let node : Node = node_at tree c.args.begun.now assigned steps in
     let test : WalkStep → Bool = may_take (reached_in tree) node at.end in
-    let step : WalkStep = c.in-Some.step in
+    let at_place : option_map place_left found ≡ Some c.in-Some.place = sym way ∙ c.in-Some.is in
+    let step : WalkStep = unwrap_or found default_step in
+    let some : found ≡ Some step = step_there found c.in-Some.place at_place in
     let made : Node = with_step node step in
     let one : node_if (test step) made ≡ with_steps test node (steps_by at.end link) =
-    step_found test node at.end link c.step_into.result step c.in-Some.is c.step_into.ensures in
-    let enters : entered_at step ≡ at = step_enters position at_node.tree_is.lawful at link c.step_into.result step
-    among c.in-Some.is c.step_into.ensures in
+    step_found test node at.end link found step some (ways at.end link) in
+    let enters : entered_at step ≡ at = step_enters position at_node.tree_is.lawful at link found step among some
+    (ways at.end link) in
+    let leaves : left_at step ≡ spot_at at.hex c.end_at.result = left_is step at c.in-Some.place c.end_at.result enters
+    (place_there found c.in-Some.place at_place) c.end_at.ensures in
     let stop : Stop = c.in-Some-stop.stop in
-    let left : stop_of (left_at step) ≡ Some stop = sym (c.stop.ensures ∙ ap stop_of c.left-left.ensures) ∙ c.in-Some-stop.is in
+    let left : stop_of (left_at step) ≡ Some stop = sym (c.stop.ensures ∙ ap stop_of (sym leaves)) ∙ c.in-Some-stop.is in
     let side : Side = c.in-Side.field-0 in
-    let from : (entered_at step).end ≡ AtSide side = ap (λ (s : Spot). s.end) enters ∙ c.in-Side.is in
+    let at_side : (entered_at step).end ≡ AtSide side = ap (λ (s : Spot). s.end) enters ∙ c.in-Side.is in
     let reaches : c.reaches.result ≡ has_stop stop (reached_in tree) = c.reaches.ensures in
     let tests : test step ≡ (has_stop stop (reached_in tree) && not (has_stop stop (visited steps))) =
     takes_stop (reached_in tree) node at.end side step stop c.in-Side.is left in
@@ -441,28 +465,33 @@ take-returns-then-not-reaches-clause-walks g t c = λ assigned steps stops at_no
     ∙ and_false (has_stop stop (reached_in tree)) (has_stop stop (visited steps)) (sym reaches ∙ c.if-not-reaches.true)))
 
 pub take-returns-then-has-clause-walks : goal.take-returns-then-has-clause-walks
-take-returns-then-has-clause-walks g t c = λ assigned steps stops at_node among continues.
+take-returns-then-has-clause-walks g t c = λ assigned steps stops link at_node among ends from continues.
     let position = g.N.Network.position c.args.network.now in
     let tree = c.args.tree.now in
     let at = c.args.at in
-    let link = c.args.link in
+    let found : Option WalkStep = way_into at.end link in
+    let way : c.leads_to.result ≡ option_map place_left found = c.leads_to.ensures link at.end ends from in
     let node : Node = node_at tree c.args.begun.now assigned steps in
     let test : WalkStep → Bool = may_take (reached_in tree) node at.end in
-    let step : WalkStep = c.in-Some.step in
+    let at_place : option_map place_left found ≡ Some c.in-Some.place = sym way ∙ c.in-Some.is in
+    let step : WalkStep = unwrap_or found default_step in
+    let some : found ≡ Some step = step_there found c.in-Some.place at_place in
     let made : Node = with_step node step in
     let one : node_if (test step) made ≡ with_steps test node (steps_by at.end link) =
-    step_found test node at.end link c.step_into.result step c.in-Some.is c.step_into.ensures in
-    let enters : entered_at step ≡ at = step_enters position at_node.tree_is.lawful at link c.step_into.result step
-    among c.in-Some.is c.step_into.ensures in
+    step_found test node at.end link found step some (ways at.end link) in
+    let enters : entered_at step ≡ at = step_enters position at_node.tree_is.lawful at link found step among some
+    (ways at.end link) in
+    let leaves : left_at step ≡ spot_at at.hex c.end_at.result = left_is step at c.in-Some.place c.end_at.result enters
+    (place_there found c.in-Some.place at_place) c.end_at.ensures in
     let stop : Stop = c.in-Some-stop.stop in
-    let left : stop_of (left_at step) ≡ Some stop = sym (c.stop.ensures ∙ ap stop_of c.left-left.ensures) ∙ c.in-Some-stop.is in
+    let left : stop_of (left_at step) ≡ Some stop = sym (c.stop.ensures ∙ ap stop_of (sym leaves)) ∙ c.in-Some-stop.is in
     let side : Side = c.in-Side.field-0 in
-    let from : (entered_at step).end ≡ AtSide side = ap (λ (s : Spot). s.end) enters ∙ c.in-Side.is in
+    let at_side : (entered_at step).end ≡ AtSide side = ap (λ (s : Spot). s.end) enters ∙ c.in-Side.is in
     let reaches : c.reaches.result ≡ has_stop stop (reached_in tree) = c.reaches.ensures in
     let tests : test step ≡ (has_stop stop (reached_in tree) && not (has_stop stop (visited steps))) =
     takes_stop (reached_in tree) node at.end side step stop c.in-Side.is left in
     let seen : has_stop stop (visited steps) ≡ c.has.result =
-    ap (has_stop stop) ((continues step enters).same side from) ∙ (sym (at_node.seen.1 stop) ∙ sym c.has.ensures) in
+    ap (has_stop stop) ((continues step enters).same side at_side) ∙ (sym (at_node.seen.1 stop) ∙ sym c.has.ensures) in
     over_none g.D.Decider.decides position tree c.args.decider.now (with_steps test node (steps_by at.end link))
     (sym one ∙ ap (λ (b : Bool). node_if b made) (tests
     ∙ seen_false (has_stop stop (reached_in tree)) (has_stop stop (visited steps)) (seen ∙ c.if-has.true)))
@@ -471,28 +500,33 @@ pub take-arrive-requires : goal.take-arrive-requires
 take-arrive-requires g t c = λ lifetimes within. (omega (arith, ap end_rank c.in-Side.is), (search rules, search rules))
 
 pub take-returns-clause-walks : goal.take-returns-clause-walks
-take-returns-clause-walks g t c = λ assigned steps stops at_node among continues.
+take-returns-clause-walks g t c = λ assigned steps stops link at_node among ends from continues.
     let position = g.N.Network.position c.args.network.now in
     let tree = c.args.tree.now in
     let at = c.args.at in
-    let link = c.args.link in
+    let found : Option WalkStep = way_into at.end link in
+    let way : c.leads_to.result ≡ option_map place_left found = c.leads_to.ensures link at.end ends from in
     let node : Node = node_at tree c.args.begun.now assigned steps in
     let test : WalkStep → Bool = may_take (reached_in tree) node at.end in
-    let step : WalkStep = c.in-Some.step in
+    let at_place : option_map place_left found ≡ Some c.in-Some.place = sym way ∙ c.in-Some.is in
+    let step : WalkStep = unwrap_or found default_step in
+    let some : found ≡ Some step = step_there found c.in-Some.place at_place in
     let made : Node = with_step node step in
     let one : node_if (test step) made ≡ with_steps test node (steps_by at.end link) =
-    step_found test node at.end link c.step_into.result step c.in-Some.is c.step_into.ensures in
-    let enters : entered_at step ≡ at = step_enters position at_node.tree_is.lawful at link c.step_into.result step
-    among c.in-Some.is c.step_into.ensures in
+    step_found test node at.end link found step some (ways at.end link) in
+    let enters : entered_at step ≡ at = step_enters position at_node.tree_is.lawful at link found step among some
+    (ways at.end link) in
+    let leaves : left_at step ≡ spot_at at.hex c.end_at.result = left_is step at c.in-Some.place c.end_at.result enters
+    (place_there found c.in-Some.place at_place) c.end_at.ensures in
     let stop : Stop = c.in-Some-stop.stop in
-    let left : stop_of (left_at step) ≡ Some stop = sym (c.stop.ensures ∙ ap stop_of c.left-left.ensures) ∙ c.in-Some-stop.is in
+    let left : stop_of (left_at step) ≡ Some stop = sym (c.stop.ensures ∙ ap stop_of (sym leaves)) ∙ c.in-Some-stop.is in
     let side : Side = c.in-Side.field-0 in
-    let from : (entered_at step).end ≡ AtSide side = ap (λ (s : Spot). s.end) enters ∙ c.in-Side.is in
+    let at_side : (entered_at step).end ≡ AtSide side = ap (λ (s : Spot). s.end) enters ∙ c.in-Side.is in
     let reaches : c.reaches.result ≡ has_stop stop (reached_in tree) = c.reaches.ensures in
     let tests : test step ≡ (has_stop stop (reached_in tree) && not (has_stop stop (visited steps))) =
     takes_stop (reached_in tree) node at.end side step stop c.in-Side.is left in
     let seen : has_stop stop (visited steps) ≡ c.has.result =
-    ap (has_stop stop) ((continues step enters).same side from) ∙ (sym (at_node.seen.1 stop) ∙ sym c.has.ensures) in
+    ap (has_stop stop) ((continues step enters).same side at_side) ∙ (sym (at_node.seen.1 stop) ∙ sym c.has.ensures) in
     let passes : test step ≡ true = tests ∙ and_true (has_stop stop (reached_in tree)) (has_stop stop (visited steps))
     (sym reaches ∙ c.if-not-reaches.false) (seen ∙ c.if-has.false) in
     let walk = c.arrive.ensures.walks assigned steps stops step at_node (continues step enters) left in

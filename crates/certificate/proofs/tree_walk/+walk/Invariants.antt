@@ -2,6 +2,7 @@
 use Rattle.std.proofs.Common.{◌≡◌, ◌+◌, ◌-◌, ◌*◌, ◌<◌, ◌≤◌, false, not, count_by, List, [], ◌∷◌, length, drop}
 use Rattle.std.proofs.Common.{replicate}
 use Rattle.map_tables.specs.declared.place.Stop.{Stop}
+use Rattle.reach.specs.Position.{links_of}
 use Rattle.reach.specs.Walk.{entered_at}
 use Rattle.reach.specs.declared.walk.WalkStep.{WalkStep}
 use Rattle.legal_runs.specs.Set.{TrainRun}
@@ -69,8 +70,8 @@ invariant-set_out-loop-stop g l =
     (node_from l.tree assigned l.fn.place) (for_each (steps_from (g.N.Network.position l.network))
     (drop l.stop-index l.stop-items))))
 
-abbrev pub invariant-follow-loop-link : goal.invariant-follow-loop-link
-invariant-follow-loop-link g l =
+abbrev pub invariant-follow-loop-ends : goal.invariant-follow-loop-ends
+invariant-follow-loop-ends g l =
     (l.used ≡ l.fn.used) × (l.seen ≡ l.fn.seen)
     × ((assigned : List TrainRun) (steps : List WalkStep) (stops : List Stop) →
     IsOnRun (g.N.Network.position l.network) l.tree l.begun l.fn.used l.fn.seen assigned steps stops →
@@ -80,4 +81,5 @@ invariant-follow-loop-link g l =
     (node_at l.tree l.begun assigned steps) (steps_at (g.N.Network.position l.network) l.fn.at.hex l.fn.at.end))
     l.decider
     (with_steps (may_take (reached_in l.tree) (node_at l.tree l.begun assigned steps) l.fn.at.end)
-    (node_at l.tree l.begun assigned steps) (for_each (steps_by l.fn.at.end) (drop l.link-index l.link-items))))
+    (node_at l.tree l.begun assigned steps) (for_each (steps_by l.fn.at.end)
+    (drop l.ends-index (links_of (g.N.Network.position l.network) l.fn.at.hex)))))
