@@ -56,6 +56,7 @@ impl KnownStops {
     }
 
     /// Returns what a stop is to the company. The network is asked if that is not known.
+    #[inline(always)]
     pub(crate) fn at<N: Network>(&self, network: &N, company: Company, stop: Stop) -> StopFacts
         ensures { let position = N.position network.now in
             AreKnown position company self.now → IsOfStop position company stop result }

@@ -99,6 +99,7 @@ fn leads_to(ends: LinkEnds, entered: u8) -> Option<u8>
 }
 
 /// Decides at a node where a run is begun.
+#[inline(always)]
 fn ask<D: Decider>(tree: &Tree, begun: &Begun, seen: &StopMarks, decider: &mut D) -> Decision
     ensures { (position : Position) (crossed : List Bool) (assigned : List TrainRun)
         (steps : List WalkStep) →
@@ -289,6 +290,7 @@ fn follow<N: Network, D: Decider>(
 /// Walks over the node at which the run has gone on by a link at a spot, if it may. It may go over
 /// a border that was not crossed, or from a border to a reached stop that it has not visited.
 #[cycle(walk)]
+#[inline(always)]
 fn take<N: Network, D: Decider>(
     network: &N,
     tree: &Tree,

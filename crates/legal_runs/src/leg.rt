@@ -92,6 +92,7 @@ fn is_hex(hex: Hex, found: Option<Hex>) -> bool
 /// Returns the step from one end of a hex to another, if they are joined by one of these links,
 /// which are those of the hex.
 #[tactic(auto, unfolding(crate::specs::Named::step_between))]
+#[inline(always)]
 fn step_between<N: Network>(
     _network: &N,
     links: &Links,

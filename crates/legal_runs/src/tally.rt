@@ -127,6 +127,7 @@ impl Tally {
 
     /// Follows a step.
     #[tactic(auto, unfolding(crate::specs::Tally::counted))]
+    #[inline(always)]
     fn count<N: Network>(&mut self, network: &N, company: Company, step: WalkStep)
         requires few { self.old.stops ≤ 9000 }
         requires low { self.old.value ≤ 80 * self.old.stops }
