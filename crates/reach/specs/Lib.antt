@@ -6,3 +6,4 @@ pub mod Search
 pub mod Stops
 pub mod Tokens
 pub mod Pieces
+pub mod HeldSpots

@@ -13,7 +13,8 @@
 //! reached of one hex.
 //!
 //! Reading order: `network`, `walk`, `reach_found`, `stops` and `reaches` (the public calls), `search`,
-//! `link_visitor` (what it does with links), `stop_numbers` (of stops and of spots), `stop_marks`.
+//! `waiting` (the spots that it is still to look at), `link_visitor` (what it does with links),
+//! `stop_numbers` (of stops and of spots), `stop_marks`.
 #![tactic(auto)]
 
 mod link_visitor;
@@ -24,6 +25,7 @@ mod search;
 mod stop_marks;
 mod stop_numbers;
 mod stops;
+mod waiting;
 mod walk;
 
 pub use network::Network;

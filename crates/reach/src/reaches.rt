@@ -59,7 +59,7 @@ fn mark_reached<N: Network>(
 )
     requires named { AreNamed (N.position network.now) company tokens.now }
     requires marks { marks.old.marks ≡ replicate 744 false }
-    requires waiting { marks.old.waiting.items ≡ [] }
+    requires waiting { marks.old.waiting ≡ [] }
     ensures arrive { AllArrive (N.position network.now) company marks.new.marks }
     ensures tokens { HasAllTokens (N.position network.now) company marks.new.marks }
     ensures closed { let position = N.position network.now in

@@ -14,8 +14,8 @@ ghost use Rattle.reach.specs.declared.walk.WalkStep.{WalkStep};
 use crate::link_visitor::Keeper;
 use crate::network::Network;
 use crate::stop_numbers::{SPOTS, spot_number};
+use crate::waiting::Waiting;
 use crate::walk::{Spot, WalkStep};
-use arrayvec::ArrayVec;
 use map_tables::{ENDS, HEXES, Hex, Link, Place, SIDES, Stop, StopNumber, TrackEnd, joined_stop};
 use tables::Company;
 
@@ -24,19 +24,19 @@ use tables::Company;
 #[derive(Drop)]
 pub(crate) struct Marks {
     marks: [bool; SPOTS],
-    waiting: ArrayVec<Spot, SPOTS>,
-    ghost few: { length waiting.items ≤ marked marks },
+    waiting: Waiting,
+    ghost few: { length waiting ≤ marked marks },
 }
 
 impl Marks {
     /// Returns marks by which no walk has arrived anywhere yet.
     pub(crate) fn none() -> Marks
         ensures marks { result.marks ≡ replicate 744 false }
-        ensures waiting { result.waiting.items ≡ [] }
+        ensures waiting { result.waiting ≡ [] }
     {
         Marks {
             marks: [false; SPOTS],
-            waiting: ArrayVec::new(),
+            waiting: Waiting::none(),
         }
     }
 
@@ -72,7 +72,7 @@ impl Marks {
     /// Marks a spot, which is to be looked at if it was not marked before.
     fn mark(&mut self, spot: Spot)
         ensures { IsMarking spot
-            self.old.marks self.old.waiting.items self.new.marks self.new.waiting.items }
+            self.old.marks self.old.waiting self.new.marks self.new.waiting }
     {
         let number = spot_number(spot);
         if !self.marks[number] {
@@ -105,7 +105,7 @@ fn is_entered(step: WalkStep, at: Spot) -> bool
 /// Follows a step: keeps its link, and marks where it is left.
 fn follow<K: Keeper>(step: WalkStep, marks: &mut Marks, keeper: &mut K) -> Result<(), K::Fault>
     ensures marking { OnOk result (IsMarking (left_at step)
-        marks.old.marks marks.old.waiting.items marks.new.marks marks.new.waiting.items) }
+        marks.old.marks marks.old.waiting marks.new.marks marks.new.waiting) }
     ensures link { OnOk result (IsKept step.link (K.keeps keeper.old) (K.keeps keeper.new)) }
 {
     marks.mark(step.left());
@@ -122,8 +122,8 @@ fn follow_at<K: Keeper>(
 ) -> Result<(), K::Fault>
     requires { step.link.hex ≡ at.hex }
     ensures { OnOk result (IsFollowed step at
-        marks.old.marks marks.old.waiting.items (K.keeps keeper.old)
-        marks.new.marks marks.new.waiting.items (K.keeps keeper.new)) }
+        marks.old.marks marks.old.waiting (K.keeps keeper.old)
+        marks.new.marks marks.new.waiting (K.keeps keeper.new)) }
 {
     if is_entered(step, at) {
         follow(step, marks, keeper)?;
@@ -146,8 +146,8 @@ fn follow_both<N: Network, K: Keeper>(
     requires may { CanEnter (N.position network.now) company marks.old.marks at }
     ensures { let takes = λ (taken : WalkStep). (taken.link ≡ link) × IsEnteredAt at taken in
         OnOk result (Spreads (N.position network.now) company takes
-        marks.old.marks marks.old.waiting.items (K.keeps keeper.old)
-        marks.new.marks marks.new.waiting.items (K.keeps keeper.new)) }
+        marks.old.marks marks.old.waiting (K.keeps keeper.old)
+        marks.new.marks marks.new.waiting (K.keeps keeper.new)) }
 {
     let forward = WalkStep {
         link,
@@ -173,8 +173,8 @@ fn follow_from<N: Network, K: Keeper>(
         let takes = λ (taken : WalkStep).
         IsAmong taken.link (links_of position at.hex) × IsEnteredAt at taken in
         OnOk result (Spreads position company takes
-        marks.old.marks marks.old.waiting.items (K.keeps keeper.old)
-        marks.new.marks marks.new.waiting.items (K.keeps keeper.new)) }
+        marks.old.marks marks.old.waiting (K.keeps keeper.old)
+        marks.new.marks marks.new.waiting (K.keeps keeper.new)) }
 {
     let links = network.links(at.hex);
     for link in links.as_slice() {
@@ -198,8 +198,8 @@ fn look_from_stop<N: Network, K: Keeper>(
         let takes = λ (taken : WalkStep). IsTrack position taken
         × GoesOnAt position company stop (entered_at taken) in
         OnOk result (Spreads position company takes
-        marks.old.marks marks.old.waiting.items (K.keeps keeper.old)
-        marks.new.marks marks.new.waiting.items (K.keeps keeper.new)) }
+        marks.old.marks marks.old.waiting (K.keeps keeper.old)
+        marks.new.marks marks.new.waiting (K.keeps keeper.new)) }
 {
     if network.full(stop, company) {
         return Ok(());
@@ -229,8 +229,8 @@ fn look<N: Network, K: Keeper>(
         let takes = λ (taken : WalkStep). IsTrack position taken
         × LeadsTo position company from (entered_at taken) in
         OnOk result (Spreads position company takes
-        marks.old.marks marks.old.waiting.items (K.keeps keeper.old)
-        marks.new.marks marks.new.waiting.items (K.keeps keeper.new)) }
+        marks.old.marks marks.old.waiting (K.keeps keeper.old)
+        marks.new.marks marks.new.waiting (K.keeps keeper.new)) }
 {
     if let Some(stop) = from.stop() {
         look_from_stop(network, company, stop, marks, keeper)?;
@@ -247,10 +247,10 @@ fn look<N: Network, K: Keeper>(
 /// of them are still to be looked at.
 pub(crate) fn mark_tokens<N: Network>(network: &N, company: Company, marks: &mut Marks)
     requires marks { marks.old.marks ≡ replicate 744 false }
-    requires waiting { marks.old.waiting.items ≡ [] }
+    requires waiting { marks.old.waiting ≡ [] }
     ensures arrive { AllArrive (N.position network.now) company marks.new.marks }
     ensures tokens { HasAllTokens (N.position network.now) company marks.new.marks }
-    ensures wait { AllWait marks.new.marks marks.new.waiting.items }
+    ensures wait { AllWait marks.new.marks marks.new.waiting }
 {
     for index in 0..HEXES {
         let hex = Hex::at_index(index);
@@ -279,10 +279,10 @@ pub(crate) fn mark_named<N: Network>(
 )
     requires named { AreNamed (N.position network.now) company tokens.now }
     requires marks { marks.old.marks ≡ replicate 744 false }
-    requires waiting { marks.old.waiting.items ≡ [] }
+    requires waiting { marks.old.waiting ≡ [] }
     ensures arrive { AllArrive (N.position network.now) company marks.new.marks }
     ensures tokens { HasAllTokens (N.position network.now) company marks.new.marks }
-    ensures wait { AllWait marks.new.marks marks.new.waiting.items }
+    ensures wait { AllWait marks.new.marks marks.new.waiting }
 {
     for token in tokens {
         mark_listed(network, company, *token, marks);
@@ -297,7 +297,7 @@ fn mark_listed<N: Network>(
     marks: &mut Marks,
 )
     ensures { IsListed (N.position network.now) company (stop_of_token company token)
-        marks.old.marks marks.old.waiting.items marks.new.marks marks.new.waiting.items }
+        marks.old.marks marks.old.waiting marks.new.marks marks.new.waiting }
 {
     if let Some(stop) = stop_of(token, company) {
         mark_token(network, company, stop, marks);
@@ -318,7 +318,7 @@ fn stop_of(token: (Place, Company), company: Company) -> Option<Stop>
 /// Marks a stop if the company has a token there.
 fn mark_token<N: Network>(network: &N, company: Company, stop: Stop, marks: &mut Marks)
     ensures { IsTokenMarked (N.position network.now) company stop
-        marks.old.marks marks.old.waiting.items marks.new.marks marks.new.waiting.items }
+        marks.old.marks marks.old.waiting marks.new.marks marks.new.waiting }
 {
     if network.token(stop, company) {
         let end = TrackEnd::Stop(stop.number);
@@ -339,7 +339,7 @@ pub(crate) fn search<N: Network, K: Keeper>(
     requires lawful { IsLawful (N.position network.now) }
     requires arrive { AllArrive (N.position network.now) company marks.old.marks }
     requires tokens { HasAllTokens (N.position network.now) company marks.old.marks }
-    requires wait { AllWait marks.old.marks marks.old.waiting.items }
+    requires wait { AllWait marks.old.marks marks.old.waiting }
     ensures arrive { OnOk result (AllArrive (N.position network.now) company marks.new.marks) }
     ensures tokens { OnOk result (HasAllTokens (N.position network.now) company marks.new.marks) }
     ensures closed { let position = N.position network.now in

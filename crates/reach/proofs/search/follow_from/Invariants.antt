@@ -9,5 +9,5 @@ invariant-loop-link g l =
     let position = g.N.Network.position l.network in
     let keeps = g.K.Keeper.keeps in
     Spreads position l.company (λ taken. IsAmong taken.link (take l.link-index (links_of position l.fn.at.hex))
-    × IsEnteredAt l.fn.at taken) l.initial.marks.marks l.initial.marks.waiting.items (keeps l.initial.keeper)
-    l.marks.marks l.marks.waiting.items (keeps l.keeper)
+    × IsEnteredAt l.fn.at taken) l.initial.marks.marks l.initial.marks.waiting (keeps l.initial.keeper)
+    l.marks.marks l.marks.waiting (keeps l.keeper)

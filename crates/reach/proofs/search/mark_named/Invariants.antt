@@ -5,5 +5,5 @@ use Rattle.reach.proofs.search.mark_named.Given as goal
 
 abbrev pub invariant-loop-token : goal.invariant-loop-token
 invariant-loop-token g l =
-    TokensListed (g.N.Network.position l.network) l.company l.marks.marks l.marks.waiting.items
+    TokensListed (g.N.Network.position l.network) l.company l.marks.marks l.marks.waiting
     (drop l.token-index l.tokens)

@@ -5,4 +5,4 @@ use Rattle.reach.proofs.search.mark_tokens.Given as goal
 
 abbrev pub invariant-loop-index : goal.invariant-loop-index
 invariant-loop-index g l =
-    TokensMarked (g.N.Network.position l.network) l.company l.marks.marks l.marks.waiting.items (2 * l.index)
+    TokensMarked (g.N.Network.position l.network) l.company l.marks.marks l.marks.waiting (2 * l.index)

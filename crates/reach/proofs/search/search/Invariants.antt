@@ -11,9 +11,9 @@ invariant-loop-spot g l =
     record {
       arrive : AllArrive position l.company l.marks.marks;
       tokens : HasAllTokens position l.company l.marks.marks;
-      looked : AreLookedAt position l.company l.marks.marks l.marks.waiting.items (keeps l.keeper);
+      looked : AreLookedAt position l.company l.marks.marks l.marks.waiting (keeps l.keeper);
       taken : KeepsNone (keeps l.initial.keeper) → CanTakeAll position l.company l.marks.marks (keeps l.keeper);
     }
 
 abbrev pub decreases-loop-spot : goal.decreases-loop-spot
-decreases-loop-spot g l = 2 * (length l.marks.marks - marked l.marks.marks) + length l.marks.waiting.items
+decreases-loop-spot g l = 2 * (length l.marks.marks - marked l.marks.marks) + length l.marks.waiting

@@ -1,5 +1,5 @@
 -- A spot that is not marked leaves room: no more wait than are marked.
-use Rattle.std.proofs.Common.{◌≡◌, ℕ, ◌<◌, Bool, true, false, List, length, get_or, set, arith, length-set, lit<}
+use Rattle.std.proofs.Common.{◌≡◌, ℕ, ◌<◌, Bool, true, false, List, length, get_or, set, arith, length-set}
 use Rattle.std.proofs.lemmas.List.Sums.{count_by-le-length}
 use Rattle.reach.specs.Search.{marked}
 use Rattle.reach.proofs.Marking.{one_more}
@@ -21,5 +21,5 @@ push-requires c =
     let marks = c.args.self.now.marks in
     let off : get_or marks c.spot_number-number.result false ≡ false = c.if-not-self-number.true in
     let room : marked marks < length marks = not_all marks c.spot_number-number.result (omega arith) off in
-    let low : length c.args.self.now.waiting.items < 744 = omega (arith, c.args.self.now.few) in
-    (lit< tt, low)
+    let low : length c.args.self.now.waiting < 744 = omega (arith, c.args.self.now.few) in
+    low

@@ -1,0 +1,127 @@
+//! The spots that a search is still to look at, in few bytes.
+ghost use Rattle.std.specs.Prelude.{◌≡◌, ◌+◌, ◌<◌, ◌++◌, ◌∷◌, [], MatchOption, length};
+ghost use Rattle.map_tables.specs.Track.{end_order};
+ghost use Rattle.reach.specs.HeldSpots.{end_at, held_spot};
+
+use crate::stop_numbers::SPOTS;
+use crate::walk::Spot;
+use map_tables::{Hex, Side, StopNumber, TrackEnd};
+use std::marker::Model;
+
+/// A spot in two bytes: its hex, and its end by its place in the order of the ends of a hex.
+#[derive(Clone, Copy)]
+struct HeldSpot {
+    hex: Hex,
+    end: u8,
+}
+
+/// What the unused room is filled with: the place of no end. (With zeros it would be one run of
+/// over 2 KB with the marks beside it, which is cleared byte by byte.)
+const NO_END: u8 = 255;
+
+impl HeldSpot {
+    /// Returns a spot as it is held.
+    fn of(spot: Spot) -> HeldSpot
+        ensures { held_spot result ≡ spot }
+    {
+        HeldSpot {
+            hex: spot.hex,
+            end: order(spot.end),
+        }
+    }
+
+    /// Returns the spot that is held.
+    fn spot(self) -> Spot
+        ensures { result ≡ held_spot self }
+    {
+        Spot {
+            hex: self.hex,
+            end: end_at(self.end),
+        }
+    }
+}
+
+/// Returns the place of an end in the order of the ends of a hex.
+fn order(end: TrackEnd) -> u8
+    ensures { result ≡ end_order end }
+{
+    match end {
+        TrackEnd::Side(side) => side.number() as u8,
+        TrackEnd::Stop(StopNumber::First) => 6,
+        TrackEnd::Stop(StopNumber::Second) => 7,
+    }
+}
+
+/// Returns the end at a place in that order; the last for a greater number.
+fn end_at(place: u8) -> TrackEnd
+    ensures { result ≡ end_at place }
+{
+    if place > 6 {
+        return TrackEnd::Stop(StopNumber::Second);
+    }
+    match place {
+        0 => TrackEnd::Side(Side::SouthWest),
+        1 => TrackEnd::Side(Side::West),
+        2 => TrackEnd::Side(Side::NorthWest),
+        3 => TrackEnd::Side(Side::NorthEast),
+        4 => TrackEnd::Side(Side::East),
+        5 => TrackEnd::Side(Side::SouthEast),
+        _ => TrackEnd::Stop(StopNumber::First),
+    }
+}
+
+/// The spots that wait, at most as many as there are. In a contract it is the list of them.
+#[derive(Drop)]
+pub(crate) struct Waiting {
+    spots: [HeldSpot; SPOTS],
+    count: usize,
+}
+
+impl Model for Waiting {
+    ghost use Rattle.std.specs.Prelude.{◌≡◌, ◌≤◌, List, length, map, take};
+    ghost use Rattle.reach.specs.declared.walk.Spot.{Spot};
+    ghost use Rattle.reach.specs.HeldSpots.{held_spot};
+
+    ghost Value = { List Spot };
+
+    ghost view = { λ waiting. map held_spot (take waiting.count waiting.spots) };
+
+    ghost invariant = { λ waiting. (waiting.count ≤ 744) × (length waiting.spots ≡ 744) };
+}
+
+impl Waiting {
+    /// Returns no spots.
+    pub(crate) fn none() -> Waiting
+        ensures { result ≡ [] }
+    {
+        let none = HeldSpot {
+            hex: Hex::A9,
+            end: NO_END,
+        };
+        Waiting {
+            spots: [none; SPOTS],
+            count: 0,
+        }
+    }
+
+    /// Appends a spot. There must be room.
+    pub(crate) fn push(&mut self, spot: Spot)
+        requires { length self.old < 744 }
+        ensures { self.new ≡ self.old ++ spot ∷ [] }
+    {
+        self.spots[self.count] = HeldSpot::of(spot);
+        self.count += 1;
+    }
+
+    /// Removes and returns the last spot; `None` if there is none.
+    pub(crate) fn pop(&mut self) -> Option<Spot>
+        ensures { MatchOption result ((self.old ≡ []) × (self.new ≡ []))
+            (λ spot. self.old ≡ self.new ++ spot ∷ []) }
+    {
+        if self.count == 0 {
+            return None;
+        }
+        self.count -= 1;
+        Some(self.spots[self.count].spot())
+    }
+}
