@@ -151,6 +151,7 @@ impl OnMap for Board {
         self.index.tile_on(hex)
     }
 
+    #[inline(always)]
     fn links_on(&self, hex: Hex) -> Links {
         match self.tile_on(hex) {
             Some(_) => self.index.links_of_tile(hex),

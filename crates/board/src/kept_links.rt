@@ -46,6 +46,7 @@ impl KeptLinks {
     }
 
     /// Returns the links that it keeps.
+    #[inline(always)]
     pub(crate) fn links(&self) -> Links
         ensures { result.items ≡ held self.now }
     {
