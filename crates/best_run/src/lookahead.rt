@@ -95,9 +95,10 @@ fn look_from(
         return false;
     }
     let from = &task.departures[spot];
+    let legs = from.legs.as_slice();
     let mut leads = false;
-    for index in 0..from.legs.len() {
-        let leg = &from.legs[index];
+    for index in 0..legs.len() {
+        let leg = &legs[index];
         if leads_on(task, assigned, run, &leg.segment, outlook) {
             look_at(task, assigned, run, leg.segment.to, outlook);
             leads = true;
@@ -170,8 +171,9 @@ fn look_back(task: &Task, assigned: &Assigned, run: &PartialRun, outlook: &mut O
         return;
     }
     let from = &task.departures[run.home];
-    for index in 0..from.legs.len() {
-        let leg = &from.legs[index];
+    let legs = from.legs.as_slice();
+    for index in 0..legs.len() {
+        let leg = &legs[index];
         if run.first <= leg.first {
             look_along(task, assigned, run, &leg.segment, outlook);
         }

@@ -58,6 +58,7 @@ impl Found {
     }
 
     /// Writes the mark of a move that led on to what has been found, if it is more than before.
+    #[inline(always)]
     pub(crate) fn trace(&mut self, before: Amount, mark: Mark)
         ensures { Traces before (mark ∷ []) self.old self.new }
     {
@@ -67,6 +68,7 @@ impl Found {
     }
 
     /// Writes the marks of the steps that led on to what has been found, if it is more than before.
+    #[inline(always)]
     pub(crate) fn trace_steps(&mut self, before: Amount, steps: &Steps)
         ensures { Traces before (go_along steps.now.items) self.old self.new }
     {

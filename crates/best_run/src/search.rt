@@ -211,8 +211,10 @@ fn begin_at(
     }
 }
 
-/// Tries all ways on from a segment, if the run may take it.
+/// Tries all ways on from a segment, if the run may take it. Most segments may not be taken: it is
+/// kept in line, so that these cost no call.
 #[cycle(explore)]
+#[inline(always)]
 fn take(
     task: &Task,
     assigned: &Assigned,

@@ -1,8 +1,9 @@
 -- Each leg adds what it leads to, and together they are all legs of the stop.
-use Rattle.std.proofs.Common.{◌≡◌, ◌+◌, ◌<◌, Bool, true, Some, List, length, set, slice_get, refl, sym, ap, subst, ◌∙◌}
+use Rattle.std.proofs.Common.{◌≡◌, ◌+◌, ◌<◌, Bool, true, Some, List, length, get_or, set, slice_get, refl, sym, ap, subst, ◌∙◌}
 use Rattle.std.proofs.Common.{arith}
 use Rattle.std.proofs.lemmas.Option.{slice_get_read}
 use Rattle.best_run.specs.declared.lookahead.Outlook.{Outlook}
+use Rattle.search_task.specs.declared.task.Leg.{Leg}
 use Rattle.best_run.specs.Ahead.{WidensBelow, WidensFrom}
 use Rattle.search_task.specs.Fit.{unused}
 use Rattle.best_run.specs.Last.{CountsAsPassed, HasWorth}
@@ -89,11 +90,13 @@ look_from-leads_on-requires t c =
     let task = c.args.task.now in
     let from = c.index-from.result.now in
     let legs = from.legs.items in
-    let leg = c.index-leg.result.now in
+    let leg = c.index-legs-index.result in
+    let whole = c.as_slice-legs.ensures.value in
+    let read = c.index-legs-index.is ∙ ap (λ (ws : List Leg). get_or ws c.loop-index.index leg) whole in
     let are : AreLegsOf task c.args.spot legs = departs_from task c.requires.ready c.args.spot from c.requires.spot
     c.index-from.ensures c.requires.stop in
     let at : slice_get legs c.loop-index.index ≡ Some leg =
-    slice_get_read legs (length legs) c.loop-index.index leg refl (omega arith) c.index-leg.ensures in
+    slice_get_read legs (length legs) c.loop-index.index leg refl (omega (arith, ap (λ (ws : List Leg). length ws) whole)) read in
     let fits = leg_fits task c.requires.fit c.args.spot legs are c.requires.stop leg
     (among_place legs c.loop-index.index leg at) in
     record { fit = c.requires.fit; to = fits.0.to; stop = fits.1 }
@@ -103,11 +106,13 @@ look_from-look_at-requires t c =
     let task = c.args.task.now in
     let from = c.index-from.result.now in
     let legs = from.legs.items in
-    let leg = c.index-leg.result.now in
+    let leg = c.index-legs-index.result in
+    let whole = c.as_slice-legs.ensures.value in
+    let read = c.index-legs-index.is ∙ ap (λ (ws : List Leg). get_or ws c.loop-index.index leg) whole in
     let are : AreLegsOf task c.args.spot legs = departs_from task c.requires.ready c.args.spot from c.requires.spot
     c.index-from.ensures c.requires.stop in
     let at : slice_get legs c.loop-index.index ≡ Some leg =
-    slice_get_read legs (length legs) c.loop-index.index leg refl (omega arith) c.index-leg.ensures in
+    slice_get_read legs (length legs) c.loop-index.index leg refl (omega (arith, ap (λ (ws : List Leg). length ws) whole)) read in
     let fits = leg_fits task c.requires.fit c.args.spot legs are c.requires.stop leg
     (among_place legs c.loop-index.index leg at) in
     let fewer = c.loop-index.invariant.0.widens.fewer in
@@ -121,10 +126,12 @@ look_from-loop-index-preserved t c =
     let run = c.args.run.now in
     let from = c.index-from.result.now in
     let legs = from.legs.items in
-    let leg = c.index-leg.result.now in
+    let leg = c.index-legs-index.result in
+    let whole = c.as_slice-legs.ensures.value in
+    let read = c.index-legs-index.is ∙ ap (λ (ws : List Leg). get_or ws c.loop-index.index leg) whole in
     let index = c.loop-index.index in
-    let at : slice_get legs index ≡ Some leg = slice_get_read legs (length legs) index leg refl (omega arith)
-    c.index-leg.ensures in
+    let at : slice_get legs index ≡ Some leg = slice_get_read legs (length legs) index leg refl
+    (omega (arith, ap (λ (ws : List Leg). length ws) whole)) read in
     let there : legs_at task c.args.spot ≡ legs = ap legs_in
     (departs_at task c.requires.ready c.args.spot from c.requires.spot c.index-from.ensures) in
     let here = ap (λ ws. slice_get ws index) there ∙ at in
@@ -152,4 +159,4 @@ look_from-returns-clause-widens t c =
     let from = c.index-from.result.now in
     from_all task c.args.assigned.now c.args.run.now c.args.spot from.legs.items c.loop-index.index _ _
     (ap legs_in (departs_at task c.requires.ready c.args.spot from c.requires.spot c.index-from.ensures))
-    (omega arith) c.loop-index.invariant.0
+    (omega (arith, ap (λ (ws : List Leg). length ws) c.as_slice-legs.ensures.value)) c.loop-index.invariant.0

@@ -1,7 +1,8 @@
 -- Each leg by which the run may turn back adds what it leads to.
-use Rattle.std.proofs.Common.{◌≡◌, ◌+◌, Some, length, slice_get, refl, sym, ap, subst, ◌∙◌, arith}
+use Rattle.std.proofs.Common.{◌≡◌, ◌+◌, Some, List, length, get_or, slice_get, refl, sym, ap, subst, ◌∙◌, arith}
 use Rattle.std.proofs.lemmas.Option.{slice_get_read}
 use Rattle.best_run.specs.declared.lookahead.Outlook.{Outlook}
+use Rattle.search_task.specs.declared.task.Leg.{Leg}
 use Rattle.best_run.specs.Ahead.{WidensBackBelow}
 use Rattle.best_run.specs.Last.{HasWorth}
 use Rattle.search_task.specs.Spots.{ends_in}
@@ -26,11 +27,13 @@ look_along-requires-clause-to c =
     let home = c.args.run.now.home in
     let from = c.index-from.result.now in
     let legs = from.legs.items in
-    let leg = c.index-leg.result.now in
+    let leg = c.index-legs-index.result in
+    let whole = c.as_slice-legs.ensures.value in
+    let read = c.index-legs-index.is ∙ ap (λ (ws : List Leg). get_or ws c.loop-index.index leg) whole in
     let are : AreLegsOf task home legs = departs_from task c.requires.ready home from c.requires.home
     c.index-from.ensures c.requires.begun in
     let at : slice_get legs c.loop-index.index ≡ Some leg =
-    slice_get_read legs (length legs) c.loop-index.index leg refl (omega arith) c.index-leg.ensures in
+    slice_get_read legs (length legs) c.loop-index.index leg refl (omega (arith, ap (λ (ws : List Leg). length ws) whole)) read in
     let fits = leg_fits task c.requires.fit home legs are c.requires.begun leg
     (among_place legs c.loop-index.index leg at) in
     fits.0.to
@@ -41,11 +44,13 @@ look_along-requires-clause-stop c =
     let home = c.args.run.now.home in
     let from = c.index-from.result.now in
     let legs = from.legs.items in
-    let leg = c.index-leg.result.now in
+    let leg = c.index-legs-index.result in
+    let whole = c.as_slice-legs.ensures.value in
+    let read = c.index-legs-index.is ∙ ap (λ (ws : List Leg). get_or ws c.loop-index.index leg) whole in
     let are : AreLegsOf task home legs = departs_from task c.requires.ready home from c.requires.home
     c.index-from.ensures c.requires.begun in
     let at : slice_get legs c.loop-index.index ≡ Some leg =
-    slice_get_read legs (length legs) c.loop-index.index leg refl (omega arith) c.index-leg.ensures in
+    slice_get_read legs (length legs) c.loop-index.index leg refl (omega (arith, ap (λ (ws : List Leg). length ws) whole)) read in
     let fits = leg_fits task c.requires.fit home legs are c.requires.begun leg
     (among_place legs c.loop-index.index leg at) in
     fits.1
@@ -57,10 +62,12 @@ loop-index-preserved c =
     let run = c.args.run.now in
     let from = c.index-from.result.now in
     let legs = from.legs.items in
-    let leg = c.index-leg.result.now in
+    let leg = c.index-legs-index.result in
+    let whole = c.as_slice-legs.ensures.value in
+    let read = c.index-legs-index.is ∙ ap (λ (ws : List Leg). get_or ws c.loop-index.index leg) whole in
     let index = c.loop-index.index in
-    let at : slice_get legs index ≡ Some leg = slice_get_read legs (length legs) index leg refl (omega arith)
-    c.index-leg.ensures in
+    let at : slice_get legs index ≡ Some leg = slice_get_read legs (length legs) index leg refl
+    (omega (arith, ap (λ (ws : List Leg). length ws) whole)) read in
     let there : legs_at task run.home ≡ legs = ap legs_in
     (departs_at task c.requires.ready run.home from c.requires.home c.index-from.ensures) in
     let here = ap (λ ws. slice_get ws index) there ∙ at in
@@ -87,8 +94,8 @@ returns-clause-widens c =
     let run = c.args.run.now in
     let from = c.index-from.result.now in
     back_all task c.args.assigned.now run from.legs.items c.loop-index.index _ _
-    (ap legs_in (departs_at task c.requires.ready run.home from c.requires.home c.index-from.ensures)) (omega arith)
-    c.loop-index.invariant.0
+    (ap legs_in (departs_at task c.requires.ready run.home from c.requires.home c.index-from.ensures))
+    (omega (arith, ap (λ (ws : List Leg). length ws) c.as_slice-legs.ensures.value)) c.loop-index.invariant.0
 
 pub returns-then-index-clause-widens : goal.returns-then-index-clause-widens
 returns-then-index-clause-widens c =
