@@ -66,7 +66,7 @@ fn leads_on(
     requires stop { stop_in (node_at task.now segment.now.to) ≡ true }
     ensures { result ≡ leads_on task.now assigned.now run.now outlook.now.ahead segment.now }
 {
-    !outlook.ahead.either_has(&run.visited, segment.to)
+    !outlook.ahead.either_has(&run.visited, &segment.to)
         && run.left > 0
         && segment.borders.misses(&assigned.used)
 }
@@ -100,7 +100,7 @@ fn look_from(
     for index in 0..legs.len() {
         let leg = &legs[index];
         if leads_on(task, assigned, run, &leg.segment, outlook) {
-            look_at(task, assigned, run, leg.segment.to, outlook);
+            look_at(task, assigned, run, leg.segment.to.number(), outlook);
             leads = true;
         }
     }
@@ -151,7 +151,7 @@ pub(crate) fn look_along(
     ensures known { HasWorth task.now assigned.now run.now outlook.new.ahead outlook.new.worth }
 {
     if leads_on(task, assigned, run, segment, outlook) {
-        look_at(task, assigned, run, segment.to, outlook);
+        look_at(task, assigned, run, segment.to.number(), outlook);
     }
 }
 

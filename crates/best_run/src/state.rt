@@ -7,7 +7,7 @@ ghost use Rattle.best_run.specs.Moves.{own_before, passed, with_run_finished, tu
 ghost use Rattle.search_task.specs.Crossed.{marked_all, misses};
 ghost use Rattle.search_task.specs.Spots.{node_at, stop_in};
 
-use search_task::{BORDERS, Borders, Segment, Spots, Task};
+use search_task::{BORDERS, BitPlace, Borders, Segment, Spots, Task};
 use tables::Amount;
 
 /// The trains assigned so far.
@@ -209,11 +209,11 @@ impl PartialRun {
     }
 
     /// Returns whether the run may reach a stop.
-    fn may_come(&self, stop: usize) -> bool
-        requires { stop < 744 }
-        ensures { result ≡ may_come true self.now stop }
+    fn may_come(&self, stop: &BitPlace) -> bool
+        requires { stop.now < 744 }
+        ensures { result ≡ may_come true self.now stop.now }
     {
-        self.left > 0 && !self.visited.has(stop)
+        self.left > 0 && !self.visited.has_at(stop)
     }
 }
 
@@ -235,7 +235,7 @@ pub(crate) fn can_take(
     requires stop { stop_in (node_at task.now segment.now.to) ≡ true }
     ensures { result ≡ can_take task.now run.now assigned.now.used segment.now }
 {
-    run.may_come(segment.to) && segment.borders.misses(&assigned.used)
+    run.may_come(&segment.to) && segment.borders.misses(&assigned.used)
 }
 
 /// Marks a spot after those before it, if the company has a token there.
@@ -295,16 +295,17 @@ pub(crate) fn along(task: &Task, run: &PartialRun, segment: &Segment) -> Partial
     requires room { run.now.value ≤ 50000 }
     ensures { result ≡ along task.now run.now segment.now }
 {
-    let node = &task.spots[segment.to];
+    let to = segment.to.number();
+    let node = &task.spots[to];
     let mut visited = run.visited.copy();
     if node.stop {
-        visited.mark(segment.to);
+        visited.mark(to);
     }
     PartialRun {
         home: run.home,
         first: run.first,
         turned: run.turned,
-        head: segment.to,
+        head: to,
         most: run.most,
         left: left_after(node.stop, run.left),
         value: run.value + node.value,

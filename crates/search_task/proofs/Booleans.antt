@@ -1,5 +1,5 @@
 -- What a test of two tests says of each.
-use Rattle.std.proofs.Common.{◌≡◌, Bool, true, false, ◌&&◌, ◌||◌, refl, sym}
+use Rattle.std.proofs.Common.{◌≡◌, Bool, true, false, ◌&&◌, ◌||◌, not, refl, sym}
 
 pub same_bool : (a b : Bool) → (a ≡ true → b ≡ true) → (b ≡ true → a ≡ true) → a ≡ b
 same_bool true b there back = sym (there refl)
@@ -9,6 +9,14 @@ same_bool false false there back = refl
 pub not_both : (b : Bool) → b ≡ true → b ≡ false → ⊥
 not_both true is none = let wrong : true ≡ false = none in cc
 not_both false is none = let wrong : false ≡ true = is in cc
+
+pub not_self : (b : Bool) → b ≡ true → not b ≡ true → ⊥
+not_self true is none = absurd cc
+not_self false is none = absurd cc
+
+pub not_true : (b : Bool) → (b ≡ true → ⊥) → not b ≡ true
+not_true true none = absurd (none refl)
+not_true false none = refl
 
 pub left_true : (a b : Bool) → a ≡ true → (a || b) ≡ true
 left_true true b is = refl

@@ -3,19 +3,19 @@
 use Rattle.std.proofs.Common.{◌≡◌, ◌↔◌, ℕ, zero, suc, ◌+◌, ◌-◌, ◌*◌, ◌/◌, ◌%◌, ◌^◌, ◌<◌, ◌≤◌, Bool, true, false, ◌||◌}
 use Rattle.std.proofs.Common.{◌⊎◌, inl, inr, List, [], ◌∷◌, length, get_or, set, replicate, refl, sym, ap, subst, ◌∙◌}
 use Rattle.std.proofs.Common.{arith, eq-eqb, eqb, eqb-true, get_or-set_same, get_or-set_other, length-set, w64}
-use Rattle.std.specs.Prelude.{bit_and, bit_or}
+use Rattle.std.specs.Prelude.{bit_and, bit_or, not}
 use Rattle.std.specs.Int.{bit_at, trailing_zeros}
 use Rattle.std.proofs.lemmas.Bool.{cases_eq, cases_lt}
 use Rattle.std.proofs.lemmas.List.{get_or_past}
 use Rattle.std.proofs.lemmas.List.FromFn.{get_or-map-range_with_len, length-map-range_with_len}
-use Rattle.std.proofs.lemmas.Nat.{and_le_l, shr-shr}
+use Rattle.std.proofs.lemmas.Nat.{and_le_l, bit_set_by_shift, pow_below, shr-shr}
 use Rattle.std.proofs.lemmas.Nat.Bits.{bit_at-lt, bit_at-trailing_zeros, bit_at-zero, bit_at_and, bit_at_ones}
 use Rattle.std.proofs.lemmas.Nat.Bits.{bit_at_ones_above, bit_at_or, bit_at_set_other, bit_at_set_same, shr_and_one}
 use Rattle.search_task.specs.Marks.{AreApart, AreBarred, AreBoth, AreOnly, Freer, FillWords, HasNoneFrom, IsMarked}
-use Rattle.search_task.specs.Marks.{bit_of, mark_at, marks_in}
+use Rattle.search_task.specs.Marks.{IsBitOf, bit_of, mark_at, marks_in}
 use Rattle.search_task.proofs.Marked.{mark_more}
 use Rattle.search_task.proofs.Places.{below_next}
-use Rattle.search_task.proofs.Booleans.{left_true, not_both, right_true, same_bool}
+use Rattle.search_task.proofs.Booleans.{left_true, not_both, not_self, not_true, right_true, same_bool}
 
 -- there are as many marks as numbers
 pub length_marks : (count : ℕ) (words : List ℕ) → length (marks_in count words) ≡ count
@@ -78,12 +78,36 @@ either_bit a b i =
       | inr two ↦ omega (arith, eqb-true (bit_at b i) 1 two, bit_at_or a b i, bit_at-lt a i)
     ]))
 
-pub either_is : (words others : List ℕ) (n : ℕ)
+either_is : (words others : List ℕ) (n : ℕ)
     → eqb (bit_and (bit_or (get_or words (n / 64) 0) (get_or others (n / 64) 0) / 2 ^ (n % 64)) 1) 1
     ≡ (mark_at words n || mark_at others n)
 unfolding mark_at
 either_is words others n =
     rw shr_and_one (either_bit (get_or words (n / 64) 0) (get_or others (n / 64) 0) (n % 64))
+
+-- the test of a bit in place
+in_place : (word k : ℕ) → not (eqb (bit_and word (2 ^ k)) 0) ≡ eqb (bit_and (word / 2 ^ k) 1) 1
+in_place word k =
+    same_bool (not (eqb (bit_and word (2 ^ k)) 0)) (eqb (bit_and (word / 2 ^ k) 1) 1)
+    (λ holds. eq-eqb (bit_and (word / 2 ^ k) 1) 1 ((bit_set_by_shift word k).1 (λ none.
+    not_self (eqb (bit_and word (2 ^ k)) 0) (eq-eqb (bit_and word (2 ^ k)) 0 none) holds)))
+    (λ holds. not_true (eqb (bit_and word (2 ^ k)) 0) (λ none.
+    (bit_set_by_shift word k).0 (eqb-true (bit_and (word / 2 ^ k) 1) 1 holds)
+    (eqb-true (bit_and word (2 ^ k)) 0 none)))
+
+pub at_is : (words : List ℕ) (n k bit : ℕ) → k ≡ n / 64 → IsBitOf n bit
+    → not (eqb (bit_and (get_or words k 0) bit) 0) ≡ mark_at words n
+at_is words n k bit at is = rw (at, is) (in_place (get_or words (n / 64) 0) (n % 64) ∙ test_is words n)
+
+pub either_at_is : (words others : List ℕ) (n k bit : ℕ) → k ≡ n / 64 → IsBitOf n bit
+    → not (eqb (bit_and (bit_or (get_or words k 0) (get_or others k 0)) bit) 0) ≡ (mark_at words n || mark_at others n)
+either_at_is words others n k bit at is =
+    rw (at, is)
+    (in_place (bit_or (get_or words (n / 64) 0) (get_or others (n / 64) 0)) (n % 64) ∙ either_is words others n)
+
+-- the word of a number's bit
+pub bit_alone : (n : ℕ) → IsBitOf n (1 * 2 ^ (n % 64) % 2 ^ 64)
+bit_alone n = omega (arith, pow_below (n % 64) 64 (omega arith))
 
 -- two lists with the same marks are the same
 pub same_marks : (marks others : List Bool) → length marks ≡ length others

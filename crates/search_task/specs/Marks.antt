@@ -1,5 +1,5 @@
 -- Marks of borders or spots by their numbers, as bits in words of 64.
-use Rattle.std.specs.Prelude.{◌≡◌, ℕ, ◌+◌, ◌*◌, ◌/◌, ◌%◌, ◌<◌, ◌≤◌, Bool, true, false, ◌==◌, ◌⊎◌, ◌↔◌, Option, None}
+use Rattle.std.specs.Prelude.{◌≡◌, ℕ, ◌+◌, ◌*◌, ◌/◌, ◌%◌, ◌^◌, ◌<◌, ◌≤◌, Bool, true, false, ◌==◌, ◌⊎◌, ◌↔◌, Option, None}
 use Rattle.std.specs.Prelude.{Some, List, length, get_or, map, [], ◌∷◌}
 use Rattle.std.specs.Int.{bit_at}
 use Rattle.std.specs.List.{range_with_len}
@@ -11,6 +11,10 @@ IsMarked marks number = get_or marks number false ≡ true
 -- the bit of a number
 abbrev pub bit_of : List ℕ → ℕ → ℕ
 bit_of words number = bit_at (get_or words (number / 64) 0) (number % 64)
+
+-- a word has the bit of a number, and no other
+abbrev pub IsBitOf : ℕ → ℕ → Type 0
+IsBitOf number word = word ≡ 2 ^ (number % 64)
 
 -- whether the bit of a number is set
 unfoldable pub mark_at : List ℕ → ℕ → Bool

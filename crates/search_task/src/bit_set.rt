@@ -41,6 +41,47 @@ impl<const COUNT: usize, const WORDS: usize> Model for BitSet<COUNT, WORDS> {
     ghost invariant = { λ marks. FillWords COUNT WORDS × HasNoneFrom COUNT marks.words };
 }
 
+/// A number, with the place of the word that marks it, and its bit there. In a contract it is the
+/// number.
+#[derive(Drop)]
+pub struct BitPlace {
+    number: usize,
+    word: usize,
+    bit: u64,
+}
+
+impl Model for BitPlace {
+    ghost use Rattle.std.specs.Prelude.{◌≡◌, ◌/◌, ℕ};
+
+    ghost Value = { ℕ };
+
+    ghost use Rattle.search_task.specs.Marks.{IsBitOf};
+
+    ghost view = { λ place. place.number };
+
+    ghost invariant = { λ place. (place.word ≡ place.number / 64) × IsBitOf place.number place.bit };
+}
+
+impl BitPlace {
+    /// Returns a number, with its bit.
+    pub(crate) fn of(number: usize) -> BitPlace
+        ensures { result ≡ number }
+    {
+        BitPlace {
+            number,
+            word: number / BITS,
+            bit: 1 << (number % BITS),
+        }
+    }
+
+    /// Returns the number.
+    pub fn number(&self) -> usize
+        ensures { result ≡ self.now }
+    {
+        self.number
+    }
+}
+
 /// Returns the bits of a word that another does not have.
 fn without(word: u64, other: u64) -> u64
     ensures { (bit : ℕ) → bit < 64 → bit_at result bit ≡ bit_at word bit - bit_at other bit }
@@ -104,13 +145,21 @@ impl<const COUNT: usize, const WORDS: usize> BitSet<COUNT, WORDS> {
         self.words[number / BITS] >> (number % BITS) & 1 == 1
     }
 
-    /// Returns whether a number is marked here or in another.
-    pub fn either_has(&self, other: &Self, number: usize) -> bool
-        requires { number < COUNT }
-        ensures { result ≡ get_or self.now number false || get_or other.now number false }
+    /// Returns whether a number is marked, given with its bit.
+    pub fn has_at(&self, place: &BitPlace) -> bool
+        requires { place.now < COUNT }
+        ensures { result ≡ get_or self.now place.now false }
     {
-        let word = self.words[number / BITS] | other.words[number / BITS];
-        word >> (number % BITS) & 1 == 1
+        self.words[place.word] & place.bit != 0
+    }
+
+    /// Returns whether a number is marked here or in another, given with its bit.
+    pub fn either_has(&self, other: &Self, place: &BitPlace) -> bool
+        requires { place.now < COUNT }
+        ensures { result ≡ get_or self.now place.now false || get_or other.now place.now false }
+    {
+        let word = self.words[place.word] | other.words[place.word];
+        word & place.bit != 0
     }
 
     /// Returns whether no number is marked in both.

@@ -1,5 +1,6 @@
 ghost use Rattle.std.specs.Prelude.{◌≡◌};
 
+use crate::bit_set::BitPlace;
 use crate::crossing::Crossing;
 use crate::segments::Segments;
 use crate::steps::Steps;
@@ -11,7 +12,7 @@ use tables::Amount;
 #[derive(Drop)]
 pub struct Segment {
     /// The spot to which it leads, by its number.
-    pub to: usize,
+    pub to: BitPlace,
     /// The step that it is; the last one of a leg.
     pub step: WalkStep,
     /// The borders that it crosses, by their numbers.

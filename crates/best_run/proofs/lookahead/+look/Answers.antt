@@ -1,13 +1,13 @@
 -- Each leg adds what it leads to, and together they are all legs of the stop.
-use Rattle.std.proofs.Common.{◌≡◌, ◌+◌, ◌<◌, Bool, true, Some, List, length, get_or, set, slice_get, refl, sym, ap, subst, ◌∙◌}
+use Rattle.std.proofs.Common.{◌≡◌, ℕ, ◌+◌, ◌<◌, Bool, true, false, Some, List, length, get_or, set, slice_get, refl, sym, ap, subst, ◌∙◌}
 use Rattle.std.proofs.Common.{arith}
 use Rattle.std.proofs.lemmas.Option.{slice_get_read}
 use Rattle.best_run.specs.declared.lookahead.Outlook.{Outlook}
 use Rattle.search_task.specs.declared.task.Leg.{Leg}
-use Rattle.best_run.specs.Ahead.{WidensBelow, WidensFrom}
+use Rattle.best_run.specs.Ahead.{WidensAt, WidensBelow, WidensFrom}
 use Rattle.search_task.specs.Fit.{unused}
 use Rattle.best_run.specs.Last.{CountsAsPassed, HasWorth}
-use Rattle.search_task.specs.Spots.{ends_in}
+use Rattle.search_task.specs.Spots.{ends_in, node_at, stop_in}
 use Rattle.search_task.specs.Legs.{AreLegsOf, legs_at, legs_in}
 use Rattle.best_run.proofs.Ahead.{along_not, along_at, below_more, below_none, from_all, from_end, leads_free, at_from}
 use Rattle.best_run.proofs.Along.{leg_fits}
@@ -116,8 +116,25 @@ look_from-look_at-requires t c =
     let fits = leg_fits task c.requires.fit c.args.spot legs are c.requires.stop leg
     (among_place legs c.loop-index.index leg at) in
     let fewer = c.loop-index.invariant.0.widens.fewer in
-    let free = leads_free _ _ (sym c.leads_on.ensures ∙ c.if-leads_on.true) in
-    (omega arith, (c.requires.fit, (c.requires.ready, (fits.0.to, (fits.1, (free, c.loop-index.invariant.1.0))))))
+    let ahead = c.loop-index.outlook.ahead in
+    let same : leg.segment.to ≡ c.number.result = sym c.number.ensures in
+    let free : get_or ahead leg.segment.to false ≡ false =
+    leads_free _ _ (sym c.leads_on.ensures ∙ c.if-leads_on.true) in (
+      omega arith,
+      (
+        c.requires.fit,
+        (
+          c.requires.ready,
+          (
+            subst (λ (to : ℕ). to < 744) same fits.0.to,
+            (
+              subst (λ (to : ℕ). stop_in (node_at task to) ≡ true) same fits.1,
+              (subst (λ (to : ℕ). get_or ahead to false ≡ false) same free, c.loop-index.invariant.1.0),
+            ),
+          ),
+        ),
+      ),
+    )
 
 pub look_from-loop-index-preserved : goal.look_from-loop-index-preserved
 look_from-loop-index-preserved t c =
@@ -141,7 +158,9 @@ look_from-loop-index-preserved t c =
       | look_from-then-leads_on w ↦
           let both = subst Looked (sym w.outlook-is) (
             below_more task assigned run c.args.spot index leg _ _ _ here c.loop-index.invariant.0
-                (along_at task assigned run leg.segment _ _ w.look_at.ensures.widens),
+                (along_at task assigned run leg.segment _ _
+                (subst (λ (to : ℕ). WidensAt task assigned run to c.loop-index.outlook.ahead w.look_at.new.outlook.ahead)
+                w.number.ensures w.look_at.ensures.widens)),
             w.look_at.ensures.known,
           ) in (both.0, (both.1, λ none. absurd (not_both _ w.leads-is none)))
       | look_from-else-leads_on w ↦

@@ -1,0 +1,7 @@
+-- The bit is alone in its word.
+use Rattle.std.proofs.Common.{refl}
+use Rattle.search_task.proofs.Words.{bit_alone}
+use Rattle.search_task.proofs.bit_set.BitPlace.of.Goals as goal
+
+pub invariant_of-result : goal.invariant_of-result
+invariant_of-result c = (refl, bit_alone c.args.number)
