@@ -81,6 +81,7 @@ fn hold(task: &Task, assigned: &Assigned, stop: usize, reach: &mut Outlook)
 
 /// Returns what is in reach of a run that sets out from a stop: the stop, and those to which it may
 /// come. Of a run that may visit this many stops, it is known what they are worth.
+#[inline(always)]
 fn reach_of(task: &Task, assigned: &Assigned, stop: usize, left: usize) -> Outlook
     requires fit { IsFit task.now }
     requires ready { AreReady task.now }

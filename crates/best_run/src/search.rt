@@ -258,8 +258,10 @@ fn extend(task: &Task, assigned: &Assigned, run: &PartialRun, bounds: &[Amount],
     }
 }
 
-/// Tries all ways to the end from a run that has begun, unless that was done before.
+/// Tries all ways to the end from a run that has begun, unless that was done before. It is kept out
+/// of line, so that the way without it stays short.
 #[cycle(explore)]
+#[inline(never)]
 fn extend_with_memo(
     task: &Task,
     assigned: &Assigned,
@@ -282,6 +284,7 @@ fn extend_with_memo(
 /// Tries all ways to the end from a run that has begun. Longer runs come first, since they earn
 /// more.
 #[cycle(explore)]
+#[inline(always)]
 fn extend_without_memo(
     task: &Task,
     assigned: &Assigned,
