@@ -9,11 +9,12 @@ use Rattle.map_tables.specs.declared.side.Side.TheVariants.{East, NorthEast, Nor
 use Rattle.map_tables.specs.declared.track.Link.{Link}
 use Rattle.map_tables.specs.declared.track.TrackEnd.{TrackEnd}
 use Rattle.map_tables.specs.declared.track.TrackEnd.TheVariants.{Side as AtSide, Stop as AtStop}
+use Rattle.reach.specs.HeldSpots.{end_at}
 use Rattle.reach.specs.Walk.{entered_at, left_at, spot_at}
 use Rattle.reach.specs.declared.walk.Spot.{Spot}
 use Rattle.reach.specs.declared.walk.WalkStep.{WalkStep}
 use Rattle.legal_runs.specs.Legal.{listed}
-use Rattle.certificate.specs.LinkEnds.{end_at, ends_of, place_left, way_into}
+use Rattle.certificate.specs.LinkEnds.{ends_of, place_left, way_into}
 use Rattle.certificate.specs.Tree.{steps_by}
 use Rattle.certificate.specs.declared.link_ends.LinkEnds.{LinkEnds}
 use Rattle.certificate.proofs.Going.{default_link}

@@ -1,11 +1,8 @@
 -- The ends of the links of a hex, as they are kept for a walk over the choice tree.
-use Rattle.std.specs.Prelude.{ℕ, zero, suc, ◌==◌, true, false, if◌then◌else◌, Option, Some, None, List, take}
+use Rattle.std.specs.Prelude.{ℕ, ◌==◌, true, false, if◌then◌else◌, Option, Some, None, List, take}
 use Rattle.map_tables.specs.Track.{end_order}
-use Rattle.map_tables.specs.declared.place.StopNumber.TheVariants.{First, Second}
-use Rattle.map_tables.specs.declared.side.Side.TheVariants.{East, NorthEast, NorthWest, SouthEast, SouthWest, West}
 use Rattle.map_tables.specs.declared.track.Link.{Link}
 use Rattle.map_tables.specs.declared.track.TrackEnd.{TrackEnd}
-use Rattle.map_tables.specs.declared.track.TrackEnd.TheVariants.{Side as AtSide, Stop as AtStop}
 use Rattle.reach.specs.Walk.{left_at}
 use Rattle.reach.specs.declared.walk.WalkStep.{WalkStep}
 use Rattle.certificate.specs.declared.link_ends.HexEnds.{HexEnds}
@@ -14,17 +11,6 @@ use Rattle.certificate.specs.declared.link_ends.LinkEnds.{LinkEnds}
 -- the ends of a link, by their places in the order of the ends of a hex
 abbrev pub ends_of : Link → LinkEnds
 ends_of link = record { a = end_order link.a; b = end_order link.b }
-
--- the end at a place in that order; the last for a greater number
-abbrev pub end_at : ℕ → TrackEnd
-end_at zero = AtSide SouthWest
-end_at (suc zero) = AtSide West
-end_at (suc (suc zero)) = AtSide NorthWest
-end_at (suc (suc (suc zero))) = AtSide NorthEast
-end_at (suc (suc (suc (suc zero)))) = AtSide East
-end_at (suc (suc (suc (suc (suc zero))))) = AtSide SouthEast
-end_at (suc (suc (suc (suc (suc (suc zero)))))) = AtStop First
-end_at (suc (suc (suc (suc (suc (suc (suc more))))))) = AtStop Second
 
 -- the step into a link at one of its ends, if it is one
 abbrev pub way_into : TrackEnd → Link → Option WalkStep

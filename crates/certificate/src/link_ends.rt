@@ -2,9 +2,9 @@
 ghost use Rattle.std.specs.Prelude.{◌≡◌, ◌+◌, ◌++◌, ◌∷◌, ◌<◌, [], map};
 ghost use Rattle.map_tables.specs.Track.{end_order};
 ghost use Rattle.map_tables.specs.declared.track.Link.{Link};
-ghost use Rattle.certificate.specs.LinkEnds.{end_at, ends_of, held};
+ghost use Rattle.certificate.specs.LinkEnds.{ends_of, held};
 
-use map_tables::{LINKS_MOST, Link, Links, Side, StopNumber, TrackEnd};
+use map_tables::{LINKS_MOST, Link, Links, TrackEnd};
 
 /// The ends of a link in a hex, by their places in the order of the ends of a hex.
 #[derive(Clone, Copy)]
@@ -29,29 +29,7 @@ impl LinkEnds {
 pub(crate) fn order(end: TrackEnd) -> u8
     ensures { result ≡ end_order end }
 {
-    match end {
-        TrackEnd::Side(side) => side.number() as u8,
-        TrackEnd::Stop(StopNumber::First) => 6,
-        TrackEnd::Stop(StopNumber::Second) => 7,
-    }
-}
-
-/// Returns the end at a place in that order; the last for a greater number.
-pub(crate) fn end_at(place: u8) -> TrackEnd
-    ensures { result ≡ end_at place }
-{
-    if place > 6 {
-        return TrackEnd::Stop(StopNumber::Second);
-    }
-    match place {
-        0 => TrackEnd::Side(Side::SouthWest),
-        1 => TrackEnd::Side(Side::West),
-        2 => TrackEnd::Side(Side::NorthWest),
-        3 => TrackEnd::Side(Side::NorthEast),
-        4 => TrackEnd::Side(Side::East),
-        5 => TrackEnd::Side(Side::SouthEast),
-        _ => TrackEnd::Stop(StopNumber::First),
-    }
+    end.order() as u8
 }
 
 /// The ends of the links of a hex, in order: the first of these, this many.

@@ -24,11 +24,11 @@ ghost use Rattle.certificate.specs.Walking.{IsBetweenRuns, WalksOver, may_take, 
 ghost use Rattle.certificate.specs.Walking.{trains_of_tree};
 
 use crate::decider::{Decider, Decision};
-use crate::link_ends::{LinkEnds, end_at, order};
+use crate::link_ends::{LinkEnds, order};
 use crate::tree::Tree;
 use legal_runs::{Used, border_to};
 use map_tables::{Hex, Stop, TrackEnd};
-use reach::{Network, Spot, StopMarks, twin};
+use reach::{Network, Spot, StopMarks, end_at, twin};
 use tables::Kind;
 
 /// A run that is begun, and the trains after it.

@@ -35,4 +35,5 @@ pub use search::twin;
 pub use stop_marks::StopMarks;
 pub use stop_numbers::{SPOTS, STOPS, spot_number, stop_order};
 pub use stops::{ReachedStops, reached_stops};
+pub use waiting::end_at;
 pub use walk::{Spot, WalkStep};

@@ -1,6 +1,5 @@
 //! The spots that a search is still to look at, in few bytes.
 ghost use Rattle.std.specs.Prelude.{◌≡◌, ◌+◌, ◌<◌, ◌++◌, ◌∷◌, [], MatchOption, length};
-ghost use Rattle.map_tables.specs.Track.{end_order};
 ghost use Rattle.reach.specs.HeldSpots.{end_at, held_spot};
 
 use crate::stop_numbers::SPOTS;
@@ -26,7 +25,7 @@ impl HeldSpot {
     {
         HeldSpot {
             hex: spot.hex,
-            end: order(spot.end),
+            end: spot.end.order() as u8,
         }
     }
 
@@ -41,19 +40,8 @@ impl HeldSpot {
     }
 }
 
-/// Returns the place of an end in the order of the ends of a hex.
-fn order(end: TrackEnd) -> u8
-    ensures { result ≡ end_order end }
-{
-    match end {
-        TrackEnd::Side(side) => side.number() as u8,
-        TrackEnd::Stop(StopNumber::First) => 6,
-        TrackEnd::Stop(StopNumber::Second) => 7,
-    }
-}
-
-/// Returns the end at a place in that order; the last for a greater number.
-fn end_at(place: u8) -> TrackEnd
+/// Returns the end at a place in the order of the ends of a hex; the last for a greater number.
+pub fn end_at(place: u8) -> TrackEnd
     ensures { result ≡ end_at place }
 {
     if place > 6 {
