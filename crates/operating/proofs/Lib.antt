@@ -40,4 +40,4 @@ pub mod Bankruptcies
 pub mod ForcedTrains
 pub mod NoRuns
 pub mod BestEarnings
-pub mod CallsAnswered
+pub mod EachCall

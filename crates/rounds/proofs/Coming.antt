@@ -1,10 +1,11 @@
 -- What holds of the round that comes next, if one does.
-use Rattle.std.proofs.Common.{◌≡◌, ℕ, ◌+◌, Bool, true, false, nat_lt, if◌then◌else◌, List, refl, sym, ap, subst, ◌∙◌}
+use Rattle.std.proofs.Common.{◌≡◌, ℕ, zero, suc, ◌+◌, Bool, true, false, nat_lt, if◌then◌else◌}
+use Rattle.std.proofs.Common.{List, refl, sym, ap, subst, ◌∙◌, arith}
 use Rattle.std.specs.Prelude.{⊤}
 use Rattle.events.specs.declared.event.Event.{Event}
 use Rattle.totals.specs.LookBack.{bankrupt_in, broken_in}
 use Rattle.privates.specs.Turn.{all_sold}
-use Rattle.rounds.specs.Play.{Between, IsRound, coming, in_set_before}
+use Rattle.rounds.specs.Play.{Between, IsRound, coming, in_set_before, AreRounds}
 use Rattle.rounds.specs.Sequence.{BankAloneEndsIt, following}
 use Rattle.rounds.specs.declared.following.Next.{Next}
 use Rattle.rounds.specs.declared.following.Next.TheVariants as next
@@ -39,6 +40,13 @@ after_operating P set number in_set all_sold broken goes_on ends =
     ]
     refl
 
+-- what holds after each round, if it did before it, holds after all
+pub through : (file : List ℕ) (P : Between → Type 0) → ((old new : Between) → P old → IsRound file old new → P new)
+    → (rounds : ℕ) (old new : Between) → AreRounds file rounds old new → P old → P new
+through file P each zero old new played holds = subst P played holds
+through file P each (suc rounds) old new played holds =
+    each played.0 new (through file P each rounds old played.0 played.1 holds) played.2
+
 -- two rounds that come next are the same
 pub comes_once : (a b : Round) → next.Round a ≡ next.Round b → a ≡ b
 comes_once a b same = cc
@@ -61,8 +69,7 @@ no_round round same = cc
 -- a round that comes is the one that the sequence says
 in_sequence : (bankrupt : Bool) (says : Next) (later : Round)
     → (if bankrupt then next.Ended else says) ≡ next.Round later → says ≡ next.Round later
-in_sequence true says later comes = absurd (no_round later comes)
-in_sequence false says later comes = comes
+in_sequence bankrupt says later comes = grind arith
 
 -- so is one that comes after a round
 pub comes_in_sequence : (round later : Round) (in_set : ℕ) (events : List Event)

@@ -1,28 +1,160 @@
--- The turns of the companies in an operating round: they lead to one end, which comes after at most
--- eight, and no company takes two.
-use Rattle.std.proofs.Common.{◌≡◌, ℕ, zero, suc, ◌+◌, ◌<◌, ◌≤◌, Bool, true, false, ◌||◌, if◌then◌else◌, List, [], ◌∷◌}
-use Rattle.std.proofs.Common.{◌++◌, length, Option, Some, None, is_some, refl, sym, ap, subst, ◌∙◌, arith}
-use Rattle.std.proofs.Math.Bool.{or-false, or-true}
+-- The turns of the companies in an operating round. Each leaves one company fewer that has not
+-- operated: so they lead to one end, which comes after at most eight, and no company takes two. With
+-- what comes before and after them they are a whole operating round.
+use Rattle.std.proofs.Common.{◌≡◌, ℕ, ◌+◌, ◌<◌, ◌≤◌, Bool, true, false, ◌||◌, not, if◌then◌else◌}
+use Rattle.std.proofs.Common.{List, [], ◌∷◌, length, Option, Some, None, refl, sym, ap, ◌∙◌, arith}
+use Rattle.std.proofs.Common.{zero, suc, ◌++◌, is_some, subst, ◌-◌, ◌==◌, append_assoc}
+use Rattle.std.proofs.lemmas.Bool.Decides.{nat_tests}
+use Rattle.std.specs.Prelude.{find}
+use Rattle.events.specs.declared.event.Event.{Event}
+use Rattle.totals.proofs.Choices.{same_company_is}
+use Rattle.totals.specs.LookBack.{bankrupt_in, Game, in_round, with_event}
+use Rattle.totals.specs.Operating.{has_operated, turn_said, rulings_in_round}
+use Rattle.market.specs.OperatingOrder.{IsOperatingOrder, operates, operating_order_of, times}
+use Rattle.rounds.specs.OperatingRound.{first_idle, next_company, CompaniesOperateOnce, EndsSoon}
+use Rattle.rounds.specs.OperatingRound.{OneOperatingRound, TakeTurns, TakesTurn, TurnsLead}
+use Rattle.rounds.specs.OperatingRound.{finished, opened, IsOperatingRound, left_events, lines_left}
+use Rattle.tables.specs.Roster.{companies, same_company}
+use Rattle.tables.specs.declared.roster.Company.{Company}
 use Rattle.std.specs.Option.{option_map}
 use Rattle.events.specs.Event.{operated_by}
-use Rattle.events.specs.declared.event.Event.{Event}
 use Rattle.events.specs.declared.event.Event.TheVariants as event
-use Rattle.totals.proofs.Choices.{same_company_is}
 use Rattle.totals.proofs.EventAtEnd.{now_said_before, now_said_here}
-use Rattle.totals.specs.LookBack.{Game, in_round}
-use Rattle.totals.specs.Operating.{has_operated, turn_said}
-use Rattle.market.specs.OperatingOrder.{IsOperatingOrder, operating_order_of, times}
 use Rattle.operating.specs.Laws.{CompanyOperates, CompanyTurnEnds, OneCompanyTurn}
 use Rattle.operating.specs.Turn.{IsCompanyTurn}
 use Rattle.rounds.proofs.Growing.{Grows}
-use Rattle.rounds.proofs.Idle.{all_have_operated, fewer_idle, idle_few, idle_of, next_is_idle}
 use Rattle.rounds.proofs.OperatingGrows.{opened_grows}
 use Rattle.rounds.proofs.RoundSteps.{SaysNothing, of_growing}
-use Rattle.rounds.specs.OperatingRound.{CompaniesOperateOnce, EndsSoon, OneOperatingRound, TakeTurns, TakesTurn}
-use Rattle.rounds.specs.OperatingRound.{TurnsLead, finished, next_company, opened}
-use Rattle.tables.specs.Roster.{same_company}
-use Rattle.tables.specs.declared.roster.Company.{Company}
 use Rattle.tables.specs.declared.round.Round.{Round}
+use Rattle.std.proofs.lemmas.List.{append-nil}
+use Rattle.std.specs.List.{range_with_len}
+use Rattle.history.proofs.Recording.{left_first}
+use Rattle.totals.specs.AtEnd.{RulingsAreCounted}
+use Rattle.history.specs.Record.{revenues_recorded, with_left}
+use Rattle.purchases.specs.Standing.{after_standing}
+use Rattle.sheets.specs.File.{players_of}
+use Rattle.sheets.specs.Part.{lines_in, parts_for}
+use Rattle.tables.specs.Seat.{seat_at}
+use Rattle.tables.specs.declared.seat.Seat.{Seat}
+
+-- a company is itself, and two are the same either way
+pub same_self : (company : Company) → same_company company company ≡ true
+same_self company = grind (arith, nat_tests)
+
+same_either_way : (a b : Company) → same_company a b ≡ same_company b a
+same_either_way a b = grind (arith, nat_tests)
+
+-- each company is in the roster
+in_roster : (company : Company) → times company companies ≡ 1
+in_roster company = grind (arith, nat_tests)
+
+-- how many of some companies have not operated
+abbrev pub idle_in : (Company → Bool) → List Company → ℕ
+idle_in operated [] = 0
+idle_in operated (company ∷ others) = (if operated company then 0 else 1) + idle_in operated others
+
+-- how many companies have not operated in the round
+unfoldable pub idle_of : List Event → ℕ
+idle_of events = idle_in (has_operated events) companies
+
+-- who has operated once a company has
+abbrev pub OperatedToo : Company → (Company → Bool) → (Company → Bool) → Type 0
+OperatedToo company before after = (other : Company) → after other ≡ (before other || same_company company other)
+
+-- one that operates now is idle no more, and others are as before
+one_counted : (after before same : Bool) → after ≡ (before || same) → (same ≡ true → before ≡ false) →
+    ◌≡◌ {A = ℕ} ((if after then 0 else 1) + (if same then 1 else 0)) (if before then 0 else 1)
+one_counted after before same is idle = grind arith
+
+module _ (company : Company) (before after : Company → Bool) (too : OperatedToo company before after)
+    (idle : before company ≡ false) where
+  -- so as many fewer are idle as it is among them
+  fewer_idle_in : (them : List Company) → idle_in after them + times company them ≡ idle_in before them
+  fewer_idle_in [] = refl
+  fewer_idle_in (other ∷ others) =
+      let one = one_counted (after other) (before other) (same_company other company)
+      (too other ∙ ap (λ (b : Bool). before other || b) (same_either_way company other))
+      (λ same. ap before (same_company_is other company same) ∙ idle) in
+      omega (arith, one, fewer_idle_in others)
+
+-- a company that had not operated leaves fewer idle
+pub fewer_idle : (company : Company) (old new : List Event)
+    → OperatedToo company (has_operated old) (has_operated new) → has_operated old company ≡ false
+    → idle_of new < idle_of old
+unfolding idle_of
+fewer_idle company old new too idle =
+    omega (arith, in_roster company, fewer_idle_in company (has_operated old) (has_operated new) too idle companies)
+
+-- no more are idle than there are
+idle_in_few : (operated : Company → Bool) (them : List Company) → idle_in operated them ≤ length them
+idle_in_few operated [] = omega arith
+idle_in_few operated (company ∷ others) = grind (arith, idle_in_few operated others)
+
+-- there are eight
+pub idle_few : (events : List Event) → idle_of events ≤ 8
+unfolding idle_of
+idle_few events = idle_in_few (has_operated events) companies
+
+-- what is found passes the test, and is in the list
+found_passes : (test : Company → Bool) (them : List Company) (company : Company) → find test them ≡ Some company
+    → (test company ≡ true) × (1 ≤ times company them)
+found_passes test [] company found = absurd (cc)
+found_passes test (first ∷ others) company found =
+    grind (arith, found_passes test others company, same_self first)
+
+-- where nothing is found, all in the list fail
+none_passes : (test : Company → Bool) (them : List Company) (company : Company) → find test them ≡ None
+    → 1 ≤ times company them → test company ≡ false
+none_passes test [] company none is_among = absurd (omega arith)
+none_passes test (first ∷ others) company none is_among =
+    grind (arith, none_passes test others company, same_company_is first company)
+
+-- a test that is passed by what is not so
+not_so : (b : Bool) → not b ≡ true → b ≡ false
+not_so b passes = grind arith
+
+-- and one that is failed by what is so
+is_so : (b : Bool) → not b ≡ false → b ≡ true
+is_so b fails = grind arith
+
+-- there are some only of what operates
+some_operate : (b : Bool) → 1 ≤ (if b then 1 else 0) → b ≡ true
+some_operate b some = grind arith
+
+-- a company that is the next is the first that is idle
+next_is_first : (bankrupt : Bool) (first : Option Company) (company : Company)
+    → (if bankrupt then None else first) ≡ Some company → first ≡ Some company
+next_is_first bankrupt first company found = grind arith
+
+-- where there is no next and nobody is bankrupt, none is idle
+none_is_first : (bankrupt : Bool) (first : Option Company) → bankrupt ≡ false
+    → (if bankrupt then None else first) ≡ None → first ≡ None
+none_is_first bankrupt first solvent none = grind arith
+
+-- the next company operates, and has not done so in the round
+pub next_is_idle : ((events : List Event) → IsOperatingOrder events (operating_order_of events))
+    → (events : List Event) (company : Company) → next_company events ≡ Some company
+    → (operates events company ≡ true) × (has_operated events company ≡ false)
+next_is_idle ordered events company found =
+    let first : first_idle events ≡ Some company =
+    next_is_first (bankrupt_in events) (first_idle events) company found in
+    let there = found_passes (λ company. not (has_operated events company)) (operating_order_of events) company first in
+    let count = (ordered events).each_once company in (
+      some_operate (operates events company) (omega (arith, there.1, count)),
+      not_so (has_operated events company)
+          there.0,
+    )
+
+-- where there is no next and nobody is bankrupt, each company that operates has done so
+pub all_have_operated : ((events : List Event) → IsOperatingOrder events (operating_order_of events))
+    → (events : List Event) (company : Company) → bankrupt_in events ≡ false → next_company events ≡ None
+    → operates events company ≡ true → has_operated events company ≡ true
+all_have_operated ordered events company solvent none operating =
+    let idle : first_idle events ≡ None = none_is_first (bankrupt_in events) (first_idle events) solvent none in
+    let count : times company (operating_order_of events) ≡ 1 =
+    (ordered events).each_once company ∙ ap (λ (b : Bool). if b then 1 else 0) operating in
+    is_so (has_operated events company) (none_passes (λ company. not (has_operated events company))
+    (operating_order_of events) company idle (omega (arith, count)))
 
 -- the order of companies is one
 abbrev AreOrdered : Type 0
@@ -30,13 +162,11 @@ AreOrdered = (events : List Event) → IsOperatingOrder events (operating_order_
 
 -- two companies that are the next are the same
 pub next_once : (found : Option Company) (a b : Company) → found ≡ Some a → found ≡ Some b → a ≡ b
-next_once None a b first second = cc
-next_once (Some company) a b first second = cc
+next_once found a b first second = cc
 
 -- none is the next, and some is: not both
 pub not_both : (found : Option Company) (company : Company) → found ≡ None → found ≡ Some company → ⊥
-not_both None company none some = cc
-not_both (Some other) company none some = cc
+not_both found company none some = cc
 
 module _ (once : OneCompanyTurn) (file : List ℕ) (round : Round) where
   -- the turns lead to one end
@@ -79,6 +209,15 @@ one_more_turn file round [] company old mid new turns turn =
     (new, subst (λ (game : Game). TakesTurn file round company game new) (sym turns) turn, refl)
 one_more_turn file round (first ∷ others) company old mid new turns turn =
     (turns.0, turns.1, one_more_turn file round others company turns.0 mid new turns.2 turn)
+
+-- one if it is so
+abbrev count_of : Bool → ℕ
+count_of b = if b then 1 else 0
+
+-- one that operates now has not before, and others are as before
+one_taken : (after before same : Bool) → after ≡ (before || same) → (same ≡ true → before ≡ false) →
+    ◌≡◌ {A = ℕ} ((if same then 1 else 0) + (if before then 1 else 0)) (if after then 1 else 0)
+one_taken after before same is idle = grind arith
 
 module _ (operates_too : CompanyOperates) (ordered : AreOrdered) (file : List ℕ) (round : Round) where
   -- a turn leaves fewer idle
@@ -129,38 +268,14 @@ module _ (operates_too : CompanyOperates) (ordered : AreOrdered) (file : List �
       times company companies + (if has_operated old.events company then 1 else 0)
       ≡ (if has_operated new.events company then 1 else 0)
   turns_taken [] old new company turns =
-      let same : ◌≡◌ {A = ℕ} (if has_operated old.events company then 1 else 0)
-      (if has_operated new.events company then 1 else 0) =
-      ap (λ (game : Game). if has_operated game.events company then 1 else 0) turns in
+      let same = ap (λ (game : Game). count_of (has_operated game.events company)) turns in
       omega (arith, same)
   turns_taken (first ∷ others) old new company turns =
-      let rest = turns_taken others turns.0 new company turns.2 in
-      let too = operates_too file round first old turns.0 turns.1.turn company in
-      elim (same_company first company) as (λ (b : Bool). same_company first company ≡ b
-      → times company (first ∷ others) + (if has_operated old.events company then 1 else 0)
-      ≡ (if has_operated new.events company then 1 else 0)) [
-        | true ↦ λ same.
-            let idle : has_operated old.events company ≡ false =
-            ap (has_operated old.events) (sym (same_company_is first company same))
-            ∙ (next_is_idle ordered old.events first turns.1.is_next).1 in
-            let before : ◌≡◌ {A = ℕ} (if has_operated old.events company then 1 else 0) 0 =
-            ap (λ (b : Bool). if b then 1 else 0) idle in
-            let now : ◌≡◌ {A = ℕ} (if has_operated turns.0.events company then 1 else 0) 1 =
-            ap (λ (b : Bool). if b then 1 else 0) (too ∙ ap (λ (b : Bool). has_operated old.events company || b)
-            same ∙ or-true (has_operated old.events company)) in
-            let count : times company (first ∷ others) ≡ 1 + times company others =
-            ap (λ (b : Bool). (if b then 1 else 0) + times company others) same in
-            omega (arith, rest, before, now, count)
-        | false ↦ λ apart.
-            let now : ◌≡◌ {A = ℕ} (if has_operated turns.0.events company then 1 else 0)
-            (if has_operated old.events company then 1 else 0) =
-            ap (λ (b : Bool). if b then 1 else 0) (too ∙ ap (λ (b : Bool). has_operated old.events company || b)
-            apart ∙ or-false (has_operated old.events company)) in
-            let count : times company (first ∷ others) ≡ 0 + times company others =
-            ap (λ (b : Bool). (if b then 1 else 0) + times company others) apart in
-            omega (arith, rest, now, count)
-      ]
-      refl
+      let one = one_taken (has_operated turns.0.events company) (has_operated old.events company)
+      (same_company first company) (operates_too file round first old turns.0 turns.1.turn company)
+      (λ same. ap (has_operated old.events) (sym (same_company_is first company same))
+      ∙ (next_is_idle ordered old.events first turns.1.is_next).1) in
+      omega (arith, one, turns_taken others turns.0 new company turns.2)
 
 -- a list and a longer one say alike whether a company has operated
 abbrev OperatedAlike : Company → List Event → List Event → Type 0
@@ -203,9 +318,8 @@ operating_ends operates_too ends ordered file round old =
     }
 
 -- a count by a test is one at most
-at_most_one : (b : Bool) (count : ℕ) → count + 0 ≡ (if b then 1 else 0) → count ≤ 1
-at_most_one true count is = omega arith
-at_most_one false count is = omega arith
+at_most_one : (b : Bool) (count : ℕ) → count ≡ (if b then 1 else 0) → count ≤ 1
+at_most_one b count is = grind arith
 
 -- in an operating round companies operate once each
 pub operate_once : CompanyOperates → AreOrdered → CompaniesOperateOnce
@@ -213,12 +327,9 @@ operate_once operates_too ordered file round old new played =
     let start : Game = opened file round old in
     let companies : List Company = played.turns.companies in
     let turned : Game = played.turned in
-    let count : (company : Company) → times company companies + 0
-    ≡ (if has_operated turned.events company then 1 else 0) =
+    let count : (company : Company) → times company companies ≡ (if has_operated turned.events company then 1 else 0) =
     λ company.
-    let none : ◌≡◌ {A = ℕ} (if has_operated start.events company then 1 else 0) 0 =
-    ap (λ (b : Bool). if b then 1 else 0) (no_one_yet old.events start.events round company
-    (opened_grows file round old)) in
+    let none = ap count_of (no_one_yet old.events start.events round company (opened_grows file round old)) in
     omega (arith, none, turns_taken operates_too ordered file round companies start turned company played.turns.turns)
     in
     record {
@@ -231,8 +342,74 @@ operate_once operates_too ordered file round old new played =
       no_second = λ company. at_most_one (has_operated turned.events company) (times company companies) (count company);
       no_one_missed =
           λ solvent company operating.
-          let all : ◌≡◌ {A = ℕ} (if has_operated turned.events company then 1 else 0) 1 =
-          ap (λ (b : Bool). if b then 1 else 0) (all_have_operated ordered turned.events company solvent
-          played.turns.over_then operating) in
-          omega (arith, all, count company);
+          count company ∙ ap count_of (all_have_operated ordered turned.events company solvent played.turns.over_then
+          operating);
     }
+
+-- two games are the same if their parts are
+same_game : (a b : Game) → a.seats ≡ b.seats → a.events ≡ b.events → a ≡ b
+same_game a b seats events = λ i. record { seats = seats i; events = events i }
+
+-- the ROUND event, the standing lines and the revenues open a round
+pub round_opened : (file : List ℕ) (round : Round) (old recorded ruled paid : Game)
+    → old.seats ≡ length (players_of file) → recorded ≡ with_event old (event.Round round)
+    → ruled.seats ≡ recorded.seats → ruled.events ≡ after_standing (length (players_of file)) file round recorded.events
+    → paid ≡ revenues_recorded ruled → paid ≡ opened file round old
+round_opened file round old recorded ruled paid players is_recorded ruled_seats is_ruled is_paid =
+    let start : List Event = old.events ++ event.Round round ∷ [] in
+    let events : ruled.events ≡ after_standing old.seats file round start =
+    is_ruled
+    ∙ ap (λ (game : Game). after_standing (length (players_of file)) file round game.events) is_recorded
+    ∙ ap (λ (seats : ℕ). after_standing seats file round start) (sym players)
+    in
+    let is : ruled ≡ record { seats = old.seats; events = after_standing old.seats file round start } =
+    same_game ruled (record { seats = old.seats; events = after_standing old.seats file round start })
+    (ruled_seats ∙ ap (λ (game : Game). game.seats) is_recorded) events
+    in
+    is_paid ∙ ap revenues_recorded is
+
+-- what opened a round, the turns of the companies and what was left are a round
+pub whole_round : (file : List ℕ) (round : Round) (old paid turned new : Game) → old.seats ≡ length (players_of file)
+    → paid ≡ opened file round old → TurnsLead file round paid turned → turned.seats ≡ paid.seats
+    → new.seats ≡ turned.seats → new.events ≡ finished file round (length (players_of file)) turned.events
+    → IsOperatingRound file round old new
+whole_round file round old paid turned new players is_paid lead turned_seats new_seats is_new =
+    let seats : new.seats ≡ old.seats = new_seats ∙ turned_seats ∙ ap (λ (game : Game). game.seats) is_paid in
+    record {
+      turned = turned;
+      turns = subst (λ (game : Game). TurnsLead file round game turned) is_paid lead;
+      after = same_game new (record { seats = old.seats; events = finished file round old.seats turned.events }) seats
+          (is_new ∙ ap (λ (seats : ℕ). finished file round seats turned.events) (sym players));
+    }
+
+-- a count of lines that were left adds no ruling
+count_adds_none : RulingsAreCounted → (none : Bool) (events : List Event) (left : Seat) (count : ℕ) (seat : Seat)
+    → rulings_in_round (events ++ (if none then [] else event.Left left count ∷ [])) seat ≡ rulings_in_round events seat
+count_adds_none counted none events left count seat = grind (arith, append-nil events, counted events (event.Left left count) seat)
+
+-- so as many were ruled
+pub as_many_ruled : RulingsAreCounted → (from old new : List Event) (left : Seat) (count : ℕ) (seat : Seat)
+    → rulings_in_round old seat ≡ rulings_in_round from seat → new ≡ old ++ with_left left count []
+    → rulings_in_round new seat ≡ rulings_in_round from seat
+as_many_ruled counted from old new left count seat before recorded = let none = count_adds_none counted (count == 0) old left count seat in grind (arith, none)
+
+-- the seats that are left begin with the next
+next_seat : (seat total : ℕ) → seat < total → range_with_len seat (total - seat)
+    ≡ seat ∷ range_with_len (seat + 1) (total - (seat + 1))
+next_seat seat total within = grind arith
+
+-- the seats that are left bring, after the next of them, what they bring before it
+pub left_goes_on : (file : List ℕ) (round : Round) (from old new : List Event) (seat total : ℕ) (left : Seat)
+    → seat < total → left ≡ seat_at seat → rulings_in_round old left ≡ rulings_in_round from left
+    → new ≡ old ++ with_left left (lines_left file round old left) []
+    → new ++ left_events file round from (range_with_len (seat + 1) (total - (seat + 1)))
+    ≡ old ++ left_events file round from (range_with_len seat (total - seat))
+left_goes_on file round from old new seat total left within is_seat as_many recorded =
+    let rest : List Event = left_events file round from (range_with_len (seat + 1) (total - (seat + 1))) in
+    ap (λ (all : List Event). all ++ rest) recorded
+    ∙ append_assoc old (with_left left (lines_left file round old left) []) rest
+    ∙ ap (λ (all : List Event). old ++ all)
+    (left_first left (lines_left file round old left) rest
+    ∙ ap (λ (ruled : ℕ). with_left left (lines_in (parts_for file round left.0) - ruled) rest) as_many
+    ∙ ap (λ (seat : Seat). with_left seat (lines_left file round from seat) rest) is_seat)
+    ∙ ap (λ (seats : List ℕ). old ++ left_events file round from seats) (sym (next_seat seat total within))

@@ -1,16 +1,19 @@
 -- The sequence goes forward in the order of all rounds, and no sheet is past the last of them: so
 -- play reaches an end.
-use Rattle.std.proofs.Common.{◌≡◌, ℕ, ◌+◌, ◌<◌, ◌≤◌, Bool, true, false, List, length, is_some, refl, ap, arith, rules}
-use Rattle.std.proofs.lemmas.Bool.{lt-ltb}
+use Rattle.std.proofs.Common.{◌≡◌, ℕ, zero, suc, ◌+◌, ◌<◌, ◌≤◌, Bool, true, false, Option, Some}
+use Rattle.std.proofs.Common.{None, is_some, is_none, not, refl, inl, inr, arith, List, length, ap}
+use Rattle.std.proofs.Common.{rules}
+use Rattle.std.proofs.lemmas.Bool.{and_parts, cases_lt, lt-ltb}
+use Rattle.std.specs.List.{list_all, range_with_len}
 use Rattle.events.specs.declared.event.Event.{Event}
 use Rattle.totals.specs.LookBack.{broken_in}
 use Rattle.privates.specs.Turn.{all_sold}
 use Rattle.rounds.proofs.Coming.{OfNext, after_operating, follows, of_coming}
 use Rattle.rounds.proofs.InSet.{IsInSet, IsNextInSet, in_any_set}
-use Rattle.rounds.proofs.Posted.{posted_each}
 use Rattle.rounds.specs.Gifts.{GiftsWait}
 use Rattle.rounds.specs.Play.{Between, IsRound, all_posted}
-use Rattle.rounds.specs.Sequence.{SequenceGoesForward, following, places_left, places_to_come, turn_in_set}
+use Rattle.rounds.specs.Sequence.{SequenceGoesForward, following, places_left, places_to_come}
+use Rattle.rounds.specs.Sequence.{turn_in_set}
 use Rattle.rounds.specs.declared.following.Next.{Next}
 use Rattle.rounds.specs.declared.following.Next.TheVariants as next
 use Rattle.sheets.specs.File.{players_of, sheet_of}
@@ -18,6 +21,24 @@ use Rattle.sheets.specs.Laws.{SheetsAreNumbered, number_of}
 use Rattle.tables.specs.Round.{number_most, operating_most, rank_of, stock_rank}
 use Rattle.tables.specs.declared.round.Round.{Round}
 use Rattle.tables.specs.declared.round.Round.TheVariants.{Opening, Stock, Operating}
+
+-- where all have posted, each has
+pub posted_each : (p : ℕ → Bool) (first n k : ℕ) → list_all p (range_with_len first n) ≡ true → first ≤ k
+    → k < first + n → p k ≡ true
+posted_each p first zero k all from below = absurd (omega arith)
+posted_each p first (suc n) k all from below =
+    elim (cases_lt first k) [
+      | inl later ↦ posted_each p (first + 1) n k (and_parts (p first) _ all).1 (omega arith) (omega arith)
+      | inr here ↦ let same : first ≡ k = omega arith in rw (← same) (and_parts (p first) _ all).0
+    ]
+
+-- the test for nothing, from the test for something
+pub missing_from : {X : Type 0} (found : Option X) (missing : Bool) → is_some found ≡ not missing
+    → missing ≡ is_none found
+missing_from None true same = refl
+missing_from None false same = same
+missing_from (Some x) true same = same
+missing_from (Some x) false same = refl
 
 -- a round that follows a round has a later place
 later_place : (round : Round) (in_set : ℕ) (all_sold broken : Bool) → number_of round ≤ number_most →
@@ -46,9 +67,7 @@ goes_forward round later in_set all_sold broken small turn comes =
 -- each round that a sheet may name has a place left
 before_the_last : (round : Round) → number_of round ≤ number_most → turn_in_set round ≤ operating_most
     → rank_of round < stock_rank (number_most + 1)
-before_the_last (Opening number) small turn = omega arith
-before_the_last (Stock set) small turn = omega arith
-before_the_last (Operating set number) small turn = omega arith
+before_the_last round small turn = grind arith
 
 -- a round that all have posted is numbered within the limit
 pub posted_small : SheetsAreNumbered → (file : List ℕ) (round : Round) → 0 < length (players_of file) →

@@ -1,12 +1,13 @@
 -- Each round that comes is within its set.
-use Rattle.std.proofs.Common.{◌≡◌, ℕ, zero, suc, ◌+◌, ◌<◌, ◌≤◌, Bool, true, false, List, [], length, sym, ap, subst}
-use Rattle.std.proofs.Common.{◌∙◌, arith}
+use Rattle.std.proofs.Common.{◌≡◌, ℕ, ◌+◌, ◌<◌, ◌≤◌, Bool, true, false, List, [], length, sym, ap}
+use Rattle.std.proofs.Common.{subst, ◌∙◌, arith}
 use Rattle.std.proofs.lemmas.Bool.{ltb-true}
 use Rattle.events.specs.declared.event.Event.{Event}
 use Rattle.totals.specs.LookBack.{Game, broken_in}
 use Rattle.totals.specs.Trains.{phase_of}
 use Rattle.privates.specs.Turn.{all_sold}
-use Rattle.rounds.proofs.Coming.{OfNext, after_operating, comes_once, follows, in_set_then, of_coming}
+use Rattle.rounds.proofs.Coming.{OfNext, after_operating, comes_once, follows, in_set_then}
+use Rattle.rounds.proofs.Coming.{of_coming, through}
 use Rattle.rounds.specs.Play.{AreRounds, Between, IsRound, before_play, in_set_before, rounds_of_new_set}
 use Rattle.rounds.specs.Sequence.{following, turn_in_set}
 use Rattle.rounds.specs.declared.following.Next.TheVariants as next
@@ -14,7 +15,6 @@ use Rattle.sheets.specs.File.{players_of}
 use Rattle.tables.specs.Round.{operating_most}
 use Rattle.tables.specs.Train.{rounds_in_set_of}
 use Rattle.tables.specs.declared.rolling_stock.Kind.{Kind}
-use Rattle.tables.specs.declared.rolling_stock.Kind.TheVariants.{Two, Three, Four, Five, Six, Diesel}
 use Rattle.tables.specs.declared.round.Round.{Round}
 use Rattle.tables.specs.declared.round.Round.TheVariants.{Opening, Stock, Operating}
 
@@ -27,8 +27,7 @@ pub record IsInSet (round : Round) (in_set : ℕ) : Type 0 where
 
 -- a round is within its set, and so within the most that a set has
 pub in_any_set : (round : Round) (in_set : ℕ) → IsInSet round in_set → turn_in_set round ≤ operating_most
-in_any_set round in_set within_set = let few = within_set.few in let within = within_set.within in omega
-    (arith, few, within)
+in_any_set round in_set within_set = omega arith
 
 -- the first round does
 first_in_set : (file : List ℕ) → IsInSet (Opening 1) (before_play file).in_set
@@ -36,12 +35,7 @@ first_in_set file = record { some = omega arith; few = omega arith; within = ome
 
 -- a set that begins has one to three
 new_set_few : (phase : Kind) → (1 ≤ rounds_in_set_of phase) × (rounds_in_set_of phase ≤ operating_most)
-new_set_few Two = (omega arith, omega arith)
-new_set_few Three = (omega arith, omega arith)
-new_set_few Four = (omega arith, omega arith)
-new_set_few Five = (omega arith, omega arith)
-new_set_few Six = (omega arith, omega arith)
-new_set_few Diesel = (omega arith, omega arith)
+new_set_few phase = grind arith
 
 -- its stock round is within it
 new_set : (set : ℕ) (events : List Event) → IsInSet (Stock set) (rounds_of_new_set events)
@@ -94,9 +88,8 @@ first_is_in_set file round comes =
 -- and wherever a game comes
 pub comes_in_set : (file : List ℕ) (rounds : ℕ) (there : Between) → AreRounds file rounds (before_play file) there
     → IsNextInSet there
-comes_in_set file zero there played = subst IsNextInSet played (first_is_in_set file)
-comes_in_set file (suc rounds) there played =
-    round_in_set file played.0 there (comes_in_set file rounds played.0 played.1) played.2
+comes_in_set file rounds there played =
+    through file IsNextInSet (round_in_set file) rounds (before_play file) there played (first_is_in_set file)
 
 -- before the first round
 pub begins_so : (file : List ℕ) (history : Game) (seats in_set : ℕ) →

@@ -1,10 +1,10 @@
 -- An opening round, event by event. A private is sold while it is unsold, a bid is made by a seat
 -- that takes a turn, and what else is recorded is still. What holds of each such event, and of one
 -- after the other, holds of the round.
-use Rattle.std.proofs.Common.{◌≡◌, ℕ, zero, suc, ◌-◌, ◌==◌, Bool, true, false, if◌then◌else◌, List, [], ◌∷◌, ◌++◌}
-use Rattle.std.proofs.Common.{Option, Some, None, refl, sym, subst, ◌∙◌}
-use Rattle.std.proofs.lemmas.Bool.{and_parts}
-use Rattle.std.proofs.lemmas.List.{append_assoc, append-nil}
+use Rattle.std.proofs.Common.{◌≡◌, ℕ, zero, suc, ◌-◌, ◌==◌, Bool, true, false, if◌then◌else◌, List}
+use Rattle.std.proofs.Common.{[], ◌∷◌, ◌++◌, Option, Some, None, rules, refl, sym, subst, ap, ◌∙◌}
+use Rattle.std.proofs.Common.{arith}
+use Rattle.std.proofs.lemmas.List.{append_assoc}
 use Rattle.std.specs.List.{list_all}
 use Rattle.events.specs.Event.{IsQuiet}
 use Rattle.events.specs.declared.event.Bid.{Bid}
@@ -15,7 +15,7 @@ use Rattle.events.specs.declared.ruling.Ruling.{Ruling}
 use Rattle.events.specs.declared.ruling.Ruling.TheVariants.{Obeyed}
 use Rattle.totals.proofs.EventAtEnd.{is_sold_before}
 use Rattle.totals.specs.Bids.{bids_on}
-use Rattle.totals.specs.LookBack.{cheapest_of, is_sold, priority_of, sv_price_of}
+use Rattle.totals.specs.LookBack.{Game, cheapest_of, is_sold, priority_of, sv_price_of}
 use Rattle.history.specs.Record.{after_revenues}
 use Rattle.order_grammar.specs.declared.condition.Condition.{Condition}
 use Rattle.order_grammar.specs.declared.order.Order.{Order}
@@ -24,94 +24,94 @@ use Rattle.privates.proofs.TurnLemmas.{may_act_after}
 use Rattle.privates.proofs.StandingBids.{cheapest_unsold}
 use Rattle.privates.specs.Closing.{after_fall, after_passing, all_sold, closed, given_away}
 use Rattle.privates.specs.Bank.{price_of}
+use Rattle.privates.specs.Opening.{IsOpeningRound}
+use Rattle.privates.specs.Standing.{standing_ruling}
 use Rattle.privates.specs.Sale.{after_sale, gifts, settle_auctions, settled, settled_by, settled_of}
-use Rattle.privates.specs.Turn.{InTurn, acted, after_opening_line, after_ruling, judgement_of, refusal_of}
-use Rattle.rounds.proofs.Growing.{GrowsStill, is_still, passes_test, revenues_grow}
+use Rattle.privates.specs.Turn.{InTurn, acted, after_act, after_opening_line, judgement_of, opening_rules, refusal_of}
+use Rattle.rounds.proofs.Growing.{GrowsPlainly, and_plain, is_still, over_growth, revenues_grow}
 use Rattle.sheets.specs.Part.{Numbered}
 use Rattle.tables.specs.Roster.{privates}
 use Rattle.tables.specs.Steps.{iterate}
 use Rattle.tables.specs.declared.roster.Private.{Private}
 use Rattle.tables.specs.declared.roster.Private.TheVariants as private
 use Rattle.tables.specs.declared.seat.Seat.{Seat}
+use Rattle.tables.specs.declared.round.Round.{Round}
+use Rattle.turns.proofs.RoundLeads.{round_leads}
 use Rattle.turns.proofs.Ruled.{none_as_refusal, of_ruled}
 use Rattle.turns.specs.Ruling.{has_place_in_turn, obeyed_by}
 
 -- what is to be shown so that it holds of the parts of an opening round in which these seats take
--- turns
-pub record OfOpening (Sits : Seat → Type 0) (R : List Event → List Event → Type 0) : Type 0 where
+-- turns, and these privates are sold
+pub record OfOpening (Sits : Seat → Type 0) (Sells : List Event → Private → Type 0)
+    (R : List Event → List Event → Type 0) : Type 0 where
   pub same : (events : List Event) → R events events
   pub both : (a b c : List Event) → R a b → R b c → R a c
-  pub still : (events : List Event) (its : Event) → is_still its ≡ true → R events (events ++ its ∷ [])
-  pub sold : (events : List Event) (private : Private) (buyer : Seat) (price : ℕ) → is_sold events private ≡ false →
+  pub quiet : (events : List Event) (its : Event) → and_plain is_still its ≡ true → R events (events ++ its ∷ [])
+  pub unsold : (events : List Event) (private : Private) → is_sold events private ≡ false → Sells events private
+  pub sold : (events : List Event) (private : Private) (buyer : Seat) (price : ℕ) → Sells events private →
       R events (events ++ event.Sold private buyer price ∷ [])
   pub bids : (events : List Event) (private : Private) (seat : Seat) (amount : ℕ) → Sits seat →
       R events (events ++ event.Bids private seat amount ∷ [])
 
+-- whoever sits, and whatever is sold
+abbrev pub AnySeat : Seat → Type 0
+AnySeat seat = Unit
+
+abbrev pub AnyPrivate : List Event → Private → Type 0
+AnyPrivate events private = Unit
+
 -- what comes with a sale is still
 gifts_still : (events : List Event) (private : Private) (buyer : Seat) →
-    list_all is_still (gifts events private buyer) ≡ true
-gifts_still events private.SchuylkillValley buyer = refl
-gifts_still events private.ChamplainStLawrence buyer = refl
-gifts_still events private.DelawareHudson buyer = refl
-gifts_still events private.MohawkHudson buyer = refl
-gifts_still events private.CamdenAmboy buyer = refl
-gifts_still events private.BaltimoreOhio buyer = refl
+    list_all (and_plain is_still) (gifts events private buyer) ≡ true
+gifts_still events private buyer = grind arith
 
 -- a ruling says nothing of what parties have and own
 ruling_quiet : (seat : Seat) (number : ℕ) (ruling : Ruling) → IsQuiet (event.Ruled seat number ruling)
-ruling_quiet seat number ruling =
-    record {
-      payment = refl;
-      ownership = refl;
-      bidding = refl;
-      transfer = refl;
-      par = refl;
-      square = refl;
-      office = refl;
-      float = refl;
-      sv_price = refl;
-      train = refl;
-      tile = refl;
-      token = refl;
-    }
+ruling_quiet seat number ruling = search rules
 
-module _ (Sits : Seat → Type 0) (R : List Event → List Event → Type 0) (of : OfOpening Sits R) where
-  -- of events that are still
-  of_still : (events more : List Event) → list_all is_still more ≡ true → R events (events ++ more)
-  of_still events [] still = subst (R events) (sym (append-nil events)) (of.same events)
-  of_still events (its ∷ more) still =
-      let parts = and_parts (is_still its) (list_all is_still more) still in
-      let next : List Event = events ++ its ∷ [] in
-      subst (R events) (append_assoc events (its ∷ []) more)
-      (of.both events next (next ++ more) (of.still events its parts.0) (of_still next more parts.1))
+-- so a private that may be bought is unsold after it
+still_unsold : (seats : ℕ) (seat : Seat) (turn : InTurn) (number : ℕ) (ruling : Ruling) (private : Private) →
+    refusal_of seats turn.events seat turn.actions (order.BuyPrivate private) ≡ None →
+    is_sold (turn.events ++ event.Ruled seat number ruling ∷ []) private ≡ false
+still_unsold seats seat turn number ruling private kept =
+    let its : Event = event.Ruled seat number ruling in
+    (may_act_after (record { seats = seats; events = turn.events })
+    (record { seats = seats; events = turn.events ++ its ∷ [] }) its seat turn.actions (order.BuyPrivate private) refl
+    (ruling_quiet seat number ruling)
+    (none_as_refusal Opening (judgement_of seats turn.events seat turn.actions (order.BuyPrivate private)) kept)).unsold
 
-  -- of a list that grows by those
-  of_growing_still : (old new : List Event) → GrowsStill old new → R old new
-  of_growing_still old new grows = subst (R old) (sym grows.longer) (of_still old grows.more grows.aside)
+module _ (Sits : Seat → Type 0) (Sells : List Event → Private → Type 0) (R : List Event → List Event → Type 0)
+    (of : OfOpening Sits Sells R) where
+  -- of a list that grows by events that are still
+  of_growing_still : (old new : List Event) → GrowsPlainly is_still old new → R old new
+  of_growing_still = over_growth (and_plain is_still) R of.same of.both of.quiet
 
   -- of a sale
-  of_sale : (events : List Event) (private : Private) (buyer : Seat) (price : ℕ) → is_sold events private ≡ false →
+  of_sale : (events : List Event) (private : Private) (buyer : Seat) (price : ℕ) → Sells events private →
       R events (after_sale events private buyer price)
-  of_sale events private buyer price unsold =
-      let its = event.Sold private buyer price in
+  of_sale events private buyer price sells =
+      let its : Event = event.Sold private buyer price in
       let next : List Event = events ++ its ∷ [] in
-      subst (R events) (append_assoc events (its ∷ []) (gifts events private buyer))
-      (of.both events next (next ++ gifts events private buyer) (of.sold events private buyer price unsold)
-      (of_still next (gifts events private buyer) (gifts_still events private buyer)))
+      let more : List Event = gifts events private buyer in
+      subst (R events) (append_assoc events (its ∷ []) more)
+      (of.both events next (next ++ more) (of.sold events private buyer price sells)
+      (of_growing_still next (next ++ more)
+      (record { more = more; longer = refl; aside = gifts_still events private buyer })))
 
   -- of the sale that follows from the bids on a private
-  of_bids : (seats : ℕ) (events : List Event) (private : Private) (bids : List Bid) → is_sold events private ≡ false →
+  of_bids : (seats : ℕ) (events : List Event) (private : Private) (bids : List Bid) → Sells events private →
       R events (settled_by seats events private bids)
-  of_bids seats events private [] unsold = of.same events
-  of_bids seats events private (bid ∷ []) unsold = of_sale events private bid.seat bid.amount unsold
-  of_bids seats events private (bid ∷ other ∷ bids) unsold = of_sale events private _ _ unsold
+  of_bids seats events private [] sells = of.same events
+  of_bids seats events private (bid ∷ []) sells = of_sale events private bid.seat bid.amount sells
+  of_bids seats events private (bid ∷ other ∷ bids) sells = of_sale events private _ _ sells
 
   -- of that of the cheapest private
   of_cheapest : (seats : ℕ) (events : List Event) (cheapest : Option Private) → cheapest_of events ≡ cheapest →
       R events (settled_of seats events cheapest)
   of_cheapest seats events None is = of.same events
   of_cheapest seats events (Some private) is =
-      of_bids seats events private (bids_on seats events private) (cheapest_unsold events private is)
+      of_bids seats events private (bids_on seats events private)
+      (of.unsold events private (cheapest_unsold events private is))
 
   -- of some of these
   of_steps : (seats n : ℕ) (events : List Event) → R events (iterate (settle_auctions seats) n events)
@@ -121,51 +121,42 @@ module _ (Sits : Seat → Type 0) (R : List Event → List Event → Type 0) (of
       of.both events there (settle_auctions seats there) (of_steps seats n events)
       (of_cheapest seats there (cheapest_of there) refl)
 
-  -- of the sales that follow from a sale
-  of_settled : (seats : ℕ) (events : List Event) → R events (settled seats events)
-  unfolding settled
-  of_settled seats events = of_steps seats 6 events
-
-  -- of a sale, and of those
+  -- of a sale, and of those that follow from it
   of_sales : (seats : ℕ) (events : List Event) (private : Private) (buyer : Seat) (price : ℕ) →
-      is_sold events private ≡ false →
-      R events (settled seats (after_sale events private buyer price))
-  of_sales seats events private buyer price unsold =
+      Sells events private → R events (settled seats (after_sale events private buyer price))
+  unfolding settled
+  of_sales seats events private buyer price sells =
       let sold : List Event = after_sale events private buyer price in
-      of.both events sold (settled seats sold) (of_sale events private buyer price unsold) (of_settled seats sold)
+      of.both events sold (settled seats sold) (of_sale events private buyer price sells) (of_steps seats 6 sold)
 
-  -- of a line whose order is done
-  of_order : (seats : ℕ) (seat : Seat) (turn : InTurn) (number : ℕ) → Sits seat
-      → (condition : Option Condition) (done : Order) →
-      refusal_of seats turn.events seat turn.actions done ≡ None →
-      R turn.events (after_ruling seats seat turn number (Obeyed condition done)).events
-  of_order seats seat turn number sits condition (order.BuyPrivate private) kept =
-      let recorded : Event = event.Ruled seat number (Obeyed condition (order.BuyPrivate private)) in
-      let ruled : List Event = turn.events ++ recorded ∷ [] in
-      let none = none_as_refusal Opening
-      (judgement_of seats turn.events seat turn.actions (order.BuyPrivate private)) kept in
-      let may = may_act_after (record { seats = seats; events = turn.events })
-      (record { seats = seats; events = ruled }) recorded seat turn.actions (order.BuyPrivate private) refl
-      (ruling_quiet seat number (Obeyed condition (order.BuyPrivate private))) none in
-      of.both turn.events ruled (settled seats (after_sale ruled private seat (price_of ruled private)))
-      (of.still turn.events recorded refl)
-      (of_sales seats ruled private seat (price_of ruled private) may.unsold)
-  of_order seats seat turn number sits condition (order.Bid private amount) kept =
-      let recorded : Event = event.Ruled seat number (Obeyed condition (order.Bid private amount)) in
-      let ruled : List Event = turn.events ++ recorded ∷ [] in
-      of.both turn.events ruled (ruled ++ event.Bids private seat amount ∷ []) (of.still turn.events recorded refl)
-      (of.bids ruled private seat amount sits)
-  of_order seats seat turn number sits condition other kept = absurd (cc)
+  -- of what follows from an order that is done
+  pub of_act : (seats : ℕ) (seat : Seat) (events : List Event) (done : Order) → Sits seat →
+      ((private : Private) → done ≡ order.BuyPrivate private → Sells events private) →
+      R events (after_act seats seat events done)
+  of_act seats seat events (order.BuyPrivate private) sits sells =
+      of_sales seats events private seat (price_of events private) (sells private refl)
+  of_act seats seat events (order.Bid private amount) sits sells = of.bids events private seat amount sits
+  of_act seats seat events other sits sells = of.same events
 
   -- of a line
-  pub of_line : (seats : ℕ) (seat : Seat) (turn : InTurn) (line : Numbered) → Sits seat →
+  pub of_line :
+      ((events : List Event) (seat : Seat) (number : ℕ) (ruling : Ruling) →
+      R events (events ++ event.Ruled seat number ruling ∷ [])) →
+      (seats : ℕ) (seat : Seat) (turn : InTurn) (line : Numbered) → Sits seat →
       R turn.events (after_opening_line seats seat turn line).events
-  of_line seats seat turn line sits =
+  of_line rulings seats seat turn line sits =
       of_ruled (acted seats seat) (refusal_of seats turn.events seat turn.actions) seat turn line.number
       (λ (after : InTurn). R turn.events after.events)
-      (λ (ruling : Ruling) (none : obeyed_by ruling ≡ None).
-      of.still turn.events (event.Ruled seat line.number ruling) refl)
-      (of_order seats seat turn line.number sits) has_place_in_turn turn.events line
+      (λ (ruling : Ruling) (none : obeyed_by ruling ≡ None). rulings turn.events seat line.number ruling)
+      (λ (condition : Option Condition) (done : Order)
+      (kept : refusal_of seats turn.events seat turn.actions done ≡ None).
+      let ruling : Ruling = Obeyed condition done in
+      let ruled : List Event = turn.events ++ event.Ruled seat line.number ruling ∷ [] in
+      of.both turn.events ruled (after_act seats seat ruled done) (rulings turn.events seat line.number ruling)
+      (of_act seats seat ruled done sits
+      (λ private is. of.unsold ruled private (still_unsold seats seat turn line.number ruling private
+      (ap (refusal_of seats turn.events seat turn.actions) (sym is) ∙ kept)))))
+      has_place_in_turn turn.events line
 
   -- of the fall of SV's price
   of_fall : (seats : ℕ) (events : List Event) (price : ℕ) (holder : Seat) →
@@ -175,10 +166,10 @@ module _ (Sits : Seat → Type 0) (R : List Event → List Event → Type 0) (of
       let fallen : List Event = events ++ event.Price 0 ∷ [] in
       elim (price == 0) as (λ (b : Bool). R events
       (if b then settled seats (given_away events holder) else events ++ event.Price price ∷ [])) [
-        | true ↦ of.both events fallen (settled seats (given_away events holder)) (of.still events (event.Price 0) refl)
-            (of_sales seats fallen private.SchuylkillValley holder 0
-            (is_sold_before events (event.Price 0) private.SchuylkillValley refl ∙ unsold))
-        | false ↦ of.still events (event.Price price) refl
+        | true ↦ of.both events fallen (settled seats (given_away events holder)) (of.quiet events (event.Price 0) refl)
+            (of_sales seats fallen private.SchuylkillValley holder 0 (of.unsold fallen private.SchuylkillValley
+            (is_sold_before events (event.Price 0) private.SchuylkillValley refl ∙ unsold)))
+        | false ↦ of.quiet events (event.Price price) refl
       ]
 
   -- of what follows where all have passed
@@ -186,8 +177,7 @@ module _ (Sits : Seat → Type 0) (R : List Event → List Event → Type 0) (of
       R events (if sold then after_revenues seats events privates else after_fall seats events
       (sv_price_of events - 5) (priority_of seats events))
   of_passing seats events true is =
-      of_growing_still events (after_revenues seats events privates)
-      (passes_test is_still events (after_revenues seats events privates) (revenues_grow seats events privates))
+      of_growing_still events (after_revenues seats events privates) (revenues_grow seats events privates)
   of_passing seats events false is = of_fall seats events (sv_price_of events - 5) (priority_of seats events) is
 
   -- of the close
@@ -197,3 +187,21 @@ module _ (Sits : Seat → Type 0) (R : List Event → List Event → Type 0) (of
         | true ↦ of.same events
         | false ↦ of_passing seats events (is_sold events private.SchuylkillValley) refl
       ]
+
+  -- so of an opening round that has begun, where each seat may sit
+  pub of_opening :
+      ((events : List Event) (seat : Seat) (number : ℕ) (ruling : Ruling) →
+      R events (events ++ event.Ruled seat number ruling ∷ [])) →
+      ((seat : Seat) → Sits seat) → (file : List ℕ) (round : Round) (old new : Game) →
+      IsOpeningRound file round old new → R (old.events ++ event.Round round ∷ []) new.events
+  of_opening rulings sit =
+      round_leads opening_rules R
+      (record {
+        stays = of.same;
+        further = of.both;
+        standing = λ seat events line. rulings events seat line.number (standing_ruling events line);
+        line = λ seats seat turn line. of_line rulings seats seat turn line (sit seat);
+        passes = λ events seat. of.quiet events (event.Passes seat) refl;
+        closed = of_close;
+        leaves = λ events seat lines. of.quiet events (event.Left seat lines) refl;
+      })

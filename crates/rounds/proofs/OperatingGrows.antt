@@ -1,6 +1,7 @@
 -- Before the first company of an operating round, and after its last, the new events are still, and
 -- so stand aside.
-use Rattle.std.proofs.Common.{◌≡◌, ℕ, ◌==◌, ◌||◌, not, Bool, true, false, List, [], ◌∷◌, ◌++◌, Some, refl}
+use Rattle.std.proofs.Common.{◌≡◌, ℕ, ◌==◌, ◌||◌, not, Bool, true, List, [], ◌∷◌, ◌++◌, Some, refl}
+use Rattle.std.proofs.Common.{arith}
 use Rattle.std.specs.List.{list_all, range_with_len}
 use Rattle.events.specs.declared.event.Event.{Event}
 use Rattle.events.specs.declared.event.Event.TheVariants as event
@@ -18,10 +19,10 @@ use Rattle.purchases.specs.Discard.{discard_judgement, is_president}
 use Rattle.purchases.specs.Offer.{is_seats, offer_judgement}
 use Rattle.purchases.specs.Standing.{after_standing, after_standing_line, has_place_before, standing_judgement}
 use Rattle.purchases.specs.Standing.{standing_ruling}
-use Rattle.rounds.proofs.Growing.{Grows, GrowsPlainly, GrowsStill, and_plain, count_aside, further, is_still}
+use Rattle.rounds.proofs.Growing.{◌⨾◌, Grows, GrowsPlainly, GrowsStill, and_plain, by_one_event, count_aside, is_still}
 use Rattle.rounds.proofs.Growing.{passes_plain, passes_test, revenues_grow, stays, still_is_aside}
-use Rattle.rounds.proofs.PlainLines.{GrowsPlain, IsOfFamily, SheetsArePlain, of_mapped, recorded_plain, ruling_plain}
-use Rattle.rounds.proofs.PlainLines.{standing_plain}
+use Rattle.rounds.proofs.PlainRounds.{GrowsPlain, IsOfFamily, SheetsArePlain, of_mapped, recorded_plain, ruling_plain}
+use Rattle.rounds.proofs.PlainRounds.{standing_plain}
 use Rattle.rounds.specs.OperatingRound.{finished, left_events, lines_left, opened}
 use Rattle.sheets.specs.Part.{Numbered, parts_for}
 use Rattle.sheets.specs.Taken.{after_all_before, after_each, after_lines_before}
@@ -34,19 +35,18 @@ use Rattle.tables.specs.declared.seat.Seat.{Seat}
 -- by standing lines
 standing_lines_grow : (seat : Seat) (events : List Event) (lines : List Numbered) →
     GrowsStill events (after_each (after_standing_line seat) events lines)
-standing_lines_grow seat events [] = stays events
+standing_lines_grow seat events [] = stays
 standing_lines_grow seat events (line ∷ lines) =
-    further events (after_standing_line seat events line) _ (record { more = _; longer = refl; aside = refl })
-    (standing_lines_grow seat (after_standing_line seat events line) lines)
+    by_one_event events (event.Ruled seat line.number (standing_ruling events seat line)) refl
+    ⨾ standing_lines_grow seat (after_standing_line seat events line) lines
 
 -- by those of each seat
 standing_grows : (file : List ℕ) (round : Round) (events : List Event) (seats : List ℕ) →
     GrowsStill events (after_all_before after_standing_line file round events seats)
-standing_grows file round events [] = stays events
+standing_grows file round events [] = stays
 standing_grows file round events (seat ∷ seats) =
-    further events (after_lines_before after_standing_line file round events seat) _
-    (standing_lines_grow (seat_at seat) events (parts_for file round seat).before)
-    (standing_grows file round (after_lines_before after_standing_line file round events seat) seats)
+    standing_lines_grow (seat_at seat) events (parts_for file round seat).before
+    ⨾ standing_grows file round (after_lines_before after_standing_line file round events seat) seats
 
 -- by those and the revenues
 pub opened_still : (file : List ℕ) (round : Round) (old : Game) →
@@ -54,8 +54,8 @@ pub opened_still : (file : List ℕ) (round : Round) (old : Game) →
 opened_still file round old =
     let begun : List Event = old.events ++ event.Round round ∷ [] in
     let ruled : List Event = after_standing old.seats file round begun in
-    further begun ruled _ (standing_grows file round begun (range_with_len 0 old.seats))
-    (passes_test is_still ruled (opened file round old).events (revenues_grow old.seats ruled privates))
+    standing_grows file round begun (range_with_len 0 old.seats)
+    ⨾ passes_test is_still (revenues_grow old.seats ruled privates)
 
 -- the counts of lines that were left are still and plain
 left_aside : (file : List ℕ) (round : Round) (events : List Event) (seats : List ℕ) →
@@ -75,14 +75,12 @@ finished_grows file round seats events =
 -- so it is still
 pub finished_still : (file : List ℕ) (round : Round) (seats : ℕ) (events : List Event) →
     GrowsStill events (finished file round seats events)
-finished_still file round seats events =
-    passes_test is_still events (finished file round seats events) (finished_grows file round seats events)
+finished_still file round seats events = passes_test is_still (finished_grows file round seats events)
 
 -- those events stand aside
 pub opened_grows : (file : List ℕ) (round : Round) (old : Game) →
     Grows (old.events ++ event.Round round ∷ []) (opened file round old).events
-opened_grows file round old =
-    still_is_aside (old.events ++ event.Round round ∷ []) (opened file round old).events (opened_still file round old)
+opened_grows file round old = still_is_aside (opened_still file round old)
 
 -- an offer is refused by its rule, or not
 abbrev one_rule : Refusal → Bool → List (Rule Refusal)
@@ -90,8 +88,7 @@ one_rule code broken = record { code = code; broken = broken } ∷ []
 
 offered_of_family : (code : Refusal) (broken : Bool) → IsOfFamily (Some code)
     → IsOfFamily (first_broken (one_rule code broken))
-offered_of_family code true of = of
-offered_of_family code false of = tt
+offered_of_family code broken of = grind arith
 
 offer_of_family : (events : List Event) (seat : Seat) (sale : Offer) → IsOfFamily (offer_judgement events seat sale)
 offer_of_family events seat (offer.Train kind seller buyer price) =
@@ -113,15 +110,13 @@ pub opened_adds : (file : List ℕ) (round : Round) (old : Game) → SheetsArePl
 opened_adds file round old sheets =
     let begun : List Event = old.events ++ event.Round round ∷ [] in
     let ruled : List Event = after_standing old.seats file round begun in
-    further begun ruled (opened file round old).events
-    (standing_plain after_standing_line
+    standing_plain after_standing_line
     (λ seat events line plain. recorded_plain seat line.number (standing_ruling events seat line) events
     (ruling_plain has_place_before (standing_judgement events seat) events line plain (standing_of_family events seat)))
-    file round sheets begun (range_with_len 0 old.seats))
-    (passes_plain is_still ruled (opened file round old).events (revenues_grow old.seats ruled privates))
+    file round sheets begun (range_with_len 0 old.seats)
+    ⨾ passes_plain is_still (revenues_grow old.seats ruled privates)
 
 -- and those after its last
 pub finished_adds : (file : List ℕ) (round : Round) (seats : ℕ) (events : List Event) →
     GrowsPlain events (finished file round seats events)
-finished_adds file round seats events =
-    passes_plain is_still events (finished file round seats events) (finished_grows file round seats events)
+finished_adds file round seats events = passes_plain is_still (finished_grows file round seats events)

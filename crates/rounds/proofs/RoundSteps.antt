@@ -2,11 +2,9 @@
 -- after the other, of each event that stands aside and of each company's turn. What is shown of
 -- opening rounds by themselves has to hold only of each event that is still. What these and a ROUND
 -- event keep, each round of a game keeps.
-use Rattle.std.proofs.Common.{◌≡◌, ℕ, zero, suc, Bool, true, false, ◌&&◌, not, List, [], ◌∷◌, ◌++◌, Option, Some, None}
-use Rattle.std.proofs.Common.{is_none, refl, sym, subst}
+use Rattle.std.proofs.Common.{rules, ◌≡◌, ℕ, Bool, true, false, ◌&&◌, not, List, [], ◌∷◌, ◌++◌, Option}
+use Rattle.std.proofs.Common.{None, is_none, sym, subst, arith}
 use Rattle.std.proofs.lemmas.Bool.{and_parts}
-use Rattle.std.proofs.lemmas.List.{append_assoc, append-nil}
-use Rattle.std.specs.List.{list_all}
 use Rattle.events.specs.Event.{bidding_of, operated_by, ownership_of, phase_set, round_begun_by, tile_laid}
 use Rattle.events.specs.Event.{token_placed, train_moved}
 use Rattle.events.specs.declared.event.Event.{Event}
@@ -16,7 +14,7 @@ use Rattle.purchases.specs.PrivateLaws.{names_owner}
 use Rattle.purchases.specs.SaleLaws.{sells_to_company}
 use Rattle.operating.specs.Turn.{IsCompanyTurn}
 use Rattle.privates.specs.Opening.{IsOpeningRound}
-use Rattle.rounds.proofs.Growing.{Grows, GrowsStill, is_aside, is_still}
+use Rattle.rounds.proofs.Growing.{Grows, GrowsStill, is_aside, is_still, over_growth}
 use Rattle.rounds.proofs.OpeningGrows.{opening_grows}
 use Rattle.rounds.proofs.OperatingGrows.{finished_still, opened_still}
 use Rattle.rounds.proofs.StockGrows.{stock_round_still}
@@ -26,6 +24,7 @@ use Rattle.stock_round.specs.StockRound.{IsStockRound}
 use Rattle.tables.specs.declared.roster.Company.{Company}
 use Rattle.tables.specs.declared.round.Round.{Round}
 use Rattle.tables.specs.declared.round.Round.TheVariants.{Opening, Stock, Operating}
+use Rattle.rounds.proofs.Coming.{through}
 
 -- what an event that stands aside says
 pub record SaysNothing (event : Event) : Type 0 where
@@ -43,46 +42,23 @@ pub record SaysStill (event : Event) : Type 0 where
   pub bids : bidding_of event ≡ None
   pub names : names_owner (ownership_of event) ≡ false
 
--- there is nothing
-nothing : {X : Type 0} (found : Option X) → is_none found ≡ true → found ≡ None
-nothing None none = refl
-nothing (Some x) none = cc
-
 -- there is nothing, and more holds
 nothing_and : {X : Type 0} (found : Option X) (more : Bool) → (is_none found && more) ≡ true →
     (found ≡ None) × (more ≡ true)
-nothing_and None more both = (refl, both)
-nothing_and (Some x) more both = absurd (cc)
+nothing_and found more both = grind arith
 
 -- it is not so
 not_so : (test : Bool) → not test ≡ true → test ≡ false
-not_so true so = absurd (cc)
-not_so false so = refl
+not_so test so = grind arith
 
 -- an event that stands aside says nothing of these
 says_nothing : (event : Event) → is_aside event ≡ true → SaysNothing event
-says_nothing event aside =
-    let round = nothing_and (round_begun_by event) _ aside in
-    let tile = nothing_and (tile_laid event) _ round.1 in
-    let token = nothing_and (token_placed event) _ tile.1 in
-    let turn = nothing_and (operated_by event) _ token.1 in
-    let phase = nothing_and (phase_set event) _ turn.1 in
-    let train = nothing_and (train_moved event) _ phase.1 in
-    record {
-      round = round.0;
-      tile = tile.0;
-      token = token.0;
-      turn = turn.0;
-      phase = phase.0;
-      train = train.0;
-      sells = not_so (sells_to_company event) train.1;
-    }
+says_nothing event aside = search (rules, nothing_and, not_so)
 
 -- nor does one that is still
 pub says_still : (event : Event) → is_still event ≡ true → SaysStill event
 says_still event still =
-    let parts =
-    and_parts (is_aside event) (is_none (bidding_of event) && not (names_owner (ownership_of event))) still in
+    let parts = and_parts (is_aside event) _ still in
     let bids = nothing_and (bidding_of event) _ parts.1 in
     record {
       aside = says_nothing event parts.0;
@@ -107,19 +83,10 @@ abbrev pub OfBeginnings : (List Event → List Event → Type 0) → Type 0
 OfBeginnings R = (events : List Event) (round : Round) → R events (events ++ event.Round round ∷ [])
 
 module _ (R : List Event → List Event → Type 0) (on : IsPassedOn R) where
-  -- of events that stand aside
-  of_aside : (events more : List Event) → list_all is_aside more ≡ true → R events (events ++ more)
-  of_aside events [] aside = subst (R events) (sym (append-nil events)) (on.same events)
-  of_aside events (event ∷ more) aside =
-      let parts = and_parts (is_aside event) (list_all is_aside more) aside in
-      let next : List Event = events ++ event ∷ [] in
-      subst (R events) (append_assoc events (event ∷ []) more)
-      (on.both events next (next ++ more) (on.aside events event (says_nothing event parts.0))
-      (of_aside next more parts.1))
-
-  -- of a list that grows by those
+  -- of a list that grows by events that stand aside
   pub of_growing : (old new : List Event) → Grows old new → R old new
-  of_growing old new grows = subst (R old) (sym grows.longer) (of_aside old grows.more grows.aside)
+  of_growing =
+      over_growth is_aside R on.same on.both (λ events event aside. on.aside events event (says_nothing event aside))
 
 -- it holds between a list and itself, of one after the other, of each event that is still and of
 -- each company's turn
@@ -136,19 +103,10 @@ OfOpenings R =
     IsOpeningRound file round old new → R (old.events ++ event.Round round ∷ []) new.events
 
 module _ (R : List Event → List Event → Type 0) (on : IsPassedStill R) where
-  -- of events that are still
-  of_still : (events more : List Event) → list_all is_still more ≡ true → R events (events ++ more)
-  of_still events [] still = subst (R events) (sym (append-nil events)) (on.same events)
-  of_still events (event ∷ more) still =
-      let parts = and_parts (is_still event) (list_all is_still more) still in
-      let next : List Event = events ++ event ∷ [] in
-      subst (R events) (append_assoc events (event ∷ []) more)
-      (on.both events next (next ++ more) (on.still events event (says_still event parts.0))
-      (of_still next more parts.1))
-
-  -- of a list that grows by those
+  -- of a list that grows by events that are still
   of_growing_still : (old new : List Event) → GrowsStill old new → R old new
-  of_growing_still old new grows = subst (R old) (sym grows.longer) (of_still old grows.more grows.aside)
+  of_growing_still =
+      over_growth is_still R on.same on.both (λ events event still. on.still events event (says_still event still))
 
   module _ (file : List ℕ) where
     -- of turns
@@ -232,14 +190,9 @@ pub record IsKept (P : List Event → Type 0) : Type 0 where
 -- so it holds after each round of each game
 pub in_each_game : (P : List Event → Type 0) → IsKept P → (file : List ℕ) (rounds : ℕ) (there : Between) →
     AreRounds file rounds (before_play file) there → P there.game.events
-in_each_game P kept file zero there played =
-    subst (λ (at : Between). P at.game.events) played kept.first
-in_each_game P kept file (suc rounds) there played =
-    let on : IsPassedOn (Keeps P) = record {
-      same = λ events holds. holds;
-      both = λ a b c one two holds. two
-          (one holds);
-      aside = kept.aside;
-    } in
-    of_round (Keeps P) on kept.turns file kept.begins played.2.round played.0.game there.game played.2.played
-    (in_each_game P kept file rounds played.0 played.1)
+in_each_game P kept file rounds there played =
+    let on : IsPassedOn (Keeps P) =
+    record { same = λ events holds. holds; both = λ a b c one two holds. two (one holds); aside = kept.aside } in
+    through file (λ at. P at.game.events)
+    (λ old new holds round. of_round (Keeps P) on kept.turns file kept.begins round.round old.game new.game round.played
+    holds) rounds (before_play file) there played kept.first

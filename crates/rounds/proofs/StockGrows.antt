@@ -18,19 +18,19 @@ use Rattle.order_grammar.specs.declared.condition.Condition.{Condition}
 use Rattle.order_grammar.specs.declared.order.Order.{Order}
 use Rattle.order_grammar.specs.declared.order.Order.TheVariants as order
 use Rattle.order_grammar.specs.declared.order.ShareSource.{ShareSource}
-use Rattle.rounds.proofs.Growing.{Grows, GrowsPlainly, GrowsStill, broken_grows, further, in_either, is_still}
-use Rattle.rounds.proofs.Growing.{by_one_event, passes_plain, passes_test, stays, still_is_aside}
-use Rattle.rounds.proofs.PlainLines.{of_mapped, recorded_plain, ruled_plain, ruling_plain}
-use Rattle.rounds.proofs.PlainTurns.{AddsPlain}
+use Rattle.rounds.proofs.Growing.{◌⨾◌, GrowsPlainly, GrowsStill, broken_grows, by_one_event, in_either, is_still}
+use Rattle.rounds.proofs.Growing.{passes_plain, passes_test, stays}
+use Rattle.rounds.proofs.PlainRounds.{of_mapped, recorded_plain, ruled_plain, ruling_plain}
+use Rattle.rounds.proofs.PlainRounds.{AddsPlain}
 use Rattle.sheets.specs.Part.{Numbered}
 use Rattle.stock_round.specs.Buy.{after_purchase, bought}
 use Rattle.stock_round.specs.Closing.{all_risen, is_sold_out, risen}
 use Rattle.stock_round.specs.Exchange.{after_exchange, exchange_source, exchanged}
-use Rattle.stock_round.specs.Float.{floated_at, is_to_float, with_float}
+use Rattle.stock_round.specs.Float.{is_to_float, with_float}
 use Rattle.stock_round.specs.Orders.{after_act, judgement_of, refusal_of}
 use Rattle.stock_round.specs.Standing.{fault_of_standing}
 use Rattle.stock_round.specs.StockRound.{IsStockRound}
-use Rattle.stock_round.specs.Turn.{InTurn, acted, after_stock_line, after_ruling, ruling_in, stock_rules}
+use Rattle.stock_round.specs.Turn.{InTurn, acted, after_stock_line, ruling_in, stock_rules}
 use Rattle.tables.specs.declared.roster.Company.{Company}
 use Rattle.tables.specs.declared.roster.Company.TheVariants.{NewYorkCentral}
 use Rattle.tables.specs.declared.round.Round.{Round}
@@ -38,77 +38,60 @@ use Rattle.tables.specs.declared.seat.Seat.{Seat}
 use Rattle.tables.specs.declared.squares.Square.{Square}
 use Rattle.turns.proofs.RoundLeads.{round_leads}
 use Rattle.turns.proofs.Ruled.{of_ruled}
-use Rattle.turns.specs.Ruling.{has_place_in_turn, obeyed_by, recorded}
+use Rattle.turns.specs.Ruling.{has_place_in_turn, obeyed_by}
 
 -- by the presidency of a company, where it moves from this seat, if any has it
 successor_grows : (seats : ℕ) (events : List Event) (company : Company) (old : Option Seat) →
     GrowsPlainly is_still events (with_successor seats events company old)
-successor_grows seats events company None = stays events
+successor_grows seats events company None = stays
 successor_grows seats events company (Some old) =
-    let new : Seat = successor_of seats events company old in
-    in_either events events (events ++ event.President company new ∷ []) (new.0 == old.0) (stays events)
-    (by_one_event events (event.President company new) refl)
+    in_either ((successor_of seats events company old).0 == old.0) stays
+    (by_one_event events (event.President company (successor_of seats events company old)) refl)
 
 -- by a presidency that moves
 president_grows : (seats : ℕ) (events : List Event) (company : Company) →
     GrowsPlainly is_still events (with_president seats events company)
 president_grows seats events company = successor_grows seats events company (president_of events company)
 
--- by the float of a company with this par value
-floated_grows : (seats : ℕ) (events : List Event) (company : Company) (par : ℕ) →
-    GrowsPlainly is_still events (floated_at seats events company par)
-floated_grows seats events company par =
-    further events (events ++ event.Floats company (10 * par) ∷ []) _
-    (by_one_event events (event.Floats company (10 * par)) refl)
-    (broken_grows seats (events ++ event.Floats company (10 * par) ∷ []))
-
 -- by a float
 float_grows : (seats : ℕ) (events : List Event) (company : Company) →
     GrowsPlainly is_still events (with_float seats events company)
 float_grows seats events company =
-    in_either events (floated_at seats events company (unwrap_or (par_of events company) 0)) events
-    (is_to_float events company)
-    (floated_grows seats events company (unwrap_or (par_of events company) 0)) (stays events)
+    in_either (is_to_float events company)
+    (by_one_event events (event.Floats company (10 * unwrap_or (par_of events company) 0)) refl ⨾ broken_grows seats _)
+    stays
 
 -- by the move of a token from this square, if it is on one
 pub token_grows : (move : Square → Square) (events : List Event) (company : Company) (square : Option Square) →
     GrowsPlainly is_still events (moved_from move events company square)
-token_grows move events company None = stays events
+token_grows move events company None = stays
 token_grows move events company (Some square) =
-    in_either events events (events ++ event.Moves company (move square) ∷ []) (same_square (move square) square)
-    (stays events)
+    in_either (same_square (move square) square) stays
     (by_one_event events (event.Moves company (move square)) refl)
 
 -- by a purchase
 purchase_grows : (seats : ℕ) (events : List Event) (seat : Seat) (company : Company) (from : ShareSource) →
     GrowsPlainly is_still events (after_purchase seats events seat company from)
 purchase_grows seats events seat company from =
-    let paid : List Event = bought events seat company from in
-    let presided : List Event = with_president seats paid company in
-    further events paid _ (record { more = _; longer = refl; aside = refl })
-    (further paid presided _ (president_grows seats paid company) (float_grows seats presided company))
+    by_one_event events _ refl ⨾ president_grows seats (bought events seat company from) company
+    ⨾ float_grows seats _ company
 
 -- by a sale
 pub sale_grows : (seats : ℕ) (events : List Event) (seat : Seat) (company : Company) (shares : ℕ) →
     GrowsPlainly is_still events (after_sale seats events seat company shares)
 sale_grows seats events seat company shares =
-    let sale_recorded : List Event = events ++ event.Sells company seat shares (shares * market_price_of events company)
-    ∷ [] in
     let paid : List Event = sold seats events seat company shares in
     let presided : List Event = with_president seats paid company in
-    further events sale_recorded _ (record { more = _; longer = refl; aside = refl })
-    (further sale_recorded paid _ (broken_grows seats sale_recorded)
-    (further paid presided _ (president_grows seats paid company)
-    (token_grows (fallen shares) presided company (square_of presided company))))
+    by_one_event events (event.Sells company seat shares (shares * market_price_of events company)) refl
+    ⨾ broken_grows seats _ ⨾ president_grows seats paid company
+    ⨾ token_grows (fallen shares) presided company (square_of presided company)
 
 -- by an exchange
 exchange_grows : (seats : ℕ) (events : List Event) (seat : Seat) →
     GrowsPlainly is_still events (after_exchange seats events seat)
 exchange_grows seats events seat =
-    let done : List Event = exchanged events seat in
-    let presided : List Event = with_president seats done NewYorkCentral in
-    further events done _ (by_one_event events (event.Exchanged seat (exchange_source events)) refl)
-    (further done presided _ (president_grows seats done NewYorkCentral) (float_grows seats presided NewYorkCentral))
+    by_one_event events (event.Exchanged seat (exchange_source events)) refl
+    ⨾ president_grows seats (exchanged events seat) NewYorkCentral ⨾ float_grows seats _ NewYorkCentral
 
 -- by an order that was obeyed
 act_grows : (seats : ℕ) (seat : Seat) (events : List Event) (done : Order) →
@@ -117,16 +100,7 @@ act_grows seats seat events (order.Par company price) = record { more = _; longe
 act_grows seats seat events (order.BuyShare company from) = purchase_grows seats events seat company from
 act_grows seats seat events (order.Sell company shares) = sale_grows seats events seat company shares
 act_grows seats seat events order.ExchangeMohawk = exchange_grows seats events seat
-act_grows seats seat events other = stays events
-
--- by a line of a turn whose order is done
-done_grows : (seats : ℕ) (seat : Seat) (turn : InTurn) (number : ℕ) (condition : Option Condition) (done : Order) →
-    GrowsStill turn.events (after_ruling seats seat turn number (ruling.Obeyed condition done)).events
-done_grows seats seat turn number condition done =
-    let ruled : List Event = recorded seat number (ruling.Obeyed condition done) turn.events in
-    further turn.events ruled (after_act seats seat ruled done)
-    (by_one_event turn.events (event.Ruled seat number (ruling.Obeyed condition done)) refl)
-    (passes_test is_still ruled (after_act seats seat ruled done) (act_grows seats seat ruled done))
+act_grows seats seat events other = stays
 
 -- by a line of a turn
 line_grows : (seats : ℕ) (seat : Seat) (turn : InTurn) (line : Numbered) →
@@ -134,24 +108,21 @@ line_grows : (seats : ℕ) (seat : Seat) (turn : InTurn) (line : Numbered) →
 line_grows seats seat turn line =
     of_ruled (acted seats seat) (refusal_of seats turn.events seat turn.actions.bought) seat turn line.number
     (λ (after : InTurn). GrowsStill turn.events after.events)
-    (λ (ruled : Ruling) (none : obeyed_by ruled ≡ None). by_one_event turn.events (event.Ruled seat line.number ruled)
-    refl) (λ (condition : Option Condition) (done : Order)
+    (λ (ruled : Ruling) (none : obeyed_by ruled ≡ None).
+    by_one_event turn.events (event.Ruled seat line.number ruled) refl)
+    (λ (condition : Option Condition) (done : Order)
     (kept : refusal_of seats turn.events seat turn.actions.bought done ≡ None).
-    done_grows seats seat turn line.number condition done)
+    by_one_event turn.events (event.Ruled seat line.number (ruling.Obeyed condition done)) refl
+    ⨾ passes_test is_still (act_grows seats seat _ done))
     has_place_in_turn turn.events line
 
--- by the rise of a company that is sold out
-rise_grows : (events : List Event) (company : Company) → GrowsPlainly is_still events (risen events company)
-rise_grows events company =
-    in_either events (moved_from up_of events company (square_of events company)) events (is_sold_out events company)
-    (token_grows up_of events company (square_of events company)) (stays events)
-
--- by that of some companies
+-- by the rises of companies that are sold out
 rises_grow : (events : List Event) (companies : List Company) →
     GrowsPlainly is_still events (all_risen events companies)
-rises_grow events [] = stays events
+rises_grow events [] = stays
 rises_grow events (company ∷ others) =
-    further events (risen events company) _ (rise_grows events company) (rises_grow (risen events company) others)
+    in_either (is_sold_out events company) (token_grows up_of events company (square_of events company)) stays
+    ⨾ rises_grow (risen events company) others
 
 -- a stock round adds its own ROUND event, and then events that are still
 pub stock_round_still : (file : List ℕ) (round : Round) (old new : Game) → IsStockRound file round old new →
@@ -159,23 +130,15 @@ pub stock_round_still : (file : List ℕ) (round : Round) (old new : Game) → I
 stock_round_still =
     round_leads stock_rules GrowsStill
     (record {
-      stays = stays;
-      further = further;
-      standing = λ seat events line. by_one_event events (event.Ruled seat line.number
-          (ruling.Faulty (fault_of_standing line.reading))) refl;
+      stays = λ events. stays;
+      further = λ a b c one two. one ⨾ two;
+      standing = λ seat events line. by_one_event events
+          (event.Ruled seat line.number (ruling.Faulty (fault_of_standing line.reading))) refl;
       line = line_grows;
       passes = λ events seat. by_one_event events (event.Passes seat) refl;
-      closed = λ seats events.
-          let order : List Company = operating_order_of events in
-          passes_test is_still events (all_risen events order) (rises_grow events order);
+      closed = λ seats events. passes_test is_still (rises_grow events (operating_order_of events));
       leaves = λ events seat lines. by_one_event events (event.Left seat lines) refl;
     })
-
--- so they stand aside
-pub stock_round_grows : (file : List ℕ) (round : Round) (old new : Game) → IsStockRound file round old new →
-    Grows (old.events ++ event.Round round ∷ []) new.events
-stock_round_grows file round old new played =
-    still_is_aside (old.events ++ event.Round round ∷ []) new.events (stock_round_still file round old new played)
 
 -- a line without a condition adds but plain events, and so does the close
 pub stock_adds : AddsPlain stock_rules
@@ -185,13 +148,10 @@ stock_adds =
           recorded_plain seat line.number (ruling.Faulty (fault_of_standing line.reading)) events refl;
       line = λ seats seat turn line plain.
           ruled_plain (acted seats seat)
-          (λ at done. passes_plain is_still at.events (after_act seats seat at.events done)
-          (act_grows seats seat at.events done))
+          (λ at done. passes_plain is_still (act_grows seats seat at.events done))
           seat turn line.number (ruling_in seats seat turn line)
           (ruling_plain has_place_in_turn (refusal_of seats turn.events seat turn.actions.bought) turn.events line
           plain (λ its. of_mapped refusal.Stock (λ rule. tt)
           (judgement_of seats turn.events seat turn.actions.bought its)));
-      closed = λ seats events.
-          let order : List Company = operating_order_of events in
-          passes_plain is_still events (all_risen events order) (rises_grow events order);
+      closed = λ seats events. passes_plain is_still (rises_grow events (operating_order_of events));
     }

@@ -1,4 +1,4 @@
-use Rattle.rounds.proofs.StepsBroken.{broken_steps}
+use Rattle.rounds.proofs.StepByStep.{broken_steps}
 use Rattle.rounds.proofs.call_laws.broken_steps_call_a_broken_game.Goals as goal
 
 pub returns : goal.returns

@@ -1,4 +1,4 @@
-use Rattle.rounds.proofs.CallsNamed.{calls_named}
+use Rattle.rounds.proofs.Calls.{calls_named}
 use Rattle.rounds.proofs.call_laws.calls_are_named.Goals as goal
 
 pub returns : goal.returns

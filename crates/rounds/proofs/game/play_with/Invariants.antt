@@ -1,5 +1,6 @@
-use Rattle.std.proofs.Common.{◌≡◌, ℕ, Ok, Result}
+use Rattle.std.proofs.Common.{ℕ, Result}
 use Rattle.operating.specs.Calls.{Makes, SomeTimesThen, Unasked}
+use Rattle.rounds.proofs.StepByStep.{IsAt}
 use Rattle.rounds.specs.GameCalls.{GameCalls, RoundCalls, Stops}
 use Rattle.rounds.specs.Play.{AreRounds, Between, Played, before_play}
 use Rattle.rounds.specs.Steps.{places_ahead}
@@ -10,9 +11,8 @@ use Rattle.rounds.proofs.game.play_with.Given as goal
 -- some rounds have led here; the calls of the rounds from here, after those so far, are those of
 -- the game
 pub record Playing (g : goal.Over) (l : goal.Live-loop-play g) : Type 0 where
-  pub file : l.play.file ≡ l.sheets
   pub here : Between
-  pub there : l.play.there ≡ Ok here
+  pub stands : IsAt l.sheets here l.play
   pub rounds : ℕ
   pub reached : AreRounds l.sheets rounds (before_play l.sheets) here
   pub calls :

@@ -1,4 +1,4 @@
-use Rattle.rounds.proofs.Tiles.{tiles_are_there}
+use Rattle.rounds.proofs.EachGame.{tiles_are_there}
 use Rattle.rounds.proofs.laws.all_tiles_are_there_in_each_game.Goals as goal
 
 pub returns : goal.returns

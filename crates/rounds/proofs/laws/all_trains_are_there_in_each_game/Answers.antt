@@ -1,4 +1,4 @@
-use Rattle.rounds.proofs.Trains.{trains_are_there}
+use Rattle.rounds.proofs.EachGame.{trains_are_there}
 use Rattle.rounds.proofs.laws.all_trains_are_there_in_each_game.Goals as goal
 
 pub returns : goal.returns

@@ -1,4 +1,4 @@
-use Rattle.rounds.proofs.Arrival.{arrival_no_game}
+use Rattle.rounds.proofs.ReadAlike.{arrival_no_game}
 use Rattle.rounds.proofs.laws.arrival_changes_no_game.Goals as goal
 
 pub returns : goal.returns

@@ -1,4 +1,4 @@
-use Rattle.rounds.proofs.Bids.{bids_rise}
+use Rattle.rounds.proofs.EachGame.{bids_rise}
 use Rattle.rounds.proofs.laws.bids_rise_in_each_game.Goals as goal
 
 pub returns : goal.returns

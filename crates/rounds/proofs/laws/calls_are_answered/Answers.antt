@@ -1,4 +1,4 @@
-use Rattle.rounds.proofs.Answered.{games_answered, steps_answered}
+use Rattle.rounds.proofs.Calls.{games_answered, steps_answered}
 use Rattle.rounds.proofs.laws.calls_are_answered.Goals as goal
 
 pub returns-clause-games : goal.returns-clause-games

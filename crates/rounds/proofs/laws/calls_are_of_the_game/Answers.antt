@@ -1,4 +1,4 @@
-use Rattle.rounds.proofs.Called.{of_the_game}
+use Rattle.rounds.proofs.Calls.{of_the_game}
 use Rattle.rounds.proofs.laws.calls_are_of_the_game.Goals as goal
 
 pub returns : goal.returns

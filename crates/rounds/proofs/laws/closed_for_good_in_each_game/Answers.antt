@@ -1,4 +1,4 @@
-use Rattle.rounds.proofs.Closings.{closed_for_good}
+use Rattle.rounds.proofs.EachGame.{closed_for_good}
 use Rattle.rounds.proofs.laws.closed_for_good_in_each_game.Goals as goal
 
 pub returns : goal.returns

@@ -1,4 +1,4 @@
-use Rattle.rounds.proofs.Causal.{later_nothing}
+use Rattle.rounds.proofs.ReadAlike.{later_nothing}
 use Rattle.rounds.proofs.laws.later_sheets_change_nothing.Goals as goal
 
 pub returns : goal.returns

@@ -1,4 +1,4 @@
-use Rattle.rounds.proofs.OneCalled.{one_list}
+use Rattle.rounds.proofs.Calls.{one_list}
 use Rattle.rounds.proofs.laws.one_list_of_calls.Goals as goal
 
 pub returns : goal.returns

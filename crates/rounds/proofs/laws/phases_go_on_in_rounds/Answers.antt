@@ -1,4 +1,4 @@
-use Rattle.rounds.proofs.Trains.{phases_go_on}
+use Rattle.rounds.proofs.EachGame.{phases_go_on}
 use Rattle.rounds.proofs.laws.phases_go_on_in_rounds.Goals as goal
 
 pub returns : goal.returns

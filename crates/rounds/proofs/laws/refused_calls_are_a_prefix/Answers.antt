@@ -1,4 +1,4 @@
-use Rattle.rounds.proofs.OneCalled.{a_prefix}
+use Rattle.rounds.proofs.Calls.{a_prefix}
 use Rattle.rounds.proofs.laws.refused_calls_are_a_prefix.Goals as goal
 
 pub returns : goal.returns

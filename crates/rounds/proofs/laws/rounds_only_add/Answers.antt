@@ -1,4 +1,4 @@
-use Rattle.rounds.proofs.GoingOn.{round_adds}
+use Rattle.rounds.proofs.InOrder.{round_adds}
 use Rattle.rounds.proofs.laws.rounds_only_add.Goals as goal
 
 pub returns : goal.returns

@@ -1,4 +1,4 @@
-use Rattle.rounds.proofs.StockExample.{second_plays}
+use Rattle.rounds.proofs.Example.{second_plays}
 use Rattle.rounds.proofs.laws.second_example.Goals as goal
 
 pub returns : goal.returns

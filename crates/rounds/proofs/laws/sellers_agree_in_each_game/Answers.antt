@@ -1,4 +1,4 @@
-use Rattle.rounds.proofs.Closings.{sellers_agree}
+use Rattle.rounds.proofs.EachGame.{sellers_agree}
 use Rattle.rounds.proofs.laws.sellers_agree_in_each_game.Goals as goal
 
 pub returns : goal.returns

@@ -1,4 +1,4 @@
-use Rattle.rounds.proofs.Called.{game_called, some_called}
+use Rattle.rounds.proofs.Calls.{game_called, some_called}
 use Rattle.rounds.proofs.laws.some_calls.Goals as goal
 
 pub returns-clause-each : goal.returns-clause-each

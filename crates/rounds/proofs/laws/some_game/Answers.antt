@@ -1,4 +1,4 @@
-use Rattle.rounds.proofs.Ending.{some_game_accepted}
+use Rattle.rounds.proofs.OneGame.{some_game_accepted}
 use Rattle.rounds.proofs.laws.some_game.Goals as goal
 
 pub returns : goal.returns

@@ -1,4 +1,4 @@
-use Rattle.rounds.proofs.CallsJoined.{call_the_game}
+use Rattle.rounds.proofs.StepByStep.{call_the_game}
 use Rattle.rounds.proofs.laws.steps_call_the_game.Goals as goal
 
 pub returns : goal.returns

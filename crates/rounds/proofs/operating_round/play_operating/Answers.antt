@@ -3,8 +3,8 @@ use Rattle.std.proofs.lemmas.Result.{err_from_is_err_and}
 use Rattle.totals.specs.LookBack.{Game}
 use Rattle.operating.proofs.Calls.{broken_off}
 use Rattle.operating.specs.Calls.{Makes, Unasked}
-use Rattle.rounds.proofs.Called.{turns_followed, turns_of_round}
-use Rattle.rounds.proofs.WholeOperatingRound.{round_opened, whole_round}
+use Rattle.rounds.proofs.Calls.{turns_followed, turns_of_round}
+use Rattle.rounds.proofs.CompanyTurns.{round_opened, whole_round}
 use Rattle.rounds.specs.GameCalls.{IsFinished, OperatingCalls, TurnsCall}
 use Rattle.rounds.specs.declared.fault.PlayFault.{PlayFault}
 use Rattle.rounds.specs.declared.fault.PlayFault.TheVariants.{Memory}

@@ -1,5 +1,5 @@
 use Rattle.std.proofs.Common.{◌<◌, length, rules, ◌∙◌}
-use Rattle.rounds.proofs.WholeOperatingRound.{as_many_ruled, left_goes_on}
+use Rattle.rounds.proofs.CompanyTurns.{as_many_ruled, left_goes_on}
 use Rattle.sheets.specs.File.{players_of}
 use Rattle.rounds.proofs.operating_round.record_all_left.Goals as goal
 
