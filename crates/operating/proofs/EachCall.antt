@@ -14,7 +14,8 @@ use Rattle.operating.specs.CompanyOrders.{is_held}
 use Rattle.operating.specs.RunBest.{best_judgement}
 use Rattle.operating.specs.Turn.{begun}
 use Rattle.operating.specs.TurnState.{TurnState}
-use Rattle.operating.specs.TurnCalls.{AskedCalls, Asks, BegunCalls, BestCalls, CompanyOrdersCall, EndCalls, IsCredited, LineCalls}
+use Rattle.operating.specs.TurnCalls.{AskedCalls, Asks, BegunCalls, BestCalls, CompanyOrdersCall}
+use Rattle.operating.specs.TurnCalls.{EndCalls, IsCredited, LineCalls}
 use Rattle.operating.specs.TurnCalls.{LinesCall, OrderCalls, ReadingCalls, TurnCalls, asked}
 use Rattle.forced_purchase.specs.declared.operator.Operator.{Operator}
 use Rattle.order_grammar.specs.declared.fault.Fault.{Fault}
@@ -46,7 +47,8 @@ module _ (P : Call → Type 0) where
   of_unasked memory leads from to calls course = of_none calls course.1
 
   -- of one course after another
-  pub of_then : {A B C F : Type 0} (first : Course A B F) (second : Course B C F) → HoldsOfEach first
+  pub of_then : {A B C F : Type 0} (first : Course A B F) (second : Course B C F) → HoldsOfEach
+      first
       → HoldsOfEach second → HoldsOfEach (Then first second)
   of_then first second one other from to calls course =
       elim course [
@@ -74,14 +76,17 @@ module _ (P : Call → Type 0) (round : Round)
       (each company events revenue, tt) in
       subst (AllByRecursion P) (sym is.1) all
 
-  of_best : (by : Operator) (line : Numbered) (rule : Option RunRule) → HoldsOfEach P (BestCalls by round line rule)
+  of_best : (by : Operator) (line : Numbered) (rule : Option RunRule) → HoldsOfEach P (BestCalls by
+      round line rule)
   of_best by line (Some rule) turn to calls course = of_none P calls course.1
   of_best by line None turn to calls course =
-      of_then P (Asks by.company round) (Unasked Memory (IsCredited by turn line)) (of_asks by.company)
+      of_then P (Asks by.company round) (Unasked Memory (IsCredited by turn line))
+      (of_asks by.company)
       (of_unasked P Memory (IsCredited by turn line)) turn.game.events to calls course
 
   -- of an order, whose condition is checked
-  of_order : (by : Operator) (line : Numbered) (order : Order) → HoldsOfEach P (OrderCalls by round line order)
+  of_order : (by : Operator) (line : Numbered) (order : Order) → HoldsOfEach P (OrderCalls by round
+      line order)
   of_order by line order turn to calls course =
       elim course [
         | inl best ↦ of_best by line (best_judgement turn by.company) turn to calls best.1
@@ -111,7 +116,8 @@ module _ (P : Call → Type 0) (round : Round)
       → HoldsOfEach P (CompanyOrdersCall file round company president)
   of_orders file company None turn to calls course = of_none P calls course.1
   of_orders file company (Some seat) turn to calls course =
-      of_lines (record { company = company; president = seat }) (company_orders_for file round seat.0 company) turn to
+      of_lines (record { company = company; president = seat }) (company_orders_for file round
+      seat.0 company) turn to
       calls course
 
   -- of a turn
@@ -121,5 +127,7 @@ module _ (P : Call → Type 0) (round : Round)
       of_then P (Unasked Memory (λ (game : Game) (turn : TurnState). turn ≡ begun game company))
       (BegunCalls file round company president)
       (of_unasked P Memory (λ (game : Game) (turn : TurnState). turn ≡ begun game company))
-      (of_then P (CompanyOrdersCall file round company president) (EndCalls file round company president)
-      (of_orders file company president) (λ last new calls end. of_none P calls end.1)) old to calls course
+      (of_then P (CompanyOrdersCall file round company president) (EndCalls file round company
+      president)
+      (of_orders file company president) (λ last new calls end. of_none P calls end.1)) old to calls
+      course

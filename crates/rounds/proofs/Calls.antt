@@ -179,7 +179,8 @@ is_played file (Operating set number) old new calls course =
     operating_played file (Operating set number) old new calls course
 
 -- so is a round between others
-pub is_round : (file : List ℕ) (old new : Between) (calls : List Call) → RoundCalls file old (Ok new) calls
+pub is_round : (file : List ℕ) (old new : Between) (calls : List Call) → RoundCalls file old
+    (Ok new) calls
     → IsRound file old new
 is_round file old new calls course =
     elim course.2 [
@@ -217,10 +218,13 @@ module _ (some : SomeTurnCalls) (file : List ℕ) where
   turns_called round [] old new turns over =
       no_more AnyRunner (NextCalls file round) (Unasked Memory AreOver) old (Ok new) tt tt
       (silent AnyRunner Memory AreOver old new tt tt
-      (record { none = ap (λ (game : Game). next_company game.events) turns ∙ over; stays = sym turns }) refl)
+      (record
+      { none = ap (λ (game : Game). next_company game.events) turns ∙ over; stays = sym turns })
+      refl)
   turns_called round (company ∷ others) old new turns over =
       let first = some file round company old turns.0 turns.1.turn in
-      once_more AnyRunner (NextCalls file round) (Unasked Memory AreOver) old turns.0 (Ok new) tt tt tt
+      once_more AnyRunner (NextCalls file round) (Unasked Memory AreOver) old turns.0 (Ok new) tt tt
+      tt
       (first.0, (company, turns.1.is_next, first.1), all_made first.0)
       (turns_called round others turns.0 new turns.2 over)
 
@@ -230,11 +234,13 @@ module _ (some : SomeTurnCalls) (file : List ℕ) where
   operating_called round old new played =
       let start : Game = opened file round old in
       let turned : Game = played.turned in
-      let turns = turns_called round played.turns.companies start turned played.turns.turns played.turns.over_then in
+      let turns = turns_called round played.turns.companies start turned played.turns.turns
+      played.turns.over_then in
       let seats : turned.seats ≡ old.seats =
       (turns_lead file round turns.1.0 start turned turns.0 turns.1.1).1 in
       let after : new ≡ record { seats = turned.seats; events = finished file round turned.seats turned.events } =
-      played.after ∙ ap (λ (n : ℕ). record { seats = n; events = finished file round n turned.events }) (sym seats) in
+      played.after ∙ ap (λ (n : ℕ). record
+      { seats = n; events = finished file round n turned.events }) (sym seats) in
       turns_of_round AnyRunner file round old start (Ok new) tt tt refl
       (turns_followed AnyRunner file round start turned (Ok new) tt tt turns (after, refl))
 
@@ -243,23 +249,29 @@ module _ (some : SomeTurnCalls) (file : List ℕ) where
       AreSome (PlayedCalls file round old (Ok new))
   played_called (Opening number) old new played = ([], (played, refl), refl)
   played_called (Stock set) old new played = ([], (played, refl), refl)
-  played_called (Operating set number) old new played = operating_called (Operating set number) old new played
+  played_called (Operating set number) old new played = operating_called (Operating set number) old
+      new played
 
   -- so do rounds before others that do
-  rounds_called : (rounds : ℕ) (old mid : Between) (played : Played) → AreRounds file rounds old mid →
+  rounds_called : (rounds : ℕ) (old mid : Between) (played : Played) → AreRounds file rounds old
+      mid →
       AreSome (SomeTimesThen (RoundCalls file) (Unasked Memory (Stops file)) mid (Ok played)) →
       AreSome (SomeTimesThen (RoundCalls file) (Unasked Memory (Stops file)) old (Ok played))
   rounds_called zero old mid played rounds later =
-      subst (λ (at : Between). AreSome (SomeTimesThen (RoundCalls file) (Unasked Memory (Stops file)) at (Ok played)))
+      subst (λ (at : Between). AreSome (SomeTimesThen (RoundCalls file) (Unasked Memory
+      (Stops file)) at (Ok played)))
       (sym rounds) later
   rounds_called (suc rounds) old mid played are later =
       let last : IsRound file are.0 mid = are.2 in
       let course =
-      round_on AnyRunner file last.round are.0 mid tt tt (record { comes = last.comes; posted = last.posted })
-      (after_round last.round are.0.in_set mid.in_set mid.next mid.game last.next_then last.in_set_then)
+      round_on AnyRunner file last.round are.0 mid tt tt
+      (record { comes = last.comes; posted = last.posted })
+      (after_round last.round are.0.in_set mid.in_set mid.next mid.game last.next_then
+      last.in_set_then)
       (played_called last.round are.0.game mid.game last.played) in
       rounds_called rounds old are.0 played are.1
-      (once_more AnyRunner (RoundCalls file) (Unasked Memory (Stops file)) are.0 mid (Ok played) tt tt tt course later)
+      (once_more AnyRunner (RoundCalls file) (Unasked Memory (Stops file)) are.0 mid (Ok played) tt
+      tt tt course later)
 
 -- and so does each game
 pub game_called : SomeTurnCalls → EachGameCalls
@@ -271,9 +283,11 @@ game_called some played game =
     } =
     λ i. record { file = played.file; game = game.game i; end = game.end i }
     in
-    let all = rounds_called some played.file game.plays.rounds (before_play played.file) game.last played
+    let all = rounds_called some played.file game.plays.rounds (before_play played.file) game.last
+    played
     game.plays.reached
-    (no_more AnyRunner (RoundCalls played.file) (Unasked Memory (Stops played.file)) game.last (Ok played) tt tt
+    (no_more AnyRunner (RoundCalls played.file) (Unasked Memory (Stops played.file)) game.last
+    (Ok played) tt tt
     (silent AnyRunner Memory (Stops played.file) game.last played tt tt
     (record { stopped = game.plays.stopped; game = is }) refl)) in
     (all.0, all.1)
@@ -328,7 +342,8 @@ of_the_game file played calls course =
 
 -- it holds of each call that succeeds in a turn in this round
 abbrev OfAsked : (Call → Type 0) → Round → Type 0
-OfAsked P round = (company : Company) (events : List Event) (revenue : ℕ) → P (asked company round events (Ok (pos revenue)))
+OfAsked P round = (company : Company) (events : List Event) (revenue : ℕ) → P (asked company round
+    events (Ok (pos revenue)))
 
 module _ (P : Call → Type 0) (file : List ℕ) where
   -- so of those of an operating round
@@ -354,7 +369,8 @@ module _ (P : Call → Type 0) (file : List ℕ) where
   of_round : (old new : Between) (calls : List Call) (course : RoundCalls file old (Ok new) calls) →
       OfAsked P course.0 → AllByRecursion P calls
   of_round old new calls course each =
-      let Leads : Game → Between → Type 0 = λ game to. to ≡ between_after course.0 old.in_set game in
+      let Leads : Game → Between → Type 0 = λ game to. to ≡ between_after course.0 old.in_set
+      game in
       of_then P (PlayedCalls file course.0) (Unasked Memory Leads) (of_played course.0 each)
       (of_unasked P Memory Leads) old.game new calls course.2
 
@@ -363,7 +379,8 @@ module _ (P : Call → Type 0) (file : List ℕ) where
       ((old : Between) (round : Round) → At old → IsToPlay file old.next round → OfAsked P round) →
       ((old new : Between) → At old → IsRound file old new → At new) →
       (times : ℕ) (old : Between) (played : Played) (calls : List Call) → At old →
-      TimesThen times (RoundCalls file) (Unasked Memory (Stops file)) old (Ok played) calls → AllByRecursion P calls
+      TimesThen times (RoundCalls file) (Unasked Memory (Stops file)) old (Ok played) calls →
+      AllByRecursion P calls
   of_rounds At each on zero old played calls at course = of_none P calls course.1
   of_rounds At each on (suc times) old played calls at course =
       elim course [
@@ -371,15 +388,18 @@ module _ (P : Call → Type 0) (file : List ℕ) where
         | inr joins ↦
             subst (AllByRecursion P) (sym joins.all)
             (of_both P joins.earlier joins.later
-            (of_round old joins.between joins.earlier joins.leads (each old joins.leads.0 at joins.leads.1))
+            (of_round old joins.between joins.earlier joins.leads (each old joins.leads.0 at
+            joins.leads.1))
             (of_rounds At each on times joins.between played joins.later
-            (on old joins.between at (is_round file old joins.between joins.earlier joins.leads)) joins.goes_on))
+            (on old joins.between at (is_round file old joins.between joins.earlier joins.leads))
+            joins.goes_on))
       ]
 
 -- each call of a game succeeds
 pub games_answered : GamesAreAnswered
 games_answered file played calls course =
-    of_rounds (λ call. IsOk call.answer) file (λ there. Unit) (λ old round at to_play company events revenue. refl)
+    of_rounds (λ call. IsOk call.answer) file (λ there. Unit) (λ old round at to_play company events
+    revenue. refl)
     (λ old new at round. tt) course.0 (before_play file) played calls tt course.1
 
 -- and each of a step
@@ -422,11 +442,13 @@ first_from_one : (file : List ℕ) → ComesFromOne (before_play file)
 first_from_one file round comes = subst AreFromOne (comes_once (Opening 1) round comes) (omega arith)
 
 -- and after each that was played
-from_one_then : (file : List ℕ) (old new : Between) → ComesFromOne old → IsRound file old new → ComesFromOne new
+from_one_then : (file : List ℕ) (old new : Between) → ComesFromOne old → IsRound file old new →
+    ComesFromOne new
 from_one_then file old new from round later comes =
     let sold = all_sold new.game.events in
     let broken = broken_in new.game.events in
-    of_coming AreFromOne (following round.round old.in_set sold broken) later (follows file old new later round comes)
+    of_coming AreFromOne (following round.round old.in_set sold broken) later (follows file old new
+    later round comes)
     (next_from_one round.round old.in_set sold broken (from round.round round.comes))
 
 -- so all calls of a game are for rounds that a line can name
@@ -438,7 +460,11 @@ calls_named numbered players file played calls accepted course =
     (λ old round at to_play company events revenue.
     named round (at.0 round to_play.comes) (posted_small numbered file round some to_play.posted)
     (in_any_set round old.in_set (at.1 round to_play.comes)))
-    (λ old new at round. (from_one_then file old new at.0 round, round_in_set file old new at.1 round))
+    (λ old new at round. (
+      from_one_then file old new at.0 round,
+      round_in_set file old new at.1
+          round,
+    ))
     course.0 (before_play file) played calls (first_from_one file, first_is_in_set file) course.1
 
 -- a fault of play says why a call failed, and for whom

@@ -41,7 +41,8 @@ after_operating P set number in_set all_sold broken goes_on ends =
     refl
 
 -- what holds after each round, if it did before it, holds after all
-pub through : (file : List ℕ) (P : Between → Type 0) → ((old new : Between) → P old → IsRound file old new → P new)
+pub through : (file : List ℕ) (P : Between → Type 0) → ((old new : Between) → P old → IsRound file
+    old new → P new)
     → (rounds : ℕ) (old new : Between) → AreRounds file rounds old new → P old → P new
 through file P each zero old new played holds = subst P played holds
 through file P each (suc rounds) old new played holds =

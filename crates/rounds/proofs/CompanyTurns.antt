@@ -62,14 +62,17 @@ abbrev pub OperatedToo : Company → (Company → Bool) → (Company → Bool) �
 OperatedToo company before after = (other : Company) → after other ≡ (before other || same_company company other)
 
 -- one that operates now is idle no more, and others are as before
-one_counted : (after before same : Bool) → after ≡ (before || same) → (same ≡ true → before ≡ false) →
+one_counted : (after before same : Bool) → after ≡ (before || same) → (same ≡ true → before ≡
+    false) →
     ◌≡◌ {A = ℕ} ((if after then 0 else 1) + (if same then 1 else 0)) (if before then 0 else 1)
 one_counted after before same is idle = grind arith
 
-module _ (company : Company) (before after : Company → Bool) (too : OperatedToo company before after)
+module _ (company : Company) (before after : Company → Bool) (too : OperatedToo company before
+    after)
     (idle : before company ≡ false) where
   -- so as many fewer are idle as it is among them
-  fewer_idle_in : (them : List Company) → idle_in after them + times company them ≡ idle_in before them
+  fewer_idle_in : (them : List Company) → idle_in after them + times company them ≡ idle_in before
+      them
   fewer_idle_in [] = refl
   fewer_idle_in (other ∷ others) =
       let one = one_counted (after other) (before other) (same_company other company)
@@ -83,7 +86,12 @@ pub fewer_idle : (company : Company) (old new : List Event)
     → idle_of new < idle_of old
 unfolding idle_of
 fewer_idle company old new too idle =
-    omega (arith, in_roster company, fewer_idle_in company (has_operated old) (has_operated new) too idle companies)
+    omega (
+      arith,
+      in_roster company,
+      fewer_idle_in company (has_operated old) (has_operated new) too
+          idle companies,
+    )
 
 -- no more are idle than there are
 idle_in_few : (operated : Company → Bool) (them : List Company) → idle_in operated them ≤ length them
@@ -327,9 +335,11 @@ operate_once operates_too ordered file round old new played =
     let start : Game = opened file round old in
     let companies : List Company = played.turns.companies in
     let turned : Game = played.turned in
-    let count : (company : Company) → times company companies ≡ (if has_operated turned.events company then 1 else 0) =
+    let count : (company : Company) → times company companies ≡ (if has_operated turned.events
+    company then 1 else 0) =
     λ company.
-    let none = ap count_of (no_one_yet old.events start.events round company (opened_grows file round old)) in
+    let none = ap count_of (no_one_yet old.events start.events round company (opened_grows file
+    round old)) in
     omega (arith, none, turns_taken operates_too ordered file round companies start turned company played.turns.turns)
     in
     record {
@@ -342,7 +352,8 @@ operate_once operates_too ordered file round old new played =
       no_second = λ company. at_most_one (has_operated turned.events company) (times company companies) (count company);
       no_one_missed =
           λ solvent company operating.
-          count company ∙ ap count_of (all_have_operated ordered turned.events company solvent played.turns.over_then
+          count company ∙ ap count_of (all_have_operated ordered turned.events company solvent
+          played.turns.over_then
           operating);
     }
 
@@ -385,13 +396,19 @@ whole_round file round old paid turned new players is_paid lead turned_seats new
 -- a count of lines that were left adds no ruling
 count_adds_none : RulingsAreCounted → (none : Bool) (events : List Event) (left : Seat) (count : ℕ) (seat : Seat)
     → rulings_in_round (events ++ (if none then [] else event.Left left count ∷ [])) seat ≡ rulings_in_round events seat
-count_adds_none counted none events left count seat = grind (arith, append-nil events, counted events (event.Left left count) seat)
+count_adds_none counted none events left count seat = grind (
+  arith,
+  append-nil events,
+  counted
+      events (event.Left left count) seat,
+)
 
 -- so as many were ruled
 pub as_many_ruled : RulingsAreCounted → (from old new : List Event) (left : Seat) (count : ℕ) (seat : Seat)
     → rulings_in_round old seat ≡ rulings_in_round from seat → new ≡ old ++ with_left left count []
     → rulings_in_round new seat ≡ rulings_in_round from seat
-as_many_ruled counted from old new left count seat before recorded = let none = count_adds_none counted (count == 0) old left count seat in grind (arith, none)
+as_many_ruled counted from old new left count seat before recorded = let none = count_adds_none
+    counted (count == 0) old left count seat in grind (arith, none)
 
 -- the seats that are left begin with the next
 next_seat : (seat total : ℕ) → seat < total → range_with_len seat (total - seat)

@@ -86,7 +86,8 @@ opening_parts seats =
     record {
       same = λ events seated. seated;
       both = λ a b c one two seated. two (one seated);
-      quiet = λ events its quiet. others_seated seats events its (says_still its (and_parts _ _ quiet).0).bids;
+      quiet = λ events its quiet. others_seated seats events its (says_still its (and_parts _ _
+          quiet).0).bids;
       unsold = λ events private unsold. tt;
       sold = λ events private buyer price sells. sale_seated seats events private buyer price;
       bids = λ events private seat amount under. seated_after_bid seats events private seat amount under;
@@ -115,7 +116,8 @@ opening_seated file round old new played some seated =
       line = λ any seat turn line. tested_line seats seat turn line (nat_lt seat.0 seats)
           (λ under. is_under seat.0 seats under);
       passes = λ events seat. others_seated seats events (event.Passes seat) refl;
-      closed = λ any events. of_close (AtTable seats) AnyPrivate (StillSeated seats) (opening_parts seats) seats events;
+      closed = λ any events. of_close (AtTable seats) AnyPrivate (StillSeated seats) (opening_parts
+          seats) seats events;
       leaves = λ events seat lines. others_seated seats events (event.Left seat lines) refl;
     })
     file round old new (by_rules file round old new played some)
@@ -132,7 +134,8 @@ module _ (others : OthersKeepClosed) (sales : SalesKeepClosed) where
       record {
         same = λ events private closed. closed;
         both = λ a b c one two private closed. two private (one private closed);
-        quiet = λ events its quiet. others events its (says_still its (and_parts _ _ quiet).0).names;
+        quiet = λ events its quiet. others events its (says_still its (and_parts _ _
+            quiet).0).names;
         unsold = λ events private unsold. unsold;
         sold = sales;
         bids = λ events private seat amount sits. others events (event.Bids private seat amount) refl;
@@ -142,7 +145,8 @@ module _ (others : OthersKeepClosed) (sales : SalesKeepClosed) where
   of_openings : OfOpenings KeepsClosed
   of_openings =
       of_opening AnySeat Unsold KeepsClosed keeps_closed
-      (λ events seat number ruling. others events (event.Ruled seat number ruling) refl) (λ seat. tt)
+      (λ events seat number ruling. others events (event.Ruled seat number ruling) refl)
+      (λ seat. tt)
 
   -- and each round
   of_rounds : ClosedStaysClosed → (file : List ℕ) (round : Round) (old new : Game) → IsPlayed file round old new →
@@ -161,7 +165,8 @@ module _ (others : OthersKeepClosed) (sales : SalesKeepClosed) where
 pub closed_for_good : OthersKeepClosed → SalesKeepClosed → ClosedStaysClosed → ClosedForGood
 closed_for_good others sales turns file rounds old new private played closed =
     through file (λ at. is_closed at.game.events private ≡ true)
-    (λ from to before round. of_rounds others sales turns file round.round from.game to.game round.played private
+    (λ from to before round. of_rounds others sales turns file round.round from.game to.game
+    round.played private
     before) rounds old new played closed
 
 -- sellers agree in each game
@@ -184,11 +189,13 @@ nothing_found None none = refl
 nothing_found (Some x) none = absurd (cc)
 
 -- so bids still rise with it
-still_rise : (events : List Event) (its : Event) → bidding_of its ≡ None → BidsRise events → BidsRise (events ++ its ∷ [])
+still_rise : (events : List Event) (its : Event) → bidding_of its ≡ None → BidsRise events →
+    BidsRise (events ++ its ∷ [])
 still_rise [] its none rise = (refl, tt)
 still_rise (first ∷ events) its none rise = (
   list_any-append (λ its. is_near_earlier (bidding_of first) (bidding_of its)) events (its ∷ [])
-      ∙ ap (λ (b : Bool). b || list_any (λ its. is_near_earlier (bidding_of first) (bidding_of its)) (its ∷ [])) rise.0
+      ∙ ap (λ (b : Bool). b || list_any (λ its. is_near_earlier (bidding_of first) (bidding_of its))
+      (its ∷ [])) rise.0
       ∙ ap (λ (word : Option Bidding). is_near_earlier (bidding_of first) word || false) none,
   still_rise events its none rise.1,
 )
@@ -199,10 +206,15 @@ record RiseAt (seats : ℕ) (events : List Event) : Type 0 where
   seated : BiddersAreSeated seats events
 
 -- so it is after an event that says nothing of bids
-still_so : (seats : ℕ) (events : List Event) (its : Event) → bidding_of its ≡ None → RiseAt seats events →
+still_so : (seats : ℕ) (events : List Event) (its : Event) → bidding_of its ≡ None → RiseAt seats
+    events →
     RiseAt seats (events ++ its ∷ [])
 still_so seats events its none before =
-    record { rise = still_rise events its none before.rise; seated = others_seated seats events its none before.seated }
+    record {
+      rise = still_rise events its none before.rise;
+      seated = others_seated seats events its
+          none before.seated;
+    }
 
 -- stock rounds and operating rounds grow by those
 rises_on : TurnsSayNoBid → (seats : ℕ) → IsPassedStill (Keeps (RiseAt seats))
@@ -215,8 +227,14 @@ rises_on turns seats =
           let says = turns file round company old new turn in
           over_growth no_bid (Keeps (RiseAt seats)) (λ events before. before)
           (λ a b c one two before. two (one before))
-          (λ events its none. still_so seats events its (nothing_found (bidding_of its) none)) old.events new.events
-          (record { more = says.more; longer = ap (λ (game : Game). game.events) says.added; aside = says.no_bid });
+          (λ events its none. still_so seats events its (nothing_found (bidding_of its) none))
+          old.events new.events
+          (record {
+            more = says.more;
+            longer = ap (λ (game : Game). game.events) says.added;
+            aside =
+                says.no_bid;
+          });
     }
 
 -- bids that rise before a round rise after it, and the table stays
@@ -246,13 +264,15 @@ module _ (opening : OpeningBidsRise) (turns : TurnsSayNoBid) (file : List ℕ) (
   over_round (Opening number) old new played before = over_opening number old new played before
   over_round (Stock set) old new played before =
       record {
-        rises = of_stock (Keeps (RiseAt seats)) (rises_on turns seats) file (Stock set) old new played
+        rises = of_stock (Keeps (RiseAt seats)) (rises_on turns seats) file (Stock set) old new
+            played
             (still_so seats old.events (event.Round (Stock set)) refl before.rises);
         table = ap (λ (game : Game). game.seats) played.after ∙ before.table;
       }
   over_round (Operating set number) old new played before =
       record {
-        rises = of_operating (Keeps (RiseAt seats)) (rises_on turns seats) file (Operating set number) old new played
+        rises = of_operating (Keeps (RiseAt seats)) (rises_on turns seats) file (Operating set
+            number) old new played
             (still_so seats old.events (event.Round (Operating set number)) refl before.rises);
         table = ap (λ (game : Game). game.seats) played.after ∙ before.table;
       }
@@ -267,7 +287,8 @@ bids_rise opening players turns file rounds there accepted played =
     let three = (players file accepted).0 in
     let seats : ℕ = length (players_of file) in
     (through file (λ at. RiseIn seats at.game)
-    (λ old new before round. over_round opening turns file seats (omega (arith, three)) round.round old.game new.game
+    (λ old new before round. over_round opening turns file seats (omega (arith, three)) round.round
+    old.game new.game
     round.played before) rounds (before_play file) there played
     (record { rises = none_first seats; table = refl })).rises.rise
 

@@ -29,7 +29,8 @@ not_so b so = grind arith
 
 goes_on_for : (over : ℕ → Bool) (n : ℕ) → list_all (λ k. not (over k)) (range_with_len 0 n) ≡ true →
     (k : ℕ) → k < n → over k ≡ false
-goes_on_for over n none k below = not_so (over k) (posted_each (λ at. not (over at)) 0 n k none (omega arith) (omega arith))
+goes_on_for over n none k below = not_so (over k) (posted_each (λ at. not (over at)) 0 n k none
+    (omega arith) (omega arith))
 
 -- the round after its turns
 abbrev last_turn : InPlay (List Event) Numbered
@@ -42,7 +43,8 @@ unfolding sheet_of players_of body_of content_of version_of written_lines is_bla
 played =
     record {
       last = last_turn;
-      turns = record { steps = 4; reached = refl; over_then = refl; not_before = goes_on_for _ 4 refl };
+      turns = record
+          { steps = 4; reached = refl; over_then = refl; not_before = goes_on_for _ 4 refl };
       after = refl;
     }
 
@@ -55,7 +57,14 @@ first_plays =
       reached = (
         before_play first_file,
         refl,
-        record { round = Opening 1; comes = refl; posted = refl; played = played; next_then = refl; in_set_then = refl },
+        record {
+          round = Opening 1;
+          comes = refl;
+          posted = refl;
+          played = played;
+          next_then = refl;
+          in_set_then = refl;
+        },
       );
       stopped = refl;
     }
@@ -79,7 +88,8 @@ unfolding sheet_of players_of body_of content_of version_of written_lines is_bla
 opening_played =
     record {
       last = opening_end;
-      turns = record { steps = 6; reached = refl; over_then = refl; not_before = goes_on_for _ 6 refl };
+      turns = record
+          { steps = 6; reached = refl; over_then = refl; not_before = goes_on_for _ 6 refl };
       after = refl;
     }
 
@@ -94,7 +104,8 @@ unfolding sheet_of players_of body_of content_of version_of written_lines is_bla
 stock_played =
     record {
       last = stock_end;
-      turns = record { steps = 5; reached = refl; over_then = refl; not_before = goes_on_for _ 5 refl };
+      turns = record
+          { steps = 5; reached = refl; over_then = refl; not_before = goes_on_for _ 5 refl };
       after = refl;
     }
 
@@ -106,13 +117,27 @@ between_rounds = record { game = after_opening; in_set = 1; next = next.Round (S
 first_round : IsRound second_file (before_play second_file) between_rounds
 unfolding sheet_of players_of body_of content_of version_of written_lines is_blank begins is_sheet_line settled
 first_round =
-    record { round = Opening 1; comes = refl; posted = refl; played = opening_played; next_then = refl; in_set_then = refl }
+    record {
+      round = Opening 1;
+      comes = refl;
+      posted = refl;
+      played = opening_played;
+      next_then = refl;
+      in_set_then = refl;
+    }
 
 -- the second
 second_round : IsRound second_file between_rounds second_end
 unfolding sheet_of players_of body_of content_of version_of written_lines is_blank begins is_sheet_line
 second_round =
-    record { round = Stock 1; comes = refl; posted = refl; played = stock_played; next_then = refl; in_set_then = refl }
+    record {
+      round = Stock 1;
+      comes = refl;
+      posted = refl;
+      played = stock_played;
+      next_then = refl;
+      in_set_then = refl;
+    }
 
 -- so the game goes
 pub second_plays : Plays second_file second_end

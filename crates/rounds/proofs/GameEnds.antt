@@ -43,16 +43,20 @@ record Keeps (set count : ℕ) (upcoming : Round) (in_set : ℕ) : Type 0 where
   number : IsOfSet set upcoming → in_set ≡ count
 
 -- after each round
-keeps_on : (set count : ℕ) (round later : Round) (in_set : ℕ) (sold broken : Bool) (events : List Event) →
+keeps_on : (set count : ℕ) (round later : Round) (in_set : ℕ) (sold broken : Bool) (events : List
+    Event) →
     Keeps set count round in_set → following round in_set sold broken ≡ next.Round later →
     Keeps set count later (in_set_before (next.Round later) events in_set)
 keeps_on set count round later in_set sold broken events keeps comes = grind arith
 
 -- the set is left only after the last of its rounds
-left_after_last : (set : ℕ) (round later : Round) (in_set : ℕ) (sold broken : Bool) → IsOfSet set round →
-    IsInSet round in_set → following round in_set sold broken ≡ next.Round later → ¬ IsOfSet set later →
+left_after_last : (set : ℕ) (round later : Round) (in_set : ℕ) (sold broken : Bool) → IsOfSet set
+    round →
+    IsInSet round in_set → following round in_set sold broken ≡ next.Round later → ¬ IsOfSet set
+    later →
     round ≡ Operating set in_set
-left_after_last set round later in_set sold broken same within_set comes other = grind (arith, nat_tests)
+left_after_last set round later in_set sold broken same within_set comes other = grind
+    (arith, nat_tests)
 
 -- so it is with the round that comes next, if one does
 abbrev KeepsNext : ℕ → ℕ → Between → Type 0
@@ -72,7 +76,8 @@ module _ (file : List ℕ) where
       → KeepsNext set count new
   round_keeps set count old new keeps round later comes =
       subst (λ (number : ℕ). Keeps set count later number) (sym (in_set_then file old new later round comes))
-      (keeps_on set count round.round later old.in_set (all_sold new.game.events) (broken_in new.game.events)
+      (keeps_on set count round.round later old.in_set (all_sold new.game.events)
+      (broken_in new.game.events)
       new.game.events (keeps round.round round.comes) (follows file old new later round comes))
 
   -- a set is left only after the last of its rounds
@@ -82,9 +87,11 @@ module _ (file : List ℕ) where
       ¬ IsOfSet set later → round ≡ Operating set count
   whole_set set count there after round later within_set number here of_set step comes other =
       let same : step.round ≡ round = comes_once step.round round (sym step.comes ∙ here) in
-      let says : following round there.in_set (all_sold after.game.events) (broken_in after.game.events)
+      let says : following round there.in_set (all_sold after.game.events)
+      (broken_in after.game.events)
       ≡ next.Round later =
-      ap (λ (it : Round). following it there.in_set (all_sold after.game.events) (broken_in after.game.events))
+      ap (λ (it : Round). following it there.in_set (all_sold after.game.events)
+      (broken_in after.game.events))
       (sym same) ∙ follows file there after later step comes in
       left_after_last set round later there.in_set _ _ of_set within_set says other
       ∙ ap (λ (most : ℕ). Operating set most) number
@@ -99,10 +106,12 @@ keep_their_number file set rounds later begun there round reached comes played h
     (record { begun = omega arith; number = λ same. fixed file set rounds begun reached comes })
     in
     let number : there.in_set ≡ count =
-    (through file (KeepsNext set count) (round_keeps file set count) later begun there played first round here).number
+    (through file (KeepsNext set count) (round_keeps file set count) later begun there played first
+    round here).number
     of_set in
     let within_set : IsInSet round there.in_set =
-    through file IsNextInSet (round_in_set file) later begun there played (comes_in_set file rounds begun reached)
+    through file IsNextInSet (round_in_set file) later begun there played (comes_in_set file rounds
+    begun reached)
     round here in
     record {
       number = number;
@@ -161,7 +170,8 @@ broken_through adds file old new round broken =
     (stays_broken begun grows.more (stays_broken old.game.events (event.Round round.round ∷ []) broken))
 
 -- what follows a round of a set, with the bank broken, is of that set
-of_same_set : (set : ℕ) (round later : Round) (in_set : ℕ) (sold broken : Bool) → broken ≡ true → IsOfSet set round
+of_same_set : (set : ℕ) (round later : Round) (in_set : ℕ) (sold broken : Bool) → broken ≡ true →
+    IsOfSet set round
     → following round in_set sold broken ≡ next.Round later → IsOfSet set later
 of_same_set set round later in_set sold broken is same comes = grind arith
 
@@ -179,7 +189,8 @@ round_closes adds file set old new closes round =
       broken = broken;
       of_set =
           λ later comes.
-          of_same_set set round.round later old.in_set (all_sold new.game.events) (broken_in new.game.events) broken
+          of_same_set set round.round later old.in_set (all_sold new.game.events)
+          (broken_in new.game.events) broken
           (closes.of_set round.round round.comes) (follows file old new later round comes);
     }
 
@@ -193,7 +204,8 @@ no_set_after adds file set later broken there round upcoming is comes of_set pla
           (comes_once round at (sym comes ∙ there_comes)) of_set;
     }
     in
-    (through file (Closes set) (round_closes adds file set) later broken there played first).of_set upcoming
+    (through file (Closes set) (round_closes adds file set) later broken there played first).of_set
+    upcoming
     upcoming_comes
 
 -- after the last operating round of a set a broken bank leaves nothing
@@ -220,7 +232,8 @@ broken_ends file set old new round comes broken =
 
 -- the sequence ends after the last operating round of a set alone
 last_in_set : (set number in_set : ℕ) (broken : Bool) → number ≤ in_set →
-    following (Operating set number) in_set true broken ≡ next.Ended → (broken ≡ true) × (number ≡ in_set)
+    following (Operating set number) in_set true broken ≡ next.Ended → (broken ≡ true) ×
+    (number ≡ in_set)
 last_in_set set number in_set broken within over = grind (arith, nat_tests)
 
 ends_with_set : (round : Round) (in_set : ℕ) (sold broken : Bool) → IsInSet round in_set
@@ -229,7 +242,12 @@ ends_with_set : (round : Round) (in_set : ℕ) (sold broken : Bool) → IsInSet 
 ends_with_set (Opening number) in_set sold broken within_set over = absurd (no_round _ (sym over))
 ends_with_set (Stock set) in_set sold broken within_set over = absurd (no_round _ (sym over))
 ends_with_set (Operating set number) in_set sold broken within_set over =
-    let last = last_in_set set number in_set broken within_set.within over in (last.0, set, ap (Operating set) last.1)
+    let last = last_in_set set number in_set broken within_set.within over in (
+      last.0,
+      set,
+      ap
+          (Operating set) last.1,
+    )
 
 -- a game that ends without a bankruptcy ends as the sequence says
 sequence_ends : (bankrupt : Bool) (says : Next) → bankrupt ≡ false

@@ -67,7 +67,8 @@ pass_too test other each (event ∷ more) all =
     let parts = and_parts (test event) (list_all test more) all in
     ap (λ (b : Bool). b && list_all other more) (each event parts.0) ∙ pass_too test other each more parts.1
 
-grows_too : (test other : Event → Bool) → ((event : Event) → test event ≡ true → other event ≡ true) →
+grows_too : (test other : Event → Bool) → ((event : Event) → test event ≡ true → other event ≡
+    true) →
     {old new : List Event} → GrowsBy test old new → GrowsBy other old new
 grows_too test other each grows =
     record { more = grows.more; longer = grows.longer; aside = pass_too test other each grows.more grows.aside }
@@ -77,15 +78,21 @@ pub still_is_aside : {old new : List Event} → GrowsStill old new → Grows old
 still_is_aside = grows_too is_still is_aside (λ event still. (and_parts (is_aside event) _ still).0)
 
 -- what passes a test and is plain passes the test, and is plain
-pub passes_test : (test : Event → Bool) {old new : List Event} → GrowsPlainly test old new → GrowsBy test old new
-passes_test test = grows_too (and_plain test) test (λ event both. (and_parts (test event) (is_plain event) both).0)
+pub passes_test : (test : Event → Bool) {old new : List Event} → GrowsPlainly test old new → GrowsBy
+    test old new
+passes_test test = grows_too (and_plain test) test (λ event both. (and_parts (test event)
+    (is_plain event) both).0)
 
-pub passes_plain : (test : Event → Bool) {old new : List Event} → GrowsPlainly test old new → GrowsBy is_plain old new
-passes_plain test = grows_too (and_plain test) is_plain (λ event both. (and_parts (test event) (is_plain event) both).1)
+pub passes_plain : (test : Event → Bool) {old new : List Event} → GrowsPlainly test old new →
+    GrowsBy is_plain old new
+passes_plain test = grows_too (and_plain test) is_plain (λ event both. (and_parts (test event)
+    (is_plain event) both).1)
 
 -- what is still and plain stands aside
-pub still_and_plain_is_aside : (event : Event) → and_plain is_still event ≡ true → is_aside event ≡ true
-still_and_plain_is_aside event both = (and_parts (is_aside event) _ (and_parts (is_still event) _ both).0).0
+pub still_and_plain_is_aside : (event : Event) → and_plain is_still event ≡ true → is_aside event ≡
+    true
+still_and_plain_is_aside event both = (and_parts (is_aside event) _ (and_parts (is_still event) _
+    both).0).0
 
 -- a list that stays as it is
 pub stays : {test : Event → Bool} {events : List Event} → GrowsBy test events events
@@ -93,7 +100,8 @@ stays {events = events} = record { more = []; longer = sym (append-nil events); 
 
 -- one growth after another
 infixr 20 ◌⨾◌
-pub ◌⨾◌ : {test : Event → Bool} {a b c : List Event} → GrowsBy test a b → GrowsBy test b c → GrowsBy test a c
+pub ◌⨾◌ : {test : Event → Bool} {a b c : List Event} → GrowsBy test a b → GrowsBy test b c → GrowsBy
+    test a c
 ◌⨾◌ {test} {a} first second =
     record {
       more = first.more ++ second.more;
@@ -104,7 +112,8 @@ pub ◌⨾◌ : {test : Event → Bool} {a b c : List Event} → GrowsBy test a 
     }
 
 -- by each of two cases
-pub in_either : {test : Event → Bool} {old one other : List Event} (b : Bool) → GrowsBy test old one →
+pub in_either : {test : Event → Bool} {old one other : List Event} (b : Bool) → GrowsBy test old
+    one →
     GrowsBy test old other → GrowsBy test old (if b then one else other)
 in_either true first second = first
 in_either false first second = second
@@ -127,7 +136,8 @@ by_one_event events event aside =
 module _ (test : Event → Bool) (R : List Event → List Event → Type 0)
     (same : (events : List Event) → R events events)
     (both : (a b c : List Event) → R a b → R b c → R a c)
-    (each : (events : List Event) (event : Event) → test event ≡ true → R events (events ++ event ∷ [])) where
+    (each : (events : List Event) (event : Event) → test event ≡ true → R events (events ++ event ∷
+    [])) where
   over_more : (events more : List Event) → list_all test more ≡ true → R events (events ++ more)
   over_more events [] all = subst (R events) (sym (append-nil events)) (same events)
   over_more events (event ∷ more) all =
@@ -137,18 +147,21 @@ module _ (test : Event → Bool) (R : List Event → List Event → Type 0)
       (both events next (next ++ more) (each events event parts.0) (over_more next more parts.1))
 
   pub over_growth : (old new : List Event) → GrowsBy test old new → R old new
-  over_growth old new grows = subst (R old) (sym grows.longer) (over_more old grows.more grows.aside)
+  over_growth old new grows = subst (R old) (sym grows.longer) (over_more old grows.more
+      grows.aside)
 
 -- by BROKEN, where the bank breaks
 pub broken_grows : (seats : ℕ) (events : List Event) → GrowsPlainly is_still events (with_broken seats events)
-broken_grows seats events = in_either (breaks seats events) (by_one_event events event.Broken refl) stays
+broken_grows seats events = in_either (breaks seats events) (by_one_event events event.Broken refl)
+    stays
 
 -- by a revenue
 owner_grows : (seats : ℕ) (events : List Event) (private : Private) (owner : Option Holder) →
     GrowsPlainly is_still events (paid_to_owner seats events private owner)
 owner_grows seats events private None = stays
 owner_grows seats events private (Some owner) =
-    by_one_event events (event.Revenue private owner (revenue_of private)) refl ⨾ broken_grows seats _
+    by_one_event events (event.Revenue private owner (revenue_of private)) refl ⨾ broken_grows seats
+    _
 
 -- by the revenues of some privates
 pub revenues_grow : (seats : ℕ) (events : List Event) (paying : List Private) →
@@ -156,7 +169,8 @@ pub revenues_grow : (seats : ℕ) (events : List Event) (paying : List Private) 
 revenues_grow seats events [] = stays
 revenues_grow seats events (private ∷ others) =
     let owner = owner_of events private in
-    owner_grows seats events private owner ⨾ revenues_grow seats (paid_to_owner seats events private owner) others
+    owner_grows seats events private owner ⨾ revenues_grow seats (paid_to_owner seats events private
+    owner) others
 
 -- a count of lines that were left stands aside
 pub count_aside : (seat : Seat) (count : ℕ) (none : Bool) (events : List Event) →

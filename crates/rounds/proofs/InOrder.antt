@@ -1,6 +1,7 @@
 -- A round first says its own beginning and begins no other, and it comes before the next: so the
 -- rounds of a game follow one another in the order of all rounds.
-use Rattle.std.proofs.Common.{rules, ◌≡◌, ℕ, List, [], ◌∷◌, ◌++◌, Bool, true, false, ◌&&◌, ◌||◌, Option}
+use Rattle.std.proofs.Common.{rules, ◌≡◌, ℕ, List, [], ◌∷◌, ◌++◌, Bool, true, false, ◌&&◌, ◌||◌}
+use Rattle.std.proofs.Common.{Option}
 use Rattle.std.proofs.Common.{is_some, is_none, refl, ap, ◌∙◌, ◌<◌, length, sym, subst, arith}
 use Rattle.std.specs.List.{list_all}
 use Rattle.std.proofs.lemmas.List.{append_assoc, append-nil}
@@ -48,21 +49,27 @@ begun_in_both (event ∷ prefix) back =
     ∙ round_in_front (round_begun_by event) (rounds_begun prefix) (rounds_begun back)
 
 -- to begin none, said in three ways
-none_said : (first : Option Round) (all any : Bool) (rounds : List Round) → (is_none first && all) ≡ true →
-    (all ≡ true → (rounds ≡ []) × (any ≡ false)) → (with_round first rounds ≡ []) × ((is_some first || any) ≡ false)
+none_said : (first : Option Round) (all any : Bool) (rounds : List Round) → (is_none first && all) ≡
+    true →
+    (all ≡ true → (rounds ≡ []) × (any ≡ false)) → (with_round first rounds ≡ []) ×
+    ((is_some first || any) ≡ false)
 none_said first all any rounds none others = grind arith
 
-pub none_begun : (more : List Event) → list_all begins_none more ≡ true → (rounds_begun more ≡ []) × BeginsNoRound more
+pub none_begun : (more : List Event) → list_all begins_none more ≡ true → (rounds_begun more ≡ []) ×
+    BeginsNoRound more
 none_begun [] none = (refl, refl)
-none_begun (event ∷ more) none = none_said (round_begun_by event) _ _ (rounds_begun more) none (none_begun more)
+none_begun (event ∷ more) none = none_said (round_begun_by event) _ _ (rounds_begun more) none
+    (none_begun more)
 
-begin_none : (first : Option Round) (any all : Bool) → (is_some first || any) ≡ false → (any ≡ false → all ≡ true) →
+begin_none : (first : Option Round) (any all : Bool) → (is_some first || any) ≡ false →
+    (any ≡ false → all ≡ true) →
     (is_none first && all) ≡ true
 begin_none first any all none others = grind arith
 
 all_begin_none : (more : List Event) → BeginsNoRound more → list_all begins_none more ≡ true
 all_begin_none [] none = refl
-all_begin_none (event ∷ more) none = begin_none (round_begun_by event) _ _ none (all_begin_none more)
+all_begin_none (event ∷ more) none = begin_none (round_begun_by event) _ _ none (all_begin_none
+    more)
 
 -- a round adds its own ROUND event, and begins no other
 pub round_goes_on : TurnOnlyAdds → (file : List ℕ) (round : Round) (old new : Game) →
@@ -109,7 +116,11 @@ AreBefore (one ∷ rounds) round = (rank_of one < rank_of round) × AreBefore ro
 one_more_after : (first : Round) (rounds : List Round) (round : Round) → IsBeforeEach first rounds →
     rank_of first < rank_of round → IsBeforeEach first (rounds ++ round ∷ [])
 one_more_after first [] round each before = (lt-ltb (rank_of first) (rank_of round) before, tt)
-one_more_after first (one ∷ rounds) round each before = search (rules, one_more_after first rounds round)
+one_more_after first (one ∷ rounds) round each before = search (
+  rules,
+  one_more_after first rounds
+      round,
+)
 
 -- rounds in order, and one more after them all
 order_goes_on : (rounds : List Round) (round : Round) → AreInOrder rounds → AreBefore rounds round
@@ -145,7 +156,8 @@ begun_then events new round grows =
     let recorded : List Event = events ++ event.Round round ∷ [] in
     ap rounds_begun grows.longer
     ∙ begun_in_both recorded grows.more
-    ∙ ap (λ (list : List Round). rounds_begun recorded ++ list) (none_begun grows.more grows.aside).0
+    ∙ ap (λ (list : List Round). rounds_begun recorded ++ list) (none_begun grows.more
+    grows.aside).0
     ∙ append-nil (rounds_begun recorded)
     ∙ begun_in_both events (event.Round round ∷ [])
 
@@ -182,7 +194,11 @@ module _ (adds : TurnOnlyAdds) (numbered : SheetsAreNumbered) (file : List ℕ)
   all_in_order : (rounds : ℕ) (there : Between) → AreRounds file rounds (before_play file) there → TellsInOrder there
   all_in_order rounds there played =
       (through file (λ at. TellsInOrder at × IsNextInSet at)
-      (λ old new tells round. (round_in_order old new tells.0 tells.1 round, round_in_set file old new tells.1 round))
+      (λ old new tells round. (
+        round_in_order old new tells.0 tells.1 round,
+        round_in_set file old
+            new tells.1 round,
+      ))
       rounds (before_play file) there played
       (record { begins = tt; order = tt; before = λ upcoming comes. tt }, first_is_in_set file)).0
 

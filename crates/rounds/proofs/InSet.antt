@@ -89,7 +89,8 @@ first_is_in_set file round comes =
 pub comes_in_set : (file : List ℕ) (rounds : ℕ) (there : Between) → AreRounds file rounds (before_play file) there
     → IsNextInSet there
 comes_in_set file rounds there played =
-    through file IsNextInSet (round_in_set file) rounds (before_play file) there played (first_is_in_set file)
+    through file IsNextInSet (round_in_set file) rounds (before_play file) there played
+    (first_is_in_set file)
 
 -- before the first round
 pub begins_so : (file : List ℕ) (history : Game) (seats in_set : ℕ) →

@@ -34,7 +34,8 @@ OneStockRound = (file : List ℕ) (round : Round) (old a b : Game) → IsStockRo
     → IsStockRound file round old b → a ≡ b
 
 -- where a round is to be played, play goes on
-pub on : (file : List ℕ) (from : Between) (round : Round) → IsToPlay file from.next round → goes_on file from.next ≡ true
+pub on : (file : List ℕ) (from : Between) (round : Round) → IsToPlay file from.next round → goes_on
+    file from.next ≡ true
 on file from round is_next = ap (goes_on file) is_next.comes ∙ is_next.posted
 
 -- so a round that was played could be
@@ -47,10 +48,19 @@ first_round : (file : List ℕ) (n : ℕ) (old new : Between) → AreRounds file
 first_round file zero old new rounds =
     (new, subst (λ (at : Between). IsRound file at new) (sym rounds.1) rounds.2, refl)
 first_round file (suc n) old new rounds =
-    let first = first_round file n old rounds.0 rounds.1 in (first.0, first.1, (rounds.0, first.2, rounds.2))
+    let first = first_round file n old rounds.0 rounds.1 in (
+      first.0,
+      first.1,
+      (
+        rounds.0,
+        first.2,
+        rounds.2,
+      ),
+    )
 
 -- where play cannot go on, it stays
-pub stopped_stays : (file : List ℕ) (n : ℕ) (old new : Between) → goes_on file old.next ≡ false → AreRounds file n old new → old ≡ new
+pub stopped_stays : (file : List ℕ) (n : ℕ) (old new : Between) → goes_on file old.next ≡ false →
+    AreRounds file n old new → old ≡ new
 stopped_stays file zero old new stopped rounds = rounds
 stopped_stays file (suc n) old new stopped rounds =
     let first = first_round file n old new rounds in
@@ -81,17 +91,22 @@ module _ (one_opening : OneOpeningRound) (one_stock : OneStockRound) (one_operat
       between_same a b game in_set next
 
   -- one round from a place on the way to where play cannot go on leads on on that way
-  on_from : (n : ℕ) (old there last : Between) → IsRound file old there → AreRounds file n old last →
+  on_from : (n : ℕ) (old there last : Between) → IsRound file old there → AreRounds file n old
+      last →
       goes_on file last.next ≡ false → (later : ℕ) × AreRounds file later there last
   on_from zero old there last round same stopped =
       let on = was_on file old there round in
       absurd (true≢false (sym on ∙ (ap (λ (at : Between). goes_on file at.next) same ∙ stopped)))
   on_from (suc n) old there last round rounds stopped =
-      let first = first_round file n old last rounds in
-      (n, subst (λ (at : Between). AreRounds file n at last) (round_once old first.0 there first.1 round) first.2)
+      let first = first_round file n old last rounds in (
+        n,
+        subst (λ (at : Between). AreRounds file n at last) (round_once old first.0 there first.1
+            round) first.2,
+      )
 
   -- so do this many
-  pub on_the_way : (n all : ℕ) (old there last : Between) → AreRounds file n old there → AreRounds file all old last →
+  pub on_the_way : (n all : ℕ) (old there last : Between) → AreRounds file n old there → AreRounds
+      file all old last →
       goes_on file last.next ≡ false → (later : ℕ) × AreRounds file later there last
   on_the_way zero all old there last reached rounds stopped =
       (all, subst (λ (at : Between). AreRounds file all at last) reached rounds)
@@ -102,7 +117,8 @@ module _ (one_opening : OneOpeningRound) (one_stock : OneStockRound) (one_operat
 -- a file has at most one game
 pub game_once : OneOpeningRound → OneStockRound → OneOperatingRound → OneGame
 game_once one_opening one_stock one_operating file a b first second =
-    let on = on_the_way one_opening one_stock one_operating file first.rounds second.rounds (before_play file) a b
+    let on = on_the_way one_opening one_stock one_operating file first.rounds second.rounds
+    (before_play file) a b
     first.reached second.reached second.stopped in
     stopped_stays file on.0 a b first.stopped on.1
 

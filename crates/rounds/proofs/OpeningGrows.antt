@@ -8,7 +8,8 @@ use Rattle.totals.specs.LookBack.{Game}
 use Rattle.privates.specs.Opening.{IsOpeningRound}
 use Rattle.privates.specs.Standing.{has_place_before, standing_judgement, standing_refusal, standing_ruling}
 use Rattle.privates.specs.Turn.{acted, judgement_of, opening_rules, refusal_of, ruling_in}
-use Rattle.rounds.proofs.Growing.{◌⨾◌, Grows, GrowsBy, and_plain, by_one_event, is_aside, is_still, stays}
+use Rattle.rounds.proofs.Growing.{◌⨾◌, Grows, GrowsBy, and_plain, by_one_event, is_aside, is_still}
+use Rattle.rounds.proofs.Growing.{stays}
 use Rattle.rounds.proofs.Growing.{still_and_plain_is_aside}
 use Rattle.rounds.proofs.OpeningSteps.{AnyPrivate, AnySeat, OfOpening, of_act, of_close, of_opening}
 use Rattle.rounds.proofs.PlainRounds.{of_mapped, recorded_plain, ruled_plain, ruling_plain}
@@ -21,9 +22,12 @@ use Rattle.turns.specs.Ruling.{has_place_in_turn}
 
 -- the parts of an opening round add events that pass a test, if what is still and plain does, and
 -- sales and bids do
-parts_grow : (test : Event → Bool) → ((its : Event) → and_plain is_still its ≡ true → test its ≡ true) →
-    ((private : Private) (buyer : Seat) (price : ℕ) → test (event.Sold private buyer price) ≡ true) →
-    ((private : Private) (seat : Seat) (amount : ℕ) → test (event.Bids private seat amount) ≡ true) →
+parts_grow : (test : Event → Bool) → ((its : Event) → and_plain is_still its ≡ true → test its ≡
+    true) →
+    ((private : Private) (buyer : Seat) (price : ℕ) → test (event.Sold private buyer price) ≡
+    true) →
+    ((private : Private) (seat : Seat) (amount : ℕ) → test (event.Bids private seat amount) ≡
+    true) →
     OfOpening AnySeat AnyPrivate (GrowsBy test)
 parts_grow test quiet sold bids =
     record {
@@ -31,7 +35,8 @@ parts_grow test quiet sold bids =
       both = λ a b c one two. one ⨾ two;
       quiet = λ events its is. by_one_event events its (quiet its is);
       unsold = λ events private unsold. tt;
-      sold = λ events private buyer price sells. by_one_event events (event.Sold private buyer price)
+      sold = λ events private buyer price sells. by_one_event events (event.Sold private buyer
+          price)
           (sold private buyer price);
       bids = λ events private seat amount sits. by_one_event events (event.Bids private seat amount)
           (bids private seat amount);
@@ -42,13 +47,16 @@ pub opening_grows : (file : List ℕ) (round : Round) (old new : Game) → IsOpe
     Grows (old.events ++ event.Round round ∷ []) new.events
 opening_grows =
     of_opening AnySeat AnyPrivate Grows
-    (parts_grow is_aside still_and_plain_is_aside (λ private buyer price. refl) (λ private seat amount. refl))
-    (λ events seat number ruling. by_one_event events (event.Ruled seat number ruling) refl) (λ seat. tt)
+    (parts_grow is_aside still_and_plain_is_aside (λ private buyer price. refl) (λ private seat
+    amount. refl))
+    (λ events seat number ruling. by_one_event events (event.Ruled seat number ruling) refl)
+    (λ seat. tt)
 
 -- the parts of a round that are no rulings add but plain events
 parts_plain : OfOpening AnySeat AnyPrivate (GrowsBy is_plain)
 parts_plain =
-    parts_grow is_plain (λ its both. (and_parts (is_still its) (is_plain its) both).1) (λ private buyer price. refl)
+    parts_grow is_plain (λ its both. (and_parts (is_still its) (is_plain its) both).1)
+    (λ private buyer price. refl)
     (λ private seat amount. refl)
 
 -- a line without a condition adds but plain events, and so does the close
@@ -61,7 +69,8 @@ opening_adds =
           (λ its. of_mapped refusal.Opening (λ rule. tt) (standing_judgement events its)));
       line = λ seats seat turn line plain.
           ruled_plain (acted seats seat)
-          (λ at done. of_act AnySeat AnyPrivate (GrowsBy is_plain) parts_plain seats seat at.events done tt
+          (λ at done. of_act AnySeat AnyPrivate (GrowsBy is_plain) parts_plain seats seat at.events
+          done tt
           (λ private is. tt))
           seat turn line.number (ruling_in seats seat turn line)
           (ruling_plain has_place_in_turn (refusal_of seats turn.events seat turn.actions) turn.events line plain

@@ -27,7 +27,8 @@ use Rattle.privates.specs.Bank.{price_of}
 use Rattle.privates.specs.Opening.{IsOpeningRound}
 use Rattle.privates.specs.Standing.{standing_ruling}
 use Rattle.privates.specs.Sale.{after_sale, gifts, settle_auctions, settled, settled_by, settled_of}
-use Rattle.privates.specs.Turn.{InTurn, acted, after_act, after_opening_line, judgement_of, opening_rules, refusal_of}
+use Rattle.privates.specs.Turn.{InTurn, acted, after_act, after_opening_line, judgement_of}
+use Rattle.privates.specs.Turn.{opening_rules, refusal_of}
 use Rattle.rounds.proofs.Growing.{GrowsPlainly, and_plain, is_still, over_growth, revenues_grow}
 use Rattle.sheets.specs.Part.{Numbered}
 use Rattle.tables.specs.Roster.{privates}
@@ -46,9 +47,12 @@ pub record OfOpening (Sits : Seat → Type 0) (Sells : List Event → Private �
     (R : List Event → List Event → Type 0) : Type 0 where
   pub same : (events : List Event) → R events events
   pub both : (a b c : List Event) → R a b → R b c → R a c
-  pub quiet : (events : List Event) (its : Event) → and_plain is_still its ≡ true → R events (events ++ its ∷ [])
-  pub unsold : (events : List Event) (private : Private) → is_sold events private ≡ false → Sells events private
-  pub sold : (events : List Event) (private : Private) (buyer : Seat) (price : ℕ) → Sells events private →
+  pub quiet : (events : List Event) (its : Event) → and_plain is_still its ≡ true → R events
+      (events ++ its ∷ [])
+  pub unsold : (events : List Event) (private : Private) → is_sold events private ≡ false → Sells
+      events private
+  pub sold : (events : List Event) (private : Private) (buyer : Seat) (price : ℕ) → Sells events
+      private →
       R events (events ++ event.Sold private buyer price ∷ [])
   pub bids : (events : List Event) (private : Private) (seat : Seat) (amount : ℕ) → Sits seat →
       R events (events ++ event.Bids private seat amount ∷ [])
@@ -70,24 +74,29 @@ ruling_quiet : (seat : Seat) (number : ℕ) (ruling : Ruling) → IsQuiet (event
 ruling_quiet seat number ruling = search rules
 
 -- so a private that may be bought is unsold after it
-still_unsold : (seats : ℕ) (seat : Seat) (turn : InTurn) (number : ℕ) (ruling : Ruling) (private : Private) →
+still_unsold : (seats : ℕ) (seat : Seat) (turn : InTurn) (number : ℕ) (ruling : Ruling)
+    (private : Private) →
     refusal_of seats turn.events seat turn.actions (order.BuyPrivate private) ≡ None →
     is_sold (turn.events ++ event.Ruled seat number ruling ∷ []) private ≡ false
 still_unsold seats seat turn number ruling private kept =
     let its : Event = event.Ruled seat number ruling in
     (may_act_after (record { seats = seats; events = turn.events })
-    (record { seats = seats; events = turn.events ++ its ∷ [] }) its seat turn.actions (order.BuyPrivate private) refl
+    (record { seats = seats; events = turn.events ++ its ∷ [] }) its seat turn.actions
+    (order.BuyPrivate private) refl
     (ruling_quiet seat number ruling)
-    (none_as_refusal Opening (judgement_of seats turn.events seat turn.actions (order.BuyPrivate private)) kept)).unsold
+    (none_as_refusal Opening (judgement_of seats turn.events seat turn.actions (order.BuyPrivate
+    private)) kept)).unsold
 
-module _ (Sits : Seat → Type 0) (Sells : List Event → Private → Type 0) (R : List Event → List Event → Type 0)
+module _ (Sits : Seat → Type 0) (Sells : List Event → Private → Type 0) (R : List Event →
+    List Event → Type 0)
     (of : OfOpening Sits Sells R) where
   -- of a list that grows by events that are still
   of_growing_still : (old new : List Event) → GrowsPlainly is_still old new → R old new
   of_growing_still = over_growth (and_plain is_still) R of.same of.both of.quiet
 
   -- of a sale
-  of_sale : (events : List Event) (private : Private) (buyer : Seat) (price : ℕ) → Sells events private →
+  of_sale : (events : List Event) (private : Private) (buyer : Seat) (price : ℕ) → Sells events
+      private →
       R events (after_sale events private buyer price)
   of_sale events private buyer price sells =
       let its : Event = event.Sold private buyer price in
@@ -99,7 +108,8 @@ module _ (Sits : Seat → Type 0) (Sells : List Event → Private → Type 0) (R
       (record { more = more; longer = refl; aside = gifts_still events private buyer })))
 
   -- of the sale that follows from the bids on a private
-  of_bids : (seats : ℕ) (events : List Event) (private : Private) (bids : List Bid) → Sells events private →
+  of_bids : (seats : ℕ) (events : List Event) (private : Private) (bids : List Bid) → Sells events
+      private →
       R events (settled_by seats events private bids)
   of_bids seats events private [] sells = of.same events
   of_bids seats events private (bid ∷ []) sells = of_sale events private bid.seat bid.amount sells
@@ -127,7 +137,8 @@ module _ (Sits : Seat → Type 0) (Sells : List Event → Private → Type 0) (R
   unfolding settled
   of_sales seats events private buyer price sells =
       let sold : List Event = after_sale events private buyer price in
-      of.both events sold (settled seats sold) (of_sale events private buyer price sells) (of_steps seats 6 sold)
+      of.both events sold (settled seats sold) (of_sale events private buyer price sells)
+      (of_steps seats 6 sold)
 
   -- of what follows from an order that is done
   pub of_act : (seats : ℕ) (seat : Seat) (events : List Event) (done : Order) → Sits seat →
@@ -135,7 +146,8 @@ module _ (Sits : Seat → Type 0) (Sells : List Event → Private → Type 0) (R
       R events (after_act seats seat events done)
   of_act seats seat events (order.BuyPrivate private) sits sells =
       of_sales seats events private seat (price_of events private) (sells private refl)
-  of_act seats seat events (order.Bid private amount) sits sells = of.bids events private seat amount sits
+  of_act seats seat events (order.Bid private amount) sits sells = of.bids events private seat
+      amount sits
   of_act seats seat events other sits sells = of.same events
 
   -- of a line
@@ -147,14 +159,17 @@ module _ (Sits : Seat → Type 0) (Sells : List Event → Private → Type 0) (R
   of_line rulings seats seat turn line sits =
       of_ruled (acted seats seat) (refusal_of seats turn.events seat turn.actions) seat turn line.number
       (λ (after : InTurn). R turn.events after.events)
-      (λ (ruling : Ruling) (none : obeyed_by ruling ≡ None). rulings turn.events seat line.number ruling)
+      (λ (ruling : Ruling) (none : obeyed_by ruling ≡ None). rulings turn.events seat line.number
+      ruling)
       (λ (condition : Option Condition) (done : Order)
       (kept : refusal_of seats turn.events seat turn.actions done ≡ None).
       let ruling : Ruling = Obeyed condition done in
       let ruled : List Event = turn.events ++ event.Ruled seat line.number ruling ∷ [] in
-      of.both turn.events ruled (after_act seats seat ruled done) (rulings turn.events seat line.number ruling)
+      of.both turn.events ruled (after_act seats seat ruled done) (rulings turn.events seat
+      line.number ruling)
       (of_act seats seat ruled done sits
-      (λ private is. of.unsold ruled private (still_unsold seats seat turn line.number ruling private
+      (λ private is. of.unsold ruled private (still_unsold seats seat turn line.number ruling
+      private
       (ap (refusal_of seats turn.events seat turn.actions) (sym is) ∙ kept)))))
       has_place_in_turn turn.events line
 
@@ -166,8 +181,10 @@ module _ (Sits : Seat → Type 0) (Sells : List Event → Private → Type 0) (R
       let fallen : List Event = events ++ event.Price 0 ∷ [] in
       elim (price == 0) as (λ (b : Bool). R events
       (if b then settled seats (given_away events holder) else events ++ event.Price price ∷ [])) [
-        | true ↦ of.both events fallen (settled seats (given_away events holder)) (of.quiet events (event.Price 0) refl)
-            (of_sales seats fallen private.SchuylkillValley holder 0 (of.unsold fallen private.SchuylkillValley
+        | true ↦ of.both events fallen (settled seats (given_away events holder)) (of.quiet events
+            (event.Price 0) refl)
+            (of_sales seats fallen private.SchuylkillValley holder 0 (of.unsold fallen
+            private.SchuylkillValley
             (is_sold_before events (event.Price 0) private.SchuylkillValley refl ∙ unsold)))
         | false ↦ of.quiet events (event.Price price) refl
       ]
@@ -177,7 +194,8 @@ module _ (Sits : Seat → Type 0) (Sells : List Event → Private → Type 0) (R
       R events (if sold then after_revenues seats events privates else after_fall seats events
       (sv_price_of events - 5) (priority_of seats events))
   of_passing seats events true is =
-      of_growing_still events (after_revenues seats events privates) (revenues_grow seats events privates)
+      of_growing_still events (after_revenues seats events privates) (revenues_grow seats events
+      privates)
   of_passing seats events false is = of_fall seats events (sv_price_of events - 5) (priority_of seats events) is
 
   -- of the close
@@ -199,7 +217,8 @@ module _ (Sits : Seat → Type 0) (Sells : List Event → Private → Type 0) (R
       (record {
         stays = of.same;
         further = of.both;
-        standing = λ seat events line. rulings events seat line.number (standing_ruling events line);
+        standing = λ seat events line. rulings events seat line.number (standing_ruling events
+            line);
         line = λ seats seat turn line. of_line rulings seats seat turn line (sit seat);
         passes = λ events seat. of.quiet events (event.Passes seat) refl;
         closed = of_close;

@@ -19,9 +19,11 @@ use Rattle.purchases.specs.Discard.{discard_judgement, is_president}
 use Rattle.purchases.specs.Offer.{is_seats, offer_judgement}
 use Rattle.purchases.specs.Standing.{after_standing, after_standing_line, has_place_before, standing_judgement}
 use Rattle.purchases.specs.Standing.{standing_ruling}
-use Rattle.rounds.proofs.Growing.{◌⨾◌, Grows, GrowsPlainly, GrowsStill, and_plain, by_one_event, count_aside, is_still}
+use Rattle.rounds.proofs.Growing.{◌⨾◌, Grows, GrowsPlainly, GrowsStill, and_plain, by_one_event}
+use Rattle.rounds.proofs.Growing.{count_aside, is_still}
 use Rattle.rounds.proofs.Growing.{passes_plain, passes_test, revenues_grow, stays, still_is_aside}
-use Rattle.rounds.proofs.PlainRounds.{GrowsPlain, IsOfFamily, SheetsArePlain, of_mapped, recorded_plain, ruling_plain}
+use Rattle.rounds.proofs.PlainRounds.{GrowsPlain, IsOfFamily, SheetsArePlain, of_mapped}
+use Rattle.rounds.proofs.PlainRounds.{recorded_plain, ruling_plain}
 use Rattle.rounds.proofs.PlainRounds.{standing_plain}
 use Rattle.rounds.specs.OperatingRound.{finished, left_events, lines_left, opened}
 use Rattle.sheets.specs.Part.{Numbered, parts_for}
@@ -46,7 +48,8 @@ standing_grows : (file : List ℕ) (round : Round) (events : List Event) (seats 
 standing_grows file round events [] = stays
 standing_grows file round events (seat ∷ seats) =
     standing_lines_grow (seat_at seat) events (parts_for file round seat).before
-    ⨾ standing_grows file round (after_lines_before after_standing_line file round events seat) seats
+    ⨾ standing_grows file round (after_lines_before after_standing_line file round events seat)
+    seats
 
 -- by those and the revenues
 pub opened_still : (file : List ℕ) (round : Round) (old : Game) →
@@ -75,7 +78,8 @@ finished_grows file round seats events =
 -- so it is still
 pub finished_still : (file : List ℕ) (round : Round) (seats : ℕ) (events : List Event) →
     GrowsStill events (finished file round seats events)
-finished_still file round seats events = passes_test is_still (finished_grows file round seats events)
+finished_still file round seats events = passes_test is_still (finished_grows file round seats
+    events)
 
 -- those events stand aside
 pub opened_grows : (file : List ℕ) (round : Round) (old : Game) →
@@ -119,4 +123,5 @@ opened_adds file round old sheets =
 -- and those after its last
 pub finished_adds : (file : List ℕ) (round : Round) (seats : ℕ) (events : List Event) →
     GrowsPlain events (finished file round seats events)
-finished_adds file round seats events = passes_plain is_still (finished_grows file round seats events)
+finished_adds file round seats events = passes_plain is_still (finished_grows file round seats
+    events)

@@ -109,7 +109,8 @@ by_event game its is = by_one_event game.events its is
 -- by an event, and by BROKEN, where the bank breaks
 by_payment : (game : Game) (its : Event) → is_plain its ≡ true
     → AddsPlainly game (broken_recorded (with_event game its))
-by_payment game its is = by_event game its is ⨾ passes_plain is_still (broken_grows game.seats (with_event game its).events)
+by_payment game its is = by_event game its is ⨾ passes_plain is_still (broken_grows game.seats
+    (with_event game its).events)
 
 -- by the move of a token on the chart
 by_move : (move : Square → Square) (game : Game) (company : Company) →
@@ -127,7 +128,8 @@ module _ (company : Company) where
   by_withheld : (game : Game) (amount : ℕ) → AddsPlainly game (withheld game company amount)
   by_withheld game amount =
       let its : Event = event.Withheld company amount in
-      by_payment game its refl ⨾ by_move square_left_of (broken_recorded (with_event game its)) company
+      by_payment game its refl ⨾ by_move square_left_of (broken_recorded (with_event game its))
+      company
 
   by_withholding : (turn : TurnState) → TurnAdds turn (withheld_if_unpaid company turn)
   by_withholding turn =
@@ -157,14 +159,16 @@ module _ (company : Company) where
   by_paid_out : (game : Game) (revenue : ℕ) → AddsPlainly game (paid_out game company revenue)
   by_paid_out game revenue =
       by_seats revenue game (all_seats game.seats)
-      ⨾ by_dividend (holder.Company company) _ (paid_to_seats company revenue game (all_seats game.seats))
+      ⨾ by_dividend (holder.Company company) _ (paid_to_seats company revenue game
+      (all_seats game.seats))
       ⨾ by_move right_of (all_paid company revenue game) company
 
   -- by its home token
   by_home : (game : Game) → AddsPlainly game (with_home game company)
   by_home game =
       let home : Event = event.Home company (place_of (home_of company)) in
-      of_choice AddsPlainly (has_home_token game.events company) game game (with_event game home) stays
+      of_choice AddsPlainly (has_home_token game.events company) game game (with_event game home)
+      stays
       (by_event game home refl)
 
   -- by a private that it buys
@@ -185,12 +189,16 @@ module _ (company : Company) where
       let train : Event = event.Train company purchase.kind purchase.from (cost_of purchase) in
       let all : Game = bought game company purchase in
       let first : AddsPlainly game all =
-      of_trade AddsPlainly on (λ now its kind. by_event now (event.Traded its kind) refl) game company purchase.trade_in
-      ⨾ by_event traded train refl ⨾ of_bop AddsPlainly on closes (with_event traded train) company in
-      of_choice AddsPlainly (begins_phase game.events purchase.from purchase.kind) game (with_phase all purchase.kind) all
+      of_trade AddsPlainly on (λ now its kind. by_event now (event.Traded its kind) refl) game
+      company purchase.trade_in
+      ⨾ by_event traded train refl ⨾ of_bop AddsPlainly on closes (with_event traded train)
+      company in
+      of_choice AddsPlainly (begins_phase game.events purchase.from purchase.kind) game
+      (with_phase all purchase.kind) all
       (first ⨾ by_event all (event.Phase purchase.kind) refl ⨾ of_phase AddsPlainly on closes
       (λ old. of_train_owner AddsPlainly on old (λ now owner. by_event now (event.Rusted owner old) refl))
-      (of_next AddsPlainly on (λ now its kind. by_event now (event.Discarded its kind) refl)) all purchase.kind) first
+      (of_next AddsPlainly on (λ now its kind. by_event now (event.Discarded its kind) refl)) all
+      purchase.kind) first
 
 module _ (by : Operator) (line : Numbered) (plain : IsPlain line) where
   -- a rule that is not of conditions refuses it plainly, and so it is obeyed
@@ -223,13 +231,17 @@ module _ (by : Operator) (line : Numbered) (plain : IsPlain line) where
   -- LAY, TOKEN and RUN, by the answer
   by_lay : (turn : TurnState) (lay : Lay) (answer : Result ℤ LayRule) →
       TurnAdds turn (lay_answered by turn line lay answer)
-  by_lay turn lay (Err rule) = by_ruling turn (Refused (refusal.Lay rule) line.condition (order.Lay lay)) clear
-  by_lay turn lay (Ok cost) = by_obeyed turn (order.Lay lay) (event.Laid by.company lay (unsigned_abs cost)) refl
+  by_lay turn lay (Err rule) = by_ruling turn (Refused (refusal.Lay rule) line.condition
+      (order.Lay lay)) clear
+  by_lay turn lay (Ok cost) = by_obeyed turn (order.Lay lay) (event.Laid by.company lay
+      (unsigned_abs cost)) refl
 
   by_token : (turn : TurnState) (at : Place) (answer : Result ℤ TokenRule) →
       TurnAdds turn (token_answered by turn line at answer)
-  by_token turn at (Err rule) = by_ruling turn (Refused (refusal.Token rule) line.condition (order.Token at)) clear
-  by_token turn at (Ok cost) = by_obeyed turn (order.Token at) (event.Token by.company at (unsigned_abs cost)) refl
+  by_token turn at (Err rule) = by_ruling turn (Refused (refusal.Token rule) line.condition
+      (order.Token at)) clear
+  by_token turn at (Ok cost) = by_obeyed turn (order.Token at) (event.Token by.company at
+      (unsigned_abs cost)) refl
 
   by_run : (turn : TurnState) (its : Order) (judged : Result _ RunRule) →
       TurnAdds turn (run_ruled by turn line its judged)
@@ -243,26 +255,32 @@ module _ (by : Operator) (line : Numbered) (plain : IsPlain line) where
       subst (TurnAdds turn) (sym leads)
       (by_ruling turn (Refused (refusal.Run rule) line.condition order.RunBest) clear)
   by_best turn None new leads =
-      subst (TurnAdds turn) (sym leads.2) (by_obeyed turn order.RunBest (event.Runs by.company leads.0) refl)
+      subst (TurnAdds turn) (sym leads.2) (by_obeyed turn order.RunBest (event.Runs by.company
+      leads.0) refl)
 
   -- an order in this line
   by_order : (turn : TurnState) (its : Order) (new : TurnState) → OrderLeads by turn line its new →
       TurnAdds turn new
-  by_order turn (order.Lay lay) new leads = subst (TurnAdds turn) (sym leads.after) (by_lay turn lay leads.answer)
-  by_order turn (order.Token at) new leads = subst (TurnAdds turn) (sym leads.after) (by_token turn at leads.answer)
+  by_order turn (order.Lay lay) new leads = subst (TurnAdds turn) (sym leads.after) (by_lay turn lay
+      leads.answer)
+  by_order turn (order.Token at) new leads = subst (TurnAdds turn) (sym leads.after) (by_token turn
+      at leads.answer)
   by_order turn (order.Run kind run) new leads =
-      subst (TurnAdds turn) (sym leads) (by_run turn (order.Run kind run) (judged_run turn by.company kind run))
+      subst (TurnAdds turn) (sym leads) (by_run turn (order.Run kind run) (judged_run turn
+      by.company kind run))
   by_order turn order.RunBest new leads = by_best turn (best_judgement turn by.company) new leads
   by_order turn order.Pay new leads =
       subst (TurnAdds turn) (sym leads)
       (by_ruled turn order.Pay (option_map refusal.Pay (pay_judgement turn.progress))
-      (λ after. turn_state (paid_out after.game by.company turn.progress.runs.revenue) (pay_done after.progress))
+      (λ after. turn_state (paid_out after.game by.company turn.progress.runs.revenue)
+      (pay_done after.progress))
       (of_mapped refusal.Pay (λ rule. tt) (pay_judgement turn.progress))
       (λ after. by_paid_out by.company after.game turn.progress.runs.revenue))
   by_order turn order.Withhold new leads =
       subst (TurnAdds turn) (sym leads)
       (by_ruled turn order.Withhold (option_map refusal.Pay (withhold_judgement turn.progress))
-      (λ after. turn_state (withheld after.game by.company turn.progress.runs.revenue) (pay_done after.progress))
+      (λ after. turn_state (withheld after.game by.company turn.progress.runs.revenue)
+      (pay_done after.progress))
       (of_mapped refusal.Pay (λ rule. tt) (withhold_judgement turn.progress))
       (λ after. by_withheld by.company after.game turn.progress.runs.revenue))
   by_order turn (order.BuyTrain kind from) new leads =
@@ -271,15 +289,18 @@ module _ (by : Operator) (line : Numbered) (plain : IsPlain line) where
       subst (TurnAdds turn) (sym leads)
       (by_withholding by.company turn
       ⨾ by_ruled paid (order.BuyTrain kind from) (option_map refusal.Train rule)
-      (λ after. turn_state (after_train after.game by.company (purchase_of kind from)) after.progress)
-      (of_mapped refusal.Train (λ rule. tt) rule) (λ after. by_train by.company after.game kind from))
+      (λ after. turn_state (after_train after.game by.company (purchase_of kind from))
+      after.progress)
+      (of_mapped refusal.Train (λ rule. tt) rule) (λ after. by_train by.company after.game kind
+      from))
   by_order turn (order.BuyOwnedPrivate private price) new leads =
       let rule = private_judgement turn.game by.company private price in
       subst (TurnAdds turn) (sym leads)
       (by_ruled turn (order.BuyOwnedPrivate private price) (option_map refusal.Private rule)
       (λ after. turn_state (private_bought after.game by.company private price) after.progress)
       (of_mapped refusal.Private (λ rule. tt) rule)
-      (λ after. by_private by.company after.game private price (owner_of after.game.events private)))
+      (λ after. by_private by.company after.game private price (owner_of after.game.events
+      private)))
   by_order turn (order.Raise its shares) new leads = subst (TurnAdds turn) (sym leads) stays
   by_order turn other new leads = subst (TurnAdds turn) (sym leads) (by_ruling turn (Faulty OutOfPlace) refl)
 
@@ -295,7 +316,8 @@ module _ (by : Operator) (line : Numbered) (plain : IsPlain line) where
   by_line turn (Err fault) new leads = subst (TurnAdds turn) (sym leads) (by_ruling turn (Faulty fault) refl)
   by_line turn (Ok its) new leads =
       by_asked turn its (is_held turn.game.events line.condition its) new
-      (subst (λ (condition : Option Condition). is_held turn.game.events condition its ≡ false) (sym plain)
+      (subst (λ (condition : Option Condition). is_held turn.game.events condition its ≡ false)
+      (sym plain)
       (not_held (is_ruled_there its))) leads
 
   -- a RAISE is refused by the rules of a sale, or as not needed
@@ -335,7 +357,8 @@ module _ (by : Operator) where
       LinesLead by turn lines new → TurnAdds turn new
   by_lines turn [] new are leads = subst (TurnAdds turn) (sym leads) stays
   by_lines turn (line ∷ lines) new are leads =
-      by_line by line are.0 turn line.reading leads.0 leads.1 ⨾ by_lines leads.0 lines new are.1 leads.2
+      by_line by line are.0 turn line.reading leads.0 leads.1 ⨾ by_lines leads.0 lines new are.1
+      leads.2
 
   -- the RAISE lines of the company's orders
   by_raises : (due : Bool) (lines : List Numbered) (game : Game) → ArePlain lines →
@@ -363,15 +386,18 @@ module _ (by : Operator) where
   by_aid : (game : Game) → AddsPlainly game (with_aid by game)
   unfolding with_aid
   by_aid game =
-      let its : Event = event.Aid by.president by.company (at_least_zero (lack_of game by.company)) in
+      let its : Event = event.Aid by.president by.company (at_least_zero (lack_of game
+      by.company)) in
       of_choice AddsPlainly (lt_z (pos 0) (lack_of game by.company)) game (with_event game its) game
       (by_event game its refl) stays
 
   -- the cheapest train by a list
-  by_cheapest : (game : Game) (events : List Event) → AddsPlainly game (after_train game by.company (cheapest events))
+  by_cheapest : (game : Game) (events : List Event) → AddsPlainly game (after_train game by.company
+      (cheapest events))
   by_cheapest game events =
       let its = cheapest_plain events in
-      let Adds : TrainPurchase → Type 0 = λ purchase. AddsPlainly game (after_train game by.company purchase) in
+      let Adds : TrainPurchase → Type 0 = λ purchase. AddsPlainly game (after_train game by.company
+      purchase) in
       elim its.1 [
         | inl is ↦ subst Adds (sym is) (by_train by.company game its.0 source.Bank)
         | inr is ↦ subst Adds (sym is) (by_train by.company game its.0 source.BankPool)
@@ -382,8 +408,10 @@ module _ (by : Operator) where
   unfolding concluded
   by_concluded game =
       let aided : Game = with_aid by game in
-      of_choice AddsPlainly (falls_short by game) game (with_event game (event.Bankrupt by.president))
-      (after_train aided by.company (cheapest game.events)) (by_event game (event.Bankrupt by.president) refl)
+      of_choice AddsPlainly (falls_short by game) game (with_event game (event.Bankrupt
+      by.president))
+      (after_train aided by.company (cheapest game.events)) (by_event game (event.Bankrupt
+      by.president) refl)
       (by_aid game ⨾ by_cheapest aided game.events)
 
   -- a purchase that is due
@@ -431,15 +459,18 @@ module _ (file : List ℕ) (round : Round) (sheets : SheetsArePlain file round) 
   -- turns of companies add but plain events
   turns_add : (companies : List Company) (old new : Game) → TakeTurns file round companies old new →
       GrowsPlain old.events new.events
-  turns_add [] old new taken = subst (λ (game : Game). GrowsPlain old.events game.events) taken stays
+  turns_add [] old new taken = subst (λ (game : Game). GrowsPlain old.events game.events) taken
+      stays
   turns_add (company ∷ others) old new taken =
-      by_company_turn file round sheets company old taken.0 taken.1.turn ⨾ turns_add others taken.0 new taken.2
+      by_company_turn file round sheets company old taken.0 taken.1.turn ⨾ turns_add others taken.0
+      new taken.2
 
   -- and so does an operating round
   operating_adds : (old new : Game) → IsOperatingRound file round old new →
       GrowsPlain (old.events ++ event.Round round ∷ []) new.events
   operating_adds old new played =
-      subst (λ (game : Game). GrowsPlain (old.events ++ event.Round round ∷ []) game.events) (sym played.after)
+      subst (λ (game : Game). GrowsPlain (old.events ++ event.Round round ∷ []) game.events)
+      (sym played.after)
       (opened_adds file round old sheets
       ⨾ turns_add played.turns.companies (opened file round old) played.turned played.turns.turns
       ⨾ finished_adds file round old.seats played.turned.events)
@@ -468,5 +499,6 @@ ruled_plainly law file rounds there one played =
     through file (λ at. list_all is_plain at.game.events ≡ true)
     (λ old new are round. still_plain old.game.events new.game.events
     (by_one_event old.game.events (event.Round round.round) refl
-    ⨾ round_adds file round.round old.game new.game (sheets_plain law file round.round one) round.played) are)
+    ⨾ round_adds file round.round old.game new.game (sheets_plain law file round.round one)
+    round.played) are)
     rounds (before_play file) there played refl

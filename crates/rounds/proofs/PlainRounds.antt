@@ -178,7 +178,8 @@ module _ {TurnActions : Type 0} (act : InTurn TurnActions → Order → InTurn T
       GrowsPlain turn.events (after_ruling act seat turn number ruling).events
   ruled_plain seat turn number ruling is =
       let ruled : List Event = recorded seat number ruling turn.events in
-      recorded_plain seat number ruling turn.events is ⨾ done_plain (in_turn ruled turn.actions) (obeyed_by ruling)
+      recorded_plain seat number ruling turn.events is ⨾ done_plain (in_turn ruled turn.actions)
+      (obeyed_by ruling)
 
 module _ (step : Seat → List Event → Numbered → List Event)
     (adds : (seat : Seat) (events : List Event) (line : Numbered) → IsPlain line →
@@ -259,7 +260,8 @@ module _ {TurnActions : Type 0} (rules : RoundRules TurnActions) (adds : AddsPla
       GrowsPlain turn.events (after_lines rules seats seat turn lines).events
   by_lines seats seat turn [] are = stays
   by_lines seats seat turn (line ∷ lines) are =
-      adds.line seats seat turn line are.0 ⨾ by_lines seats seat (rules.line seats seat turn line) lines are.1
+      adds.line seats seat turn line are.0 ⨾ by_lines seats seat (rules.line seats seat turn line)
+      lines are.1
 
   -- a turn
   by_turn : (seats : ℕ) (at : InPlay (List Event) Numbered) → AllArePlain at.written_turns →
@@ -269,8 +271,10 @@ module _ {TurnActions : Type 0} (rules : RoundRules TurnActions) (adds : AddsPla
       let lines : List Numbered = next_written_turn (written_turns_at at.written_turns at.seat) in
       let turn : InTurn TurnActions = after_written_turn rules seats seat at.now lines in
       by_lines seats seat (in_turn at.now rules.nothing) lines
-      (next_plain (written_turns_at at.written_turns at.seat) (at_plain at.written_turns at.seat are))
-      ⨾ in_either (rules.has_acted turn.actions) stays (by_one_event turn.events (event.Passes seat) refl)
+      (next_plain (written_turns_at at.written_turns at.seat) (at_plain at.written_turns at.seat
+      are))
+      ⨾ in_either (rules.has_acted turn.actions) stays (by_one_event turn.events (event.Passes seat)
+      refl)
 
   -- the written turns that are left after some turns have no condition
   left_so_far : (seats n : ℕ) (start : InPlay (List Event) Numbered) → AllArePlain start.written_turns →
@@ -288,7 +292,8 @@ module _ {TurnActions : Type 0} (rules : RoundRules TurnActions) (adds : AddsPla
   by_turns seats zero start are = stays
   by_turns seats (suc n) start are =
       by_turns seats n start are
-      ⨾ by_turn seats (iterate (after_turn (turns_of rules seats)) n start) (left_so_far seats n start are)
+      ⨾ by_turn seats (iterate (after_turn (turns_of rules seats)) n start) (left_so_far seats n
+      start are)
 
   -- the whole round
   pub by_round : (file : List ℕ) (round : Round) (old new : Game) → SheetsArePlain file round →
@@ -305,5 +310,6 @@ module _ {TurnActions : Type 0} (rules : RoundRules TurnActions) (adds : AddsPla
       let left : GrowsPlain shut (finished rules old.seats last) =
       record { more = _; longer = refl; aside = left_plain 0 last.written_turns } in
       subst (λ (game : Game). GrowsPlain begun game.events) (sym played.after)
-      (standing_plain rules.standing adds.standing file round sheets begun (range_with_len 0 old.seats)
+      (standing_plain rules.standing adds.standing file round sheets begun (range_with_len 0
+      old.seats)
       ⨾ turned ⨾ adds.closed old.seats last.now ⨾ left)

@@ -48,7 +48,8 @@ use Rattle.tables.specs.Round.{rank_of}
 module _ (first second : List ℕ) where
   module _ (round : Round) (same : ReadAlikeFor round first second) where
     -- standing lines do the same, whatever they do
-    same_standing : {State : Type 0} (step : Seat → State → Numbered → State) (state : State) (seats : List ℕ)
+    same_standing : {State : Type 0} (step : Seat → State → Numbered → State) (state : State)
+        (seats : List ℕ)
         → after_all_before step first round state seats ≡ after_all_before step second round state seats
     same_standing step state [] = refl
     same_standing step state (seat ∷ seats) =
@@ -64,17 +65,20 @@ module _ (first second : List ℕ) where
         let standing = same_standing kind.standing (old.events ++ event.Round round ∷ []) seats in
         record {
           last = played.last;
-          turns = subst (λ (play : InPlay (List Event) Numbered). TurnsEnd (turns_of kind old.seats) play played.last)
+          turns = subst (λ (play : InPlay (List Event) Numbered). TurnsEnd (turns_of kind old.seats)
+              play played.last)
               (λ i. in_play (standing i) (priority_of old.seats old.events).0 0
               (map (λ seat. written_turns_of (same.parts seat i)) seats)) played.turns;
           after = played.after;
         }
 
     -- they open an operating round the same way
-    same_operating_opened : (old : Game) → operating.opened first round old ≡ operating.opened second round old
+    same_operating_opened : (old : Game) → operating.opened first round old ≡ operating.opened
+        second round old
     same_operating_opened old =
         ap (λ (events : List Event). revenues_recorded (record { seats = old.seats; events = events }))
-        (same_standing rules.after_standing_line (old.events ++ event.Round round ∷ []) (range_with_len 0 old.seats))
+        (same_standing rules.after_standing_line (old.events ++ event.Round round ∷ [])
+        (range_with_len 0 old.seats))
 
     -- a company's orders lead to the same
     same_orders : (company : Company) (turn new : TurnState) (president : Option Seat)
@@ -107,7 +111,8 @@ module _ (first second : List ℕ) where
             turn = record {
               last = turn.last;
               orders = same_orders company (begun old company) turn.last president turn.orders;
-              after = same_end company (withheld_if_unpaid company turn.last).game turns.0 president turn.after;
+              after = same_end company (withheld_if_unpaid company turn.last).game turns.0 president
+                  turn.after;
             };
           },
           same_turns others turns.0 new turns.2,
@@ -135,9 +140,11 @@ module _ (first second : List ℕ) where
           turned = played.turned;
           turns = record {
             companies = turns.companies;
-            turns = subst (λ (start : Game). operating.TakeTurns second round turns.companies start played.turned)
+            turns = subst (λ (start : Game). operating.TakeTurns second round turns.companies start
+                played.turned)
                 (same_operating_opened old)
-                (same_turns turns.companies (operating.opened first round old) played.turned turns.turns);
+                (same_turns turns.companies (operating.opened first round old) played.turned
+                turns.turns);
             over_then = turns.over_then;
           };
           after =
@@ -151,7 +158,8 @@ module _ (first second : List ℕ) where
       → IsPlayed second round old new
   same_played (Opening number) old new same played =
       same_round_of_turns (Opening number) same opening_rules old new played
-  same_played (Stock set) old new same played = same_round_of_turns (Stock set) same stock_rules old new played
+  same_played (Stock set) old new same played = same_round_of_turns (Stock set) same stock_rules old
+      new played
   same_played (Operating set number) old new same played =
       same_operating (Operating set number) same old new played
 

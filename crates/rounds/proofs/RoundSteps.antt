@@ -2,7 +2,8 @@
 -- after the other, of each event that stands aside and of each company's turn. What is shown of
 -- opening rounds by themselves has to hold only of each event that is still. What these and a ROUND
 -- event keep, each round of a game keeps.
-use Rattle.std.proofs.Common.{rules, ◌≡◌, ℕ, Bool, true, false, ◌&&◌, not, List, [], ◌∷◌, ◌++◌, Option}
+use Rattle.std.proofs.Common.{rules, ◌≡◌, ℕ, Bool, true, false, ◌&&◌, not, List, [], ◌∷◌, ◌++◌}
+use Rattle.std.proofs.Common.{Option}
 use Rattle.std.proofs.Common.{None, is_none, sym, subst, arith}
 use Rattle.std.proofs.lemmas.Bool.{and_parts}
 use Rattle.events.specs.Event.{bidding_of, operated_by, ownership_of, phase_set, round_begun_by, tile_laid}
@@ -86,7 +87,8 @@ module _ (R : List Event → List Event → Type 0) (on : IsPassedOn R) where
   -- of a list that grows by events that stand aside
   pub of_growing : (old new : List Event) → Grows old new → R old new
   of_growing =
-      over_growth is_aside R on.same on.both (λ events event aside. on.aside events event (says_nothing event aside))
+      over_growth is_aside R on.same on.both (λ events event aside. on.aside events event
+      (says_nothing event aside))
 
 -- it holds between a list and itself, of one after the other, of each event that is still and of
 -- each company's turn
@@ -106,7 +108,8 @@ module _ (R : List Event → List Event → Type 0) (on : IsPassedStill R) where
   -- of a list that grows by events that are still
   of_growing_still : (old new : List Event) → GrowsStill old new → R old new
   of_growing_still =
-      over_growth is_still R on.same on.both (λ events event still. on.still events event (says_still event still))
+      over_growth is_still R on.same on.both (λ events event still. on.still events event
+      (says_still event still))
 
   module _ (file : List ℕ) where
     -- of turns
@@ -192,7 +195,13 @@ pub in_each_game : (P : List Event → Type 0) → IsKept P → (file : List ℕ
     AreRounds file rounds (before_play file) there → P there.game.events
 in_each_game P kept file rounds there played =
     let on : IsPassedOn (Keeps P) =
-    record { same = λ events holds. holds; both = λ a b c one two holds. two (one holds); aside = kept.aside } in
+    record {
+      same = λ events holds. holds;
+      both = λ a b c one two holds. two (one holds);
+      aside =
+          kept.aside;
+    } in
     through file (λ at. P at.game.events)
-    (λ old new holds round. of_round (Keeps P) on kept.turns file kept.begins round.round old.game new.game round.played
+    (λ old new holds round. of_round (Keeps P) on kept.turns file kept.begins round.round old.game
+    new.game round.played
     holds) rounds (before_play file) there played kept.first

@@ -41,7 +41,8 @@ pub record IsAt (file : List ℕ) (here : Between) (play : Underway) : Type 0 wh
   pub there : play.there ≡ Ok here
 
 -- it is at one
-same_place : (a b : Between) (there : Result Between PlayFault) → there ≡ Ok a → there ≡ Ok b → a ≡ b
+same_place : (a b : Between) (there : Result Between PlayFault) → there ≡ Ok a → there ≡ Ok b →
+    a ≡ b
 same_place a b there at_a at_b = cc
 
 -- a step that plays a round leads on from one place to another
@@ -50,7 +51,8 @@ pub record LeadsOn (file : List ℕ) (here : Between) (new : Underway) : Type 0 
   pub at : IsAt file to new
   pub played : IsRound file here to
 
-pub leads_on : (file : List ℕ) (here : Between) (old new : Underway) (round : Round) → IsAt file here old
+pub leads_on : (file : List ℕ) (here : Between) (old new : Underway) (round : Round) → IsAt file
+    here old
     → PlaysNext old round new → LeadsOn file here new
 leads_on file here old new round at step =
     let same : step.from ≡ here = same_place step.from here old.there step.there at.there in
@@ -65,7 +67,8 @@ leads_on file here old new round at step =
     }
 
 -- a step that is broken off, where play was not, breaks off the round that comes next
-pub breaks_off : (file : List ℕ) (here : Between) (old new : Underway) (fault : PlayFault) → IsAt file here old
+pub breaks_off : (file : List ℕ) (here : Between) (old new : Underway) (fault : PlayFault) →
+    IsAt file here old
     → BreaksOff old fault new → (new.there ≡ Err fault) × (goes_on file here.next ≡ true)
 breaks_off file here old new fault at (inl before) = let there = at.there in absurd (cc)
 breaks_off file here old new fault at (inr now) =
@@ -77,13 +80,17 @@ breaks_off file here old new fault at (inr now) =
     )
 
 -- a step that returns why play stopped says of which game
-pub stops_here : (file : List ℕ) (here : Between) (old new : Underway) (end : End) (game : Game) → IsAt file here old
+pub stops_here : (file : List ℕ) (here : Between) (old new : Underway) (end : End) (game : Game) →
+    IsAt file here old
     → Stays old end new → game_so_far new ≡ Some game
     → Stops file here (record { file = file; game = game; end = end })
 stops_here file here old new end game at stays so_far =
-    let same : stays.over.last ≡ here = same_place stays.over.last here old.there stays.over.there at.there in
-    let there : Some here.game ≡ Some game = sym (ap game_so_far stays.after ∙ ap game_there at.there) ∙ so_far in
-    let why : Some end ≡ Some (end_of here.next here.game.events) = stays.why ∙ ap end_there at.there in
+    let same : stays.over.last ≡ here = same_place stays.over.last here old.there stays.over.there
+    at.there in
+    let there : Some here.game ≡ Some game = sym (ap game_so_far stays.after ∙ ap game_there
+    at.there) ∙ so_far in
+    let why : Some end ≡ Some (end_of here.next here.game.events) = stays.why ∙ ap end_there
+    at.there in
     let is_game : game ≡ here.game = cc in
     let is_end : end ≡ end_of here.next here.game.events = cc in
     record {
@@ -100,11 +107,13 @@ from_here file here to old new calls at there its = rw (at.of_file, at.there, th
 
 -- where a round can be played they are those of the round
 of_round : (file : List ℕ) (here : Between) (to : Result Between PlayFault) (calls : List Call)
-    → goes_on file here.next ≡ true → CallsBetween file (Ok here) to calls → RoundCalls file here to calls
+    → goes_on file here.next ≡ true → CallsBetween file (Ok here) to calls → RoundCalls file here to
+    calls
 of_round file here to calls goes (inl course) = course.1
 of_round file here to calls goes (inr none) = absurd (true≢false (sym goes ∙ none.0))
 
-pub step_calls : (file : List ℕ) (here : Between) (to : Result Between PlayFault) (old new : Underway)
+pub step_calls : (file : List ℕ) (here : Between) (to : Result Between PlayFault)
+    (old new : Underway)
     (calls : List Call) → IsAt file here old → new.there ≡ to → goes_on file here.next ≡ true
     → StepCalls old new calls → RoundCalls file here to calls
 step_calls file here to old new calls at there goes its =
@@ -121,22 +130,29 @@ module _ {Runner : Type 0} (earns : Earns Runner) where
   pub called_between :
       (file : List ℕ) (here : Between) (to : Result Between PlayFault) (old new : Underway) (before after : Runner)
       → IsAt file here old → new.there ≡ to → goes_on file here.next ≡ true
-      → Makes earns before (StepCalls old new) after → Makes earns before (RoundCalls file here to) after
+      → Makes earns before (StepCalls old new) after → Makes earns before (RoundCalls file here to)
+      after
   called_between file here to old new before after at there goes made =
       (made.0, step_calls file here to old new made.0 at there goes made.1, made.2)
 
   pub silent_stop :
-      (file : List ℕ) (here : Between) (old new : Underway) (before after : Runner) → IsAt file here old
-      → goes_on file here.next ≡ false → Makes earns before (StepCalls old new) after → after ≡ before
+      (file : List ℕ) (here : Between) (old new : Underway) (before after : Runner) → IsAt file here
+      old
+      → goes_on file here.next ≡ false → Makes earns before (StepCalls old new) after → after ≡
+      before
   silent_stop file here old new before after at stopped made =
       let none : made.0 ≡ [] = no_calls file here new.there made.0 stopped
       (from_here file here new.there old new made.0 at refl made.1) in
       subst (λ (all : List Call). AreMade earns before all after) none made.2
 
 -- at first a play is before its first round
-pub begins : (file : List ℕ) (play : Underway) → play ≡ started file → IsAt file (before_play file) play
+pub begins : (file : List ℕ) (play : Underway) → play ≡ started file → IsAt file (before_play file)
+    play
 begins file play is =
-    record { of_file = ap (λ (it : Underway). it.file) is; there = ap (λ (it : Underway). it.there) is }
+    record {
+      of_file = ap (λ (it : Underway). it.file) is;
+      there = ap (λ (it : Underway). it.there) is;
+    }
 
 -- where play is at a place, no fault has broken it off, and its own place is that one
 no_fault : (fault : Option PlayFault) (here at : Between) → there_unless fault here ≡ Ok at
@@ -171,7 +187,8 @@ pub upcoming :
     (of : Fields) (play : Underway) (round : Round) → seen of ≡ play → ComesNext play round
     → (of.fault ≡ None → HasComeTo of.file of.here) → IsUpcoming of play round
 upcoming of play round is comes holds =
-    let next : ComesNext (seen of) round = subst (λ (at : Underway). ComesNext at round) (sym is) comes in
+    let next : ComesNext (seen of) round = subst (λ (at : Underway). ComesNext at round) (sym is)
+    comes in
     let at = no_fault of.fault of.here next.from next.there in
     record {
       is = is;
@@ -185,13 +202,21 @@ pub comes_next : (of : Fields) (play : Underway) (round : Round) → seen of ≡
     → IsToPlay of.file of.here.next round → ComesNext play round
 comes_next of play round is none to_play =
     subst (λ (at : Underway). ComesNext at round) is
-    (record { from = of.here; there = ap (λ (f : Option PlayFault). there_unless f of.here) none; to_play = to_play })
+    (record {
+      from = of.here;
+      there = ap (λ (f : Option PlayFault). there_unless f of.here) none;
+      to_play = to_play;
+    })
 
 pub is_over : (of : Fields) (play : Underway) → seen of ≡ play → of.fault ≡ None
     → goes_on of.file of.here.next ≡ false → IsOver play
 is_over of play is none stopped =
     subst IsOver is
-    (record { last = of.here; there = ap (λ (f : Option PlayFault). there_unless f of.here) none; stopped = stopped })
+    (record {
+      last = of.here;
+      there = ap (λ (f : Option PlayFault). there_unless f of.here) none;
+      stopped = stopped;
+    })
 
 -- before the first round
 pub come_first :
@@ -224,16 +249,19 @@ module _ (of : Fields) (play : Underway) (round : Round) (at : IsUpcoming of pla
 
   -- the calls of its round are those of a step to there
   pub calls_seen :
-      {Runner : Type 0} (earns : Earns Runner) (to : Result Between PlayFault) (before after : Runner) →
+      {Runner : Type 0} (earns : Earns Runner) (to : Result Between PlayFault) (before after :
+      Runner) →
       Makes earns before (RoundCalls of.file of.here to) after →
       Makes earns before (CallsBetween play.file play.there to) after
   calls_seen earns to before after made =
       subst (λ (it : Underway). Makes earns before (CallsBetween it.file it.there to) after) at.is
-      (subst (λ (f : Option PlayFault). Makes earns before (CallsBetween of.file (there_unless f of.here) to) after)
+      (subst (λ (f : Option PlayFault). Makes earns before (CallsBetween of.file (there_unless f
+      of.here) to) after)
       (sym at.none) (made.0, inl (on of.file of.here round at.to_play, made.1), made.2))
 
   module _ (game : Game) (in_set : ℕ) (upcoming : Next)
-      (is_played : IsPlayed of.file round of.here.game game) (comes : upcoming ≡ coming round of.here.in_set game.events)
+      (is_played : IsPlayed of.file round of.here.game game) (comes : upcoming ≡ coming round
+      of.here.in_set game.events)
       (counted : in_set ≡ in_set_before upcoming game.events of.here.in_set) where
     -- once it was played, play is there
     abbrev there : Between
@@ -261,7 +289,8 @@ module _ (of : Fields) (play : Underway) (round : Round) (at : IsUpcoming of pla
           seats = seats ∙ at.come.seats;
           gifts =
               λ later is_next.
-              gifts_go_on round later of.here.in_set (all_sold game.events) (broken_in game.events) game.events gifts
+              gifts_go_on round later of.here.in_set (all_sold game.events) (broken_in game.events)
+              game.events gifts
               (follows of.file of.here there later played is_next);
         }
 
@@ -295,12 +324,15 @@ module _ (of : Fields) (play : Underway) (round : Round) (at : IsUpcoming of pla
         })
 
     -- and fewer places are left
-    pub comes_nearer : SheetsAreNumbered → places_there (there_unless of.fault there) < places_ahead play
+    pub comes_nearer : SheetsAreNumbered → places_there (there_unless of.fault there) < places_ahead
+        play
     comes_nearer numbered =
         let fewer = fewer_to_come numbered of.file of.here there some_play
         (comes_in_set of.file at.come.rounds of.here at.come.reached) played in
-        subst (λ (it : Underway). places_there (there_unless of.fault there) < places_ahead it) at.is
-        (subst (λ (f : Option PlayFault). places_there (there_unless f there) < places_there (there_unless f of.here))
+        subst (λ (it : Underway). places_there (there_unless of.fault there) < places_ahead it)
+        at.is
+        (subst (λ (f : Option PlayFault). places_there (there_unless f there) < places_there
+        (there_unless f of.here))
         (sym at.none) fewer)
 
 -- where steps have led from the start of a file, this many of its rounds were played
@@ -324,11 +356,13 @@ pub steps_play : OneOpeningRound → OneStockRound → OneOperatingRound → Som
 steps_play one_opening one_stock one_operating some file steps play accepted stepped =
     let reached = steps_reach file steps play stepped in
     let game = some file accepted in
-    let on = on_the_way one_opening one_stock one_operating file steps game.1.rounds (before_play file) reached.here
+    let on = on_the_way one_opening one_stock one_operating file steps game.1.rounds (before_play
+    file) reached.here
     game.0 reached.rounds game.1.reached game.1.stopped in (
       reached.here,
       reached.at.there,
-      record { reached = reached.rounds; later = on.0; last = game.0; ahead = on.1; plays = game.1 },
+      record
+          { reached = reached.rounds; later = on.0; last = game.0; ahead = on.1; plays = game.1 },
     )
 
 -- where steps have led, with their calls: what follows the calls from there on makes the calls of a
@@ -365,7 +399,8 @@ has_come (suc steps) file play calls called =
       on =
           λ outcome later rest.
           subst (GameCalls file outcome)
-          (sym (append_assoc before its later) ∙ ap (λ (all : List Call). all ++ later) (sym called.7))
+          (sym (append_assoc before its later) ∙ ap (λ (all : List Call). all ++ later)
+          (sym called.7))
           (so_far.on outcome (its ++ later) (
             suc rest.0,
             inr (record {
@@ -387,7 +422,11 @@ call_the_game file steps last ended end calls called stays =
     let stops : Stops file so_far.here played =
     stops_here file so_far.here last ended end so_far.here.game so_far.at stays
     (ap (λ (at : Underway). game_so_far at) stays.after ∙ ap game_there so_far.at.there)
-    in (played, subst (GameCalls file (Ok played)) (append-nil calls) (so_far.on (Ok played) [] (zero, (stops, refl))))
+    in (
+      played,
+      subst (GameCalls file (Ok played)) (append-nil calls) (so_far.on (Ok played) []
+          (zero, (stops, refl))),
+    )
 
 -- and where it was broken off
 pub broken_steps : BrokenStepsCallABrokenGame

@@ -18,7 +18,8 @@ use Rattle.order_grammar.specs.declared.condition.Condition.{Condition}
 use Rattle.order_grammar.specs.declared.order.Order.{Order}
 use Rattle.order_grammar.specs.declared.order.Order.TheVariants as order
 use Rattle.order_grammar.specs.declared.order.ShareSource.{ShareSource}
-use Rattle.rounds.proofs.Growing.{◌⨾◌, GrowsPlainly, GrowsStill, broken_grows, by_one_event, in_either, is_still}
+use Rattle.rounds.proofs.Growing.{◌⨾◌, GrowsPlainly, GrowsStill, broken_grows, by_one_event}
+use Rattle.rounds.proofs.Growing.{in_either, is_still}
 use Rattle.rounds.proofs.Growing.{passes_plain, passes_test, stays}
 use Rattle.rounds.proofs.PlainRounds.{of_mapped, recorded_plain, ruled_plain, ruling_plain}
 use Rattle.rounds.proofs.PlainRounds.{AddsPlain}
@@ -58,7 +59,8 @@ float_grows : (seats : ℕ) (events : List Event) (company : Company) →
     GrowsPlainly is_still events (with_float seats events company)
 float_grows seats events company =
     in_either (is_to_float events company)
-    (by_one_event events (event.Floats company (10 * unwrap_or (par_of events company) 0)) refl ⨾ broken_grows seats _)
+    (by_one_event events (event.Floats company (10 * unwrap_or (par_of events company) 0)) refl ⨾
+    broken_grows seats _)
     stays
 
 -- by the move of a token from this square, if it is on one
@@ -82,7 +84,8 @@ pub sale_grows : (seats : ℕ) (events : List Event) (seat : Seat) (company : Co
 sale_grows seats events seat company shares =
     let paid : List Event = sold seats events seat company shares in
     let presided : List Event = with_president seats paid company in
-    by_one_event events (event.Sells company seat shares (shares * market_price_of events company)) refl
+    by_one_event events (event.Sells company seat shares (shares * market_price_of events company))
+    refl
     ⨾ broken_grows seats _ ⨾ president_grows seats paid company
     ⨾ token_grows (fallen shares) presided company (square_of presided company)
 
@@ -91,7 +94,8 @@ exchange_grows : (seats : ℕ) (events : List Event) (seat : Seat) →
     GrowsPlainly is_still events (after_exchange seats events seat)
 exchange_grows seats events seat =
     by_one_event events (event.Exchanged seat (exchange_source events)) refl
-    ⨾ president_grows seats (exchanged events seat) NewYorkCentral ⨾ float_grows seats _ NewYorkCentral
+    ⨾ president_grows seats (exchanged events seat) NewYorkCentral ⨾ float_grows seats _
+    NewYorkCentral
 
 -- by an order that was obeyed
 act_grows : (seats : ℕ) (seat : Seat) (events : List Event) (done : Order) →
@@ -121,7 +125,8 @@ rises_grow : (events : List Event) (companies : List Company) →
     GrowsPlainly is_still events (all_risen events companies)
 rises_grow events [] = stays
 rises_grow events (company ∷ others) =
-    in_either (is_sold_out events company) (token_grows up_of events company (square_of events company)) stays
+    in_either (is_sold_out events company) (token_grows up_of events company (square_of events
+    company)) stays
     ⨾ rises_grow (risen events company) others
 
 -- a stock round adds its own ROUND event, and then events that are still
@@ -153,5 +158,6 @@ stock_adds =
           (ruling_plain has_place_in_turn (refusal_of seats turn.events seat turn.actions.bought) turn.events line
           plain (λ its. of_mapped refusal.Stock (λ rule. tt)
           (judgement_of seats turn.events seat turn.actions.bought its)));
-      closed = λ seats events. passes_plain is_still (rises_grow events (operating_order_of events));
+      closed = λ seats events. passes_plain is_still (rises_grow events (operating_order_of
+          events));
     }

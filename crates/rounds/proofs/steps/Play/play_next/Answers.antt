@@ -2,7 +2,8 @@ use Rattle.std.proofs.Common.{◌≡◌, Ok, Err, Option, rules, sym, subst}
 use Rattle.totals.specs.LookBack.{Game}
 use Rattle.operating.specs.Calls.{Makes}
 use Rattle.rounds.proofs.Calls.{after_round, round_broken, round_on}
-use Rattle.rounds.proofs.StepByStep.{Fields, calls_seen, come_on, comes_nearer, is_in_set, is_numbered, plays_next}
+use Rattle.rounds.proofs.StepByStep.{Fields, calls_seen, come_on, comes_nearer, is_in_set}
+use Rattle.rounds.proofs.StepByStep.{is_numbered, plays_next}
 use Rattle.rounds.proofs.StepByStep.{upcoming}
 use Rattle.rounds.specs.GameCalls.{PlayedCalls, RoundCalls}
 use Rattle.rounds.specs.Play.{Between, IsPlayed}
@@ -15,7 +16,12 @@ coming-self-inside-requires g c =
     let of : Fields = record {
       file = c.self.inside.sheets.now;
       fault = c.self.inside.fault;
-      here = record { game = c.self.inside.history; in_set = c.self.inside.in_set; next = c.self.inside.upcoming };
+      here = record {
+        game = c.self.inside.history;
+        in_set = c.self.inside.in_set;
+        next =
+            c.self.inside.upcoming;
+      };
       last = c.self.inside.last_round;
       outcome = c.self.inside.outcome;
     } in
@@ -33,18 +39,25 @@ invariant_of-self g c =
     let of : Fields = record {
       file = c.self.inside.sheets.now;
       fault = c.self.inside.fault;
-      here = record { game = c.self.inside.history; in_set = c.self.inside.in_set; next = c.self.inside.upcoming };
+      here = record {
+        game = c.self.inside.history;
+        in_set = c.self.inside.in_set;
+        next =
+            c.self.inside.upcoming;
+      };
       last = c.self.inside.last_round;
       outcome = c.self.inside.outcome;
     } in
     let at = upcoming of c.args.self.now c.args.round c.self.view_is c.requires c.self.invariant in
     let played : IsPlayed of.file c.args.round of.here.game c.in-Ok.history =
-    subst (λ (from : Game). IsPlayed of.file c.args.round from c.in-Ok.history) c.replace-history.ensures.value
+    subst (λ (from : Game). IsPlayed of.file c.args.round from c.in-Ok.history)
+    c.replace-history.ensures.value
     c.in-Ok.ensures.round in
     let seats : c.in-Ok.history.seats ≡ of.here.game.seats = search rules in
     λ none.
     come_on of c.args.self.now c.args.round at c.in-Ok.history c.in_set_before-self-inside.result
-    c.coming-self-inside.result played c.coming-self-inside.ensures c.in_set_before-self-inside.ensures
+    c.coming-self-inside.result played c.coming-self-inside.ensures
+    c.in_set_before-self-inside.ensures
     c.in-Ok.ensures.sound seats c.in-Ok.ensures.gifts
 
 pub returns-in-Ok-clause-step : goal.returns-in-Ok-clause-step
@@ -52,32 +65,47 @@ returns-in-Ok-clause-step g c =
     let of : Fields = record {
       file = c.self.inside.sheets.now;
       fault = c.self.inside.fault;
-      here = record { game = c.self.inside.history; in_set = c.self.inside.in_set; next = c.self.inside.upcoming };
+      here = record {
+        game = c.self.inside.history;
+        in_set = c.self.inside.in_set;
+        next =
+            c.self.inside.upcoming;
+      };
       last = c.self.inside.last_round;
       outcome = c.self.inside.outcome;
     } in
     let at = upcoming of c.args.self.now c.args.round c.self.view_is c.requires c.self.invariant in
     let played : IsPlayed of.file c.args.round of.here.game c.in-Ok.history =
-    subst (λ (from : Game). IsPlayed of.file c.args.round from c.in-Ok.history) c.replace-history.ensures.value
+    subst (λ (from : Game). IsPlayed of.file c.args.round from c.in-Ok.history)
+    c.replace-history.ensures.value
     c.in-Ok.ensures.round in
     plays_next of c.args.self.now c.args.round at c.in-Ok.history c.in_set_before-self-inside.result
-    c.coming-self-inside.result played c.coming-self-inside.ensures c.in_set_before-self-inside.ensures
+    c.coming-self-inside.result played c.coming-self-inside.ensures
+    c.in_set_before-self-inside.ensures
 
 pub returns-in-Ok-clause-nearer : goal.returns-in-Ok-clause-nearer
 returns-in-Ok-clause-nearer g c =
     let of : Fields = record {
       file = c.self.inside.sheets.now;
       fault = c.self.inside.fault;
-      here = record { game = c.self.inside.history; in_set = c.self.inside.in_set; next = c.self.inside.upcoming };
+      here = record {
+        game = c.self.inside.history;
+        in_set = c.self.inside.in_set;
+        next =
+            c.self.inside.upcoming;
+      };
       last = c.self.inside.last_round;
       outcome = c.self.inside.outcome;
     } in
     let at = upcoming of c.args.self.now c.args.round c.self.view_is c.requires c.self.invariant in
     let played : IsPlayed of.file c.args.round of.here.game c.in-Ok.history =
-    subst (λ (from : Game). IsPlayed of.file c.args.round from c.in-Ok.history) c.replace-history.ensures.value
+    subst (λ (from : Game). IsPlayed of.file c.args.round from c.in-Ok.history)
+    c.replace-history.ensures.value
     c.in-Ok.ensures.round in
-    comes_nearer of c.args.self.now c.args.round at c.in-Ok.history c.in_set_before-self-inside.result
-    c.coming-self-inside.result played c.coming-self-inside.ensures c.in_set_before-self-inside.ensures
+    comes_nearer of c.args.self.now c.args.round at c.in-Ok.history
+    c.in_set_before-self-inside.result
+    c.coming-self-inside.result played c.coming-self-inside.ensures
+    c.in_set_before-self-inside.ensures
     c.sheets_are_numbered.ensures
 
 pub returns-in-Ok-clause-calls : goal.returns-in-Ok-clause-calls
@@ -85,7 +113,12 @@ returns-in-Ok-clause-calls g c =
     let of : Fields = record {
       file = c.self.inside.sheets.now;
       fault = c.self.inside.fault;
-      here = record { game = c.self.inside.history; in_set = c.self.inside.in_set; next = c.self.inside.upcoming };
+      here = record {
+        game = c.self.inside.history;
+        in_set = c.self.inside.in_set;
+        next =
+            c.self.inside.upcoming;
+      };
       last = c.self.inside.last_round;
       outcome = c.self.inside.outcome;
     } in
@@ -95,24 +128,33 @@ returns-in-Ok-clause-calls g c =
       in_set = c.in_set_before-self-inside.result;
       next = c.coming-self-inside.result;
     } in
-    let after = after_round c.args.round of.here.in_set there.in_set there.next there.game c.coming-self-inside.ensures
+    let after = after_round c.args.round of.here.in_set there.in_set there.next there.game
+    c.coming-self-inside.ensures
     c.in_set_before-self-inside.ensures in
     let played : Makes g.R.Runner.earns c.args.runner.now
     (PlayedCalls of.file c.args.round of.here.game (Ok there.game)) c.play_round.new.runner =
     subst (λ (game : Game). Makes g.R.Runner.earns c.args.runner.now
-    (PlayedCalls of.file c.args.round game (Ok there.game)) c.play_round.new.runner) c.replace-history.ensures.value
+    (PlayedCalls of.file c.args.round game (Ok there.game)) c.play_round.new.runner)
+    c.replace-history.ensures.value
     c.in-Ok.ensures.calls in
-    let course = round_on g.R.Runner.earns of.file c.args.round of.here there _ _ at.to_play after played in
+    let course = round_on g.R.Runner.earns of.file c.args.round of.here there _ _ at.to_play after
+    played in
     calls_seen of c.args.self.now c.args.round at g.R.Runner.earns (there_unless of.fault there) _ _
     (subst (λ (f : Option PlayFault). Makes g.R.Runner.earns c.args.runner.now
-    (RoundCalls of.file of.here (there_unless f there)) c.play_round.new.runner) (sym at.none) course)
+    (RoundCalls of.file of.here (there_unless f there)) c.play_round.new.runner) (sym at.none)
+    course)
 
 pub returns-in-Err-clause-calls : goal.returns-in-Err-clause-calls
 returns-in-Err-clause-calls g c =
     let of : Fields = record {
       file = c.self.inside.sheets.now;
       fault = c.self.inside.fault;
-      here = record { game = c.self.inside.history; in_set = c.self.inside.in_set; next = c.self.inside.upcoming };
+      here = record {
+        game = c.self.inside.history;
+        in_set = c.self.inside.in_set;
+        next =
+            c.self.inside.upcoming;
+      };
       last = c.self.inside.last_round;
       outcome = c.self.inside.outcome;
     } in
@@ -122,5 +164,6 @@ returns-in-Err-clause-calls g c =
     subst (λ (game : Game). Makes g.R.Runner.earns c.args.runner.now
     (PlayedCalls of.file c.args.round game (Err c.in-Err.fault)) c.play_round.new.runner)
     c.replace-history.ensures.value c.in-Err.ensures.calls in
-    let course = round_broken g.R.Runner.earns of.file c.args.round of.here c.in-Err.fault _ _ at.to_play played in
+    let course = round_broken g.R.Runner.earns of.file c.args.round of.here c.in-Err.fault _ _
+    at.to_play played in
     calls_seen of c.args.self.now c.args.round at g.R.Runner.earns (Err c.in-Err.fault) _ _ course

@@ -7,7 +7,12 @@ play_next-requires g c =
     let of : Fields = record {
       file = c.self.inside.sheets.now;
       fault = c.self.inside.fault;
-      here = record { game = c.self.inside.history; in_set = c.self.inside.in_set; next = c.self.inside.upcoming };
+      here = record {
+        game = c.self.inside.history;
+        in_set = c.self.inside.in_set;
+        next =
+            c.self.inside.upcoming;
+      };
       last = c.self.inside.last_round;
       outcome = c.self.inside.outcome;
     } in
@@ -18,7 +23,12 @@ stop-requires g c =
     let of : Fields = record {
       file = c.self.inside.sheets.now;
       fault = c.self.inside.fault;
-      here = record { game = c.self.inside.history; in_set = c.self.inside.in_set; next = c.self.inside.upcoming };
+      here = record {
+        game = c.self.inside.history;
+        in_set = c.self.inside.in_set;
+        next =
+            c.self.inside.upcoming;
+      };
       last = c.self.inside.last_round;
       outcome = c.self.inside.outcome;
     } in
