@@ -1,13 +1,13 @@
 //! A game as it stands, at its end or between two of its rounds, as text. No call reads or writes a
 //! stream.
 //!
-//! Each figure comes from a reader of the game's list, or from `player_figures`, `earnings`, `stack` or
-//! `stock_left`, whose contracts define it. The games of `games/desk/` test the layout.
+//! Each figure comes from a reader of the game's list, or from `player_figures`, `earnings`,
+//! `stack` or `stock_left`, whose contracts define it. The games of `games/desk/` test the layout.
 //!
-//! Reading order: `round_name` (the round that is asked for), `between_rounds` (the game at a moment). Then the
-//! figures that the readers of a game do not have (`player_figures`, `earnings`, `stack`, `stock_left`, `state_rows`), and
-//! their layout: `lines`, `state_round`, `state_players`, `state_companies`, `state_stock`,
-//! `state_chart`, `state_map`, `whole_state` (`state`).
+//! Reading order: `round_name` (the round that is asked for), `between_rounds` (the game at a
+//! moment). Then the figures that the readers of a game do not have (`player_figures`, `earnings`,
+//! `stack`, `stock_left`, `state_rows`), and their layout: `lines`, `state_round`, `state_players`,
+//! `state_companies`, `state_stock`, `state_chart`, `state_map`, `whole_state` (`state`).
 #![tactic(auto)]
 
 mod between_rounds;

@@ -3,8 +3,8 @@
 //!
 //! Reading order: `text` (`Piece`, `push`, `fill`), `reason` (`Reason`), `advice`, `explaining`
 //! (`explain`), `set_number` (`number_in_set`, `end_after`), `coming` (`can_come`), `objection`
-//! (`Objection`), `beyond` (what lies at a side), `map_facts`, `by_tables` (what the map and the tables show), `belongings` (what
-//! somebody has), `cause` (which one it was of several).
+//! (`Objection`), `beyond` (what lies at a side), `map_facts`, `by_tables` (what the map and the
+//! tables show), `belongings` (what somebody has), `cause` (which one it was of several).
 #![tactic(auto)]
 
 mod advice;

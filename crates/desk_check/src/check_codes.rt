@@ -21,8 +21,8 @@ fn is_slip_of(word: &[u8], code: &[u8]) -> bool
     }
 }
 
-/// Returns whether a word and a code differ at their first letter alone: it is one more, one less or
-/// another.
+/// Returns whether a word and a code differ at their first letter alone: it is one more, one less
+/// or another.
 fn differ_at_first(word: &[u8], code: &[u8]) -> bool
     ensures { result ≡ differ_at_first word.now code.now }
 {
@@ -69,8 +69,8 @@ pub(crate) fn nearest<'a>(word: &[u8], codes: &[&'a [u8]]) -> Option<&'a [u8]>
     only_slip(word, codes)
 }
 
-/// Returns the only one of some codes that is one slip away from a word; `None` if there is none, or
-/// there are several.
+/// Returns the only one of some codes that is one slip away from a word; `None` if there is none,
+/// or there are several.
 fn only_slip<'a>(word: &[u8], codes: &[&'a [u8]]) -> Option<&'a [u8]>
     ensures { option_map text result ≡ only_slip word.now (texts codes.now) }
 {

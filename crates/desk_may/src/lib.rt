@@ -3,8 +3,8 @@
 //!
 //! Each line is made from a list of `moves`, or from the call that rules such an order.
 //!
-//! Reading order: `may_line` (a line), `may_opening`, `may_stock`, `may_operating` (the lines of each
-//! kind of round).
+//! Reading order: `may_line` (a line), `may_opening`, `may_stock`, `may_operating` (the lines of
+//! each kind of round).
 #![tactic(auto)]
 
 mod may_line;

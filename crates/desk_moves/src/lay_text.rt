@@ -23,8 +23,8 @@ const ROTATIONS: usize = 23;
 /// The column of the price of a token.
 const PRICE: usize = 15;
 
-/// Returns what a company may lay and where it may place its next token as its turn begins, as text.
-/// The error is `Memory`.
+/// Returns what a company may lay and where it may place its next token as its turn begins, as
+/// text. The error is `Memory`.
 pub(crate) fn lay_text<P: Progress>(
     alloc: Global,
     stood: &Stood,
@@ -78,8 +78,8 @@ fn push_lays(out: &mut Vec<u8>, history: &History, lays: &[Priced<Lay>]) -> Resu
     push(out, &[Words(end)])
 }
 
-/// Adds a lay, by those before it and those from it on: the rotations that give its track, unless they
-/// stand there already, on a new line if it is the first of its hex and tile.
+/// Adds a lay, by those before it and those from it on: the rotations that give its track, unless
+/// they stand there already, on a new line if it is the first of its hex and tile.
 fn push_lay(
     out: &mut Vec<u8>,
     history: &History,

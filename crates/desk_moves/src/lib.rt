@@ -6,12 +6,12 @@
 //! search that a RUN BEST uses. Each call takes the allocator and the bytes of an order file, and
 //! returns text; no call reads or writes a stream.
 //!
-//! Reading order: `fault` (why there is no answer), `progress` (how far one is), `words` (companies,
-//! hexes and trains on a command line), `questions` (`answer`: the game that is asked), `turn_start` (a
-//! company as its turn begins), `line_text` (its lays and tokens as order lines), `lay_text` (the
-//! same for a reader), `best_after` and `lay_best` (with revenues), `turn_order` (who operates
-//! before it), `best_text` (its best runs), `may_text` (what a player may do, by `desk_may`),
-//! `hex_text` with `hex_sides`, `trials` (`trial`).
+//! Reading order: `fault` (why there is no answer), `progress` (how far one is), `words`
+//! (companies, hexes and trains on a command line), `questions` (`answer`: the game that is asked),
+//! `turn_start` (a company as its turn begins), `line_text` (its lays and tokens as order lines),
+//! `lay_text` (the same for a reader), `best_after` and `lay_best` (with revenues), `turn_order`
+//! (who operates before it), `best_text` (its best runs), `may_text` (what a player may do, by
+//! `desk_may`), `hex_text` with `hex_sides`, `trials` (`trial`).
 #![tactic(auto)]
 
 mod best_after;

@@ -2,12 +2,12 @@
 //! ran, and the round as its players read it. Each public call takes the allocator and the bytes of
 //! an order file, and returns text. No call reads or writes a stream.
 //!
-//! Reading order: `played`, `refused` (which lines were), `round_part` (`round`), `round_texts` (the game
-//! of a file), `sheet_line` (the lines of the sheets), `why` (the rule that a line broke),
-//! `figures` (the figures that it compared), `done` (how far a company's turn had come), `cause`
-//! (which cause of several it was), `sought` (all that is known of the case), `track` and `ways`
-//! (where track breaks or leads), `train_runs` (`runs`), `groups` (whose turn an event belongs to),
-//! `wrapped`, `bulletin_text` (`bulletin`).
+//! Reading order: `played`, `refused` (which lines were), `round_part` (`round`), `round_texts`
+//! (the game of a file), `sheet_line` (the lines of the sheets), `why` (the rule that a line
+//! broke), `figures` (the figures that it compared), `done` (how far a company's turn had come),
+//! `cause` (which cause of several it was), `sought` (all that is known of the case), `track` and
+//! `ways` (where track breaks or leads), `train_runs` (`runs`), `groups` (whose turn an event
+//! belongs to), `wrapped`, `bulletin_text` (`bulletin`).
 #![tactic(auto)]
 
 mod bulletin_text;

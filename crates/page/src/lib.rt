@@ -8,8 +8,8 @@
 //! track of a hex is that of the tile that lies there, or of the print, and the runs are those that
 //! `desk` tells of. How it is laid out is tested by the pages of `games/page/`.
 //!
-//! Reading order: `scene` (what a page shows), `worth_history` (the game round by round), `routes` (what
-//! trains ran), `tokens` (what lies in slots), `style`, `signs`, `hex_words`, `map_part`,
+//! Reading order: `scene` (what a page shows), `worth_history` (the game round by round), `routes`
+//! (what trains ran), `tokens` (what lies in slots), `style`, `signs`, `hex_words`, `map_part`,
 //! `route_lines`, `chart_part`, `history_part`, `table_forms`, `players_part`, `companies_part`,
 //! `tiles_part` (`tile_sheet`), `status_part`, `whole_page` (`page`).
 #![tactic(auto)]

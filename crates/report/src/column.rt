@@ -30,7 +30,5 @@ pub fn push_right<I: Integer>(out: &mut Vec<u8>, number: I, width: usize) -> Res
 fn push_spaces(out: &mut Vec<u8>, count: usize) -> Result<(), AllocError>
     ensures { OnOk result (Adds out.old out.new (replicate count 32)) }
 {
-    // A text as long as no `usize` says could not be allocated.
-    let len = out.len().checked_add(count).ok_or(AllocError)?;
-    out.resize(len, b' ')
+    out.resize(out.len().saturating_add(count), b' ')
 }

@@ -100,8 +100,8 @@ fn push_rounds(out: &mut Vec<u8>, game: &Game) -> Result<(), AllocError>
     Ok(())
 }
 
-/// Adds the text of the round whose events are those from `begun` up to `end`, with the statement of
-/// the game as it stood after them, to which the walk along the events goes.
+/// Adds the text of the round whose events are those from `begun` up to `end`, with the statement
+/// of the game as it stood after them, to which the walk along the events goes.
 fn push_round_between(
     out: &mut Vec<u8>,
     game: &Game,

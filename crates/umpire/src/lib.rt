@@ -15,10 +15,10 @@
 //! Reading order: `watched` (readers and writers that remember a failure), `fault`, `input`,
 //! `output` (a text), `refusal` (of a file), `report_end` (what follows the rounds of a report),
 //! `program` (the report, and `run`); `certificates` (those of a game, written), `group_text` (how
-//! a group is written), `input_split` (an order file and the text of certificates after it), `groups`
-//! (how one is read from that text), `verifier` (a runner that goes by them), `verification` (the
-//! game of a file, judged by them); `buffered_write` (a text that is written in long pieces),
-//! `migration` (a file that migrates to version 2); `laws`, `migration_laws`.
+//! a group is written), `input_split` (an order file and the text of certificates after it),
+//! `groups` (how one is read from that text), `verifier` (a runner that goes by them),
+//! `verification` (the game of a file, judged by them); `buffered_write` (a text that is written in
+//! long pieces), `migration` (a file that migrates to version 2); `laws`, `migration_laws`.
 #![tactic(auto)]
 
 mod buffered_write;
