@@ -7,4 +7,5 @@ pub mod ByRound
 pub mod LastRound
 pub mod StepTexts
 pub mod Worths
+pub mod Spaces
 pub mod PlainReports

@@ -27,34 +27,50 @@ pub(crate) fn next_head(text: &[u8]) -> Option<LineAndRest<'_>>
     None
 }
 
+/// A group that is read, and the text from the first line on that was not taken into it.
+#[derive(Drop)]
+pub(crate) struct GroupAndRest<'a> {
+    pub(crate) group: Option<Group>,
+    pub(crate) rest: &'a [u8],
+}
+
 /// Reads a group for this many trains, from its CERT line and the text after that, up to the next
 /// CERT line. `None` is a group that is malformed, or claims more runs than there are trains. So
-/// one run more than that is the most that is held. Fails only if allocation fails.
-pub(crate) fn read_group(
+/// one run more than that is the most that is held. The rest has the groups that the text has.
+/// Fails only if allocation fails.
+pub(crate) fn read_group<'a>(
     alloc: Global,
     head: &[u8],
-    text: &[u8],
+    text: &'a [u8],
     trains: usize,
-) -> Result<Option<Group>, AllocError>
-    ensures { IfOk result (λ group. IsReadFor trains (group_behind head.now text.now) group) }
+) -> Result<GroupAndRest<'a>, AllocError>
+    ensures group { IfOk result
+        (λ read. IsReadFor trains (group_behind head.now text.now) read.group) }
+    ensures rest { IfOk result (λ read. groups_of read.rest.now ≡ groups_of text.now) }
 {
-    let Some(mut group) = group_begun(alloc, head) else {
-        return Ok(None);
-    };
     let mut rest = text;
+    let Some(mut group) = group_begun(alloc, head) else {
+        return Ok(GroupAndRest { group: None, rest });
+    };
     while let Some(piece) = first_line(rest) {
         if begins_group(piece.line) {
-            return Ok(Some(group));
+            return Ok(GroupAndRest {
+                group: Some(group),
+                rest,
+            });
         }
         if !take_line(&mut group, piece.line)? {
-            return Ok(None);
+            return Ok(GroupAndRest { group: None, rest });
         }
         if group.claim.runs.as_slice().len() > trains {
-            return Ok(None);
+            return Ok(GroupAndRest { group: None, rest });
         }
         rest = piece.rest;
     }
-    Ok(Some(group))
+    Ok(GroupAndRest {
+        group: Some(group),
+        rest,
+    })
 }
 
 /// Returns whether the first word of a line is CERT.

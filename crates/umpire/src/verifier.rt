@@ -63,8 +63,9 @@ impl<'a> Runner for Verifier<'a> {
             return Err(RunnerFault::Refused);
         };
         self.text = head.rest;
-        let group = read_group(self.alloc, head.line, head.rest, trains.len())?;
-        revenue_by(network, round, company, trains, group)
+        let read = read_group(self.alloc, head.line, head.rest, trains.len())?;
+        self.text = read.rest;
+        revenue_by(network, round, company, trains, read.group)
     }
 }
 
