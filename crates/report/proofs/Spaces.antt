@@ -1,6 +1,5 @@
 -- The spaces that are read of a row of spaces are this many.
-use Rattle.std.proofs.Common.{◌≡◌, ◌∙◌, ◌≤◌, ◌-◌, ℕ, List, ap, arith, replicate, take}
-use Rattle.core.specs.List.{slice_range}
+use Rattle.std.proofs.Common.{◌≡◌, ◌∙◌, ◌≤◌, ◌-◌, ℕ, List, ap, arith, replicate, slice_range, take}
 use Rattle.std.proofs.lemmas.List.{take-replicate}
 
 pub spaces_read : (count : ℕ) (spaces : List ℕ) → count ≤ 32
