@@ -46,8 +46,7 @@ loop-piece-preserved c =
     let next =
     next_line (lines_of c.loop-piece.rest.now) (lines_of piece.rest.now) piece.line.now c.loop-piece.group
     (Some c.take_line.new.group) c.in-Some-first_line.ensures.lines
-    (sym c.begins_group.ensures ∙ c.if-begins_group.false) taken in
-    (
+    (sym c.begins_group.ensures ∙ c.if-begins_group.false) taken in (
       sym next ∙ c.loop-piece.invariant.0,
       sym (groups_behind (lines_of c.loop-piece.rest.now) (lines_of piece.rest.now) piece.line.now
           c.in-Some-first_line.ensures.lines (sym c.begins_group.ensures ∙ c.if-begins_group.false))
