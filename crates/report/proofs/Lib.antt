@@ -7,5 +7,4 @@ pub mod ByRound
 pub mod LastRound
 pub mod StepTexts
 pub mod Worths
-pub mod Spaces
 pub mod PlainReports

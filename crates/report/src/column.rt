@@ -26,15 +26,9 @@ pub fn push_right<I: Integer>(out: &mut Vec<u8>, number: I, width: usize) -> Res
     out.extend_from_slice(digits)
 }
 
-/// As many spaces as nearly all columns need.
-static SPACES: [u8; 32] = [b' '; 32];
-
 /// Adds spaces. Fails only if allocation fails.
 fn push_spaces(out: &mut Vec<u8>, count: usize) -> Result<(), AllocError>
     ensures { OnOk result (Adds out.old out.new (replicate count 32)) }
 {
-    match SPACES.get(..count) {
-        Some(spaces) => out.extend_from_slice(spaces),
-        None => out.resize(out.len().saturating_add(count), b' '),
-    }
+    out.resize(out.len().saturating_add(count), b' ')
 }

@@ -10,6 +10,9 @@ use rounds::Play;
 use sheets::Sheets;
 use std::alloc::{AllocError, Global};
 
+/// How many bytes of a round's text there is room for at first.
+const ROOM: usize = 512;
+
 /// Returns the header of a report, its first two lines. Fails only if allocation fails.
 pub fn header_text(alloc: Global, sheets: &Sheets) -> Result<Vec<u8>, AllocError>
     ensures { IfOk result (λ text. text.items ≡ header sheets.now) }
@@ -25,7 +28,7 @@ pub fn header_text(alloc: Global, sheets: &Sheets) -> Result<Vec<u8>, AllocError
 pub fn next_text(alloc: Global, play: &Play) -> Result<Vec<u8>, AllocError>
     ensures { IfOk result (λ text. text.items ≡ next_text_of play.now) }
 {
-    let mut out = Vec::new(alloc);
+    let mut out = Vec::with_capacity(alloc, ROOM)?;
     if let Some(history) = play.history() {
         push_last_round(&mut out, play.sheets(), history)?;
     }
