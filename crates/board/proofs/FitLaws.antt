@@ -7,7 +7,7 @@ use Rattle.board_state.specs.MapState.{MapState, with_lay, with_token}
 use Rattle.board.specs.Homes.{Fits, FitsWithoutHomes, HomeKeepsFit, LayKeepsFit, TokenKeepsFit}
 use Rattle.board.specs.LayRules.{map_rules, is_wrong_colour}
 use Rattle.board.specs.TokenRules.{is_full_at, is_no_free_slot, kept_at, slot_rules}
-use Rattle.board.specs.declared.asker.Asker.{Asker}
+use Rattle.board.specs.declared.turn.Asker.{Asker}
 use Rattle.board_state.proofs.Fitting.{named, no_fault, none_push, room, slots_for_all}
 use Rattle.board.proofs.Growing.{stop_grows}
 use Rattle.board.proofs.KeptHomes.{among_append, among_first, free_where, home_named, home_takes_kept, home_there}

@@ -7,8 +7,8 @@ use Rattle.std.specs.Prelude.{Bool, true, false, [], ◌∷◌, Some, Ok, Err, �
 use Rattle.board_state.specs.MapState.{MapState, map_state_of}
 use Rattle.board.specs.LayRules.{IsLayAnswer}
 use Rattle.board.specs.TokenRules.{IsTokenAnswer}
-use Rattle.board.specs.declared.asker.Asker.{Asker}
-use Rattle.board.specs.declared.asker.TurnStep.TheVariants as step
+use Rattle.board.specs.declared.turn.Asker.{Asker}
+use Rattle.board.specs.declared.turn.TurnStep.TheVariants as step
 use Rattle.map_tables.specs.declared.rules.LayRule.TheVariants.{ColourClosed}
 use Rattle.map_tables.specs.declared.rules.TokenRule.TheVariants.{CashTooSmall}
 use Rattle.map_tables.specs.declared.hex.Hex.TheVariants.{E11, H10, H12}

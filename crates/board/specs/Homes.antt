@@ -5,7 +5,7 @@ use Rattle.board_state.specs.Fit.{board_fault_of}
 use Rattle.board_state.specs.MapState.{MapState, with_lay, with_token}
 use Rattle.board.specs.LayRules.{map_rules}
 use Rattle.board.specs.TokenRules.{slot_rules}
-use Rattle.board.specs.declared.asker.Asker.{Asker}
+use Rattle.board.specs.declared.turn.Asker.{Asker}
 use Rattle.map_tables.specs.Fit.{AreFitWithHomes}
 use Rattle.map_tables.specs.Home.{home_of}
 use Rattle.map_tables.specs.OnMap.{has_token}

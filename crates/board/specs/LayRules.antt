@@ -20,8 +20,8 @@ use Rattle.board_state.specs.MapState.{MapState, position_of, with_lay}
 use Rattle.map_tables.specs.OnMap.{by_tile, colour_on, links_on, tile_on}
 use Rattle.board.specs.Powers.{is_cs_lay, is_dh_lay}
 use Rattle.board.specs.Turn.{place_of_step}
-use Rattle.board.specs.declared.asker.Asker.{Asker}
-use Rattle.board.specs.declared.asker.TurnStep.TheVariants as step
+use Rattle.board.specs.declared.turn.Asker.{Asker}
+use Rattle.board.specs.declared.turn.TurnStep.TheVariants as step
 use Rattle.board.specs.declared.fault.LayFault.{LayFault}
 use Rattle.board.specs.declared.fault.LayFault.TheVariants as fault
 use Rattle.map_tables.specs.Hex.{hexes, same_hex}

@@ -3,7 +3,7 @@
 -- without connection, which is the lay of its turn. Its next token there in that turn costs nothing
 -- and needs no connection.
 use Rattle.std.specs.Prelude.{◌==◌, Bool, true, false, ◌&&◌, List, slice_index_or}
-use Rattle.board.specs.declared.asker.Asker.{Asker}
+use Rattle.board.specs.declared.turn.Asker.{Asker}
 use Rattle.map_tables.specs.Hex.{same_hex}
 use Rattle.map_tables.specs.OnMap.{by_tile, tile_on}
 use Rattle.map_tables.specs.Tile.{tile_index_of}

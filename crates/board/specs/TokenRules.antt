@@ -16,8 +16,8 @@ use Rattle.map_tables.specs.OnMap.{has_token, same_stop, slots_at, taken_at}
 use Rattle.board.specs.LayRules.{cost_or}
 use Rattle.board.specs.Powers.{is_dh_token}
 use Rattle.board.specs.Turn.{place_of_step}
-use Rattle.board.specs.declared.asker.Asker.{Asker}
-use Rattle.board.specs.declared.asker.TurnStep.TheVariants as step
+use Rattle.board.specs.declared.turn.Asker.{Asker}
+use Rattle.board.specs.declared.turn.TurnStep.TheVariants as step
 use Rattle.board.specs.declared.fault.TokenFault.{TokenFault}
 use Rattle.board.specs.declared.fault.TokenFault.TheVariants as fault
 use Rattle.map_tables.specs.Hex.{same_hex}

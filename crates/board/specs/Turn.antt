@@ -1,7 +1,7 @@
 -- The steps of a company's turn, in order.
 use Rattle.std.specs.Prelude.{ℕ}
-use Rattle.board.specs.declared.asker.TurnStep.{TurnStep}
-use Rattle.board.specs.declared.asker.TurnStep.TheVariants.{Lay, Token, Run, Pay, Trains}
+use Rattle.board.specs.declared.turn.TurnStep.{TurnStep}
+use Rattle.board.specs.declared.turn.TurnStep.TheVariants.{Lay, Token, Run, Pay, Trains}
 
 -- the number of a step
 abbrev pub place_of_step : TurnStep → ℕ

@@ -11,11 +11,11 @@ ghost use Rattle.map_tables.specs.Place.{joined_hex};
 ghost use Rattle.map_tables.specs.declared.hex.Hex.{Hex};
 ghost use Rattle.tables.specs.Rules.{first_broken};
 
-use crate::asker::{Asker, TurnStep};
 use crate::board::Board;
 use crate::board_with_lay::After;
 use crate::fault::LayFault;
 use crate::powers::is_dh_lay;
+use crate::turn::{Asker, TurnStep};
 use board_state::{OnMap, has_bad_side, is_open, is_wrong_kind, same_hex};
 use map_tables::{
     Colour, Hex, Lay, LayRule, Link, TileNo, TrackEnd, hex_kind, laid_links, printed_colour,

@@ -45,12 +45,11 @@
 //! assert_eq!(rt; board.put_lay(lay), Ok(()));
 //! ```
 //!
-//! Reading order: `fault`, `kept_links` (the links of a hex as a value), `index`, `board`, `board_with_lay` (a
-//! board with one more tile), `network` (the position that is kept), `asker`, `powers` (of CS and
-//! DH), `lay`, `token`, `laws`.
+//! Reading order: `fault`, `kept_links` (the links of a hex as a value), `index`, `board`,
+//! `board_with_lay` (a board with one more tile), `network` (the position that is kept), `turn` (the
+//! company that acts, and how far its turn has come), `powers` (of CS and DH), `lay`, `token`, `laws`.
 #![tactic(auto)]
 
-mod asker;
 mod board;
 mod board_with_lay;
 mod fault;
@@ -61,9 +60,10 @@ mod lay;
 mod network;
 mod powers;
 mod token;
+mod turn;
 
-pub use asker::{Asker, TurnStep};
 pub use board::Board;
 pub use board_state::{BoardFault, PlainBoard};
 pub use fault::{LayFault, TokenFault};
 pub use powers::is_dh_lay;
+pub use turn::{Asker, TurnStep};

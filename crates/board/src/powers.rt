@@ -2,8 +2,8 @@
 ghost use Rattle.std.specs.Prelude.{◌≡◌};
 ghost use Rattle.board.specs.Powers.{has_no_tile, is_cs_lay, is_dh_lay, is_dh_token, is_owner};
 
-use crate::asker::Asker;
 use crate::board::Board;
+use crate::turn::Asker;
 use board_state::{OnMap, same_hex};
 use map_tables::{Hex, Lay, TileNo};
 use tables::Private;

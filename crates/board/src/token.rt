@@ -5,10 +5,10 @@ ghost use Rattle.board.specs.TokenRules.{is_kept_for, is_no_free_slot, is_token_
 ghost use Rattle.board.specs.TokenRules.{token_answer_of, token_cost_of};
 ghost use Rattle.tables.specs.Rules.{first_broken};
 
-use crate::asker::{Asker, TurnStep};
 use crate::board::Board;
 use crate::fault::TokenFault;
 use crate::powers::is_dh_token;
+use crate::turn::{Asker, TurnStep};
 use board_state::{OnMap, same_company, same_hex, same_stop, slots};
 use map_tables::{Hex, Place, Stop, TokenRule, home, joined_stop};
 use reach::reaches_stop;

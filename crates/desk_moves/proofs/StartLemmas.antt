@@ -4,7 +4,7 @@ use Rattle.std.proofs.Common.{unwrap_or}
 use Rattle.std.proofs.lemmas.List.{append-nil}
 use Rattle.std.proofs.lemmas.List.Elements.{filter_map-append}
 use std.Path.{fun_ext}
-use Rattle.board.specs.declared.asker.Asker.{Asker}
+use Rattle.board.specs.declared.turn.Asker.{Asker}
 use Rattle.board_state.specs.MapState.{map_state_of, with_token}
 use Rattle.events.specs.Event.{party_of_company, phase_set, tile_laid, token_placed}
 use Rattle.events.specs.declared.event.Event.{Event}

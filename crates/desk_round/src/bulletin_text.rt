@@ -2,9 +2,9 @@
 //! brought.
 
 use crate::groups::{Group, Whose, groups_of};
+use crate::refusal_detail::Ruled;
 use crate::round_part::{round_asked, text_of};
 use crate::sheet_line::{SheetLine, lines_of, sheet_line};
-use crate::sought::Ruled;
 use crate::train_runs::push_ran;
 use crate::why::{FAULTY_COLUMNS, push_rule};
 use crate::wrapped::{push_wrapped, push_wrapped_lines};

@@ -5,8 +5,8 @@
 //! Reading order: `played`, `refused` (which lines were), `round_part` (`round`), `round_texts`
 //! (the game of a file), `sheet_line` (the lines of the sheets), `why` (the rule that a line
 //! broke), `figures` (the figures that it compared), `done` (how far a company's turn had come),
-//! `cause` (which cause of several it was), `sought` (all that is known of the case), `track` and
-//! `ways` (where track breaks or leads), `train_runs` (`runs`), `groups` (whose turn an event
+//! `cause` (which cause of several it was), `refusal_detail` (what is added after the rule), `track`
+//! and `ways` (where track breaks or leads), `train_runs` (`runs`), `groups` (whose turn an event
 //! belongs to), `wrapped`, `bulletin_text` (`bulletin`).
 #![tactic(auto)]
 
@@ -16,11 +16,11 @@ mod done;
 mod figures;
 mod groups;
 mod played;
+mod refusal_detail;
 mod refused;
 mod round_part;
 mod round_texts;
 mod sheet_line;
-mod sought;
 mod track;
 mod train_runs;
 mod ways;

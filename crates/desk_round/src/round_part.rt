@@ -4,10 +4,10 @@ ghost use Rattle.desk_round.specs.RoundPart.{HasNoText, IsRoundFault, IsRoundPar
 ghost use Rattle.desk_round.specs.RoundPart.{round_asked, text_of_round};
 
 use crate::played::was_played;
+use crate::refusal_detail::Ruled;
 use crate::refused::refused_in;
 use crate::round_texts::{Told, tell};
 use crate::sheet_line::lines_of;
-use crate::sought::Ruled;
 use crate::why::push_why;
 use desk_base::Piece::Bytes;
 use desk_base::{DeskFault, fill, push, view_behind};

@@ -2,8 +2,8 @@
 ghost use Rattle.std.specs.Prelude.{◌≡◌};
 ghost use Rattle.desk_round.specs.Why.{reason_of};
 
+use crate::refusal_detail::{Ruled, push_of_place, push_refusal_detail};
 use crate::sheet_line::sheet_line;
-use crate::sought::{Ruled, push_of_place, push_sought};
 use desk_base::Piece::{Cut, Words};
 use desk_base::{Reason, fill};
 use history::{PackedRuling, Verdict};
@@ -48,7 +48,7 @@ pub(crate) fn push_rule<'a>(
         push_of_place(out, ruled.round, line.place, fault)?;
     }
     let place = line.map(|line| line.place);
-    push_sought(alloc, out, Ruled { place, ..ruled }, &ruling.ruling())
+    push_refusal_detail(alloc, out, Ruled { place, ..ruled }, &ruling.ruling())
 }
 
 /// Returns the reason why a line was refused, which has its code; `None` if it was obeyed.

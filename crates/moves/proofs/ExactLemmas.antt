@@ -8,7 +8,7 @@ use Rattle.board.specs.LayRules.{IsConnected, IsLayAnswer, cost_or, lay_cost_of,
 use Rattle.board.specs.LayRules.{reach_rules as lay_reach_rules}
 use Rattle.board.specs.TokenRules.{IsReachedPlace, IsTokenAnswer, reach_rules as token_reach_rules, slot_rules}
 use Rattle.board.specs.TokenRules.{token_cost_of}
-use Rattle.board.specs.declared.asker.Asker.{Asker}
+use Rattle.board.specs.declared.turn.Asker.{Asker}
 use Rattle.board_state.specs.MapState.{MapState, position_of, with_lay}
 use Rattle.map_tables.specs.Hex.{hexes, index_of}
 use Rattle.map_tables.specs.Laws.{HexesAreListedOnce, IsHexListed, IsTileListed, TilesAreListedOnce}

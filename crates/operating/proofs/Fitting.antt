@@ -7,7 +7,7 @@ use Rattle.board.proofs.FitLaws.{home_keeps_fit, lay_keeps_fit, token_keeps_fit}
 use Rattle.board.specs.Homes.{Fits}
 use Rattle.board.specs.LayRules.{map_rules}
 use Rattle.board.specs.TokenRules.{slot_rules}
-use Rattle.board.specs.declared.asker.Asker.{Asker}
+use Rattle.board.specs.declared.turn.Asker.{Asker}
 use Rattle.board_state.specs.MapState.{map_state_of}
 use Rattle.events.specs.Event.{party_of_company, phase_set, tile_laid, token_placed}
 use Rattle.events.specs.declared.event.Event.{Event}

@@ -5,7 +5,7 @@ use Rattle.std.proofs.lemmas.Bool.{leb-true}
 use Rattle.std.specs.Int.RustNames.{unsigned_abs}
 use Rattle.board.proofs.RuleTables.{kept}
 use Rattle.board.specs.LayRules.{IsLayAnswer, lay_cost_of, map_rules, reach_rules as lay_reach_rules}
-use Rattle.board.specs.declared.asker.Asker.{Asker}
+use Rattle.board.specs.declared.turn.Asker.{Asker}
 use Rattle.board_state.specs.MapState.{MapState}
 use Rattle.events.specs.Event.{party_of_company}
 use Rattle.events.specs.declared.event.Event.TheVariants as event

@@ -8,7 +8,7 @@ use Rattle.board.specs.LayRules.{IsConnected, IsLayAnswer, cost_or, map_rules, l
 use Rattle.board.specs.LayRules.{reach_rules as lay_reach_rules}
 use Rattle.board.specs.TokenRules.{IsReachedPlace, IsTokenAnswer, reach_rules as token_reach_rules, slot_rules}
 use Rattle.board.specs.TokenRules.{token_cost_of, token_rules}
-use Rattle.board.specs.declared.asker.Asker.{Asker}
+use Rattle.board.specs.declared.turn.Asker.{Asker}
 use Rattle.legal_runs.proofs.Greatest.{a_greatest_exists, one_greatest}
 use Rattle.legal_runs.proofs.RunDecided.{can_run_decided}
 use Rattle.totals.specs.LookBack.{Game}

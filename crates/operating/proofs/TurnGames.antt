@@ -2,7 +2,7 @@
 -- purchase by the rules, and of one after the other. Then it holds of what the steps of the turn
 -- do.
 use Rattle.board.specs.LayRules.{map_rules}
-use Rattle.board.specs.declared.asker.Asker.{Asker}
+use Rattle.board.specs.declared.turn.Asker.{Asker}
 use Rattle.events.specs.Event.{phase_set, tile_laid, train_moved}
 use Rattle.events.specs.declared.event.Event.{Event}
 use Rattle.events.specs.declared.event.Event.TheVariants as event

@@ -6,7 +6,7 @@ use Rattle.std.specs.Int.RustNames.{unsigned_abs}
 use Rattle.board_state.specs.MapState.{MapState}
 use Rattle.board.specs.LayRules.{IsLayAnswer, map_rules}
 use Rattle.board.specs.TokenRules.{IsTokenAnswer, slot_rules}
-use Rattle.board.specs.declared.asker.Asker.{Asker}
+use Rattle.board.specs.declared.turn.Asker.{Asker}
 use Rattle.events.specs.Event.{phase_set, tile_laid, train_moved}
 use Rattle.events.specs.declared.event.Event.{Event}
 use Rattle.events.specs.declared.event.Event.TheVariants as event

@@ -1,7 +1,7 @@
 -- The company as one that asks the rules of the board for a lay or a token in its turn, by the list
 -- so far.
 use Rattle.std.specs.Prelude.{Bool, true, false, map, Option, Some, None}
-use Rattle.board.specs.declared.asker.Asker.{Asker}
+use Rattle.board.specs.declared.turn.Asker.{Asker}
 use Rattle.events.specs.Event.{party_of_company}
 use Rattle.events.specs.declared.event.Holder.{Holder}
 use Rattle.events.specs.declared.event.Holder.TheVariants as holder

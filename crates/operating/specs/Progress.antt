@@ -5,8 +5,8 @@ use Rattle.std.specs.Prelude.{false, not, ◌||◌, List, ℕ, true, Bool, nat_l
 use lib.Signed.{lt_z}
 use Rattle.board.specs.Powers.{is_cs_lay, is_dh_lay}
 use Rattle.board.specs.Turn.{place_of_step}
-use Rattle.board.specs.declared.asker.Asker.{Asker}
-use Rattle.board.specs.declared.asker.TurnStep.TheVariants as step
+use Rattle.board.specs.declared.turn.Asker.{Asker}
+use Rattle.board.specs.declared.turn.TurnStep.TheVariants as step
 use Rattle.map_tables.specs.declared.lay.Lay.{Lay}
 use Rattle.operating.specs.Runs.{no_runs, with_ran}
 use Rattle.operating.specs.declared.progress.Progress.{Progress}

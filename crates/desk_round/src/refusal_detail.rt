@@ -48,7 +48,7 @@ impl Ruled<'_> {
 
 /// Adds the figures that a rule compared when it refused an order, and the cause if there are
 /// several.
-pub(crate) fn push_sought<'a>(
+pub(crate) fn push_refusal_detail<'a>(
     alloc: Global,
     out: &mut Vec<u8>,
     ruled: Ruled<'a>,
