@@ -46,8 +46,9 @@
 //! ```
 //!
 //! Reading order: `fault`, `kept_links` (the links of a hex as a value), `index`, `board`,
-//! `board_with_lay` (a board with one more tile), `network` (the position that is kept), `turn` (the
-//! company that acts, and how far its turn has come), `powers` (of CS and DH), `lay`, `token`, `laws`.
+//! `board_with_lay` (a board with one more tile), `network` (the position that is kept), `turn`
+//! (the company that acts, and how far its turn has come), `powers` (of CS and DH), `lay`, `token`,
+//! `laws`.
 #![tactic(auto)]
 
 mod board;

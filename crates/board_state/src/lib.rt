@@ -12,9 +12,9 @@
 //! The definitions, in `specs/`: `MapState` (the tiles and tokens, and the position) and `Fit`
 //! (what may lie at all).
 //!
-//! Reading order: `fault`, `stop_facts` (what shows at a hex or a stop), `fit` (what may lie at all),
-//! `on_map` (what follows from the map state), `plain_board`, `network` (the position that is kept),
-//! `laws`.
+//! Reading order: `fault`, `stop_facts` (what shows at a hex or a stop), `fit` (what may lie at
+//! all), `on_map` (what follows from the map state), `plain_board`, `network` (the position that is
+//! kept), `laws`.
 #![tactic(auto)]
 
 mod fault;

@@ -21,3 +21,4 @@ pub mod KnownStops
 pub mod HexLinks
 pub mod LinkEnds
 pub mod Read
+pub mod StepTaken

@@ -14,10 +14,11 @@
 //!
 //! Reading order: `ranking` (what a run may still earn), `hex` (marks in a text), `bits` (marks as
 //! they are kept). `accept` is the check of a claim by marks, and their writing. Both are one walk
-//! over the choice tree (`tree_walk`, over `tree`, which has a table of links, `hex_links`, and one of
-//! stops, `known_stops`), in which a `decider` decides at each node: a `reader` of marks or a
-//! `writer`. `Walked` says what a walk is, and `Walking` where it is, by what it keeps in place. `group` is what a text of
-//! certificates says of a company's best runs, and `checked` is the runner that uses such groups.
+//! over the choice tree (`tree_walk`, over `tree`, which has a table of links, `hex_links`, and one
+//! of stops, `known_stops`), in which a `decider` decides at each node: a `reader` of marks or a
+//! `writer`. `Walked` says what a walk is, and `Walking` where it is, by what it keeps in place.
+//! `group` is what a text of certificates says of a company's best runs, and `checked` is the
+//! runner that uses such groups.
 #![tactic(auto)]
 
 mod accept;

@@ -11,9 +11,9 @@ use market::move_token_right;
 use std::alloc::AllocError;
 use tables::{Amount, Company, SHARES, Seat};
 
-/// Pays a revenue in dollars for the shares of a company from the bank: a tenth of it for each share
-/// that a seat holds, seat by seat, and as much to the company for each in the bank pool. Its token
-/// on the chart moves right. Fails only if allocation fails.
+/// Pays a revenue in dollars for the shares of a company from the bank: a tenth of it for each
+/// share that a seat holds, seat by seat, and as much to the company for each in the bank pool. Its
+/// token on the chart moves right. Fails only if allocation fails.
 pub fn pay_out(history: &mut History, company: Company, revenue: Amount) -> Result<(), AllocError>
     requires few { history.old.seats ≤ 6 }
     requires small { revenue ≤ 100000 }

@@ -7,11 +7,11 @@
 //! purchase and of a sale are checked in the order of their numbers, and the first that is broken
 //! is returned.
 //!
-//! Reading order: `holdings`, `company_tables` (what they are made of), `share_places` (the shares of one
-//! company), `president`, `counted_certificates` (the certificates that count), `share_deal` (what is bought and
-//! sold), `purchase`, `sale`, `sell` (what follows from a sale), `dividend` (what a
-//! company pays out), `laws` (what decides the presidency, and that it and what counts are the same
-//! by the events of a game).
+//! Reading order: `holdings`, `company_tables` (what they are made of), `share_places` (the shares
+//! of one company), `president`, `counted_certificates` (the certificates that count), `share_deal`
+//! (what is bought and sold), `purchase`, `sale`, `sell` (what follows from a sale), `dividend`
+//! (what a company pays out), `laws` (what decides the presidency, and that it and what counts are
+//! the same by the events of a game).
 #![tactic(auto)]
 
 mod company_tables;

@@ -5,9 +5,9 @@
 //! Reading order: `played`, `refused` (which lines were), `round_part` (`round`), `round_texts`
 //! (the game of a file), `sheet_line` (the lines of the sheets), `why` (the rule that a line
 //! broke), `figures` (the figures that it compared), `done` (how far a company's turn had come),
-//! `cause` (which cause of several it was), `refusal_detail` (what is added after the rule), `track`
-//! and `ways` (where track breaks or leads), `train_runs` (`runs`), `groups` (whose turn an event
-//! belongs to), `wrapped`, `bulletin_text` (`bulletin`).
+//! `cause` (which cause of several it was), `refusal_detail` (what is added after the rule),
+//! `track` and `ways` (where track breaks or leads), `train_runs` (`runs`), `groups` (whose turn an
+//! event belongs to), `wrapped`, `bulletin_text` (`bulletin`).
 #![tactic(auto)]
 
 mod bulletin_text;

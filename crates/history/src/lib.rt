@@ -5,9 +5,9 @@
 //! nothing that it says is against the rules, as `specs/Sound.antt` defines it. Most events leave
 //! most facts alone, and the laws say which event keeps a list sound.
 //!
-//! Reading order: `list` (`History`), `boxed_totals` and `offers_of_round` (what it keeps beside the list),
-//! `record_event` (events that follow from the list alone), `conditions` (of orders, as they are
-//! checked against a list), `walk` (along a list, with its totals), `laws`.
+//! Reading order: `list` (`History`), `boxed_totals` and `offers_of_round` (what it keeps beside
+//! the list), `record_event` (events that follow from the list alone), `conditions` (of orders, as
+//! they are checked against a list), `walk` (along a list, with its totals), `laws`.
 #![tactic(auto)]
 
 mod boxed_totals;

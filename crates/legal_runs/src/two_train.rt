@@ -28,8 +28,8 @@ pub fn can_run<N: Network>(network: &N, company: Company) -> bool
     false
 }
 
-/// Returns whether such a run leaves its first stop by a link of a hex. A hex without a token of the
-/// company is not asked for its links.
+/// Returns whether such a run leaves its first stop by a link of a hex. A hex without a token of
+/// the company is not asked for its links.
 fn leaves_hex<N: Network>(network: &N, company: Company, hex: Hex) -> bool
     requires { IsLawful (N.position network.now) }
     ensures { let position = N.position network.now in

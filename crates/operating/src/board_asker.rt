@@ -26,7 +26,8 @@ pub(crate) fn asker(history: &History, company: Company, progress: Progress) -> 
     }
 }
 
-/// Returns a company as the rules of the board see it, by the list as it is, with a turn that begins.
+/// Returns a company as the rules of the board see it, by the list as it is, with a turn that
+/// begins.
 pub fn asker_now(history: &History, company: Company) -> Asker
     ensures { result ≡ asker_of history.now company at_start }
 {

@@ -12,13 +12,14 @@
 //!
 //! `purchases` rules what it buys, and `forced_purchase` the train that it must buy.
 //!
-//! Reading order: `completed_runs` (what its trains have done), `progress` (how far the turn has come),
-//! `company_turn` (all that lasts for the turn: the functions that rule a line are its methods),
-//! `game_and_board` (the game and its board between turns), `map_state` (the tiles and tokens on
-//! the map), `board_asker` (the company as the rules of the board see it), `home_token`; a file for
-//! each order: `lay` and `token` with `amount`, `run`, `run_best`, `pay`, `train`, `private`;
-//! `company_orders` (line by line), `turn_end` (what it must buy), `turn`, `laws` (what holds of
-//! every turn), `train_laws`, `tile_laws`, `private_laws`, `sale_laws`, `forced_laws`, `best_laws`.
+//! Reading order: `completed_runs` (what its trains have done), `progress` (how far the turn has
+//! come), `company_turn` (all that lasts for the turn: the functions that rule a line are its
+//! methods), `game_and_board` (the game and its board between turns), `map_state` (the tiles and
+//! tokens on the map), `board_asker` (the company as the rules of the board see it), `home_token`;
+//! a file for each order: `lay` and `token` with `amount`, `run`, `run_best`, `pay`, `train`,
+//! `private`; `company_orders` (line by line), `turn_end` (what it must buy), `turn`, `laws` (what
+//! holds of every turn), `train_laws`, `tile_laws`, `private_laws`, `sale_laws`, `forced_laws`,
+//! `best_laws`.
 #![tactic(auto)]
 
 mod amount;

@@ -78,8 +78,8 @@ fn curve_of(look: &Look, places: (Point, Point), a: TrackEnd, b: TrackEnd) -> Cu
     }
 }
 
-/// Returns the track of a hex: of each of its links, in order, a curve from the middle of its side to
-/// the middle of another or to the place of its stop, where the stops have these places.
+/// Returns the track of a hex: of each of its links, in order, a curve from the middle of its side
+/// to the middle of another or to the place of its stop, where the stops have these places.
 pub fn track_of(look: &Look, places: (Point, Point)) -> Curves
     ensures { map ends_of_curve result.items ≡ map (ends_of_link places) look.now.links.items }
 {

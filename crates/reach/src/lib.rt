@@ -12,9 +12,9 @@
 //! keeps; `Stops` has stops as marks, `Tokens` the list in which walks begin, and `Pieces` what is
 //! reached of one hex.
 //!
-//! Reading order: `network`, `walk`, `reach_found`, `stops` and `reaches` (the public calls), `search`,
-//! `waiting` (the spots that it is still to look at), `link_visitor` (what it does with links),
-//! `stop_numbers` (of stops and of spots), `stop_marks`.
+//! Reading order: `network`, `walk`, `reach_found`, `stops` and `reaches` (the public calls),
+//! `search`, `waiting` (the spots that it is still to look at), `link_visitor` (what it does with
+//! links), `stop_numbers` (of stops and of spots), `stop_marks`.
 #![tactic(auto)]
 
 mod link_visitor;

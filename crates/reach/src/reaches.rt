@@ -1,5 +1,5 @@
-//! Whether a company reaches a stop, or a piece of a hex. The tokens are given as a list, and nothing
-//! is allocated.
+//! Whether a company reaches a stop, or a piece of a hex. The tokens are given as a list, and
+//! nothing is allocated.
 ghost use Rattle.std.specs.Prelude.{◌≡◌, ◌↔◌, IsTrue, [], false, replicate};
 ghost use Rattle.map_tables.specs.Place.{joined_hex};
 ghost use Rattle.reach.specs.Pieces.{ReachesIn};

@@ -269,8 +269,8 @@ pub(crate) fn mark_tokens<N: Network>(network: &N, company: Company, marks: &mut
     }
 }
 
-/// Marks the stops with a token of the company, where its walks begin, where nothing is marked. Only
-/// the stops that these tokens name are asked for one.
+/// Marks the stops with a token of the company, where its walks begin, where nothing is marked.
+/// Only the stops that these tokens name are asked for one.
 pub(crate) fn mark_named<N: Network>(
     network: &N,
     company: Company,
@@ -326,10 +326,10 @@ fn mark_token<N: Network>(network: &N, company: Company, stop: Stop, marks: &mut
     }
 }
 
-/// Marks all spots at which walks of the company arrive, where its tokens are marked: from each spot
-/// that is found the ends of the links that go on from there. Each spot is looked at once, and the
-/// links that are followed are kept. The marks are filled in place, since each call that had them
-/// among its locals would pay for their bytes.
+/// Marks all spots at which walks of the company arrive, where its tokens are marked: from each
+/// spot that is found the ends of the links that go on from there. Each spot is looked at once, and
+/// the links that are followed are kept. The marks are filled in place, since each call that had
+/// them among its locals would pay for their bytes.
 pub(crate) fn search<N: Network, K: Keeper>(
     network: &N,
     company: Company,

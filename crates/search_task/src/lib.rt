@@ -18,9 +18,10 @@
 //! - `Legs`: how segments make legs from stop to stop, and where runs may begin.
 //!
 //! Reading order: `task` (what there is), `bit_set` (marks of borders and spots, a bit each),
-//! `outgoing_segment` (a segment of track), `segments` (those from all spots), `crossing` (the borders of a
-//! leg, a set of them), `steps` (those of a leg), `spots` (the spots of a position, and the whole
-//! task), `legs` (from stop to stop), `mirror` (whether legs lead back over all legs).
+//! `outgoing_segment` (a segment of track), `segments` (those from all spots), `crossing` (the
+//! borders of a leg, a set of them), `steps` (those of a leg), `spots` (the spots of a position,
+//! and the whole task), `legs` (from stop to stop), `mirror` (whether legs lead back over all
+//! legs).
 #![tactic(auto)]
 
 mod bit_set;

@@ -1,7 +1,7 @@
 //! EXCHANGE: the owner of MH gives it up for a share of NYC, even before NYC is started. The share
-//! comes from the initial offering, or from the bank pool if the initial offering has none. It costs
-//! nothing, and is neither a purchase nor a sale. The presidency of NYC passes and NYC floats as
-//! after a purchase.
+//! comes from the initial offering, or from the bank pool if the initial offering has none. It
+//! costs nothing, and is neither a purchase nor a sale. The presidency of NYC passes and NYC floats
+//! as after a purchase.
 ghost use Rattle.std.specs.Prelude.{◌≡◌, ◌≤◌, ◌<◌, OnOk};
 ghost use Rattle.history.specs.Sound.{IsSound};
 ghost use Rattle.stock_round.specs.Exchange.{MayExchange, after_exchange, exchange_judgement, exchange_source};

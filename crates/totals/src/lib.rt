@@ -12,8 +12,8 @@
 //!
 //! Reading order: `look_back`, `owners`, `bids`, `offers`, `shares`, `operating` and `trains` (the
 //! readers of `GameView`), `totals` (what a list says, an event at a time), `balances` and
-//! `apply_event` (how an event changes the totals), `event_folds` (the ways of looking back), `event_topics`
-//! (what is looked for).
+//! `apply_event` (how an event changes the totals), `event_folds` (the ways of looking back),
+//! `event_topics` (what is looked for).
 #![tactic(auto)]
 
 mod apply_event;

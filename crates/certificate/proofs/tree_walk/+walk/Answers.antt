@@ -1,5 +1,5 @@
 -- The walk goes over the children of each node, in their order, and leaves the marks as they were.
-use Rattle.std.proofs.Common.{◌≤◌, Option, map, unwrap_or}
+use Rattle.std.proofs.Common.{◌≤◌, Option, map}
 use Rattle.std.proofs.Common.{◌≡◌, ◌<◌, rules, ℕ, ◌-◌, Bool, true, false, not, ◌&&◌, count_by, option_map, if◌then◌else◌, Some, None, List, [], ◌∷◌, ◌++◌, length, get_or, set, replicate, refl, ap, sym, ◌∙◌, subst, arith}
 use Rattle.map_tables.specs.Border.{neighbour_of}
 use Rattle.map_tables.specs.declared.hex.Hex.{Hex}
@@ -29,13 +29,14 @@ use Rattle.certificate.specs.Tree.{steps_from}
 use Rattle.certificate.specs.Walked.{capped}
 use Rattle.certificate.specs.Walking.{AreCrossed, Continues, LeavesOver, IsOnRun, WalksOver, earned_from, may_take, node_at, node_from, reached_in, trains_of_tree}
 use Rattle.certificate.proofs.Going.{hexes_steps, no_step_found, none_ahead, one_cut, one_end, one_hex, one_split}
-use Rattle.certificate.proofs.Going.{over_none, step_enters, step_found, thing_ends, thing_over, things_over, up_ends}
+use Rattle.certificate.proofs.Going.{over_none, thing_ends, thing_over, things_over, up_ends}
 use Rattle.certificate.proofs.Going.{beyond_it, default_link, default_stop, up_over, up_whole}
-use Rattle.certificate.proofs.LinkEnds.{default_step, ends_there, left_is, link_high, link_low, no_step_there, place_there}
-use Rattle.certificate.proofs.LinkEnds.{step_there, ways}
+use Rattle.certificate.proofs.LinkEnds.{ends_there, link_high, link_low, no_step_there}
+use Rattle.certificate.proofs.LinkEnds.{ways}
 use Rattle.certificate.proofs.Places.{none_is}
 use Rattle.certificate.proofs.OnRun.{and_false, and_true, border_continues, children_at_border, children_at_stop, finished_crossed, finished_is_between, finishing_is, is_free, is_last, no_beyond, not_free, same_node, seen_false, on_run_at_stop, on_run_over, same_state, stop_continues, takes_no_stop, takes_over, takes_stop, two_stops, with_run}
 use Rattle.certificate.proofs.SettingOut.{left_from}
+use Rattle.certificate.proofs.StepTaken.{IsStepBy, step_by, step_taken}
 use Rattle.certificate.proofs.Walked.{walks_both, walks_ended}
 use Rattle.certificate.proofs.Walking.{end_rank, mark_undone, rank_low}
 use Rattle.certificate.proofs.tree_walk.+walk.Goals as goal
@@ -389,49 +390,36 @@ take-returns-in_default-stop-clause-walks g t c = λ assigned steps stops link a
     let position = g.N.Network.position c.args.network.now in
     let tree = c.args.tree.now in
     let at = c.args.at in
-    let found : Option WalkStep = way_into at.end link in
-    let way : c.leads_to.result ≡ option_map place_left found = c.leads_to.ensures link at.end ends from in
     let node : Node = node_at tree c.args.begun.now assigned steps in
     let test : WalkStep → Bool = may_take (reached_in tree) node at.end in
-    let at_place : option_map place_left found ≡ Some c.in-Some.place = sym way ∙ c.in-Some.is in
-    let step : WalkStep = unwrap_or found default_step in
-    let some : found ≡ Some step = step_there found c.in-Some.place at_place in
+    let step : WalkStep = step_by at link in
     let made : Node = with_step node step in
-    let one : node_if (test step) made ≡ with_steps test node (steps_by at.end link) =
-    step_found test node at.end link found step some (ways at.end link) in
-    let enters : entered_at step ≡ at = step_enters position at_node.tree_is.lawful at link found step among some
-    (ways at.end link) in
-    let leaves : left_at step ≡ spot_at at.hex c.end_at.result = left_is step at c.in-Some.place c.end_at.result enters
-    (place_there found c.in-Some.place at_place) c.end_at.ensures in
-    let none : stop_of (left_at step) ≡ None = sym (c.stop.ensures ∙ ap stop_of (sym leaves)) ∙ c.in_default-stop.is in
-    let walk = c.cross.ensures.walks assigned steps stops step at_node (continues step enters) leaves
+    let taken : IsStepBy at link c.end_at.result step =
+    step_taken position at_node.tree_is.lawful at link c.in-Some.place c.end_at.result among
+    (sym (c.leads_to.ensures link at.end ends from) ∙ c.in-Some.is) c.end_at.ensures in
+    let none : stop_of (left_at step) ≡ None = sym (c.stop.ensures ∙ ap stop_of (sym taken.leaves)) ∙ c.in_default-stop.is in
+    let walk = c.cross.ensures.walks assigned steps stops step at_node (continues step taken.enters) taken.leaves
     (sym c.stop.ensures ∙ c.in_default-stop.is) in
     subst (λ (l : List Node). WalksOver g.D.Decider.decides position tree c.args.decider.now l c.cross.result c.cross.new.decider)
-    (ap (λ (b : Bool). node_if b made) (sym (takes_over (reached_in tree) node at.end step none)) ∙ one) walk
+    (ap (λ (b : Bool). node_if b made) (sym (takes_over (reached_in tree) node at.end step none)) ∙ taken.one test node)
+    walk
 
 pub take-returns-in_default-end-clause-walks : goal.take-returns-in_default-end-clause-walks
 take-returns-in_default-end-clause-walks g t c = λ assigned steps stops link at_node among ends from continues.
     let position = g.N.Network.position c.args.network.now in
     let tree = c.args.tree.now in
     let at = c.args.at in
-    let found : Option WalkStep = way_into at.end link in
-    let way : c.leads_to.result ≡ option_map place_left found = c.leads_to.ensures link at.end ends from in
     let node : Node = node_at tree c.args.begun.now assigned steps in
     let test : WalkStep → Bool = may_take (reached_in tree) node at.end in
-    let at_place : option_map place_left found ≡ Some c.in-Some.place = sym way ∙ c.in-Some.is in
-    let step : WalkStep = unwrap_or found default_step in
-    let some : found ≡ Some step = step_there found c.in-Some.place at_place in
+    let step : WalkStep = step_by at link in
     let made : Node = with_step node step in
-    let one : node_if (test step) made ≡ with_steps test node (steps_by at.end link) =
-    step_found test node at.end link found step some (ways at.end link) in
-    let enters : entered_at step ≡ at = step_enters position at_node.tree_is.lawful at link found step among some
-    (ways at.end link) in
-    let leaves : left_at step ≡ spot_at at.hex c.end_at.result = left_is step at c.in-Some.place c.end_at.result enters
-    (place_there found c.in-Some.place at_place) c.end_at.ensures in
+    let taken : IsStepBy at link c.end_at.result step =
+    step_taken position at_node.tree_is.lawful at link c.in-Some.place c.end_at.result among
+    (sym (c.leads_to.ensures link at.end ends from) ∙ c.in-Some.is) c.end_at.ensures in
     let stop : Stop = c.in-Some-stop.stop in
-    let left : stop_of (left_at step) ≡ Some stop = sym (c.stop.ensures ∙ ap stop_of (sym leaves)) ∙ c.in-Some-stop.is in
+    let left : stop_of (left_at step) ≡ Some stop = sym (c.stop.ensures ∙ ap stop_of (sym taken.leaves)) ∙ c.in-Some-stop.is in
     over_none g.D.Decider.decides position tree c.args.decider.now (with_steps test node (steps_by at.end link))
-    (sym one ∙ ap (λ (b : Bool). node_if b made) (takes_no_stop (reached_in tree) node at.end c.in_default-end.field-0 step stop
+    (sym (taken.one test node) ∙ ap (λ (b : Bool). node_if b made) (takes_no_stop (reached_in tree) node at.end c.in_default-end.field-0 step stop
     c.in_default-end.is left))
 
 pub take-returns-then-not-reaches-clause-walks : goal.take-returns-then-not-reaches-clause-walks
@@ -439,29 +427,22 @@ take-returns-then-not-reaches-clause-walks g t c = λ assigned steps stops link 
     let position = g.N.Network.position c.args.network.now in
     let tree = c.args.tree.now in
     let at = c.args.at in
-    let found : Option WalkStep = way_into at.end link in
-    let way : c.leads_to.result ≡ option_map place_left found = c.leads_to.ensures link at.end ends from in
     let node : Node = node_at tree c.args.begun.now assigned steps in
     let test : WalkStep → Bool = may_take (reached_in tree) node at.end in
-    let at_place : option_map place_left found ≡ Some c.in-Some.place = sym way ∙ c.in-Some.is in
-    let step : WalkStep = unwrap_or found default_step in
-    let some : found ≡ Some step = step_there found c.in-Some.place at_place in
+    let step : WalkStep = step_by at link in
     let made : Node = with_step node step in
-    let one : node_if (test step) made ≡ with_steps test node (steps_by at.end link) =
-    step_found test node at.end link found step some (ways at.end link) in
-    let enters : entered_at step ≡ at = step_enters position at_node.tree_is.lawful at link found step among some
-    (ways at.end link) in
-    let leaves : left_at step ≡ spot_at at.hex c.end_at.result = left_is step at c.in-Some.place c.end_at.result enters
-    (place_there found c.in-Some.place at_place) c.end_at.ensures in
+    let taken : IsStepBy at link c.end_at.result step =
+    step_taken position at_node.tree_is.lawful at link c.in-Some.place c.end_at.result among
+    (sym (c.leads_to.ensures link at.end ends from) ∙ c.in-Some.is) c.end_at.ensures in
     let stop : Stop = c.in-Some-stop.stop in
-    let left : stop_of (left_at step) ≡ Some stop = sym (c.stop.ensures ∙ ap stop_of (sym leaves)) ∙ c.in-Some-stop.is in
+    let left : stop_of (left_at step) ≡ Some stop = sym (c.stop.ensures ∙ ap stop_of (sym taken.leaves)) ∙ c.in-Some-stop.is in
     let side : Side = c.in-Side.field-0 in
-    let at_side : (entered_at step).end ≡ AtSide side = ap (λ (s : Spot). s.end) enters ∙ c.in-Side.is in
+    let at_side : (entered_at step).end ≡ AtSide side = ap (λ (s : Spot). s.end) taken.enters ∙ c.in-Side.is in
     let reaches : c.reaches.result ≡ has_stop stop (reached_in tree) = c.reaches.ensures in
     let tests : test step ≡ (has_stop stop (reached_in tree) && not (has_stop stop (visited steps))) =
     takes_stop (reached_in tree) node at.end side step stop c.in-Side.is left in
     over_none g.D.Decider.decides position tree c.args.decider.now (with_steps test node (steps_by at.end link))
-    (sym one ∙ ap (λ (b : Bool). node_if b made) (tests
+    (sym (taken.one test node) ∙ ap (λ (b : Bool). node_if b made) (tests
     ∙ and_false (has_stop stop (reached_in tree)) (has_stop stop (visited steps)) (sym reaches ∙ c.if-not-reaches.true)))
 
 pub take-returns-then-has-clause-walks : goal.take-returns-then-has-clause-walks
@@ -469,31 +450,24 @@ take-returns-then-has-clause-walks g t c = λ assigned steps stops link at_node 
     let position = g.N.Network.position c.args.network.now in
     let tree = c.args.tree.now in
     let at = c.args.at in
-    let found : Option WalkStep = way_into at.end link in
-    let way : c.leads_to.result ≡ option_map place_left found = c.leads_to.ensures link at.end ends from in
     let node : Node = node_at tree c.args.begun.now assigned steps in
     let test : WalkStep → Bool = may_take (reached_in tree) node at.end in
-    let at_place : option_map place_left found ≡ Some c.in-Some.place = sym way ∙ c.in-Some.is in
-    let step : WalkStep = unwrap_or found default_step in
-    let some : found ≡ Some step = step_there found c.in-Some.place at_place in
+    let step : WalkStep = step_by at link in
     let made : Node = with_step node step in
-    let one : node_if (test step) made ≡ with_steps test node (steps_by at.end link) =
-    step_found test node at.end link found step some (ways at.end link) in
-    let enters : entered_at step ≡ at = step_enters position at_node.tree_is.lawful at link found step among some
-    (ways at.end link) in
-    let leaves : left_at step ≡ spot_at at.hex c.end_at.result = left_is step at c.in-Some.place c.end_at.result enters
-    (place_there found c.in-Some.place at_place) c.end_at.ensures in
+    let taken : IsStepBy at link c.end_at.result step =
+    step_taken position at_node.tree_is.lawful at link c.in-Some.place c.end_at.result among
+    (sym (c.leads_to.ensures link at.end ends from) ∙ c.in-Some.is) c.end_at.ensures in
     let stop : Stop = c.in-Some-stop.stop in
-    let left : stop_of (left_at step) ≡ Some stop = sym (c.stop.ensures ∙ ap stop_of (sym leaves)) ∙ c.in-Some-stop.is in
+    let left : stop_of (left_at step) ≡ Some stop = sym (c.stop.ensures ∙ ap stop_of (sym taken.leaves)) ∙ c.in-Some-stop.is in
     let side : Side = c.in-Side.field-0 in
-    let at_side : (entered_at step).end ≡ AtSide side = ap (λ (s : Spot). s.end) enters ∙ c.in-Side.is in
+    let at_side : (entered_at step).end ≡ AtSide side = ap (λ (s : Spot). s.end) taken.enters ∙ c.in-Side.is in
     let reaches : c.reaches.result ≡ has_stop stop (reached_in tree) = c.reaches.ensures in
     let tests : test step ≡ (has_stop stop (reached_in tree) && not (has_stop stop (visited steps))) =
     takes_stop (reached_in tree) node at.end side step stop c.in-Side.is left in
     let seen : has_stop stop (visited steps) ≡ c.has.result =
-    ap (has_stop stop) ((continues step enters).same side at_side) ∙ (sym (at_node.seen.1 stop) ∙ sym c.has.ensures) in
+    ap (has_stop stop) ((continues step taken.enters).same side at_side) ∙ (sym (at_node.seen.1 stop) ∙ sym c.has.ensures) in
     over_none g.D.Decider.decides position tree c.args.decider.now (with_steps test node (steps_by at.end link))
-    (sym one ∙ ap (λ (b : Bool). node_if b made) (tests
+    (sym (taken.one test node) ∙ ap (λ (b : Bool). node_if b made) (tests
     ∙ seen_false (has_stop stop (reached_in tree)) (has_stop stop (visited steps)) (seen ∙ c.if-has.true)))
 
 pub take-arrive-requires : goal.take-arrive-requires
@@ -504,34 +478,27 @@ take-returns-clause-walks g t c = λ assigned steps stops link at_node among end
     let position = g.N.Network.position c.args.network.now in
     let tree = c.args.tree.now in
     let at = c.args.at in
-    let found : Option WalkStep = way_into at.end link in
-    let way : c.leads_to.result ≡ option_map place_left found = c.leads_to.ensures link at.end ends from in
     let node : Node = node_at tree c.args.begun.now assigned steps in
     let test : WalkStep → Bool = may_take (reached_in tree) node at.end in
-    let at_place : option_map place_left found ≡ Some c.in-Some.place = sym way ∙ c.in-Some.is in
-    let step : WalkStep = unwrap_or found default_step in
-    let some : found ≡ Some step = step_there found c.in-Some.place at_place in
+    let step : WalkStep = step_by at link in
     let made : Node = with_step node step in
-    let one : node_if (test step) made ≡ with_steps test node (steps_by at.end link) =
-    step_found test node at.end link found step some (ways at.end link) in
-    let enters : entered_at step ≡ at = step_enters position at_node.tree_is.lawful at link found step among some
-    (ways at.end link) in
-    let leaves : left_at step ≡ spot_at at.hex c.end_at.result = left_is step at c.in-Some.place c.end_at.result enters
-    (place_there found c.in-Some.place at_place) c.end_at.ensures in
+    let taken : IsStepBy at link c.end_at.result step =
+    step_taken position at_node.tree_is.lawful at link c.in-Some.place c.end_at.result among
+    (sym (c.leads_to.ensures link at.end ends from) ∙ c.in-Some.is) c.end_at.ensures in
     let stop : Stop = c.in-Some-stop.stop in
-    let left : stop_of (left_at step) ≡ Some stop = sym (c.stop.ensures ∙ ap stop_of (sym leaves)) ∙ c.in-Some-stop.is in
+    let left : stop_of (left_at step) ≡ Some stop = sym (c.stop.ensures ∙ ap stop_of (sym taken.leaves)) ∙ c.in-Some-stop.is in
     let side : Side = c.in-Side.field-0 in
-    let at_side : (entered_at step).end ≡ AtSide side = ap (λ (s : Spot). s.end) enters ∙ c.in-Side.is in
+    let at_side : (entered_at step).end ≡ AtSide side = ap (λ (s : Spot). s.end) taken.enters ∙ c.in-Side.is in
     let reaches : c.reaches.result ≡ has_stop stop (reached_in tree) = c.reaches.ensures in
     let tests : test step ≡ (has_stop stop (reached_in tree) && not (has_stop stop (visited steps))) =
     takes_stop (reached_in tree) node at.end side step stop c.in-Side.is left in
     let seen : has_stop stop (visited steps) ≡ c.has.result =
-    ap (has_stop stop) ((continues step enters).same side at_side) ∙ (sym (at_node.seen.1 stop) ∙ sym c.has.ensures) in
+    ap (has_stop stop) ((continues step taken.enters).same side at_side) ∙ (sym (at_node.seen.1 stop) ∙ sym c.has.ensures) in
     let passes : test step ≡ true = tests ∙ and_true (has_stop stop (reached_in tree)) (has_stop stop (visited steps))
     (sym reaches ∙ c.if-not-reaches.false) (seen ∙ c.if-has.false) in
-    let walk = c.arrive.ensures.walks assigned steps stops step at_node (continues step enters) left in
+    let walk = c.arrive.ensures.walks assigned steps stops step at_node (continues step taken.enters) left in
     subst (λ (l : List Node). WalksOver g.D.Decider.decides position tree c.args.decider.now l c.arrive.result
-    c.arrive.new.decider) (ap (λ (b : Bool). node_if b made) (sym passes) ∙ one) walk
+    c.arrive.new.decider) (ap (λ (b : Bool). node_if b made) (sym passes) ∙ taken.one test node) walk
 
 pub take-returns-clause-seen : goal.take-returns-clause-seen
 take-returns-clause-seen g t c = c.arrive.ensures.seen (sym c.has.ensures ∙ c.if-has.false)
