@@ -7,7 +7,7 @@ use desk_base::Piece::{Bytes, Column, Right, Words};
 use desk_base::{fill, push};
 use history::{GameView, History};
 use std::alloc::AllocError;
-use tables::{Company, Money, PerCompany, Zone, price, square, zone};
+use tables::{Money, Zone, price, square, zone};
 
 /// How many rows the chart has.
 const ROWS: u8 = 11;
@@ -20,14 +20,6 @@ const SQUARE: usize = 4;
 
 /// How many tokens of a stack a line shows.
 const SHOWN: usize = 3;
-
-/// The letters that stand for the companies' tokens, in the order of the companies.
-const LETTERS: PerCompany<&str> = ["P", "N", "C", "B", "O", "E", "H", "M"];
-
-/// Returns the letter that stands for a company's token.
-pub(crate) fn letter(company: Company) -> &'static str {
-    LETTERS[company.index()]
-}
 
 /// Adds the stock market: the prices of each row, with the zones, and below them the tokens.
 pub(crate) fn push_chart(out: &mut Vec<u8>, history: &History) -> Result<(), AllocError> {
@@ -86,7 +78,10 @@ fn push_tokens(out: &mut Vec<u8>, view: &GameView, row: u8, above: usize) -> Res
                 if let Some(company) = company_at(view, square, place) {
                     push(
                         out,
-                        &[Column(SQUARE * usize::from(column)), Words(letter(company))],
+                        &[
+                            Column(SQUARE * usize::from(column)),
+                            Words(company.letter()),
+                        ],
                     )?;
                 }
             }

@@ -1,7 +1,6 @@
 //! The map as text, with the tiles and the tokens that lie on it.
 
 use crate::lines::end_open_line;
-use crate::state_chart::letter;
 use crate::stock_left::{has_token, tile_on};
 use desk_base::Piece::{Bytes, Column, Number, Words};
 use desk_base::{fill, push};
@@ -111,7 +110,7 @@ fn push_cities(out: &mut Vec<u8>, history: &History, hex: Hex) -> Result<(), All
             let mut free = slots;
             for company in &Company::ALL {
                 if has_token(history, city, *company) {
-                    push(out, &[Words(letter(*company))])?;
+                    push(out, &[Words(company.letter())])?;
                     free = free.saturating_sub(1);
                 }
             }

@@ -11,7 +11,7 @@ use crate::table_forms::{
 use crate::tiles_part::begin_section;
 use crate::worth_history::Entry;
 use picture::PagePiece::{Name, Number, Round, Words};
-use picture::{Attr, Point, Tag, Writer, letter};
+use picture::{Attr, Point, Tag, Writer};
 use tables::{COMPANIES, Company, Money, PerCompany, PerSeat, Seat};
 
 /// What a line of a chart shows.
@@ -310,7 +310,7 @@ fn put_name(out: &mut Writer, scene: &Scene, line: Series, end: usize, y: usize)
         }
         Series::Price(company) => {
             let code = Words(company.code());
-            out.label("name", place, &[Words(letter(company)), Words(" "), code]);
+            out.label("name", place, &[Words(company.letter()), Words(" "), code]);
         }
     }
 }

@@ -2,7 +2,7 @@
 
 use map_tables::PerSide;
 use picture::PagePiece::{At, Words};
-use picture::{Attr, Point, Tag, Writer, letter};
+use picture::{Attr, Point, Tag, Writer};
 use tables::{Company, PerCompany};
 
 /// What the token of a company looks like.
@@ -115,7 +115,7 @@ fn put_tokens(out: &mut Writer, company: Company) {
 /// Begins a sign of a company, whose name is a letter and that of the company.
 fn begin_sign(out: &mut Writer, name: &'static str, company: Company) {
     out.begin(Tag::Group);
-    out.value(Attr::Id, &[Words(name), Words(letter(company))]);
+    out.value(Attr::Id, &[Words(name), Words(company.letter())]);
 }
 
 /// Adds a disc with a black rim.
@@ -133,7 +133,7 @@ fn put_letter(out: &mut Writer, class: &'static str, y: i32, company: Company) {
     out.begin_as(Tag::Text, class);
     out.value(Attr::Y, &[At(y)]);
     out.within();
-    out.put(&[Words(letter(company))]);
+    out.put(&[Words(company.letter())]);
     out.end();
 }
 
@@ -141,7 +141,7 @@ fn put_letter(out: &mut Writer, class: &'static str, y: i32, company: Company) {
 pub(crate) fn put_line_colour(out: &mut Writer, company: Company) {
     out.value(
         Attr::Stroke,
-        &[Words("var(--"), Words(letter(company)), Words(")")],
+        &[Words("var(--"), Words(company.letter()), Words(")")],
     );
 }
 

@@ -5,15 +5,7 @@ use crate::piece::PagePiece::{At, Words};
 use crate::point::Point;
 use crate::tag::{Attr, Tag};
 use crate::writer::Writer;
-use tables::{Company, PerCompany};
-
-/// The letters of the companies' tokens, in the order of the roster.
-const LETTERS: PerCompany<&str> = ["P", "N", "C", "B", "O", "E", "H", "M"];
-
-/// Returns the letter of a company's token.
-pub fn letter(company: Company) -> &'static str {
-    LETTERS[company.index()]
-}
+use tables::Company;
 
 impl Writer {
     /// Adds a value to the start tag of the element that was begun last.
@@ -70,7 +62,7 @@ impl Writer {
     /// Adds a token of a company at a point, by what its reference begins with: `#t`, `#m` or `#r`.
     pub fn token(&mut self, sign: &'static str, company: Company, place: Point) {
         self.begin(Tag::Use);
-        self.value(Attr::Href, &[Words(sign), Words(letter(company))]);
+        self.value(Attr::Href, &[Words(sign), Words(company.letter())]);
         self.place_at(place);
         self.end();
     }

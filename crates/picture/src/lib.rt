@@ -32,7 +32,6 @@ mod writer;
 pub use bend::{Bend, bend_between};
 pub use curve::{Curve, Curves, Way, towards, track_of, way_across};
 pub use drawing::{Marker, draw_stops, draw_track, put_way};
-pub use elements::letter;
 pub use labels::{cost_point, kind_point, private_point, value_point};
 pub use look::{Look, Shade, Stops};
 pub use piece::PagePiece;

@@ -40,6 +40,17 @@ code_of_company company.Erie = codes "ERIE"
 code_of_company company.NewHaven = codes "NYNH"
 code_of_company company.BostonMaine = codes "BM"
 
+-- the letter that stands for a company's token
+abbrev pub letter_of_company : Company → List ℕ
+letter_of_company company.Pennsylvania = codes "P"
+letter_of_company company.NewYorkCentral = codes "N"
+letter_of_company company.CanadianPacific = codes "C"
+letter_of_company company.BaltimoreOhio = codes "B"
+letter_of_company company.ChesapeakeOhio = codes "O"
+letter_of_company company.Erie = codes "E"
+letter_of_company company.NewHaven = codes "H"
+letter_of_company company.BostonMaine = codes "M"
+
 -- the privates in roster order
 abbrev pub privates : List Private
 privates =

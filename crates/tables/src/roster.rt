@@ -1,5 +1,6 @@
 ghost use Rattle.std.specs.Prelude.{◌≡◌, ◌<◌, codes};
-ghost use Rattle.tables.specs.Roster.{code_of_company, code_of_private, face_of, index_of_company, index_of_private};
+ghost use Rattle.tables.specs.Roster.{code_of_company, code_of_private, face_of, index_of_company};
+ghost use Rattle.tables.specs.Roster.{index_of_private, letter_of_company};
 ghost use Rattle.tables.specs.Roster.{revenue_of, token_price_of, token_supply_of};
 
 use crate::seat::Amount;
@@ -76,6 +77,22 @@ impl Company {
             Company::Erie => "ERIE",
             Company::NewHaven => "NYNH",
             Company::BostonMaine => "BM",
+        }
+    }
+
+    /// Returns the letter that stands for its token where the chart or the map is shown.
+    pub fn letter(self) -> &'static str
+        ensures { result.now ≡ letter_of_company self }
+    {
+        match self {
+            Company::Pennsylvania => "P",
+            Company::NewYorkCentral => "N",
+            Company::CanadianPacific => "C",
+            Company::BaltimoreOhio => "B",
+            Company::ChesapeakeOhio => "O",
+            Company::Erie => "E",
+            Company::NewHaven => "H",
+            Company::BostonMaine => "M",
         }
     }
 
