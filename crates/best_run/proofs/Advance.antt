@@ -11,7 +11,6 @@ use Rattle.reach.specs.declared.walk.WalkStep.{WalkStep}
 use Rattle.tables.specs.declared.rolling_stock.Kind.{Kind}
 use Rattle.tables.specs.declared.roster.Company.{Company}
 use Rattle.legal_runs.specs.Legal.{border_at, worth}
-use Rattle.legal_runs.proofs.Kept.{border_low}
 use Rattle.legal_runs.proofs.Marks.{among_both}
 use Rattle.search_task.specs.declared.task.Segment.{Segment}
 use Rattle.search_task.specs.declared.task.Task.{Task}

@@ -11,7 +11,7 @@ use Rattle.search_task.specs.declared.task.Task.{Task}
 use Rattle.search_task.specs.declared.task.Leg.{Leg}
 use Rattle.best_run.specs.declared.state.Assigned.{Assigned}
 use Rattle.best_run.specs.declared.state.PartialRun.{PartialRun}
-use Rattle.best_run.specs.Ahead.{IsGoneOver, IsOutlook, LiesAhead, Widens, WidensBack, WidensBackBelow, WidensBelow}
+use Rattle.best_run.specs.Ahead.{IsClosed, IsGoneOver, LiesAhead, Widens, WidensBack, WidensBackBelow, WidensBelow}
 use Rattle.best_run.specs.Ahead.{WidensBy, WidensFrom, WidensAt, leads_on}
 use Rattle.best_run.specs.Moves.{can_take}
 use Rattle.search_task.specs.Spots.{ends_in, node_at}
@@ -196,24 +196,31 @@ module _ (task : Task) (assigned : Assigned) (run : PartialRun) where
         | inr over ↦ over
       ]
 
-  -- from where it is alone, if it has turned back
-  pub outlook_from : (ahead : List Bool) → run.turned ≡ true
-      → WidensFrom task assigned run run.head (replicate 744 false) ahead → IsOutlook task assigned run ahead
-  outlook_from ahead turned from =
+  -- nothing lies ahead of a run that has turned back
+  pub closed_none : run.turned ≡ true → IsClosed task assigned run (replicate 744 false)
+  closed_none turned =
       record {
-        head = from.here;
         home = λ not_turned. absurd (not_both run.turned turned not_turned);
-        all = all_over ahead from.widens.over;
+        all = λ spot none. absurd
+            (not_both (get_or (replicate 744 false) spot false) none (none_marked 744 spot));
       }
 
-  -- otherwise from where it began as well
-  pub outlook_both : (middle ahead : List Bool) → WidensFrom task assigned run run.head (replicate 744 false) middle
-      → WidensBack task assigned run middle ahead → IsOutlook task assigned run ahead
-  outlook_both middle ahead first second =
+  -- otherwise what lies ahead once it turns back
+  pub closed_back : (ahead : List Bool) → WidensBack task assigned run (replicate 744 false) ahead
+      → IsClosed task assigned run ahead
+  closed_back ahead back = record { home = λ not_turned. back.here; all = all_over ahead back.widens.over }
+
+  -- and what lies ahead of one more stop
+  pub closed_at : (spot : ℕ) (old new : List Bool) → IsClosed task assigned run old
+      → WidensAt task assigned run spot old new → IsClosed task assigned run new
+  closed_at there old new closed at =
       record {
-        head = over_more middle ahead second.widens.kept run.head first.here;
-        home = λ not_turned. second.here;
-        all = all_over ahead (widens_both (replicate 744 false) middle ahead first.widens second.widens).over;
+        home = λ not_turned passes place leg is_leg later taken. at.widens.kept leg.segment.to
+            (closed.home not_turned passes place leg is_leg later taken);
+        all = λ spot lies. elim (at.widens.over spot lies) [
+          | inl before ↦ over_more old new at.widens.kept spot (closed.all spot before)
+          | inr over ↦ over
+        ];
       }
 
 -- a segment that leads on reaches a stop that does not lie ahead

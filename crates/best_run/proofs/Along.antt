@@ -1,6 +1,6 @@
 -- Legs that are tried are moves that are tried: what may be done by a segment begins with a leg,
 -- and whatever comes after a leg comes after its segments.
-use Rattle.std.proofs.Common.{◌≡◌, ℕ, ◌+◌, ◌<◌, ◌≤◌, Bool, true, false, ◌&&◌, ◌⊎◌, inl, inr, Some, List, [], ◌∷◌, ◌++◌}
+use Rattle.std.proofs.Common.{◌≡◌, ℕ, ◌+◌, ◌<◌, ◌≤◌, Bool, true, false, ◌⊎◌, inl, inr, Some, List, [], ◌∷◌, ◌++◌}
 use Rattle.std.proofs.Common.{length, slice_get, replicate, refl, sym, ap, subst, ◌∙◌, arith, le_trans, length-append}
 use Rattle.std.proofs.lemmas.Option.{slice_get_within}
 use Rattle.reach.specs.Position.{IsAmong}
@@ -263,6 +263,29 @@ module _ (task : Task) (fit : IsFit task) (stop : ℕ) (stops : stop_in (node_at
         most = λ known other is can moves completes. elim (legs_next Q Q place leg other at is.0) [
           | inl sooner ↦ before.most known other (sooner, is.1) can moves completes
           | inr same ↦ absurd (none (subst Q (sym same) is.1))
+        ];
+      }
+
+  -- one more leg is in vain
+  pub legs_vain : (from : State) (assigned : Assigned) (runs : Leg → PartialRun) (Q : Leg → Type 0) (place : ℕ)
+      (leg : Leg) (old middle : Found) → slice_get legs place ≡ Some leg
+      → (can_take task (runs leg) assigned.used leg.segment ≡ true → (moves : List Move)
+      → Completes task (partial (using assigned leg.segment) (along task (runs leg) leg.segment)) moves
+      → total_after task (partial (using assigned leg.segment) (along task (runs leg) leg.segment)) moves
+      ≤ middle.amount) → TriesLegs task from assigned runs (λ w. IsListed legs place w × Q w) old middle
+      → TriesLegs task from assigned runs (λ w. IsListed legs (place + 1) w × Q w) old middle
+  legs_vain from assigned runs Q place leg old middle at vain before =
+      record {
+        grows = before.grows;
+        traced = before.traced;
+        known = before.known;
+        most = λ known other is can moves completes. elim (legs_next Q Q place leg other at is.0) [
+          | inl sooner ↦ before.most known other (sooner, is.1) can moves completes
+          | inr same ↦
+              subst (λ (w : Leg). can_take task (runs w) assigned.used w.segment ≡ true → (moves : List Move)
+              → Completes task (partial (using assigned w.segment) (along task (runs w) w.segment)) moves
+              → total_after task (partial (using assigned w.segment) (along task (runs w) w.segment)) moves
+              ≤ middle.amount) same vain can moves completes
         ];
       }
 

@@ -1,19 +1,18 @@
 -- What is in reach of the tokens, one after another. All that is in reach of a stop that lies in
 -- reach, and may be passed, is so already.
-use Rattle.std.proofs.Common.{◌≡◌, ℕ, ◌+◌, ◌-◌, ◌*◌, ◌<◌, ◌≤◌, Bool, true, false, inl, inr, ◌⊎◌, Some, List, [], length, get_or}
+use Rattle.std.proofs.Common.{◌≡◌, ℕ, ◌+◌, ◌-◌, ◌*◌, ◌<◌, ◌≤◌, Bool, true, false, inl, inr, Some, List, length, get_or}
 use Rattle.std.proofs.Common.{replicate, slice_get, refl, sym, ap, subst, ◌∙◌, arith}
 use Rattle.reach.proofs.Collected.{none_marked}
 use Rattle.best_run.specs.declared.canonical.InReach.{InReach}
 use Rattle.best_run.specs.declared.state.Assigned.{Assigned}
 use Rattle.best_run.specs.declared.value_ahead.Worth.{Worth}
-use Rattle.search_task.specs.declared.task.Leg.{Leg}
 use Rattle.search_task.specs.declared.task.Task.{Task}
 use Rattle.best_run.specs.Ahead.{IsLeast, IsWorth, LiesAhead, beyond, two_ends}
-use Rattle.best_run.specs.Canonical.{AllLead, AreCapped, AreCappedBelow, Holds, IsCappedAt, IsCappedFrom, IsClosed}
+use Rattle.best_run.specs.Canonical.{AllLead, AreCapped, AreCappedBelow, Holds, IsCappedAt, IsCappedFrom}
 use Rattle.best_run.specs.Canonical.{IsInReach, IsNear, ReachesAt, ReachesToken, WidensTo}
 use Rattle.search_task.specs.Marks.{AreBoth}
 use Rattle.search_task.specs.Spots.{ends_in, node_at, own_in}
-use Rattle.search_task.specs.Legs.{AreReady, legs_at}
+use Rattle.search_task.specs.Legs.{AreReady}
 use Rattle.best_run.proofs.Likened.{next_listed, none_lead, takes_free}
 use Rattle.search_task.proofs.Booleans.{not_both}
 

@@ -2,34 +2,33 @@
 -- what the stops ahead are worth beyond it, and what the later trains earn alone. Of the stops at
 -- which it ends, as many count as it may reach.
 use Rattle.std.proofs.Common.{◌≡◌, ℕ, zero, suc, ◌+◌, ◌-◌, ◌*◌, ◌<◌, ◌≤◌, Bool, true, false, not, ◌&&◌, nat_lt, ◌⊎◌}
-use Rattle.std.proofs.Common.{Option, Some, None, inl, inr, List, [], ◌∷◌, length, get_or, set, slice_get, refl, sym}
+use Rattle.std.proofs.Common.{Some, inl, inr, List, [], ◌∷◌, length, get_or, set, slice_get, refl, sym}
 use Rattle.std.proofs.Common.{ap, subst, ◌∙◌, arith, length-set, suc-mul}
 use Rattle.std.proofs.lemmas.Bool.{lt-ltb}
 use Rattle.reach.proofs.Marking.{set_keeps}
 use Rattle.search_task.specs.declared.task.Node.{Node}
 use Rattle.search_task.specs.declared.task.Segment.{Segment}
-use Rattle.search_task.specs.declared.task.Departures.{Departures}
 use Rattle.search_task.specs.declared.task.Task.{Task}
 use Rattle.search_task.specs.declared.task.Leg.{Leg}
-use Rattle.best_run.specs.declared.memo.Found.{Found}
 use Rattle.best_run.specs.declared.state.Assigned.{Assigned}
 use Rattle.best_run.specs.declared.state.PartialRun.{PartialRun}
-use Rattle.best_run.specs.Ahead.{EndsAtMost, IsGoneOverFrom, IsOutlook, LiesAhead, beyond, ends_by, goes_back, goes_on}
+use Rattle.best_run.specs.Ahead.{EndsAtMost, IsClosed, IsGoneOverFrom, LiesAhead, beyond, ends_by, goes_back, goes_on}
 use Rattle.best_run.specs.Ahead.{if_ending, if_passed, most_ahead, one_end, two_ends}
 use Rattle.search_task.specs.Fit.{IsFit, SegmentFits}
 use Rattle.best_run.specs.Last.{Counts, EndsThere}
-use Rattle.best_run.specs.Moves.{Completes, Explores, Move, along, begin, between, can_take, go, left_after, marked_if}
+use Rattle.best_run.specs.Moves.{Completes, Move, along, begin, between, can_take, go, left_after, marked_if}
 use Rattle.best_run.specs.Moves.{may_come, partial, pass, finish, total_after, turn, turned_back, using}
 use Rattle.best_run.specs.Moves.{with_run_finished}
 use Rattle.search_task.specs.Spots.{LeadsFrom, ends_in, node_at, stop_in, value_in}
 use Rattle.search_task.specs.Crossed.{marked_all, misses}
-use Rattle.search_task.specs.Legs.{AreLegsOf, AreReady, IsStop, legs_at, legs_in}
-use Rattle.best_run.specs.Suffix.{AreEqual, ArePrunedByCap, EarnAtMost}
+use Rattle.search_task.specs.Legs.{AreReady, IsStop, legs_at}
+use Rattle.best_run.specs.Suffix.{AreEqual, EarnAtMost}
+use Rattle.best_run.specs.WaysOn.{IsShort}
 use Rattle.search_task.proofs.Marked.{free_misses, marks_more, misses_free}
 use Rattle.best_run.proofs.Beyond.{Within, beyond_spent, ends_less, one_spent, one_two, two_spent, unset_within}
 use Rattle.best_run.proofs.Beyond.{worth_less}
 use Rattle.best_run.proofs.Along.{ByLeg, by_leg, leg_fits}
-use Rattle.search_task.proofs.Departing.{legs_of, none_at}
+use Rattle.search_task.proofs.Departing.{legs_of}
 use Rattle.search_task.proofs.Described.{among_place}
 use Rattle.best_run.proofs.Eased.{rest_low}
 use Rattle.best_run.proofs.Equal.{low_assigned}
@@ -178,7 +177,7 @@ take_back task run used segment = ap (λ b. b && misses used segment.borders.ite
     by_stop false = refl
 
 module _ (task : Task) (fit : IsFit task) (ready : AreReady task) (first : Assigned) (begun : PartialRun)
-    (ahead : List Bool) (look : IsOutlook task first begun ahead) (nodes : List Node)
+    (ahead : List Bool) (closed : IsClosed task first begun ahead) (nodes : List Node)
     (counts : Counts task first begun nodes) where
   -- a run goes on no more from where it is
   abbrev pub Halts : Assigned → PartialRun → Type 0
@@ -187,11 +186,10 @@ module _ (task : Task) (fit : IsFit task) (ready : AreReady task) (first : Assig
       → slice_get (legs_at task run.head) place ≡ Some leg → can_take task run assigned.used leg.segment ≡ true → ⊥)
 
   -- a run that goes on from where the first one is; by a mark it may go on from where it is itself
-  pub record Follows (least : ℕ) (on : Bool) (assigned : Assigned) (run : PartialRun) : Type 0 where
+  pub record Follows (on : Bool) (assigned : Assigned) (run : PartialRun) : Type 0 where
     pub halts : on ≡ false → Halts assigned run
     pub takes : (segment : Segment) → can_take task run assigned.used segment ≡ true
         → can_take task begun first.used segment ≡ true
-    pub head : IsGoneOverFrom task first begun least ahead run.head
     pub home : run.turned ≡ false → IsGoneOverFrom task first begun run.first ahead run.home
     pub head_is_stop : IsStop task run.head
     pub begins : IsStop task run.home
@@ -216,11 +214,11 @@ module _ (task : Task) (fit : IsFit task) (ready : AreReady task) (first : Assig
       both_second (may_come (stop_in (node_at task segment.to)) run segment.to) (misses used segment.borders.items)
       taken
 
-  leads_by : (least : ℕ) (on : Bool) (assigned : Assigned) (run : PartialRun) → Follows least on assigned run
-      → ends_in (node_at task run.head) ≡ false → (place : ℕ) (leg : Leg)
-      → slice_get (legs_at task run.head) place ≡ Some leg → least ≤ leg.first
+  leads_by : (least : ℕ) (on : Bool) (assigned : Assigned) (run : PartialRun) → Follows on assigned run
+      → IsGoneOverFrom task first begun least ahead run.head → ends_in (node_at task run.head) ≡ false
+      → (place : ℕ) (leg : Leg) → slice_get (legs_at task run.head) place ≡ Some leg → least ≤ leg.first
       → can_take task run assigned.used leg.segment ≡ true → Leads assigned run leg
-  leads_by least on assigned run follows passes place leg at later taken =
+  leads_by least on assigned run follows over passes place leg at later taken =
       let fits = leg_fits task fit run.head (legs_at task run.head) (legs_of task ready run.head follows.head_is_stop)
       follows.head_is_stop.1
       leg (among_place (legs_at task run.head) place leg at) in
@@ -229,7 +227,7 @@ module _ (task : Task) (fit : IsFit task) (ready : AreReady task) (first : Assig
         place = place;
         is_leg = at;
         free = free_first begun first.used leg.segment (follows.takes leg.segment taken);
-        lies = follows.head passes place leg at later (follows.takes leg.segment taken);
+        lies = over passes place leg at later (follows.takes leg.segment taken);
         fits = fits.0;
         stop = (fits.0.to, fits.1);
       }
@@ -243,10 +241,10 @@ module _ (task : Task) (fit : IsFit task) (ready : AreReady task) (first : Assig
   was_true false is = absurd cc
 
   -- a run has reached a stop at which it ends
-  halts_go : (least : ℕ) (on : Bool) (assigned : Assigned) (run : PartialRun) → Follows least on assigned run
-      → (leg : Leg) → Leads assigned run leg → EndsThere task first begun leg.segment.to
+  halts_go : (on : Bool) (assigned : Assigned) (run : PartialRun) → Follows on assigned run → (leg : Leg)
+      → Leads assigned run leg → EndsThere task first begun leg.segment.to
       → Halts (using assigned leg.segment) (along task run leg.segment)
-  halts_go least on assigned run follows leg leads ends =
+  halts_go on assigned run follows leg leads ends =
       elim ends [
         | inl ending ↦ inl ending
         | inr last ↦ inr (λ index other at taken.
@@ -259,17 +257,16 @@ module _ (task : Task) (fit : IsFit task) (ready : AreReady task) (first : Assig
             taken))
       ]
 
-  pub follows_go : (least : ℕ) (on : Bool) (assigned : Assigned) (run : PartialRun) → Follows least on assigned run
-      → (leg : Leg) → Leads assigned run leg → Follows 0 (passes leg.segment.to) (using assigned leg.segment)
-      (along task run leg.segment)
+  pub follows_go : (on : Bool) (assigned : Assigned) (run : PartialRun) → Follows on assigned run → (leg : Leg)
+      → Leads assigned run leg
+      → Follows (passes leg.segment.to) (using assigned leg.segment) (along task run leg.segment)
   unfolding passes
-  follows_go least on assigned run follows leg leads =
+  follows_go on assigned run follows leg leads =
       record {
-        halts = λ off. halts_go least on assigned run follows leg leads
+        halts = λ off. halts_go on assigned run follows leg leads
             (counts.ends leg.segment.to (was_true (ends_in (slice_get nodes leg.segment.to)) off));
         takes = λ other is. follows.takes other (take_before task assigned run false leg.segment leads.fits
             follows.whole follows.spots other is);
-        head = λ passes place other at later taken. look.all leg.segment.to leads.lies passes place other at taken;
         home = follows.home;
         head_is_stop = leads.stop;
         begins = follows.begins;
@@ -279,14 +276,19 @@ module _ (task : Task) (fit : IsFit task) (ready : AreReady task) (first : Assig
         spots = mark_length (stop_in (node_at task leg.segment.to)) run.visited leg.segment.to ∙ follows.spots;
       }
 
+  -- a stop to which a leg leads is gone over
+  over_there : (assigned : Assigned) (run : PartialRun) (leg : Leg) → Leads assigned run leg
+      → IsGoneOverFrom task first begun 0 ahead leg.segment.to
+  over_there assigned run leg leads passes place other at later taken =
+      closed.all leg.segment.to leads.lies passes place other at taken
+
   -- a run that turns back goes on from where it began
-  follows_back : (on : Bool) (assigned : Assigned) (run : PartialRun) → Follows 0 on assigned run → run.turned ≡ false
-      → Follows run.first true assigned (turned_back run)
-  follows_back on assigned run follows once =
+  follows_back : (on : Bool) (assigned : Assigned) (run : PartialRun) → Follows on assigned run
+      → Follows true assigned (turned_back run)
+  follows_back on assigned run follows =
       record {
         halts = λ wrong. absurd (not_both true refl wrong);
         takes = λ segment taken. follows.takes segment (sym (take_back task run assigned.used segment) ∙ taken);
-        head = follows.home once;
         home = λ wrong. absurd (not_both true refl wrong);
         head_is_stop = follows.begins;
         begins = follows.begins;
@@ -304,14 +306,14 @@ module _ (task : Task) (fit : IsFit task) (ready : AreReady task) (first : Assig
       (two_ends level nodes (but ahead run.visited))
 
   -- a leg leaves no more to be earned, as if the stop that it leaves might be passed
-  pub still_leg : (level least : ℕ) (on : Bool) (assigned : Assigned) (run : PartialRun) → Follows least on assigned run
+  pub still_leg : (level : ℕ) (on : Bool) (assigned : Assigned) (run : PartialRun) → Follows on assigned run
       → (leg : Leg) → Leads assigned run leg → can_take task run assigned.used leg.segment ≡ true
       → value_in (node_at task leg.segment.to) + still level (passes leg.segment.to) (along task run leg.segment)
       ≤ (run.left * level + beyond level nodes (but ahead run.visited))
       + ends_by true (goes_back task run) (one_end level nodes (but ahead run.visited))
       (two_ends level nodes (but ahead run.visited))
   unfolding still passes
-  still_leg level least on assigned run follows leg leads taken =
+  still_leg level on assigned run follows leg leads taken =
       let came : may_come true run leg.segment.to ≡ true =
       subst (λ (b : Bool). may_come b run leg.segment.to ≡ true) leads.stop.1
       (both_first (may_come (stop_in (node_at task leg.segment.to)) run leg.segment.to)
@@ -366,16 +368,16 @@ module _ (task : Task) (fit : IsFit task) (ready : AreReady task) (first : Assig
           (unset_within (but ahead run.visited) to)).two))
 
   -- a leg leaves no more to be earned
-  still_go : (level least : ℕ) (on : Bool) (assigned : Assigned) (run : PartialRun) → Follows least on assigned run
+  still_go : (level : ℕ) (on : Bool) (assigned : Assigned) (run : PartialRun) → Follows on assigned run
       → ends_in (node_at task run.head) ≡ false → (place : ℕ) (leg : Leg)
       → slice_get (legs_at task run.head) place ≡ Some leg → Leads assigned run leg
       → can_take task run assigned.used leg.segment ≡ true
       → value_in (node_at task leg.segment.to) + still level (passes leg.segment.to) (along task run leg.segment)
       ≤ still level on run
   unfolding still
-  still_go level least true assigned run follows goes place leg at leads taken =
-      still_leg level least true assigned run follows leg leads taken
-  still_go level least false assigned run follows goes place leg at leads taken =
+  still_go level true assigned run follows goes place leg at leads taken =
+      still_leg level true assigned run follows leg leads taken
+  still_go level false assigned run follows goes place leg at leads taken =
       absurd (elim (follows.halts refl) [
         | inl ends ↦ not_both (ends_in (node_at task run.head)) ends goes
         | inr none ↦ none place leg at taken
@@ -414,62 +416,62 @@ module _ (task : Task) (fit : IsFit task) (ready : AreReady task) (first : Assig
       )
 
   -- the leg with which what comes after a segment begins
-  abbrev Leg_of : (least : ℕ) (on : Bool) (assigned : Assigned) (run : PartialRun) → Follows least on assigned run → ℕ
-      → Segment → List Move → Type 0
-  Leg_of least on assigned run follows place segment moves =
+  abbrev Leg_of : (on : Bool) (assigned : Assigned) (run : PartialRun) → Follows on assigned run → ℕ → Segment
+      → List Move → Type 0
+  Leg_of on assigned run follows place segment moves =
       ByLeg task fit run.head follows.head_is_stop.1 (legs_at task run.head)
       (legs_of task ready run.head follows.head_is_stop) assigned run
       place segment moves
 
-  leg_of : (least : ℕ) (on : Bool) (assigned : Assigned) (run : PartialRun) → (follows : Follows least on assigned run)
+  leg_of : (on : Bool) (assigned : Assigned) (run : PartialRun) → (follows : Follows on assigned run)
       → (place : ℕ) (segment : Segment) (moves : List Move) → LeadsFrom task run.head place segment
       → can_take task run assigned.used segment ≡ true
       → Completes task (partial (using assigned segment) (along task run segment)) moves
-      → Leg_of least on assigned run follows place segment moves
-  leg_of least on assigned run follows place segment moves leads taken completes =
+      → Leg_of on assigned run follows place segment moves
+  leg_of on assigned run follows place segment moves leads taken completes =
       by_leg task fit run.head follows.head_is_stop.1 (legs_at task run.head)
       (legs_of task ready run.head follows.head_is_stop) assigned run
       follows.whole place segment moves leads taken completes
 
   -- all ways on
   low_by : (level later : ℕ) → EarnAtMost task (first.next + 1) later → (fuel : ℕ) (moves : List Move)
-      → length moves ≤ fuel → (assigned : Assigned) (run : PartialRun) (on : Bool) → Follows 0 on assigned run
-      → Completes task (partial assigned run) moves → total_after task (partial assigned run) moves
+      → length moves ≤ fuel → (assigned : Assigned) (run : PartialRun) (on : Bool) → Follows on assigned run
+      → IsGoneOverFrom task first begun 0 ahead run.head → Completes task (partial assigned run) moves → total_after task (partial assigned run) moves
       ≤ assigned.total + run.value + still level on run + later
-  low_by level later bound fuel [] enough assigned run on follows completes = absurd completes
-  low_by level later bound fuel (pass ∷ moves) enough assigned run on follows completes = absurd completes.0
-  low_by level later bound fuel (begin stop index segment ∷ moves) enough assigned run on follows completes =
+  low_by level later bound fuel [] enough assigned run on follows over completes = absurd completes
+  low_by level later bound fuel (pass ∷ moves) enough assigned run on follows over completes = absurd completes.0
+  low_by level later bound fuel (begin stop index segment ∷ moves) enough assigned run on follows over completes =
       absurd completes.0
-  low_by level later bound zero (go index segment ∷ moves) enough assigned run on follows completes =
+  low_by level later bound zero (go index segment ∷ moves) enough assigned run on follows over completes =
       absurd (omega (arith, enough))
-  low_by level later bound (suc fuel) (go index segment ∷ moves) enough assigned run on follows completes =
+  low_by level later bound (suc fuel) (go index segment ∷ moves) enough assigned run on follows over completes =
       let may = completes.0 in
-      let by : Leg_of 0 on assigned run follows index segment moves =
-      leg_of 0 on assigned run follows index segment moves may.leads may.taken completes.1 in
-      let leads : Leads assigned run by.leg = leads_by 0 on assigned run follows may.passes by.place_of by.leg by.is_leg
+      let by : Leg_of on assigned run follows index segment moves =
+      leg_of on assigned run follows index segment moves may.leads may.taken completes.1 in
+      let leads : Leads assigned run by.leg = leads_by 0 on assigned run follows over may.passes by.place_of by.leg by.is_leg
       (omega arith) by.can in
       let rest : total_after task (partial (using assigned by.leg.segment) (along task run by.leg.segment)) by.later
       ≤ assigned.total + (run.value + value_in (node_at task by.leg.segment.to))
       + still level (passes by.leg.segment.to) (along task run by.leg.segment) + later =
       low_by level later bound fuel by.later (omega (arith, by.shorter, enough)) (using assigned by.leg.segment)
       (along task run by.leg.segment) (passes by.leg.segment.to)
-      (follows_go 0 on assigned run follows by.leg leads) by.completes in
+      (follows_go on assigned run follows by.leg leads) (over_there assigned run by.leg leads) by.completes in
       omega (
         arith,
         rest,
         by.total,
-        still_go level 0 on assigned run follows may.passes by.place_of by.leg by.is_leg
+        still_go level on assigned run follows may.passes by.place_of by.leg by.is_leg
             leads by.can,
       )
-  low_by level later bound zero (turn index segment ∷ moves) enough assigned run on follows completes =
+  low_by level later bound zero (turn index segment ∷ moves) enough assigned run on follows over completes =
       absurd (omega (arith, enough))
-  low_by level later bound (suc fuel) (turn index segment ∷ moves) enough assigned run on follows completes =
+  low_by level later bound (suc fuel) (turn index segment ∷ moves) enough assigned run on follows over completes =
       let may = completes.0 in
-      let back : Follows run.first true assigned (turned_back run) = follows_back on assigned run follows may.once in
-      let by : Leg_of run.first true assigned (turned_back run) back index segment moves =
-      leg_of run.first true assigned (turned_back run) back index segment moves may.leads may.taken completes.1 in
+      let back : Follows true assigned (turned_back run) = follows_back on assigned run follows in
+      let by : Leg_of true assigned (turned_back run) back index segment moves =
+      leg_of true assigned (turned_back run) back index segment moves may.leads may.taken completes.1 in
       let leads : Leads assigned (turned_back run) by.leg =
-      leads_by run.first true assigned (turned_back run) back may.passes by.place_of by.leg by.is_leg
+      leads_by run.first true assigned (turned_back run) back (follows.home may.once) may.passes by.place_of by.leg by.is_leg
       (omega (arith, may.later, by.first)) by.can in
       let rest : total_after task (partial (using assigned by.leg.segment)
       (along task (turned_back run) by.leg.segment)) by.later
@@ -477,16 +479,17 @@ module _ (task : Task) (fit : IsFit task) (ready : AreReady task) (first : Assig
       + still level (passes by.leg.segment.to) (along task (turned_back run) by.leg.segment) + later =
       low_by level later bound fuel by.later (omega (arith, by.shorter, enough)) (using assigned by.leg.segment)
       (along task (turned_back run) by.leg.segment) (passes by.leg.segment.to)
-      (follows_go run.first true assigned (turned_back run) back by.leg leads) by.completes in
+      (follows_go true assigned (turned_back run) back by.leg leads)
+      (over_there assigned (turned_back run) by.leg leads) by.completes in
       omega (
         arith,
         rest,
         by.total,
-        still_go level run.first true assigned (turned_back run) back may.passes
+        still_go level true assigned (turned_back run) back may.passes
             by.place_of by.leg by.is_leg leads by.can,
         still_back level on run may.once may.passes,
       )
-  low_by level later bound fuel (finish ∷ moves) enough assigned run on follows completes =
+  low_by level later bound fuel (finish ∷ moves) enough assigned run on follows over completes =
       let here : EarnAtMost task (with_run_finished assigned run).next later =
       subst (λ (n : ℕ). EarnAtMost task (n + 1) later) (sym follows.next) bound in
       let rest : total_after task (between (with_run_finished assigned run)) moves ≤ assigned.total + run.value
@@ -498,57 +501,59 @@ module _ (task : Task) (fit : IsFit task) (ready : AreReady task) (first : Assig
   pub low_canonical : (level most : ℕ) → 0 < begun.most → (equal later : ℕ)
       → AreEqual task (first.next + 1) equal begun.most → EarnAtMost task (first.next + 1 + equal) later
       → (fuel : ℕ) (moves : List Move) → length moves ≤ fuel → (assigned : Assigned) (run : PartialRun) (on : Bool)
-      → Follows 0 on assigned run → run.value + still level on run ≤ most → Completes task (partial assigned run) moves
+      → Follows on assigned run → IsGoneOverFrom task first begun 0 ahead run.head
+      → run.value + still level on run ≤ most → Completes task (partial assigned run) moves
       → total_after task (partial assigned run) moves ≤ assigned.total + most + (equal * most + later)
-  low_canonical level most some equal later canonical bound fuel [] enough assigned run on follows low completes =
+  low_canonical level most some equal later canonical bound fuel [] enough assigned run on follows over low completes =
       absurd completes
-  low_canonical level most some equal later canonical bound fuel (pass ∷ moves) enough assigned run on follows low
+  low_canonical level most some equal later canonical bound fuel (pass ∷ moves) enough assigned run on follows over low
       completes = absurd completes.0
   low_canonical level most some equal later canonical bound fuel (begin stop index segment ∷ moves) enough assigned run
-      on follows low completes = absurd completes.0
+      on follows over low completes = absurd completes.0
   low_canonical level most some equal later canonical bound zero (go index segment ∷ moves) enough assigned run on
-      follows low completes = absurd (omega (arith, enough))
+      follows over low completes = absurd (omega (arith, enough))
   low_canonical level most some equal later canonical bound (suc fuel) (go index segment ∷ moves) enough assigned run
-      on follows low completes =
+      on follows over low completes =
       let may = completes.0 in
-      let by : Leg_of 0 on assigned run follows index segment moves =
-      leg_of 0 on assigned run follows index segment moves may.leads may.taken completes.1 in
-      let leads : Leads assigned run by.leg = leads_by 0 on assigned run follows may.passes by.place_of by.leg by.is_leg
+      let by : Leg_of on assigned run follows index segment moves =
+      leg_of on assigned run follows index segment moves may.leads may.taken completes.1 in
+      let leads : Leads assigned run by.leg = leads_by 0 on assigned run follows over may.passes by.place_of by.leg by.is_leg
       (omega arith) by.can in
       let rest = low_canonical level most some equal later canonical bound fuel by.later
       (omega (arith, by.shorter, enough)) (using assigned by.leg.segment) (along task run by.leg.segment)
-      (passes by.leg.segment.to) (follows_go 0 on assigned run follows by.leg leads)
+      (passes by.leg.segment.to) (follows_go on assigned run follows by.leg leads) (over_there assigned run by.leg leads)
       (omega (
         arith,
         low,
-        still_go level 0 on assigned run follows may.passes by.place_of by.leg by.is_leg leads
+        still_go level on assigned run follows may.passes by.place_of by.leg by.is_leg leads
             by.can,
       )) by.completes in
       omega (arith, rest, by.total)
   low_canonical level most some equal later canonical bound zero (turn index segment ∷ moves) enough assigned run on
-      follows low completes = absurd (omega (arith, enough))
+      follows over low completes = absurd (omega (arith, enough))
   low_canonical level most some equal later canonical bound (suc fuel) (turn index segment ∷ moves) enough assigned run
-      on follows low completes =
+      on follows over low completes =
       let may = completes.0 in
-      let back : Follows run.first true assigned (turned_back run) = follows_back on assigned run follows may.once in
-      let by : Leg_of run.first true assigned (turned_back run) back index segment moves =
-      leg_of run.first true assigned (turned_back run) back index segment moves may.leads may.taken completes.1 in
+      let back : Follows true assigned (turned_back run) = follows_back on assigned run follows in
+      let by : Leg_of true assigned (turned_back run) back index segment moves =
+      leg_of true assigned (turned_back run) back index segment moves may.leads may.taken completes.1 in
       let leads : Leads assigned (turned_back run) by.leg =
-      leads_by run.first true assigned (turned_back run) back may.passes by.place_of by.leg by.is_leg
+      leads_by run.first true assigned (turned_back run) back (follows.home may.once) may.passes by.place_of by.leg by.is_leg
       (omega (arith, may.later, by.first)) by.can in
       let rest = low_canonical level most some equal later canonical bound fuel by.later
       (omega (arith, by.shorter, enough)) (using assigned by.leg.segment)
       (along task (turned_back run) by.leg.segment) (passes by.leg.segment.to)
-      (follows_go run.first true assigned (turned_back run) back by.leg leads)
+      (follows_go true assigned (turned_back run) back by.leg leads)
+      (over_there assigned (turned_back run) by.leg leads)
       (omega (
         arith,
         low,
-        still_go level run.first true assigned (turned_back run) back may.passes by.place_of by.leg
+        still_go level true assigned (turned_back run) back may.passes by.place_of by.leg
             by.is_leg leads by.can,
         still_back level on run may.once may.passes,
       )) by.completes in
       omega (arith, rest, by.total)
-  low_canonical level most some equal later canonical bound fuel (finish ∷ moves) enough assigned run on follows low
+  low_canonical level most some equal later canonical bound fuel (finish ∷ moves) enough assigned run on follows over low
       completes =
       let here : AreEqual task (assigned.next + 1) equal begun.most =
       subst (λ (n : ℕ). AreEqual task (n + 1) equal begun.most) (sym follows.next) canonical in
@@ -561,14 +566,13 @@ module _ (task : Task) (fit : IsFit task) (ready : AreReady task) (first : Assig
       omega (arith, rest, low)
 
   pub first_follows : IsStop task begun.head → IsStop task begun.home → length first.used ≡ 279
-      → length begun.visited ≡ 744 → Follows 0 (goes_on task begun) first begun
+      → length begun.visited ≡ 744 → Follows (goes_on task begun) first begun
   first_follows head_is_stop begins whole spots =
       record {
         halts = λ off. inl (was_true (ends_in (node_at task begun.head)) off);
         takes =
             λ segment taken. taken;
-        head = λ passes place leg at later taken. look.head passes place leg at taken;
-        home = look.home;
+        home = closed.home;
         head_is_stop = head_is_stop;
         begins = begins;
         next = refl;
@@ -577,29 +581,83 @@ module _ (task : Task) (fit : IsFit task) (ready : AreReady task) (first : Assig
         spots = spots;
       }
 
-  -- a run that earns too little
-  pub ends_low : IsStop task begun.head → IsStop task begun.home → (level later best : ℕ)
-      → EarnAtMost task (first.next + 1) later → length first.used ≡ 279 → length begun.visited ≡ 744
-      → first.total + begun.value + most_ahead level task nodes begun ahead + later ≤ best
-      → EndsAtMost task first begun best
-  ends_low head_is_stop begins level later best bound whole spots low moves completes =
+  -- a leg to a stop ahead, and all ways on from there
+  leg_short : (level most best : ℕ) → IsShort task first begun.most most best → (leg : Leg) → Leads first begun leg
+      → Follows (passes leg.segment.to) (using first leg.segment) (along task begun leg.segment)
+      → begun.value + value_in (node_at task leg.segment.to)
+      + still level (passes leg.segment.to) (along task begun leg.segment) ≤ most
+      → EndsAtMost task (using first leg.segment) (along task begun leg.segment) best
+  leg_short level most best (inl alone) leg leads follows low moves completes =
       omega (
         arith,
-        low_by level later bound (length moves) moves (omega arith) first begun (goes_on task begun)
-            (first_follows head_is_stop begins whole spots) completes,
-        still_first level,
+        alone.2,
+        low_by level alone.0 alone.1 (length moves) moves (omega arith) (using first leg.segment)
+            (along task begun leg.segment) (passes leg.segment.to) follows
+            (over_there first begun leg leads) completes,
+        low,
       )
-
-  -- a run that earns too little with those of its kind
-  pub ends_canonical : IsStop task begun.head → IsStop task begun.home → (level most best : ℕ)
-      → ArePrunedByCap task (first.next + 1) begun.most most (first.total + most) best → length first.used ≡ 279
-      → length begun.visited ≡ 744 → begun.value + most_ahead level task nodes begun ahead ≤ most
-      → EndsAtMost task first begun best
-  ends_canonical head_is_stop begins level most best capped whole spots low moves completes =
+  leg_short level most best (inr capped) leg leads follows low moves completes =
       omega (
         arith,
         capped.short,
         low_canonical level most capped.some capped.equal capped.bound capped.are_equal
-            capped.rest (length moves) moves (omega arith) first begun (goes_on task begun)
-            (first_follows head_is_stop begins whole spots) (omega (arith, low, still_first level)) completes,
+            capped.rest (length moves) moves (omega arith) (using first leg.segment)
+            (along task begun leg.segment) (passes leg.segment.to) follows
+            (over_there first begun leg leads) low completes,
       )
+
+  -- by what lies ahead such a leg is in vain
+  pub leg_low : IsStop task begun.head → IsStop task begun.home → length first.used ≡ 279
+      → length begun.visited ≡ 744 → (level most best : ℕ)
+      → begun.value + most_ahead level task nodes begun ahead ≤ most → IsShort task first begun.most most best
+      → ends_in (node_at task begun.head) ≡ false → (place : ℕ) (leg : Leg)
+      → slice_get (legs_at task begun.head) place ≡ Some leg → LiesAhead ahead leg.segment.to
+      → can_take task begun first.used leg.segment ≡ true
+      → EndsAtMost task (using first leg.segment) (along task begun leg.segment) best
+  unfolding still
+  leg_low head_is_stop begins whole spots level most best low short passing place leg at lies taken =
+      let fits = leg_fits task fit begun.head (legs_at task begun.head) (legs_of task ready begun.head head_is_stop)
+      head_is_stop.1
+      leg (among_place (legs_at task begun.head) place leg at) in
+      let leads : Leads first begun leg = record {
+        from = begun.head;
+        place = place;
+        is_leg = at;
+        free = free_first begun first.used leg.segment taken;
+        lies = lies;
+        fits = fits.0;
+        stop = (fits.0.to, fits.1);
+      } in
+      let follows : Follows (goes_on task begun) first begun = first_follows head_is_stop begins whole spots in
+      let first_most : still level true begun ≤ most_ahead level task nodes begun ahead =
+      subst (λ (b : Bool). still level (not b) begun ≤ most_ahead level task nodes begun ahead) passing
+      (still_first level) in
+      leg_short level most best short leg leads
+      (follows_go (goes_on task begun) first begun follows leg leads)
+      (omega (
+        arith,
+        still_leg level (goes_on task begun) first begun follows leg leads taken,
+        first_most,
+        low,
+      ))
+
+-- a run that is finished where it is
+pub finish_low : (task : Task) (assigned : Assigned) (run : PartialRun) (most best : ℕ) → length assigned.used ≡ 279
+    → run.value ≤ most → IsShort task assigned run.most most best → (moves : List Move)
+    → Completes task (between (with_run_finished assigned run)) moves
+    → total_after task (between (with_run_finished assigned run)) moves ≤ best
+finish_low task assigned run most best whole low (inl alone) moves completes =
+    omega (
+      arith,
+      alone.2,
+      low,
+      rest_low task (with_run_finished assigned run) alone.0 alone.1 whole moves completes,
+    )
+finish_low task assigned run most best whole low (inr capped) moves completes =
+    omega (
+      arith,
+      capped.short,
+      low,
+      low_assigned task run.most most capped.bound capped.some capped.equal (with_run_finished assigned run)
+          capped.are_equal refl low whole capped.rest moves completes,
+    )

@@ -29,3 +29,4 @@ pub mod Likened
 pub mod Homes
 pub mod Lasting
 pub mod Sooner
+pub mod Vain

@@ -10,14 +10,12 @@ use Rattle.reach.specs.Position.{IsAmong}
 use Rattle.best_run.specs.declared.search_state.SearchState.{SearchState}
 use Rattle.best_run.specs.declared.state.Assigned.{Assigned}
 use Rattle.best_run.specs.declared.state.PartialRun.{PartialRun}
-use Rattle.search_task.specs.declared.task.Departures.{Departures}
-use Rattle.search_task.specs.declared.task.Node.{Node}
 use Rattle.search_task.specs.declared.task.Segment.{Segment}
 use Rattle.search_task.specs.declared.task.Task.{Task}
 use Rattle.search_task.specs.declared.task.Leg.{Leg}
 use Rattle.best_run.specs.Ahead.{LiesAhead, WidensBelow}
 use Rattle.best_run.specs.Canonical.{AllLead, AreOpen, AreOpenBelow, Holds, IsCanonical, IsInReach}
-use Rattle.best_run.specs.Canonical.{IsRunCanonical, IsShut, IsShutBelow, MayGoOn, Opens}
+use Rattle.best_run.specs.Canonical.{IsRunCanonical, IsShut, IsShutBelow, Opens}
 use Rattle.best_run.specs.Canonical.{SetsOut, WidensTo, anywhere, sets_out}
 use Rattle.search_task.specs.Crossed.{cleared_all, marked_all, misses}
 use Rattle.search_task.specs.Fit.{BordersFit, IsFit, SegmentFits}
@@ -26,10 +24,10 @@ use Rattle.best_run.specs.Moves.{Completes, LeadsToAtMost, Move, State, along, b
 use Rattle.best_run.specs.Moves.{marked_if, may_come, own_before, partial, pass, passed, finish, state_at, state_by}
 use Rattle.best_run.specs.Moves.{total_after, turn, turned_back, using, with_run_finished}
 use Rattle.search_task.specs.Spots.{LeadsFrom, ends_in, node_at, own_in, stop_in}
-use Rattle.search_task.specs.Legs.{AreLegsOf, AreReady, IsListed, IsStop, legs_at, legs_in}
+use Rattle.search_task.specs.Legs.{AreReady, IsListed, IsStop, legs_at}
 use Rattle.search_task.proofs.Marked.{cleared_fewer, cleared_here, free_misses, marks_more, misses_free}
 use Rattle.best_run.proofs.Along.{ByLeg, BySegments, by_leg, by_segments, leg_fits}
-use Rattle.search_task.proofs.Departing.{is_stop, legs_of, none_at}
+use Rattle.search_task.proofs.Departing.{is_stop, legs_of}
 use Rattle.search_task.proofs.Described.{among_place}
 use Rattle.best_run.proofs.Eased.{Eased, ease, freer_length}
 use Rattle.best_run.proofs.Freed.{Freed, Frees, free}

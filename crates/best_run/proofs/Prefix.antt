@@ -1,5 +1,5 @@
 -- The beginning of a walk: what holds of a walk holds of each of its beginnings.
-use Rattle.std.proofs.Common.{◌≡◌, ℕ, ◌≤◌, true, inl, inr, List, [], ◌∷◌, ◌++◌, length, refl, sym, ap, subst, ◌∙◌}
+use Rattle.std.proofs.Common.{◌≡◌, ℕ, ◌≤◌, true, inl, inr, List, [], ◌∷◌, ◌++◌, length, refl, sym, subst}
 use Rattle.std.proofs.Common.{arith, length-append}
 use Rattle.reach.specs.Position.{Position, IsAmong, IsFull, is_red}
 use Rattle.reach.specs.Walk.{BeginsAt, IsWalk, PassesOnly, entered_at, left_at, stop_of}

@@ -2,34 +2,29 @@
 -- reaches no stop that does not. So each of the next trains that are alike earns at most a sum. It
 -- has the level for each stop of its run, what the stops in reach are worth beyond it, and as much
 -- as two of them at which it ends.
-use Rattle.std.proofs.Common.{◌≡◌, ℕ, zero, suc, ◌+◌, ◌-◌, ◌*◌, ◌<◌, ◌≤◌, Bool, true, false, not, ◌&&◌, nat_lt, inl}
-use Rattle.std.proofs.Common.{inr, Option, Some, None, List, [], ◌∷◌, length, get_or, set, slice_get, refl, sym, ap}
+use Rattle.std.proofs.Common.{◌≡◌, ℕ, zero, suc, ◌+◌, ◌-◌, ◌*◌, ◌<◌, ◌≤◌, Bool, true, false, not, nat_lt, inl}
+use Rattle.std.proofs.Common.{inr, Some, None, List, [], ◌∷◌, length, get_or, set, slice_get, refl, sym, ap}
 use Rattle.std.proofs.Common.{subst, ◌∙◌, arith, length-set, suc-mul, get_or-set_same}
 use Rattle.std.proofs.lemmas.Bool.{lt-ltb}
-use Rattle.std.proofs.lemmas.Option.{slice_get_within}
-use Rattle.search_task.specs.declared.task.Departures.{Departures}
-use Rattle.search_task.specs.declared.task.Node.{Node}
 use Rattle.search_task.specs.declared.task.Segment.{Segment}
 use Rattle.search_task.specs.declared.task.Task.{Task}
 use Rattle.search_task.specs.declared.task.Leg.{Leg}
-use Rattle.best_run.specs.declared.memo.Found.{Found}
 use Rattle.best_run.specs.declared.state.Assigned.{Assigned}
 use Rattle.best_run.specs.declared.state.PartialRun.{PartialRun}
-use Rattle.best_run.specs.declared.value_ahead.Worth.{Worth}
-use Rattle.best_run.specs.Ahead.{IsLeast, IsOutlook, IsWorth, LiesAhead, beyond, ends_by, goes_back, goes_on, one_end}
+use Rattle.best_run.specs.Ahead.{IsClosed, LiesAhead, beyond, ends_by, goes_back, goes_on, one_end}
 use Rattle.best_run.specs.Ahead.{two_ends}
 use Rattle.best_run.specs.Canonical.{AreCapped, IsNear}
 use Rattle.best_run.specs.declared.canonical.InReach.{InReach}
 use Rattle.search_task.specs.Fit.{IsFit}
-use Rattle.best_run.specs.Moves.{Completes, EarnsAtMost, Explores, MayBegin, Move, along, begin, begun, between, go}
+use Rattle.best_run.specs.Moves.{Completes, EarnsAtMost, MayBegin, Move, along, begin, begun, between, go}
 use Rattle.best_run.specs.Moves.{may_come, own_before, partial, pass, passed, finish, total_after, turn, using}
-use Rattle.search_task.specs.Spots.{ends_in, node_at, own_in, stop_in, value_in}
+use Rattle.search_task.specs.Spots.{ends_in, node_at, stop_in, value_in}
 use Rattle.search_task.specs.Crossed.{misses}
 use Rattle.best_run.specs.Suffix.{AreEqual, ArePrunedByCap, EarnAtMost}
-use Rattle.search_task.specs.Legs.{AreLegsOf, AreReady, IsStop, legs_at, legs_in}
+use Rattle.search_task.specs.Legs.{AreReady, IsStop, legs_at}
 use Rattle.best_run.proofs.Along.{ByLeg, by_leg, leg_fits}
 use Rattle.best_run.proofs.Beyond.{Within, beyond_spent, one_spent, two_spent, worth_less}
-use Rattle.search_task.proofs.Departing.{is_stop, legs_of, none_at}
+use Rattle.search_task.proofs.Departing.{is_stop, legs_of}
 use Rattle.search_task.proofs.Described.{among_place}
 use Rattle.best_run.proofs.Eased.{rest_low}
 use Rattle.best_run.proofs.Hopeless.{Follows, Leads, but, but_unset, but_within, first_follows, follows_go}
@@ -64,12 +59,9 @@ module _ (task : Task) (fit : IsFit task) (ready : AreReady task) (reach : List 
     + two_ends level task.spots.items reach ≤ cap) where
   -- all that a run may reach from a token lies in reach
   look_of : (assigned : Assigned) → (stop index : ℕ) → IsNear task assigned.used stop reach
-      → IsOutlook task assigned (begun task assigned stop index) reach
+      → IsClosed task assigned (begun task assigned stop index) reach
   look_of assigned stop index near =
       record {
-        head = λ passes place leg at taken. near.here place leg at
-            (both_second (may_come (stop_in (node_at task leg.segment.to)) (begun task assigned stop index)
-            leg.segment.to) (misses assigned.used leg.segment.borders.items) taken);
         home = λ once passes place leg at later taken. near.here place leg at
             (both_second (may_come (stop_in (node_at task leg.segment.to)) (begun task assigned stop index)
             leg.segment.to) (misses assigned.used leg.segment.borders.items) taken);
@@ -131,7 +123,7 @@ module _ (task : Task) (fit : IsFit task) (ready : AreReady task) (reach : List 
   begin_low assigned whole same count equal rest stop index segment moves near may completes =
       let is : IsStop task stop = is_stop task fit stop may.begins in
       let run : PartialRun = begun task assigned stop index in
-      let look : IsOutlook task assigned run reach = look_of assigned stop index near in
+      let look : IsClosed task assigned run reach = look_of assigned stop index near in
       let by : ByLeg task fit stop is.1 (legs_at task stop) (legs_of task ready stop is) assigned run index segment
       moves =
       by_leg task fit stop is.1 (legs_at task stop) (legs_of task ready stop is) assigned run whole index segment moves
@@ -155,14 +147,14 @@ module _ (task : Task) (fit : IsFit task) (ready : AreReady task) (reach : List 
             (fits.0.to, fits.1);
       } in
       let spots : length run.visited ≡ 744 = length-set (own_before task stop) stop true ∙ own_length task stop in
-      let follows : Follows task fit ready assigned run reach look task.spots.items (counts_plain task assigned run) 0
+      let follows : Follows task fit ready assigned run reach look task.spots.items (counts_plain task assigned run)
       (goes_on task run) assigned run = first_follows task fit ready assigned run reach look task.spots.items
       (counts_plain task assigned run) is is whole spots in
       let on : Bool = passes task fit ready assigned run reach look task.spots.items (counts_plain task assigned run)
       by.leg.segment.to in
-      let next : Follows task fit ready assigned run reach look task.spots.items (counts_plain task assigned run) 0 on
+      let next : Follows task fit ready assigned run reach look task.spots.items (counts_plain task assigned run) on
       (using assigned by.leg.segment) (along task run by.leg.segment) =
-      follows_go task fit ready assigned run reach look task.spots.items (counts_plain task assigned run) 0
+      follows_go task fit ready assigned run reach look task.spots.items (counts_plain task assigned run)
       (goes_on task run) assigned run follows by.leg leads in
       let came : may_come true run by.leg.segment.to ≡ true =
       subst (λ (b : Bool). may_come b run by.leg.segment.to ≡ true) fits.1
@@ -172,7 +164,7 @@ module _ (task : Task) (fit : IsFit task) (ready : AreReady task) (reach : List 
       (not (get_or run.visited by.leg.segment.to false)) came in
       let first = first_spent assigned stop index same is near.lies more in
       let second = still_leg task fit ready assigned run reach look task.spots.items (counts_plain task assigned run)
-      level 0 (goes_on task run) assigned run follows by.leg leads by.can in
+      level (goes_on task run) assigned run follows by.leg leads by.can in
       let small : value_in (node_at task stop) + value_in (node_at task by.leg.segment.to)
       + still task fit ready assigned run reach look task.spots.items (counts_plain task assigned run) level on
       (along task run by.leg.segment) ≤ cap = omega (arith, first, second, low) in
@@ -180,7 +172,9 @@ module _ (task : Task) (fit : IsFit task) (ready : AreReady task) (reach : List 
       subst (AreEqual task (assigned.next + 1) count) (sym same) equal in
       let ran = low_canonical task fit ready assigned run reach look task.spots.items (counts_plain task assigned run)
       level cap (omega (arith, same, some)) count bound canonical rest (length by.later) by.later (omega arith)
-      (using assigned by.leg.segment) (along task run by.leg.segment) on next small by.completes in
+      (using assigned by.leg.segment) (along task run by.leg.segment) on next
+      (λ passes place leg at later taken. look.all by.leg.segment.to leads.lies passes place leg at taken) small
+      by.completes in
       omega (arith, by.total, ran)
 
 module _ (task : Task) (fit : IsFit task) (ready : AreReady task) (reach : InReach) (bound : ℕ)

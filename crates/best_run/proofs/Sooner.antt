@@ -1,16 +1,16 @@
 -- A run that begins by an earlier segment may turn back by as many. So no run from a token earns more
 -- than the one that begins by the first segment.
-use Rattle.std.proofs.Common.{◌≡◌, ℕ, ◌+◌, ◌<◌, ◌≤◌, ◌&&◌, Bool, true, false, List, [], ◌∷◌, refl, sym, ap, subst, ◌∙◌, arith}
+use Rattle.std.proofs.Common.{◌≡◌, ℕ, ◌≤◌, ◌&&◌, Bool, true, false, List, [], ◌∷◌, refl, sym, ap, subst, ◌∙◌, arith}
 use Rattle.search_task.specs.declared.task.Segment.{Segment}
 use Rattle.search_task.specs.declared.task.Task.{Task}
 use Rattle.best_run.specs.declared.memo.Found.{Found}
 use Rattle.best_run.specs.declared.state.Assigned.{Assigned}
 use Rattle.best_run.specs.declared.state.PartialRun.{PartialRun}
 use Rattle.best_run.specs.Ahead.{IsInVain}
-use Rattle.best_run.specs.Moves.{Allows, Any, Completes, IsBeginAt, Move, Tries, along, begin, begun, begun_by, between}
+use Rattle.best_run.specs.Moves.{Any, Completes, IsBeginAt, Move, Tries, along, begin, begun, begun_by, between}
 use Rattle.best_run.specs.Moves.{can_take, finish, go, may_come, partial, pass, total_after, turn, turned_back, using}
 use Rattle.search_task.specs.Crossed.{misses}
-use Rattle.search_task.specs.Spots.{ends_in, node_at, stop_in}
+use Rattle.search_task.specs.Spots.{node_at, stop_in}
 use Rattle.best_run.proofs.Traced.{traced_none}
 
 -- the segment by which a run began makes no difference to what it may take

@@ -11,7 +11,7 @@ use Rattle.best_run.specs.declared.state.PartialRun.{PartialRun}
 use Rattle.best_run.specs.Moves.{Allows, Any, AreInMemo, Below, Completes, Explores, IsBegin, IsBeginAt, IsGo, IsTurn}
 use Rattle.best_run.specs.Moves.{Move, State, Tries, begin, between, go, may_finish, partial, pass, passed, finish}
 use Rattle.best_run.specs.Moves.{total_after, turn, with_run_finished}
-use Rattle.search_task.specs.Spots.{ends_in, node_at, own_in, stop_in}
+use Rattle.search_task.specs.Spots.{node_at, own_in, stop_in}
 use Rattle.best_run.specs.MovePath.{marks_in}
 use Rattle.best_run.specs.declared.move_path.Mark.TheVariants.{Pass, Finish}
 use Rattle.best_run.specs.declared.move_path.MovePath.{MovePath}

@@ -83,9 +83,8 @@ pub record WidensBackBelow (task : Task) (assigned : Assigned) (run : PartialRun
   pub leads : (place : ℕ) (leg : Leg) → place < most → slice_get (legs_at task run.home) place ≡ Some leg
       → run.first ≤ leg.first → can_take task run assigned.used leg.segment ≡ true → LiesAhead new leg.segment.to
 
--- all stops that a run may still reach lie ahead
-pub record IsOutlook (task : Task) (assigned : Assigned) (run : PartialRun) (ahead : List Bool) : Type 0 where
-  pub head : IsGoneOver task assigned run ahead run.head
+-- each stop that lies ahead is gone over, and the stop where the run began, if it may turn back
+pub record IsClosed (task : Task) (assigned : Assigned) (run : PartialRun) (ahead : List Bool) : Type 0 where
   pub home : run.turned ≡ false → IsGoneOverFrom task assigned run run.first ahead run.home
   pub all : (spot : ℕ) → LiesAhead ahead spot → IsGoneOver task assigned run ahead spot
 

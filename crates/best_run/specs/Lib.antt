@@ -10,3 +10,4 @@ pub mod Answer
 pub mod Keeping
 pub mod Room
 pub mod Extend
+pub mod WaysOn

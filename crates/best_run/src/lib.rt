@@ -12,6 +12,7 @@
 //! - `Suffix`: what the last trains earn by themselves, and equal trains one after another, which
 //!   bounds what they earn after others.
 //! - `Ahead`: what may lie ahead of a run, which bounds what it may still earn.
+//! - `WaysOn`: which ways on from a run are in vain.
 //! - `Last`: at which of the stops ahead it ends, since it can leave them only as it comes.
 //! - `Kept`: which states need not be explored since another one was.
 //! - `Canonical`: which of them are alike to the trains left.
@@ -43,7 +44,8 @@
 //!
 //! Reading order: `revenue` (the public call), `claim_and_marks`, `trains` (their order), `state`
 //! (the trains assigned so far, and the run begun), `lookahead` (what lies ahead of that run) with
-//! `value_ahead` (what that is worth), `end_stops` (at which stops ahead it ends), `move_path` (the
+//! `value_ahead` (what that is worth), `end_stops` (at which stops ahead it ends), `ways_on` (by which
+//! ways on it may earn more), `move_path` (the
 //! moves that earn what has been found), `search_state` (a state that is kept), `memo` (what has
 //! been found, and what need not be explored again), `canonical` (states that are alike to the
 //! trains left), `search`, `claimed` (the runs that a path gives), `runner` (what finds only the
@@ -65,6 +67,7 @@ mod search_state;
 mod state;
 mod trains;
 mod value_ahead;
+mod ways_on;
 
 pub use claim_and_marks::Best;
 pub use keeping::Keeping;

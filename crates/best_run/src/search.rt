@@ -7,13 +7,14 @@ ghost use Rattle.best_run.specs.Suffix.{AreBounds, ArePrunedByCap, AreEqual, Are
 ghost use Rattle.search_task.specs.Legs.{AreReady};
 ghost use Rattle.best_run.specs.Moves.{Any, Explores, IsBegin, IsBeginAt, IsGo, IsTurn, Takes, Tries, between};
 ghost use Rattle.best_run.specs.Moves.{own_before, partial};
+ghost use Rattle.best_run.specs.WaysOn.{AreWaysOn};
 ghost use Rattle.search_task.specs.Spots.{node_at, own_in, stop_in};
 
 use crate::canonical::{canonical, canonical_begun, is_pruned_by_reach, reach};
-use crate::lookahead::stops_ahead;
 use crate::memo::Found;
 use crate::move_path::Mark;
 use crate::state::{Assigned, PartialRun, along, begun, can_take, mark_own, may_finish};
+use crate::ways_on::{WaysOn, earns_too_much, ways_on};
 use search_task::{Segment, Spots, Task};
 use tables::Amount;
 
@@ -171,7 +172,7 @@ fn is_in_vain(
     if assigned.next + 1 != task.trains.len() || task.spots[run.head].ends {
         return false;
     }
-    stops_ahead(task, assigned, run, bounds, best).is_none()
+    ways_on(task, assigned, run, bounds, best).all_in_vain
 }
 
 /// Tries all runs of the next train that begin at a token of the company. The tokens before that
@@ -248,13 +249,17 @@ fn extend(task: &Task, assigned: &Assigned, run: &PartialRun, bounds: &[Amount],
     requires { MayExtend task.now bounds.now assigned.now run.now }
     ensures { Explores task.now (partial assigned.now run.now) best.old best.new }
 {
-    let Some(stops) = stops_ahead(task, assigned, run, bounds, best.amount) else {
+    if earns_too_much(task, assigned, run) {
         return;
-    };
-    if stops < MANY || assigned.kind != 0 || assigned.next + 1 == task.trains.len() {
-        extend_without_memo(task, assigned, run, bounds, best);
+    }
+    let ways = ways_on(task, assigned, run, bounds, best.amount);
+    if ways.all_in_vain {
+        return;
+    }
+    if ways.stops < MANY || assigned.kind != 0 || assigned.next + 1 == task.trains.len() {
+        extend_without_memo(task, assigned, run, &ways, bounds, best);
     } else {
-        extend_with_memo(task, assigned, run, bounds, best);
+        extend_with_memo(task, assigned, run, &ways, bounds, best);
     }
 }
 
@@ -266,10 +271,12 @@ fn extend_with_memo(
     task: &Task,
     assigned: &Assigned,
     run: &PartialRun,
+    ways: &WaysOn,
     bounds: &[Amount],
     best: &mut Found,
 )
-    requires { MayExtend task.now bounds.now assigned.now run.now }
+    requires may { MayExtend task.now bounds.now assigned.now run.now }
+    requires ways { AreWaysOn task.now assigned.now run.now best.old.amount ways.now }
     ensures { Explores task.now (partial assigned.now run.now) best.old best.new }
 {
     assigned.marks_all_borders();
@@ -277,7 +284,7 @@ fn extend_with_memo(
     if best.dominates(&canonical) {
         return;
     }
-    extend_without_memo(task, assigned, run, bounds, best);
+    extend_without_memo(task, assigned, run, ways, bounds, best);
     best.keep(&canonical);
 }
 
@@ -289,14 +296,16 @@ fn extend_without_memo(
     task: &Task,
     assigned: &Assigned,
     run: &PartialRun,
+    ways: &WaysOn,
     bounds: &[Amount],
     best: &mut Found,
 )
-    requires { MayExtend task.now bounds.now assigned.now run.now }
+    requires may { MayExtend task.now bounds.now assigned.now run.now }
+    requires ways { AreWaysOn task.now assigned.now run.now best.old.amount ways.now }
     ensures { Explores task.now (partial assigned.now run.now) best.old best.new }
 {
-    go_on(task, assigned, run, bounds, best);
-    turn_back(task, assigned, run, bounds, best);
+    go_on(task, assigned, run, ways, bounds, best);
+    turn_back(task, assigned, run, ways, bounds, best);
     if may_finish(task, assigned, run) {
         let before = best.amount;
         let with_run_finished = assigned.with_run_finished(run);
@@ -305,10 +314,18 @@ fn extend_without_memo(
     }
 }
 
-/// Tries all ways on from where a run is.
+/// Tries all ways on from where a run is, but for those to stops to which it goes on in vain.
 #[cycle(explore)]
-fn go_on(task: &Task, assigned: &Assigned, run: &PartialRun, bounds: &[Amount], best: &mut Found)
-    requires { MayExtend task.now bounds.now assigned.now run.now }
+fn go_on(
+    task: &Task,
+    assigned: &Assigned,
+    run: &PartialRun,
+    ways: &WaysOn,
+    bounds: &[Amount],
+    best: &mut Found,
+)
+    requires may { MayExtend task.now bounds.now assigned.now run.now }
+    requires ways { AreWaysOn task.now assigned.now run.now best.old.amount ways.now }
     ensures { Tries task.now (partial assigned.now run.now) (IsGo Any) best.old best.new }
 {
     let head = &task.spots[run.head];
@@ -319,29 +336,37 @@ fn go_on(task: &Task, assigned: &Assigned, run: &PartialRun, bounds: &[Amount], 
     let from = &task.departures[run.head];
     for index in 0..from.legs.len() {
         let leg = &from.legs[index];
-        let before = best.amount;
-        take(task, assigned, run, &leg.segment, bounds, best);
-        best.trace_steps(before, &leg.steps);
+        if !ways.vain.has_at(&leg.segment.to) {
+            let before = best.amount;
+            take(task, assigned, run, &leg.segment, bounds, best);
+            best.trace_steps(before, &leg.steps);
+        }
     }
 }
 
-/// Tries all ways on from where a run began, if it is at a stop and has not turned back before.
+/// Tries all ways on from where a run began, if it is at a stop, has not turned back before, and
+/// does not turn back in vain.
 #[cycle(explore)]
 fn turn_back(
     task: &Task,
     assigned: &Assigned,
     run: &PartialRun,
+    ways: &WaysOn,
     bounds: &[Amount],
     best: &mut Found,
 )
-    requires { MayExtend task.now bounds.now assigned.now run.now }
+    requires may { MayExtend task.now bounds.now assigned.now run.now }
+    requires ways { AreWaysOn task.now assigned.now run.now best.old.amount ways.now }
     ensures { Tries task.now (partial assigned.now run.now) (IsTurn Any) best.old best.new }
 {
     if run.turned || task.spots[run.home].ends {
         return;
     }
-    let back = run.turned_back();
     assigned.marks_all_borders();
+    if ways.turns_in_vain {
+        return;
+    }
+    let back = run.turned_back();
     let from = &task.departures[run.home];
     for index in 0..from.legs.len() {
         let leg = &from.legs[index];

@@ -1,6 +1,5 @@
 -- Nothing was in reach before the stop was.
 use Rattle.std.proofs.Common.{List, Bool, subst}
-use Rattle.best_run.specs.Ahead.{IsWorth}
 use Rattle.best_run.specs.Canonical.{Holds}
 use Rattle.best_run.proofs.Capped.{near_of}
 use Rattle.best_run.proofs.canonical.reach_of.Goals as goal

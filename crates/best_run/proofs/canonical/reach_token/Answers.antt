@@ -1,5 +1,5 @@
 -- What is in reach of the token is added, with what it is worth, unless it is in reach already.
-use Rattle.std.proofs.Common.{◌≡◌, ◌≤◌, refl, arith}
+use Rattle.std.proofs.Common.{refl, arith}
 use Rattle.best_run.proofs.Beyond.{worth_most}
 use Rattle.best_run.proofs.Capped.{token_known, token_more}
 use Rattle.best_run.proofs.canonical.reach_token.Goals as goal

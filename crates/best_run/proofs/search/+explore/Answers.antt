@@ -1,6 +1,6 @@
 -- Each loop adds the next legs to those tried, and together they are all moves of the state.
 use Rattle.std.proofs.Common.{◌≡◌, ℕ, ◌+◌, ◌<◌, Bool, List, [], ◌∷◌, true, false, inl, None, Some, drop, get_or, length}
-use Rattle.std.proofs.Common.{slice_get, refl, sym, ap, subst, ◌∙◌, arith}
+use Rattle.std.proofs.Common.{slice_get, refl, sym, ap, subst, ◌∙◌, arith, le_trans}
 use Rattle.std.proofs.lemmas.List.{drop_all, drop_more}
 use Rattle.std.proofs.lemmas.Option.{slice_get_read}
 use Rattle.best_run.specs.declared.memo.Found.{Found}
@@ -13,12 +13,12 @@ use Rattle.best_run.specs.MovePath.{go_along}
 use Rattle.best_run.specs.Moves.{Explores, Takes, begun, begun_by, between, can_take, passed, with_run_finished}
 use Rattle.best_run.specs.Moves.{partial, turned_back}
 use Rattle.search_task.specs.Spots.{ends_in, node_at, stop_in}
-use Rattle.search_task.specs.Legs.{AreLegsOf, IsListed}
+use Rattle.search_task.specs.Legs.{AreLegsOf, IsListed, legs_at, legs_in}
 use Rattle.best_run.specs.Moves.{TriesLegs}
 use Rattle.best_run.proofs.Likened.{canonical_whole, low_canonical, low_back}
 use Rattle.best_run.proofs.Along.{AnyLeg, IsLater, begin_by_legs, go_by_legs, leads_begin, leads_go, leads_turn}
-use Rattle.best_run.proofs.Along.{turn_by_legs, leg_fits, legs_more, legs_none, legs_skip}
-use Rattle.search_task.proofs.Departing.{departs_from}
+use Rattle.best_run.proofs.Along.{turn_by_legs, leg_fits, legs_more, legs_none, legs_skip, legs_vain}
+use Rattle.search_task.proofs.Departing.{departs_at, departs_from}
 use Rattle.search_task.proofs.Described.{among_place}
 use Rattle.best_run.proofs.Eased.{is_pruned_by_suffix}
 use Rattle.best_run.proofs.Equal.{explores_capped}
@@ -28,11 +28,12 @@ use Rattle.best_run.proofs.Places.{less_by, one_at_side, one_low, one_of, room_b
 use Rattle.search_task.proofs.Places.{node_is, value_low}
 use Rattle.best_run.proofs.Sooner.{begin_in_vain}
 use Rattle.best_run.proofs.Traced.{explores_bounded, explores_from, takes_from, traces_both}
+use Rattle.best_run.proofs.Vain.{turns_tried}
 use Rattle.best_run.proofs.Tried.{begin_none, explores_between, explores_on, explores_partial, leads_pass, leads_finish}
 use Rattle.best_run.proofs.Tried.{over_better, over_no_better, tries_on}
 use Rattle.best_run.proofs.search.+explore.Goals as goal
 use Rattle.best_run.proofs.search.+explore.Goals.{begin_runs-then-node, begin_runs-else-node, turn_back-then-run-leg}
-use Rattle.best_run.proofs.search.+explore.Goals.{turn_back-else-run-leg}
+use Rattle.best_run.proofs.search.+explore.Goals.{turn_back-else-run-leg, go_on-then-not-has_at, go_on-else-not-has_at}
 
 pub begin_at-loop-index-init : goal.begin_at-loop-index-init
 begin_at-loop-index-init t c =
@@ -105,10 +106,24 @@ go_on-loop-index-init t c =
     let run = c.args.run.now in
     let from = c.index-from.result.now in
     let are : AreLegsOf c.args.task.now run.head from.legs.items =
-    departs_from c.args.task.now c.requires.ready run.head from c.requires.head c.index-from.ensures
-    c.requires.at_stop in
-    legs_none c.args.task.now c.requires.fit run.head c.requires.at_stop from.legs.items are
+    departs_from c.args.task.now c.requires.may.ready run.head from c.requires.may.head c.index-from.ensures
+    c.requires.may.at_stop in
+    legs_none c.args.task.now c.requires.may.fit run.head c.requires.may.at_stop from.legs.items are
     (partial c.args.assigned.now run) c.args.assigned.now (λ leg. run) AnyLeg c.args.best.now
+
+pub go_on-has_at-requires : goal.go_on-has_at-requires
+go_on-has_at-requires t c =
+    let task = c.args.task.now in
+    let run = c.args.run.now in
+    let from = c.index-from.result.now in
+    let leg = c.index-leg.result.now in
+    let legs = from.legs.items in
+    let are : AreLegsOf task run.head legs = departs_from task c.requires.may.ready run.head from c.requires.may.head
+    c.index-from.ensures c.requires.may.at_stop in
+    let at : slice_get legs c.loop-index.index ≡ Some leg =
+    slice_get_read legs (length legs) c.loop-index.index leg refl (omega arith) c.index-leg.ensures in
+    let fits = leg_fits task c.requires.may.fit run.head legs are c.requires.may.at_stop leg
+    (among_place legs c.loop-index.index leg at) in (omega arith, fits.0.to)
 
 pub go_on-loop-index-preserved : goal.go_on-loop-index-preserved
 go_on-loop-index-preserved t c =
@@ -121,19 +136,36 @@ go_on-loop-index-preserved t c =
     let leg = c.index-leg.result.now in
     let legs = from.legs.items in
     let there : node_at task run.head ≡ Some node =
-    node_is task c.requires.fit run.head node c.requires.head c.index-head.ensures in
-    let are : AreLegsOf task run.head legs = departs_from task c.requires.ready run.head from c.requires.head
-    c.index-from.ensures c.requires.at_stop in
+    node_is task c.requires.may.fit run.head node c.requires.may.head c.index-head.ensures in
+    let passes = ap ends_in there ∙ c.if-head.false in
+    let are : AreLegsOf task run.head legs = departs_from task c.requires.may.ready run.head from c.requires.may.head
+    c.index-from.ensures c.requires.may.at_stop in
     let at : slice_get legs index ≡ Some leg = slice_get_read legs (length legs) index leg refl (omega arith)
     c.index-leg.ensures in
-    legs_more task c.requires.fit run.head c.requires.at_stop legs are (partial assigned run) assigned (λ w. run) AnyLeg
-    index leg _ _ _ at c.loop-index.invariant
-    (takes_from task (partial assigned run) assigned run leg (go_along leg.steps.items) c.loop-index.best
-    c.take.new.best c.trace_steps.new.self
-    (leads_go task c.requires.fit assigned c.marks_all_borders.ensures run c.requires.at_stop
-    (ap ends_in there ∙ c.if-head.false) legs are index leg at)
-    c.take.ensures
-    c.trace_steps.ensures)
+    let Tried : Found → Type 0 = λ b. TriesLegs task (partial assigned run) assigned (λ w. run)
+    (λ w. IsListed legs (index + 1) w × AnyLeg w) c.args.best.now b in
+    elim c.if-not-has_at.branch [
+      | go_on-then-not-has_at w ↦
+          subst Tried (sym w.best-is)
+          (legs_more task c.requires.may.fit run.head c.requires.may.at_stop legs are (partial assigned run) assigned
+          (λ v. run) AnyLeg index leg _ _ _ at c.loop-index.invariant
+          (takes_from task (partial assigned run) assigned run leg (go_along leg.steps.items) c.loop-index.best
+          w.take.new.best w.trace_steps.new.self
+          (leads_go task c.requires.may.fit assigned c.marks_all_borders.ensures run c.requires.may.at_stop passes legs
+          are index leg at)
+          w.take.ensures
+          w.trace_steps.ensures))
+      | go_on-else-not-has_at w ↦
+          let here : slice_get (legs_at task run.head) index ≡ Some leg =
+          ap (λ ws. slice_get ws index) (ap legs_in
+          (departs_at task c.requires.may.ready run.head from c.requires.may.head c.index-from.ensures)) ∙ at in
+          subst Tried (sym w.best-is)
+          (legs_vain task c.requires.may.fit run.head c.requires.may.at_stop legs are (partial assigned run) assigned
+          (λ v. run) AnyLeg index leg _ _ at
+          (λ taken moves completes. le_trans (c.requires.ways.go passes index leg here
+          (sym c.has_at.ensures ∙ w.if-not-has_at.false) taken moves completes) c.loop-index.invariant.grows)
+          c.loop-index.invariant)
+    ]
 
 pub go_on-returns : goal.go_on-returns
 go_on-returns t c =
@@ -141,8 +173,8 @@ go_on-returns t c =
     let run = c.args.run.now in
     let from = c.index-from.result.now in
     let are : AreLegsOf task run.head from.legs.items =
-    departs_from task c.requires.ready run.head from c.requires.head c.index-from.ensures c.requires.at_stop in
-    go_by_legs task c.requires.fit c.args.assigned.now c.marks_all_borders.ensures run c.requires.at_stop
+    departs_from task c.requires.may.ready run.head from c.requires.may.head c.index-from.ensures c.requires.may.at_stop in
+    go_by_legs task c.requires.may.fit c.args.assigned.now c.marks_all_borders.ensures run c.requires.may.at_stop
     from.legs.items are c.loop-index.index _ _ (omega arith) c.loop-index.invariant
 
 pub assign_next-returns-then-best-assigned : goal.assign_next-returns-then-best-assigned
@@ -199,10 +231,10 @@ pub extend_with_memo-returns-then-dominates : goal.extend_with_memo-returns-then
 extend_with_memo-returns-then-dominates t c =
     let assigned = c.args.assigned.now in
     let run = c.args.run.now in
-    explores_dominated c.args.task.now c.requires.fit (partial assigned run) c.canonical_begun-canonical.result
+    explores_dominated c.args.task.now c.requires.may.fit (partial assigned run) c.canonical_begun-canonical.result
     c.args.best.now (canonical_whole c.args.task.now assigned (Some run) c.canonical_begun-canonical.result
     c.marks_all_borders.ensures c.canonical_begun-canonical.ensures)
-    (low_canonical c.args.task.now c.requires.fit c.requires.ready assigned (Some run)
+    (low_canonical c.args.task.now c.requires.may.fit c.requires.may.ready assigned (Some run)
     c.canonical_begun-canonical.result c.marks_all_borders.ensures c.canonical_begun-canonical.ensures)
     (c.dominates.ensures c.if-dominates.true)
 
@@ -211,7 +243,7 @@ extend_with_memo-returns t c =
     let assigned = c.args.assigned.now in
     let run = c.args.run.now in
     explores_kept c.args.task.now (partial assigned run) c.canonical_begun-canonical.result c.args.best.now
-    c.extend_without_memo.new.best c.keep.new.self (low_back c.args.task.now c.requires.fit assigned (Some run)
+    c.extend_without_memo.new.best c.keep.new.self (low_back c.args.task.now c.requires.may.fit assigned (Some run)
     c.canonical_begun-canonical.result c.marks_all_borders.ensures c.canonical_begun-canonical.ensures)
     c.extend_without_memo.ensures c.keep.ensures.kept
 
@@ -311,24 +343,24 @@ go_on-take-requires t c =
     let from = c.index-from.result.now in
     let leg = c.index-leg.result.now in
     let legs = from.legs.items in
-    let are : AreLegsOf task run.head legs = departs_from task c.requires.ready run.head from c.requires.head
-    c.index-from.ensures c.requires.at_stop in
+    let are : AreLegsOf task run.head legs = departs_from task c.requires.may.ready run.head from c.requires.may.head
+    c.index-from.ensures c.requires.may.at_stop in
     let at : slice_get legs index ≡ Some leg = slice_get_read legs (length legs) index leg refl (omega arith)
     c.index-leg.ensures in
-    let fits = leg_fits task c.requires.fit run.head legs are c.requires.at_stop leg
+    let fits = leg_fits task c.requires.may.fit run.head legs are c.requires.may.at_stop leg
     (among_place legs index leg at) in (
       omega arith,
       (
-        c.requires.fit,
+        c.requires.may.fit,
         (
-          c.requires.ready,
+          c.requires.may.ready,
           (
-            c.requires.bounds,
+            c.requires.may.bounds,
             (
-              c.requires.next,
+              c.requires.may.next,
               (
                 fits.0,
-                (fits.1, (c.requires.home, (c.requires.begun, omega arith))),
+                (fits.1, (c.requires.may.home, (c.requires.may.begun, omega arith))),
               ),
             ),
           ),
@@ -440,26 +472,26 @@ turn_back-take-requires t c =
     let from = c.index-from.result.now in
     let leg = c.index-leg.result.now in
     let legs = from.legs.items in
-    let are : AreLegsOf task run.home legs = departs_from task c.requires.ready run.home from c.requires.home
-    c.index-from.ensures c.requires.begun in
+    let are : AreLegsOf task run.home legs = departs_from task c.requires.may.ready run.home from c.requires.may.home
+    c.index-from.ensures c.requires.may.begun in
     let at : slice_get legs index ≡ Some leg = slice_get_read legs (length legs) index leg refl (omega arith)
     c.index-leg.ensures in
-    let fits = leg_fits task c.requires.fit run.home legs are c.requires.begun leg (among_place legs index leg at) in
-    let one = one_of (stop_in (node_at task run.head)) c.requires.at_stop in
-    let home = one_of (stop_in (node_at task run.home)) c.requires.begun in
+    let fits = leg_fits task c.requires.may.fit run.home legs are c.requires.may.begun leg (among_place legs index leg at) in
+    let one = one_of (stop_in (node_at task run.head)) c.requires.may.at_stop in
+    let home = one_of (stop_in (node_at task run.home)) c.requires.may.begun in
     rw c.turned_back-back.ensures (
       omega arith,
       (
-        c.requires.fit,
+        c.requires.may.fit,
         (
-          c.requires.ready,
+          c.requires.may.ready,
           (
-            c.requires.bounds,
+            c.requires.may.bounds,
             (
-              c.requires.next,
+              c.requires.may.next,
               (
                 fits.0,
-                (fits.1, (c.requires.home, (c.requires.begun, omega arith))),
+                (fits.1, (c.requires.may.home, (c.requires.may.begun, omega arith))),
               ),
             ),
           ),
@@ -472,9 +504,9 @@ turn_back-loop-index-init t c =
     let run = c.args.run.now in
     let from = c.index-from.result.now in
     let are : AreLegsOf c.args.task.now run.home from.legs.items =
-    departs_from c.args.task.now c.requires.ready run.home from c.requires.home c.index-from.ensures
-    c.requires.begun in
-    legs_none c.args.task.now c.requires.fit run.home c.requires.begun from.legs.items are
+    departs_from c.args.task.now c.requires.may.ready run.home from c.requires.may.home c.index-from.ensures
+    c.requires.may.begun in
+    legs_none c.args.task.now c.requires.may.fit run.home c.requires.may.begun from.legs.items are
     (partial c.args.assigned.now run) c.args.assigned.now (λ leg. turned_back run) (IsLater run) c.args.best.now
 
 pub turn_back-loop-index-preserved : goal.turn_back-loop-index-preserved
@@ -488,9 +520,9 @@ turn_back-loop-index-preserved t c =
     let leg = c.index-leg.result.now in
     let legs = from.legs.items in
     let there : node_at task run.home ≡ Some node =
-    node_is task c.requires.fit run.home node c.requires.home c.index.ensures in
-    let are : AreLegsOf task run.home legs = departs_from task c.requires.ready run.home from c.requires.home
-    c.index-from.ensures c.requires.begun in
+    node_is task c.requires.may.fit run.home node c.requires.may.home c.index.ensures in
+    let are : AreLegsOf task run.home legs = departs_from task c.requires.may.ready run.home from c.requires.may.home
+    c.index-from.ensures c.requires.may.begun in
     let at : slice_get legs index ≡ Some leg = slice_get_read legs (length legs) index leg refl (omega arith)
     c.index-leg.ensures in
     let Tried : Found → Type 0 = λ b. TriesLegs task (partial assigned run) assigned (λ w. turned_back run)
@@ -498,12 +530,12 @@ turn_back-loop-index-preserved t c =
     elim c.if-run-leg.branch [
       | turn_back-then-run-leg w ↦
           subst Tried (sym w.best-is)
-          (legs_more task c.requires.fit run.home c.requires.begun legs are (partial assigned run) assigned
+          (legs_more task c.requires.may.fit run.home c.requires.may.begun legs are (partial assigned run) assigned
           (λ v. turned_back run) (IsLater run) index leg _ _ _ at c.loop-index.invariant
           (takes_from task (partial assigned run) assigned (turned_back run) leg (Turn ∷ go_along leg.steps.items)
           c.loop-index.best w.take.new.best w.trace.new.self
-          (leads_turn task c.requires.fit assigned c.marks_all_borders.ensures run c.requires.begun c.if-run.false
-          c.requires.at_stop (ap ends_in there ∙ c.if-index.false) legs are index leg at (omega arith))
+          (leads_turn task c.requires.may.fit assigned c.marks_all_borders.ensures run c.requires.may.begun c.if-run.false
+          c.requires.may.at_stop (ap ends_in there ∙ c.if-index.false) legs are index leg at (omega arith))
           (subst (λ (r : PartialRun). Takes task assigned r leg.segment c.loop-index.best w.take.new.best)
           c.turned_back-back.ensures w.take.ensures)
           (traces_both c.loop-index.best.amount (go_along leg.steps.items) (Turn ∷ []) w.take.new.best
@@ -512,10 +544,20 @@ turn_back-loop-index-preserved t c =
           w.trace.ensures)))
       | turn_back-else-run-leg w ↦
           subst Tried (sym w.best-is)
-          (legs_skip task c.requires.fit run.home c.requires.begun legs are (partial assigned run) assigned
+          (legs_skip task c.requires.may.fit run.home c.requires.may.begun legs are (partial assigned run) assigned
           (λ v. turned_back run) (IsLater run) index leg _ _ at
           (λ later. omega (arith, w.if-run-leg.false, later)) c.loop-index.invariant)
     ]
+
+pub turn_back-returns-then-ways : goal.turn_back-returns-then-ways
+turn_back-returns-then-ways t c =
+    let task = c.args.task.now in
+    let run = c.args.run.now in
+    let there : node_at task run.home ≡ Some c.index.result.now =
+    node_is task c.requires.may.fit run.home c.index.result.now c.requires.may.home c.index.ensures in
+    turns_tried task c.requires.may.fit c.requires.may.ready c.args.assigned.now run c.args.best.now
+    (c.requires.may.home, c.requires.may.begun) c.marks_all_borders.ensures c.if-run.false
+    (ap ends_in there ∙ c.if-index.false) (c.requires.ways.turn c.if-ways.true)
 
 pub turn_back-returns : goal.turn_back-returns
 turn_back-returns t c =
@@ -523,6 +565,6 @@ turn_back-returns t c =
     let run = c.args.run.now in
     let from = c.index-from.result.now in
     let are : AreLegsOf task run.home from.legs.items =
-    departs_from task c.requires.ready run.home from c.requires.home c.index-from.ensures c.requires.begun in
-    turn_by_legs task c.requires.fit c.args.assigned.now c.marks_all_borders.ensures run c.requires.begun
+    departs_from task c.requires.may.ready run.home from c.requires.may.home c.index-from.ensures c.requires.may.begun in
+    turn_by_legs task c.requires.may.fit c.args.assigned.now c.marks_all_borders.ensures run c.requires.may.begun
     from.legs.items are c.loop-index.index _ _ (omega arith) c.loop-index.invariant

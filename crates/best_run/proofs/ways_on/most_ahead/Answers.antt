@@ -1,7 +1,7 @@
 -- The least by any level bounds what is ahead.
 use Rattle.std.proofs.Common.{sym}
 use Rattle.best_run.proofs.Lasting.{earns_ahead, has_most}
-use Rattle.best_run.proofs.lookahead.most_ahead.Goals as goal
+use Rattle.best_run.proofs.ways_on.most_ahead.Goals as goal
 
 pub least-requires-clause-room : goal.least-requires-clause-room
 least-requires-clause-room c =

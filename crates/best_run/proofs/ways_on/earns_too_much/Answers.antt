@@ -2,7 +2,7 @@
 use Rattle.std.proofs.Common.{arith}
 use Rattle.std.proofs.lemmas.Bool.{ltb-true}
 use Rattle.best_run.proofs.Equal.{no_dearer}
-use Rattle.best_run.proofs.lookahead.earns_too_much.Goals as goal
+use Rattle.best_run.proofs.ways_on.earns_too_much.Goals as goal
 
 pub returns : goal.returns
 returns c holds best moves completes =

@@ -1,0 +1,284 @@
+//! The ways on from a run that are worth trying: to which stops it may go on, and whether it may
+//! turn back.
+ghost use Rattle.std.specs.Prelude.{◌≡◌, ℕ, ◌+◌, ◌<◌, ◌≤◌, IsTrue, List, false, length, replicate, true};
+ghost use Rattle.search_task.specs.declared.task.Node.{Node};
+ghost use Rattle.best_run.specs.Ahead.{EndsAtMost, IsClosed, IsWorth, goes_back, goes_on};
+ghost use Rattle.best_run.specs.Last.{EarnsAhead, HasWorth};
+ghost use Rattle.best_run.specs.Suffix.{AreBounds};
+ghost use Rattle.best_run.specs.WaysOn.{AreFound, AreWaysOn, IsLow, IsWayAdded, TurnsInVain};
+ghost use Rattle.search_task.specs.Fit.{IsFit};
+ghost use Rattle.search_task.specs.Legs.{AreReady, IsStop};
+ghost use Rattle.search_task.specs.Spots.{node_at, stop_in};
+
+use crate::lookahead::{Outlook, leads_on, look_at, look_back, nothing_ahead};
+use crate::search::are_pruned_by_cap;
+use crate::state::{Assigned, PartialRun};
+use reach::SPOTS;
+use search_task::{Spots, Task};
+use tables::Amount;
+
+/// The ways on from a run: to the stops ahead, or back to where it began.
+#[derive(Drop)]
+pub(crate) struct WaysOn {
+    /// The stops that lie ahead.
+    pub(crate) ahead: Spots,
+    /// How many these are.
+    pub(crate) stops: usize,
+    /// The stops to which the run goes on in vain: it cannot earn more than what has been found.
+    pub(crate) vain: Spots,
+    /// Whether it turns back in vain.
+    pub(crate) turns_in_vain: bool,
+    /// Whether all ways on are in vain.
+    pub(crate) all_in_vain: bool,
+}
+
+impl WaysOn {
+    /// Adds the stops of one more way. A run that takes it may earn too little.
+    fn add(&mut self, way: &Outlook, in_vain: bool)
+        ensures { IsWayAdded way.now.ahead in_vain self.old self.new }
+    {
+        self.ahead = self.ahead.with(&way.ahead);
+        self.stops = self.stops.wrapping_add(way.stops);
+        if in_vain {
+            self.vain = self.vain.with(&way.ahead);
+        } else {
+            self.all_in_vain = false;
+        }
+    }
+}
+
+/// Returns whether a run may go on from where it is.
+fn goes_on(task: &Task, run: &PartialRun) -> bool
+    requires fit { IsFit task.now }
+    requires head { run.now.head < 744 }
+    ensures { result ≡ goes_on task.now run.now }
+{
+    let node = &task.spots[run.head];
+    !node.ends
+}
+
+/// Returns whether a run may still go on from where it began.
+fn goes_back(task: &Task, run: &PartialRun) -> bool
+    requires fit { IsFit task.now }
+    requires home { run.now.home < 744 }
+    ensures { result ≡ goes_back task.now run.now }
+{
+    let node = &task.spots[run.home];
+    !run.turned && !node.ends
+}
+
+/// Returns the most that a run may still earn, in dollars, by what lies ahead.
+fn most_ahead(task: &Task, assigned: &Assigned, run: &PartialRun, outlook: &Outlook) -> Amount
+    requires fit { IsFit task.now }
+    requires head { run.now.head < 744 }
+    requires home { run.now.home < 744 }
+    requires left { run.now.left ≤ 744 }
+    requires known { HasWorth task.now assigned.now run.now outlook.now.ahead outlook.now.worth }
+    ensures most { EarnsAhead task.now assigned.now run.now outlook.now.ahead result }
+    ensures bound { result ≤ 119200 }
+{
+    let on = goes_on(task, run);
+    let back = goes_back(task, run);
+    outlook.worth.least(run.left as Amount, on, back)
+}
+
+/// Returns whether a run and the trains after it can earn no more than what has been found, by what
+/// lies ahead and by what those trains earn by themselves. It may be false even if that holds.
+fn earns_too_little(
+    task: &Task,
+    assigned: &Assigned,
+    run: &PartialRun,
+    outlook: &Outlook,
+    bounds: &[Amount],
+    best: Amount,
+) -> bool
+    requires fit { IsFit task.now }
+    requires head { run.now.head < 744 }
+    requires home { run.now.home < 744 }
+    requires bounds { AreBounds task.now bounds.now }
+    requires next { assigned.now.next < length task.now.trains.items }
+    requires known { HasWorth task.now assigned.now run.now outlook.now.ahead outlook.now.worth }
+    requires room { assigned.now.total + run.now.value ≤ 44720 }
+    ensures { IsTrue result → IsLow task.now assigned.now run.now outlook.now.ahead best }
+{
+    let later = task.trains.len() - assigned.next - 1;
+    if run.left > SPOTS || later >= bounds.len() {
+        return false;
+    }
+    let most = run.value + most_ahead(task, assigned, run, outlook);
+    let total = assigned.total + most;
+    if total > best {
+        return false;
+    }
+    if bounds[later] <= best - total {
+        return true;
+    }
+    are_pruned_by_cap(task, assigned.next + 1, run.most, most, total, bounds, best)
+}
+
+/// Returns whether a run earns more than it may after another one of a train of its kind.
+pub(crate) fn earns_too_much(task: &Task, assigned: &Assigned, run: &PartialRun) -> bool
+    ensures { IsTrue result → (best : ℕ) → EndsAtMost task.now assigned.now run.now best }
+{
+    if assigned.kind == 0 || assigned.kind != run.most {
+        return false;
+    }
+    run.value > assigned.cap
+}
+
+/// Finds what lies ahead of a run once it turns back, for which nothing has been found yet.
+fn look_home(task: &Task, assigned: &Assigned, run: &PartialRun, home: &mut Outlook)
+    requires fit { IsFit task.now }
+    requires ready { AreReady task.now }
+    requires home { run.now.home < 744 }
+    requires begun { stop_in (node_at task.now run.now.home) ≡ true }
+    requires nothing { home.old.ahead ≡ replicate 744 false }
+    requires known { (nodes : List Node) → IsWorth nodes (replicate 744 false) home.old.worth }
+    ensures closed { IsClosed task.now assigned.now run.now home.new.ahead }
+    ensures known { HasWorth task.now assigned.now run.now home.new.ahead home.new.worth }
+    ensures borders { length assigned.now.used ≡ 279 }
+    ensures spots { length run.now.visited ≡ 744 }
+{
+    assigned.marks_all_borders();
+    run.visited.is_whole();
+    if !run.turned {
+        look_back(task, assigned, run, home);
+    }
+}
+
+/// Returns whether a run that turns back can earn no more than what has been found, by what lies
+/// ahead then. It may be false even if that holds.
+fn turns_in_vain(
+    task: &Task,
+    assigned: &Assigned,
+    run: &PartialRun,
+    home: &Outlook,
+    bounds: &[Amount],
+    best: Amount,
+) -> bool
+    requires fit { IsFit task.now }
+    requires ready { AreReady task.now }
+    requires begun { IsStop task.now run.now.home }
+    requires bounds { AreBounds task.now bounds.now }
+    requires next { assigned.now.next < length task.now.trains.items }
+    requires closed { IsClosed task.now assigned.now run.now home.now.ahead }
+    requires known { HasWorth task.now assigned.now run.now home.now.ahead home.now.worth }
+    requires borders { length assigned.now.used ≡ 279 }
+    requires spots { length run.now.visited ≡ 744 }
+    requires room { assigned.now.total + run.now.value ≤ 44720 }
+    ensures { IsTrue result → TurnsInVain task.now assigned.now run.now best }
+{
+    if run.turned {
+        return true;
+    }
+    let back = run.turned_back();
+    earns_too_little(task, assigned, &back, home, bounds, best)
+}
+
+/// Returns the ways on to the stops that lie ahead once the run turns back. The others are not yet
+/// looked at.
+fn ways_home(
+    task: &Task,
+    assigned: &Assigned,
+    run: &PartialRun,
+    home: &Outlook,
+    bounds: &[Amount],
+    best: Amount,
+) -> WaysOn
+    requires fit { IsFit task.now }
+    requires ready { AreReady task.now }
+    requires at_stop { IsStop task.now run.now.head }
+    requires begun { IsStop task.now run.now.home }
+    requires bounds { AreBounds task.now bounds.now }
+    requires next { assigned.now.next < length task.now.trains.items }
+    requires closed { IsClosed task.now assigned.now run.now home.now.ahead }
+    requires known { HasWorth task.now assigned.now run.now home.now.ahead home.now.worth }
+    requires borders { length assigned.now.used ≡ 279 }
+    requires spots { length run.now.visited ≡ 744 }
+    requires room { assigned.now.total + run.now.value ≤ 44720 }
+    ensures { AreFound task.now assigned.now run.now best home.now.ahead 0 result }
+{
+    let turns_in_vain = turns_in_vain(task, assigned, run, home, bounds, best);
+    let mut ways = WaysOn {
+        ahead: home.ahead.copy(),
+        stops: home.stops,
+        vain: Spots::none(),
+        turns_in_vain,
+        all_in_vain: false,
+    };
+    if earns_too_little(task, assigned, run, home, bounds, best) {
+        ways.vain = home.ahead.copy();
+        ways.all_in_vain = turns_in_vain;
+    }
+    ways
+}
+
+/// Looks at the ways on by the legs from where a run is. What lies ahead once it turns back, and
+/// the ways there, are known.
+fn look_on(
+    task: &Task,
+    assigned: &Assigned,
+    run: &PartialRun,
+    home: &Outlook,
+    bounds: &[Amount],
+    best: Amount,
+    ways: &mut WaysOn,
+)
+    requires fit { IsFit task.now }
+    requires ready { AreReady task.now }
+    requires at_stop { IsStop task.now run.now.head }
+    requires begun { IsStop task.now run.now.home }
+    requires bounds { AreBounds task.now bounds.now }
+    requires next { assigned.now.next < length task.now.trains.items }
+    requires closed { IsClosed task.now assigned.now run.now home.now.ahead }
+    requires known { HasWorth task.now assigned.now run.now home.now.ahead home.now.worth }
+    requires borders { length assigned.now.used ≡ 279 }
+    requires spots { length run.now.visited ≡ 744 }
+    requires room { assigned.now.total + run.now.value ≤ 44720 }
+    requires found { AreFound task.now assigned.now run.now best home.now.ahead 0 ways.old }
+    ensures ways { AreWaysOn task.now assigned.now run.now best ways.new }
+    ensures most { ways.new.all_in_vain ≡ true → EndsAtMost task.now assigned.now run.now best }
+{
+    if task.spots[run.head].ends {
+        return;
+    }
+    let from = &task.departures[run.head];
+    let legs = from.legs.as_slice();
+    for index in 0..legs.len() {
+        let leg = &legs[index];
+        if leads_on(task, assigned, run, &leg.segment, &ways.ahead) {
+            let mut way = home.copy();
+            look_at(task, assigned, run, leg.segment.to.number(), &mut way);
+            let in_vain = earns_too_little(task, assigned, run, &way, bounds, best);
+            way.stops = way.stops.wrapping_sub(home.stops);
+            ways.add(&way, in_vain);
+        }
+    }
+}
+
+/// Returns the ways on from a run. All of them may be in vain even where that is not said.
+pub(crate) fn ways_on(
+    task: &Task,
+    assigned: &Assigned,
+    run: &PartialRun,
+    bounds: &[Amount],
+    best: Amount,
+) -> WaysOn
+    requires fit { IsFit task.now }
+    requires ready { AreReady task.now }
+    requires bounds { AreBounds task.now bounds.now }
+    requires next { assigned.now.next < length task.now.trains.items }
+    requires head { run.now.head < 744 }
+    requires at_stop { stop_in (node_at task.now run.now.head) ≡ true }
+    requires home { run.now.home < 744 }
+    requires begun { stop_in (node_at task.now run.now.home) ≡ true }
+    requires room { assigned.now.total + run.now.value ≤ 44720 }
+    ensures ways { AreWaysOn task.now assigned.now run.now best result }
+    ensures most { result.all_in_vain ≡ true → EndsAtMost task.now assigned.now run.now best }
+{
+    let mut home = nothing_ahead(task, run.left);
+    look_home(task, assigned, run, &mut home);
+    let mut ways = ways_home(task, assigned, run, &home, bounds, best);
+    look_on(task, assigned, run, &home, bounds, best, &mut ways);
+    ways
+}
