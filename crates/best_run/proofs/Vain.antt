@@ -1,7 +1,7 @@
 -- Ways on are in vain by what lies ahead: each leg to a stop in a list from which no leg leads out
 -- of it, and all legs back. If all ways on are in vain, the run earns no more than has been found.
 use Rattle.std.proofs.Common.{◌≡◌, ℕ, ◌+◌, ◌≤◌, Bool, true, false, inl, inr, Some, List, [], ◌∷◌, length}
-use Rattle.std.proofs.Common.{slice_get, refl, sym, subst, ◌∙◌, arith, le_trans}
+use Rattle.std.proofs.Common.{get_or, replicate, slice_get, refl, sym, subst, ◌∙◌, arith, le_trans}
 use Rattle.std.proofs.lemmas.Option.{slice_get_within}
 use Rattle.search_task.specs.declared.task.Task.{Task}
 use Rattle.search_task.specs.declared.task.Leg.{Leg}
@@ -22,6 +22,7 @@ use Rattle.best_run.proofs.Ahead.{along_not, closed_at}
 use Rattle.best_run.proofs.Along.{ByLeg, by_leg, turn_by_legs}
 use Rattle.best_run.proofs.Hopeless.{finish_low, leg_low, take_back}
 use Rattle.best_run.proofs.Traced.{traced_none}
+use Rattle.reach.proofs.Collected.{none_marked}
 use Rattle.search_task.proofs.Booleans.{not_both}
 use Rattle.search_task.proofs.Departing.{legs_of}
 use Rattle.search_task.proofs.Places.{below_next, one_leg}
@@ -35,6 +36,18 @@ ways_more task assigned run ways best more grows are =
           (are.go passing place leg at lies taken moves completes) grows;
       turn = λ vain once passing place leg at later taken moves completes. le_trans
           (are.turn vain once passing place leg at later taken moves completes) grows;
+    }
+
+-- nothing is said to be in vain
+pub ways_unknown : (task : Task) (assigned : Assigned) (run : PartialRun) (best : ℕ) (ways : WaysOn)
+    → ways.vain ≡ replicate 744 false → ways.turns_in_vain ≡ false → AreWaysOn task assigned run best ways
+ways_unknown task assigned run best ways none turns =
+    record {
+      go = λ passing place leg at lies taken. absurd
+          (not_both (get_or (replicate 744 false) leg.segment.to false)
+          (subst (λ (ms : List Bool). LiesAhead ms leg.segment.to) none lies)
+          (none_marked 744 leg.segment.to));
+      turn = λ vain. absurd (not_both ways.turns_in_vain vain turns);
     }
 
 -- a run that turns back in vain need not turn back

@@ -72,8 +72,8 @@ pub(crate) fn leads_on(
     ensures { result ≡ leads_on task.now assigned.now run.now ahead.now segment.now }
 {
     !ahead.either_has(&run.visited, &segment.to)
-        && run.left > 0
         && segment.borders.misses(&assigned.used)
+        && run.left > 0
 }
 
 /// Adds what a run may reach from a stop to what lies ahead of it. Returns whether there is

@@ -213,7 +213,7 @@ impl PartialRun {
         requires { stop.now < 744 }
         ensures { result ≡ may_come true self.now stop.now }
     {
-        self.left > 0 && !self.visited.has_at(stop)
+        !self.visited.has_at(stop) && self.left > 0
     }
 }
 

@@ -12,7 +12,7 @@ ghost use Rattle.search_task.specs.Spots.{node_at, stop_in};
 
 use crate::lookahead::{Outlook, leads_on, look_at, look_back, nothing_ahead};
 use crate::search::are_pruned_by_cap;
-use crate::state::{Assigned, PartialRun};
+use crate::state::{Assigned, PartialRun, can_take};
 use reach::SPOTS;
 use search_task::{Spots, Task};
 use tables::Amount;
@@ -33,6 +33,21 @@ pub(crate) struct WaysOn {
 }
 
 impl WaysOn {
+    /// Returns ways of which nothing is known: none of them need be in vain.
+    fn unknown() -> WaysOn
+        ensures vain { result.vain ≡ replicate 744 false }
+        ensures turns { result.turns_in_vain ≡ false }
+        ensures all { result.all_in_vain ≡ false }
+    {
+        WaysOn {
+            ahead: Spots::none(),
+            stops: 0,
+            vain: Spots::none(),
+            turns_in_vain: false,
+            all_in_vain: false,
+        }
+    }
+
     /// Adds the stops of one more way. A run that takes it may earn too little.
     fn add(&mut self, way: &Outlook, in_vain: bool)
         ensures { IsWayAdded way.now.ahead in_vain self.old self.new }
@@ -256,7 +271,52 @@ fn look_on(
     }
 }
 
-/// Returns the ways on from a run. All of them may be in vain even where that is not said.
+/// Returns how many legs from a stop a run may take, of those that begin by a segment at this place
+/// or later, but two at most. Any number would do: it decides whether the search looks ahead.
+fn count_ways(
+    task: &Task,
+    assigned: &Assigned,
+    run: &PartialRun,
+    stop: usize,
+    first: usize,
+) -> usize
+    requires fit { IsFit task.now }
+    requires ready { AreReady task.now }
+    requires stop { IsStop task.now stop }
+{
+    let mut count: usize = 0;
+    if task.spots[stop].ends {
+        return count;
+    }
+    let from = &task.departures[stop];
+    for index in 0..from.legs.len() {
+        let leg = &from.legs[index];
+        if first <= leg.first && can_take(task, run, assigned, &leg.segment) {
+            if count > 0 {
+                return 2;
+            }
+            count = 1;
+        }
+    }
+    count
+}
+
+/// Returns whether a run has one way on at most. To try that way costs less than to look ahead.
+fn has_one_way(task: &Task, assigned: &Assigned, run: &PartialRun) -> bool
+    requires fit { IsFit task.now }
+    requires ready { AreReady task.now }
+    requires at_stop { IsStop task.now run.now.head }
+    requires begun { IsStop task.now run.now.home }
+{
+    let on = count_ways(task, assigned, run, run.head, 0);
+    if on > 1 || run.turned {
+        return on <= 1;
+    }
+    on.saturating_add(count_ways(task, assigned, run, run.home, run.first)) <= 1
+}
+
+/// Returns the ways on from a run. More of them may be in vain than are known to be; of a run with
+/// one way on nothing is known.
 pub(crate) fn ways_on(
     task: &Task,
     assigned: &Assigned,
@@ -276,6 +336,9 @@ pub(crate) fn ways_on(
     ensures ways { AreWaysOn task.now assigned.now run.now best result }
     ensures most { result.all_in_vain ≡ true → EndsAtMost task.now assigned.now run.now best }
 {
+    if has_one_way(task, assigned, run) {
+        return WaysOn::unknown();
+    }
     let mut home = nothing_ahead(task, run.left);
     look_home(task, assigned, run, &mut home);
     let mut ways = ways_home(task, assigned, run, &home, bounds, best);

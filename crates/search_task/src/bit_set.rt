@@ -45,8 +45,8 @@ impl<const COUNT: usize, const WORDS: usize> Model for BitSet<COUNT, WORDS> {
 /// number.
 #[derive(Drop)]
 pub struct BitPlace {
-    number: usize,
-    word: usize,
+    number: u32,
+    word: u32,
     bit: u64,
 }
 
@@ -63,13 +63,14 @@ impl Model for BitPlace {
 }
 
 impl BitPlace {
-    /// Returns a number, with its bit.
+    /// Returns the number of a spot, with its bit.
     pub(crate) fn of(number: usize) -> BitPlace
+        requires { number < 744 }
         ensures { result ≡ number }
     {
         BitPlace {
-            number,
-            word: number / BITS,
+            number: number as u32,
+            word: (number / BITS) as u32,
             bit: 1 << (number % BITS),
         }
     }
@@ -78,7 +79,7 @@ impl BitPlace {
     pub fn number(&self) -> usize
         ensures { result ≡ self.now }
     {
-        self.number
+        self.number as usize
     }
 }
 
@@ -150,7 +151,7 @@ impl<const COUNT: usize, const WORDS: usize> BitSet<COUNT, WORDS> {
         requires { place.now < COUNT }
         ensures { result ≡ get_or self.now place.now false }
     {
-        self.words[place.word] & place.bit != 0
+        self.words[place.word as usize] & place.bit != 0
     }
 
     /// Returns whether a number is marked here or in another, given with its bit.
@@ -158,7 +159,8 @@ impl<const COUNT: usize, const WORDS: usize> BitSet<COUNT, WORDS> {
         requires { place.now < COUNT }
         ensures { result ≡ get_or self.now place.now false || get_or other.now place.now false }
     {
-        let word = self.words[place.word] | other.words[place.word];
+        let at = place.word as usize;
+        let word = self.words[at] | other.words[at];
         word & place.bit != 0
     }
 
