@@ -1,7 +1,7 @@
 -- Ways on are in vain by what lies ahead: each leg to a stop in a list from which no leg leads out
 -- of it, and all legs back. If all ways on are in vain, the run earns no more than has been found.
 use Rattle.std.proofs.Common.{◌≡◌, ℕ, ◌+◌, ◌≤◌, Bool, true, false, inl, inr, Some, List, [], ◌∷◌, length}
-use Rattle.std.proofs.Common.{get_or, replicate, slice_get, refl, sym, subst, ◌∙◌, arith, le_trans}
+use Rattle.std.proofs.Common.{get_or, replicate, slice_get, refl, sym, subst, ◌∙◌, arith}
 use Rattle.std.proofs.lemmas.Option.{slice_get_within}
 use Rattle.search_task.specs.declared.task.Task.{Task}
 use Rattle.search_task.specs.declared.task.Leg.{Leg}
@@ -26,17 +26,6 @@ use Rattle.reach.proofs.Collected.{none_marked}
 use Rattle.search_task.proofs.Booleans.{not_both}
 use Rattle.search_task.proofs.Departing.{legs_of}
 use Rattle.search_task.proofs.Places.{below_next, one_leg}
-
--- what is in vain stays so where more has been found
-pub ways_more : (task : Task) (assigned : Assigned) (run : PartialRun) (ways : WaysOn) (best more : ℕ) → best ≤ more
-    → AreWaysOn task assigned run best ways → AreWaysOn task assigned run more ways
-ways_more task assigned run ways best more grows are =
-    record {
-      go = λ passing place leg at lies taken moves completes. le_trans
-          (are.go passing place leg at lies taken moves completes) grows;
-      turn = λ vain once passing place leg at later taken moves completes. le_trans
-          (are.turn vain once passing place leg at later taken moves completes) grows;
-    }
 
 -- nothing is said to be in vain
 pub ways_unknown : (task : Task) (assigned : Assigned) (run : PartialRun) (best : ℕ) (ways : WaysOn)

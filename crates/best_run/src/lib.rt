@@ -44,12 +44,12 @@
 //!
 //! Reading order: `revenue` (the public call), `claim_and_marks`, `trains` (their order), `state`
 //! (the trains assigned so far, and the run begun), `lookahead` (what lies ahead of that run) with
-//! `value_ahead` (what that is worth), `end_stops` (at which stops ahead it ends), `ways_on` (by which
-//! ways on it may earn more), `move_path` (the
-//! moves that earn what has been found), `search_state` (a state that is kept), `memo` (what has
-//! been found, and what need not be explored again), `canonical` (states that are alike to the
-//! trains left), `search`, `claimed` (the runs that a path gives), `runner` (what finds only the
-//! revenue), `keeping` (what keeps the runs and marks as well).
+//! `value_ahead` (what that is worth), `end_stops` (at which stops ahead it ends), `ways_on` (by
+//! which ways on it may earn more), `move_path` (the moves that earn what has been found),
+//! `search_state` (a state that is kept), `memo` (what has been found, and what need not be explored
+//! again), `canonical` (states that are alike to the trains left), `search`, `claimed` (the runs
+//! that a path gives), `runner` (what finds only the revenue), `keeping` (what keeps the runs and
+//! marks as well).
 #![tactic(auto)]
 
 mod canonical;

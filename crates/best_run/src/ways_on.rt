@@ -22,7 +22,7 @@ use tables::Amount;
 pub(crate) struct WaysOn {
     /// The stops that lie ahead.
     pub(crate) ahead: Spots,
-    /// How many these are.
+    /// How many these are. A stop at which runs end counts once for each way to it.
     pub(crate) stops: usize,
     /// The stops to which the run goes on in vain: it cannot earn more than what has been found.
     pub(crate) vain: Spots,
