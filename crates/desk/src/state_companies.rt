@@ -12,7 +12,7 @@ use history::{History, Holder, Shareholder};
 use report::name;
 use sheets::Sheets;
 use std::alloc::AllocError;
-use tables::{Company, Kind, Money, Seat, price};
+use tables::{Company, Kind, Money, Seat, Square, price};
 
 /// The column of a company's square.
 const SQUARE: usize = 15;
@@ -68,17 +68,22 @@ pub(crate) fn push_companies(
     }
     fill(out, "\nTOKENS  LEFT  PLACED\n", &[])?;
     for company in order {
-        let left = tokens_left(&stood.history.now(), *company) as Money;
-        push(out, &[Words(company.code()), Column(8), Right(4, left)])?;
-        for token in stood.history.tokens() {
-            if token.1 == *company {
-                let place = token.0.text();
-                fill(out, "% %", &[Column(TOKENS), Bytes(place.as_slice())])?;
-            }
-        }
-        fill(out, "\n", &[])?;
+        push_tokens(out, stood.history, *company)?;
     }
     Ok(())
+}
+
+/// Adds how many tokens a company has left, and where those lie that it has placed.
+fn push_tokens(out: &mut Vec<u8>, history: &History, company: Company) -> Result<(), AllocError> {
+    let left = tokens_left(&history.now(), company) as Money;
+    push(out, &[Words(company.code()), Column(8), Right(4, left)])?;
+    for token in history.tokens() {
+        if token.1 == company {
+            let place = token.0.text();
+            fill(out, "% %", &[Column(TOKENS), Bytes(place.as_slice())])?;
+        }
+    }
+    fill(out, "\n", &[])
 }
 
 /// Adds the line of a company's figures: its price, its square, the place of its token in the stack
@@ -89,19 +94,7 @@ fn push_figures(out: &mut Vec<u8>, stood: &Stood, company: Company) -> Result<()
     let row = company_row(&view, company);
     push(out, &[Words(company.code())])?;
     if let Some(square) = row.square {
-        let above = before_in_stack(&view, square, company);
-        push(
-            out,
-            &[
-                Column(8),
-                Right(5, Money::from(price(square))),
-                Column(SQUARE),
-                Bytes(&[b'A'.saturating_add(square.row)]),
-                Number(Money::from(square.column)),
-                Column(PLACE),
-                Number(above as Money + 1),
-            ],
-        )?;
+        push_square(out, square, before_in_stack(&view, square, company))?;
     }
     let president = match row.president {
         Some(president) => Bytes(name(stood.sheets, president)),
@@ -110,12 +103,28 @@ fn push_figures(out: &mut Vec<u8>, stood: &Stood, company: Company) -> Result<()
     push(out, &[Column(PRESIDENT), president])?;
     if row.operates {
         push_treasury(out, stood.history, row.cash, company)?;
-    } else if row.is_started {
-        fill(out, "% not floated", &[Column(TRAINS)])?;
     } else {
-        fill(out, "% not started", &[Column(TRAINS)])?;
+        let started = if row.is_started { "floated" } else { "started" };
+        fill(out, "% not %", &[Column(TRAINS), Words(started)])?;
     }
     push_privates(out, stood.history, Holder::Company(company), PRIVATES)
+}
+
+/// Adds a company's price, its square, and the place of its token in the stack there, behind so
+/// many others.
+fn push_square(out: &mut Vec<u8>, square: Square, above: usize) -> Result<(), AllocError> {
+    push(
+        out,
+        &[
+            Column(8),
+            Right(5, Money::from(price(square))),
+            Column(SQUARE),
+            Bytes(&[b'A'.saturating_add(square.row)]),
+            Number(Money::from(square.column)),
+            Column(PLACE),
+            Number(above as Money + 1),
+        ],
+    )
 }
 
 /// Adds a company's cash, its last revenue with the round that it is of, and its trains.

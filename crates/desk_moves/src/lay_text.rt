@@ -51,19 +51,28 @@ pub(crate) fn lay_text<P: Progress>(
         progress,
     };
     let mut text = Vec::new(alloc);
-    if form.lines {
-        earning.push_lines(&mut text)?;
-        return Ok(text);
-    }
-    push_before(&mut text, stood, company)?;
-    push_means(&mut text, stood.history, company, kinds.as_slice())?;
-    if form.best {
-        earning.push_table(&mut text)?;
-    } else {
-        push_lays(&mut text, stood.history, lays.as_slice())?;
-        push_tokens(&mut text, tokens.as_slice())?;
-    }
+    push_all(&mut text, stood, form, &mut earning)?;
     Ok(text)
+}
+
+/// Adds what the company may lay and place, in the form that is asked for.
+fn push_all<P: Progress>(
+    out: &mut Vec<u8>,
+    stood: &Stood,
+    form: LayForm,
+    earning: &mut Earning<P>,
+) -> Result<(), MovesFault> {
+    if form.lines {
+        return earning.push_lines(out);
+    }
+    let company = earning.trains.company;
+    push_before(out, stood, company)?;
+    push_means(out, stood.history, company, earning.trains.kinds)?;
+    if form.best {
+        return earning.push_table(out);
+    }
+    push_lays(out, stood.history, earning.lays)?;
+    Ok(push_tokens(out, earning.tokens)?)
 }
 
 /// Adds the lays, a line for each hex and tile.

@@ -95,24 +95,28 @@ impl Telling<'_> {
         let before = had_at(&view_behind(walk, group.from, seats), group.whose);
         let view = view_behind(walk, group.to, seats);
         let after = had_at(&view, group.whose);
-        fill(out, "\n", &[])?;
-        match group.whose {
-            Whose::Nobody => return fill(out, "THE BANK\n", &[]),
-            Whose::Seat(seat) => push(out, &[Bytes(name(self.game.sheets(), seat))])?,
-            Whose::Company(company) => {
-                let president = who(self.game.sheets(), view.president(company));
-                fill(out, "% (%)", &[Words(company.code()), president])?;
-            }
-        }
-        push(out, &[Column(17), Words("cash"), Right(6, before.cash)])?;
-        fill(out, " -> %", &[Number(after.cash)])?;
-        if let Whose::Company(_) = group.whose {
-            push(out, &[Column(40), Words("price ")])?;
-            push_square(out, before.square)?;
-            fill(out, " -> ", &[])?;
-            push_square(out, after.square)?;
+        self.push_whose(out, &view, group.whose)?;
+        if group.whose != Whose::Nobody {
+            push_change(out, group.whose, before, after)?;
         }
         fill(out, "\n", &[])
+    }
+
+    /// Adds whose turn a group is of, on a new line.
+    fn push_whose(
+        &self,
+        out: &mut Vec<u8>,
+        view: &GameView,
+        whose: Whose,
+    ) -> Result<(), AllocError> {
+        match whose {
+            Whose::Nobody => fill(out, "\nTHE BANK", &[]),
+            Whose::Seat(seat) => fill(out, "\n%", &[Bytes(name(self.game.sheets(), seat))]),
+            Whose::Company(company) => {
+                let president = who(self.game.sheets(), view.president(company));
+                fill(out, "\n% (%)", &[Words(company.code()), president])
+            }
+        }
     }
 
     /// Adds an event, whose line in the report is this. Dividends are kept, to be on one line.
@@ -276,6 +280,19 @@ fn had_at(view: &GameView, whose: Whose) -> Had {
             square: None,
         },
     }
+}
+
+/// Adds the cash before and after a turn, and for a company its price.
+fn push_change(out: &mut Vec<u8>, whose: Whose, before: Had, after: Had) -> Result<(), AllocError> {
+    push(out, &[Column(17), Words("cash"), Right(6, before.cash)])?;
+    fill(out, " -> %", &[Number(after.cash)])?;
+    let Whose::Company(_) = whose else {
+        return Ok(());
+    };
+    push(out, &[Column(40), Words("price ")])?;
+    push_square(out, before.square)?;
+    fill(out, " -> ", &[])?;
+    push_square(out, after.square)
 }
 
 /// Adds the price of a square with its name; `-` where there is none.

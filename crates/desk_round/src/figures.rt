@@ -8,7 +8,7 @@ ghost use Rattle.desk_round.specs.Figures.{stock_figures, stops_figures};
 
 use certs::{Holdings, market_price, share_price};
 use desk_base::Piece::{Bytes, Number, Words};
-use desk_base::fill;
+use desk_base::{Piece, fill};
 use history::{
     GameView, Holder, LayRule, OpeningRule, Party, PrivateRule, Refusal, RunRule, ShareCount,
     Shareholder, StockRule, TrainRule,
@@ -247,6 +247,12 @@ fn condition_figures(view: &GameView, condition: Condition) -> Option<Figures>
     }
 }
 
+/// Words with at most three pieces in their places; the pieces behind these are empty.
+type Phrase<'a> = (&'static str, [Piece<'a>; 3]);
+
+/// No piece.
+const NONE: Piece<'static> = Words("");
+
 /// Adds the figures that a rule compared, for an order of the player of a seat.
 pub(crate) fn push_figures(
     out: &mut Vec<u8>,
@@ -254,57 +260,67 @@ pub(crate) fn push_figures(
     seat: Seat,
     figures: Figures,
 ) -> Result<(), AllocError> {
-    let player = Bytes(name(sheets, seat));
+    let (words, pieces) = phrase(sheets, Bytes(name(sheets, seat)), figures);
+    fill(out, words, &pieces)
+}
+
+/// Returns the figures in words, for an order of this player.
+fn phrase<'a>(sheets: &'a Sheets, player: Piece<'a>, figures: Figures) -> Phrase<'a> {
     match figures {
-        Figures::Owner(Holder::Seat(owner)) => {
-            fill(out, " (% owns it)", &[Bytes(name(sheets, owner))])
+        Figures::Owner(owner) => {
+            let owner = match owner {
+                Holder::Seat(owner) => Bytes(name(sheets, owner)),
+                Holder::Company(owner) => Words(owner.code()),
+            };
+            (" (% owns it)", [owner, NONE, NONE])
         }
-        Figures::Owner(Holder::Company(owner)) => {
-            fill(out, " (% owns it)", &[Words(owner.code())])
-        }
-        Figures::Cheapest(private) => fill(out, " (that is %)", &[Words(private.code())]),
-        Figures::Bids(face, highest) => {
-            let pieces = [Number(Money::from(face)), Number(Money::from(highest))];
-            fill(out, " (the face value is %, the highest bid %)", &pieces)
-        }
-        Figures::Tied(cash, bids) => {
-            let pieces = [player, Number(cash), Number(bids)];
-            fill(out, " (% has %, less % bid elsewhere)", &pieces)
-        }
-        Figures::Held(shares) => fill(out, " (% has %)", &[player, Number(shares)]),
-        Figures::Offered(ipo, pool) => {
-            fill(
-                out,
-                " (% are in IPO, % in POOL)",
-                &[Number(ipo), Number(pool)],
-            )
-        }
+        Figures::Cheapest(private) => (" (that is %)", [Words(private.code()), NONE, NONE]),
+        Figures::Bids(face, highest) => (
+            " (the face value is %, the highest bid %)",
+            [
+                Number(Money::from(face)),
+                Number(Money::from(highest)),
+                NONE,
+            ],
+        ),
+        Figures::Tied(cash, bids) => (
+            " (% has %, less % bid elsewhere)",
+            [player, Number(cash), Number(bids)],
+        ),
+        Figures::Held(shares) => (" (% has %)", [player, Number(shares), NONE]),
+        Figures::Offered(ipo, pool) => (
+            " (% are in IPO, % in POOL)",
+            [Number(ipo), Number(pool), NONE],
+        ),
         Figures::Started(company, is_started) => {
             let not = if is_started { "" } else { "not " };
-            fill(
-                out,
+            (
                 " (% is %started)",
-                &[Words(company.code()), Words(not)],
+                [Words(company.code()), Words(not), NONE],
             )
         }
-        Figures::Cost(cost, cash) => {
-            let pieces = [Number(cost), player, Number(cash)];
-            fill(out, " (it costs %, % has %)", &pieces)
-        }
-        Figures::Certificates(counted, most) => {
-            let pieces = [player, Number(counted), Number(most as Money)];
-            fill(out, " (% has % of %)", &pieces)
-        }
-        Figures::Price(company, 0) => { fill(out, " (% has no price)", &[Words(company.code())]) }
-        Figures::Price(company, price) => {
-            let pieces = [Words(company.code()), Number(Money::from(price))];
-            fill(out, " (the price of % is %)", &pieces)
-        }
-        Figures::Phase(phase) => fill(out, " (the phase is %)", &[Words(phase.code())]),
-        Figures::OnSale(kind) => fill(out, " (the bank sells a %)", &[Words(kind.code())]),
-        Figures::Stops(most) | Figures::Trains(most) => {
-            fill(out, " (which is %)", &[Number(most as Money)])
-        }
-        Figures::Face(face) => { fill(out, " (the face value is %)", &[Number(Money::from(face))]) }
+        Figures::Cost(cost, cash) => (
+            " (it costs %, % has %)",
+            [Number(cost), player, Number(cash)],
+        ),
+        Figures::Certificates(counted, most) => (
+            " (% has % of %)",
+            [player, Number(counted), Number(most as Money)],
+        ),
+        Figures::Price(company, 0) => (" (% has no price)", [Words(company.code()), NONE, NONE]),
+        Figures::Price(company, price) => (
+            " (the price of % is %)",
+            [Words(company.code()), Number(Money::from(price)), NONE],
+        ),
+        Figures::Phase(phase) => (" (the phase is %)", [Words(phase.code()), NONE, NONE]),
+        Figures::OnSale(kind) => (" (the bank sells a %)", [Words(kind.code()), NONE, NONE]),
+        Figures::Stops(most) | Figures::Trains(most) => (
+            " (which is %)",
+            [Number(most as Money), NONE, NONE],
+        ),
+        Figures::Face(face) => (
+            " (the face value is %)",
+            [Number(Money::from(face)), NONE, NONE],
+        ),
     }
 }

@@ -15,7 +15,7 @@ use history::{
     GameView, Holder, LayRule, OpeningRule, Party, PrivateRule, Refusal, Ruling, RunRule,
     Shareholder, StockRule, TokenRule, TrainRule,
 };
-use map_tables::{Colour, Hex, Lay, printed_colour, tile};
+use map_tables::{Colour, Hex, Lay, Place, printed_colour, tile};
 use order_grammar::{Fault, Order, TrainSource};
 use report::name;
 use sheets::Sheets;
@@ -70,8 +70,19 @@ pub(crate) fn push_refusal_detail<'a>(
     {
         push_cause(out, place, cause)?;
     }
+    push_by_order(alloc, out, ruled, *rule, order)
+}
+
+/// Adds what shows that an order breaks a rule: the text of the order, or what it is ruled by.
+fn push_by_order(
+    alloc: Global,
+    out: &mut Vec<u8>,
+    ruled: Ruled,
+    rule: Refusal,
+    order: &Order,
+) -> Result<(), AllocError> {
     match (rule, order) {
-        (Refusal::Opening(OpeningRule::NotOfOpening), _) => push_of_par(out, ruled, *rule, order),
+        (Refusal::Opening(OpeningRule::NotOfOpening), _) => push_of_par(out, ruled, rule, order),
         (Refusal::Stock(StockRule::NoExchange), _) => push_of_exchange(out, ruled),
         (Refusal::Opening(_) | Refusal::Stock(_) | Refusal::Condition, _) => Ok(()),
         (Refusal::Lay(LayRule::BadSide), Order::Lay(lay)) => push_bad_side(out, *lay),
@@ -86,7 +97,7 @@ pub(crate) fn push_refusal_detail<'a>(
             | Refusal::Private(PrivateRule::CashTooSmall),
             _,
         ) => push_cash(out, ruled),
-        _ => push_by_tables(alloc, out, ruled, *rule, order),
+        _ => push_by_tables(alloc, out, ruled, rule, order),
     }
 }
 
@@ -177,18 +188,10 @@ fn push_by_view(
 ) -> Result<(), AllocError> {
     match (rule, order) {
         (Refusal::Run(RunRule::NoTrack), Order::Run { run, .. }) => {
-            match break_of(&board_at(alloc, ruled.view)?, run.as_slice()) {
-                Some((hex, other)) => push_objection(
-                    out,
-                    ruled.sheets,
-                    Objection::Apart(hex, other),
-                ),
-                None => Ok(()),
-            }
+            push_break(alloc, out, ruled, run.as_slice())
         }
         (Refusal::Token(TokenRule::NoFreeSlot), Order::Token(place)) => {
-            let board = board_at(alloc, ruled.view)?;
-            fill(out, cause_of_slot(&board, *place).words(), &[])
+            push_full(alloc, out, ruled.view, *place)
         }
         (Refusal::Private(PrivateRule::NoConsent), Order::BuyOwnedPrivate { private, .. }) => {
             let reason = Objection::Owner(*private, ruled.view.owner(*private));
@@ -205,9 +208,7 @@ fn push_by_view(
             push_objection(out, ruled.sheets, reason)
         }
         (Refusal::Lay(LayRule::WrongTile), Order::Lay(lay)) => {
-            let hex = lay.hex.text();
-            let colour = Words(colour_of(ruled.view, lay.hex));
-            fill(out, " (% is % now)", &[Bytes(hex.as_slice()), colour])
+            push_colour(out, ruled.view, lay.hex)
         }
         _ => match objection_by_view(ruled.view, ruled.seat, order) {
             Some((code, reason)) if code == rule.code() => push_objection(
@@ -218,6 +219,37 @@ fn push_by_view(
             _ => Ok(()),
         },
     }
+}
+
+/// Adds between which hexes of a run no track leads.
+fn push_break(
+    alloc: Global,
+    out: &mut Vec<u8>,
+    ruled: Ruled,
+    run: &[Place],
+) -> Result<(), AllocError> {
+    match break_of(&board_at(alloc, ruled.view)?, run) {
+        Some((hex, other)) => push_objection(out, ruled.sheets, Objection::Apart(hex, other)),
+        None => Ok(()),
+    }
+}
+
+/// Adds why a place has no free slot.
+fn push_full(
+    alloc: Global,
+    out: &mut Vec<u8>,
+    view: &GameView,
+    place: Place,
+) -> Result<(), AllocError> {
+    let board = board_at(alloc, view)?;
+    fill(out, cause_of_slot(&board, place).words(), &[])
+}
+
+/// Adds the colour of a hex at a moment of the game.
+fn push_colour(out: &mut Vec<u8>, view: &GameView, hex: Hex) -> Result<(), AllocError> {
+    let code = hex.text();
+    let colour = Words(colour_of(view, hex));
+    fill(out, " (% is % now)", &[Bytes(code.as_slice()), colour])
 }
 
 /// Returns the name of the colour of a hex at a moment of the game.

@@ -182,14 +182,7 @@ fn put_private(out: &mut Writer, scene: &Scene, private: Private) {
     put_number(out, Money::from(face(private)));
     put_number(out, if is_sold { 0 } else { price_of(&view, private) });
     put_number(out, Money::from(revenue(private)));
-    out.begin(Tag::Cell);
-    out.within();
-    let mut before = "";
-    for hex in private_hexes(private) {
-        out.put(&[Words(before), Hex(*hex)]);
-        before = " ";
-    }
-    out.end();
+    put_hexes(out, private);
     match view.owner(private) {
         Some(Holder::Seat(seat)) => out.element(Tag::Cell, &[Name(scene.name(seat))]),
         Some(Holder::Company(company)) => out.element(Tag::Cell, &[Words(company.code())]),
@@ -197,6 +190,18 @@ fn put_private(out: &mut Writer, scene: &Scene, private: Private) {
         None => out.element(Tag::Cell, &[Words("unsold")]),
     }
     put_bids(out, scene, private);
+    out.end();
+}
+
+/// Adds a cell with the hexes of a private.
+fn put_hexes(out: &mut Writer, private: Private) {
+    out.begin(Tag::Cell);
+    out.within();
+    let mut before = "";
+    for hex in private_hexes(private) {
+        out.put(&[Words(before), Hex(*hex)]);
+        before = " ";
+    }
     out.end();
 }
 
@@ -241,24 +246,29 @@ pub(crate) fn put_trains(out: &mut Writer, scene: &Scene) {
     );
     out.begin(Tag::TableBody);
     for kind in Kind::ALL {
-        begin_row(out, "");
-        put_row_head(out, &[Words(kind.code())]);
-        match trains_left(&scene.history.now(), kind) {
-            Some(left) => put_number(out, left as Money),
-            None => out.element_as(Tag::Cell, "num", &[Words("any")]),
-        }
-        put_number(out, Money::from(scene.history.trains(None, kind)));
-        put_number(out, Money::from(train(kind).price));
-        match kind.stops() {
-            Some(stops) => out.element(Tag::Cell, &[Number(stops as Money)]),
-            None => out.element(Tag::Cell, &[Words("all")]),
-        }
-        match rusts(kind) {
-            Some(other) => out.element(Tag::Cell, &[Words("at the first "), Words(other.code())]),
-            None => out.element(Tag::Cell, &[Words("never")]),
-        }
-        out.end();
+        put_kind(out, scene, kind);
     }
     out.end();
+    out.end();
+}
+
+/// Adds the row of a kind of train.
+fn put_kind(out: &mut Writer, scene: &Scene, kind: Kind) {
+    begin_row(out, "");
+    put_row_head(out, &[Words(kind.code())]);
+    match trains_left(&scene.history.now(), kind) {
+        Some(left) => put_number(out, left as Money),
+        None => out.element_as(Tag::Cell, "num", &[Words("any")]),
+    }
+    put_number(out, Money::from(scene.history.trains(None, kind)));
+    put_number(out, Money::from(train(kind).price));
+    match kind.stops() {
+        Some(stops) => out.element(Tag::Cell, &[Number(stops as Money)]),
+        None => out.element(Tag::Cell, &[Words("all")]),
+    }
+    match rusts(kind) {
+        Some(other) => out.element(Tag::Cell, &[Words("at the first "), Words(other.code())]),
+        None => out.element(Tag::Cell, &[Words("never")]),
+    }
     out.end();
 }

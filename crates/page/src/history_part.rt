@@ -334,19 +334,24 @@ fn put_figures(out: &mut Writer, scene: &Scene, entries: &[Entry]) {
     end_head(out);
     out.begin(Tag::TableBody);
     for entry in entries {
-        begin_row(out, "");
-        put_row_head(out, &[Round(entry.round)]);
-        for worth in &entry.worths[..scene.seats] {
-            out.element(Tag::Cell, &[Number(*worth)]);
-        }
-        for price in &entry.prices {
-            match price {
-                Some(price) => out.element(Tag::Cell, &[Number(Money::from(*price))]),
-                None => out.element(Tag::Cell, &[Words(NOTHING)]),
-            }
-        }
-        out.end();
+        put_row(out, scene, entry);
     }
     out.end();
+    out.end();
+}
+
+/// Adds the row of the figures after a round.
+fn put_row(out: &mut Writer, scene: &Scene, entry: &Entry) {
+    begin_row(out, "");
+    put_row_head(out, &[Round(entry.round)]);
+    for worth in &entry.worths[..scene.seats] {
+        out.element(Tag::Cell, &[Number(*worth)]);
+    }
+    for price in &entry.prices {
+        match price {
+            Some(price) => out.element(Tag::Cell, &[Number(Money::from(*price))]),
+            None => out.element(Tag::Cell, &[Words(NOTHING)]),
+        }
+    }
     out.end();
 }

@@ -30,14 +30,7 @@ pub(crate) fn put_map(
     out.value(Attr::ViewBox, &[Words("0 0 1302 1040")]);
     out.value(Attr::Role, &[Words("img")]);
     out.element(Tag::Title, &[Words("Map")]);
-    out.begin(Tag::Desc);
-    out.within();
-    out.put(&[Words("Map of the hexes with tiles, tokens and routes")]);
-    if let Some(round) = routes.round {
-        out.put(&[Words(" of "), Round(round)]);
-    }
-    out.put(&[Words(". The tables below have the same in words.")]);
-    out.end();
+    put_description(out, routes);
     put_signs(out);
     put_grounds(out, scene);
     put_tracks(out, scene);
@@ -51,6 +44,18 @@ pub(crate) fn put_map(
     out.end();
     out.end();
     Ok(())
+}
+
+/// Adds what the map shows, in words, with the round of the routes.
+fn put_description(out: &mut Writer, routes: &Routes) {
+    out.begin(Tag::Desc);
+    out.within();
+    out.put(&[Words("Map of the hexes with tiles, tokens and routes")]);
+    if let Some(round) = routes.round {
+        out.put(&[Words(" of "), Round(round)]);
+    }
+    out.put(&[Words(". The tables below have the same in words.")]);
+    out.end();
 }
 
 /// Adds the ground of each hex, with its title.

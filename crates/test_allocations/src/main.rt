@@ -26,7 +26,7 @@ mod texts;
 use call::Call;
 use fault::OutcomeFault;
 use outcome::Outcome;
-use sheets::collect;
+use sheets::{Sheets, collect};
 use std::env;
 use std::process::ExitCode;
 use std::rt::Runtime;
@@ -105,22 +105,27 @@ fn make_on(rt: &HostRuntime, call: Call, file: &str) -> Result<Outcome, OutcomeF
     let Ok(sheets) = collect(rt.alloc(), file.as_bytes()) else {
         return Err(OutcomeFault::Position);
     };
+    make_with(rt, call, &sheets)
+}
+
+/// Makes a call on these sheets.
+fn make_with(rt: &HostRuntime, call: Call, sheets: &Sheets) -> Result<Outcome, OutcomeFault> {
     match call {
-        Call::PlayOpening => rounds_played::plays_opening(rt, &sheets),
-        Call::PlayStock => rounds_played::plays_stock(rt, &sheets),
-        Call::PlayCompany => rounds_played::plays_company(rt, &sheets),
-        Call::Play | Call::PlayConditions => games::plays(rt, &sheets, call),
-        Call::PlayWith => games::plays_with(rt, &sheets),
-        Call::StepOpening => games::steps(rt, &sheets, call, 0),
-        Call::StepStock => games::steps(rt, &sheets, call, 1),
-        Call::StepOperating => games::steps(rt, &sheets, call, 2),
-        Call::StepBest => games::steps(rt, &sheets, call, 4),
-        Call::HeaderText => reports::writes_header(rt, &sheets),
-        Call::NextText => reports::writes_next(rt, &sheets),
-        Call::EndText => reports::writes_end(rt, &sheets),
-        Call::RoundText => reports::writes_round(rt, &sheets),
-        Call::Report => reports::writes_all(rt, &sheets),
-        Call::ReportUnread => reports::writes_unread(rt, &sheets),
+        Call::PlayOpening => rounds_played::plays_opening(rt, sheets),
+        Call::PlayStock => rounds_played::plays_stock(rt, sheets),
+        Call::PlayCompany => rounds_played::plays_company(rt, sheets),
+        Call::Play | Call::PlayConditions => games::plays(rt, sheets, call),
+        Call::PlayWith => games::plays_with(rt, sheets),
+        Call::StepOpening => games::steps(rt, sheets, call, 0),
+        Call::StepStock => games::steps(rt, sheets, call, 1),
+        Call::StepOperating => games::steps(rt, sheets, call, 2),
+        Call::StepBest => games::steps(rt, sheets, call, 4),
+        Call::HeaderText => reports::writes_header(rt, sheets),
+        Call::NextText => reports::writes_next(rt, sheets),
+        Call::EndText => reports::writes_end(rt, sheets),
+        Call::RoundText => reports::writes_round(rt, sheets),
+        Call::Report => reports::writes_all(rt, sheets),
+        Call::ReportUnread => reports::writes_unread(rt, sheets),
         _ => Err(OutcomeFault::Name),
     }
 }

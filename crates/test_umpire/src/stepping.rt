@@ -344,9 +344,13 @@ fn steps_through_a_game(rt: HostRuntime) -> Result<(), Fail> {
     let awaiting = End::Awaiting(Round::Opening(2));
     let ended = Step::Ended(awaiting);
     assert!(rt; shows_nothing_before(rt.alloc(), &sheets)?);
-    assert!(rt; shows(rt.alloc(), &sheets, 1, Step::Played(first), first, None)?);
-    assert!(rt; shows(rt.alloc(), &sheets, 2, ended, first, Some(awaiting))?);
-    assert!(rt; shows(rt.alloc(), &sheets, 3, ended, first, Some(awaiting))?);
+    for (steps, answer, end) in [
+        (1, Step::Played(first), None),
+        (2, ended, Some(awaiting)),
+        (3, ended, Some(awaiting)),
+    ] {
+        assert!(rt; shows(rt.alloc(), &sheets, steps, answer, first, end)?);
+    }
     Ok(())
 }
 

@@ -61,29 +61,29 @@ fn start(rt: &HostRuntime, words: &[String]) -> ExitCode {
 
 /// Returns what the command line says; the error is what to say otherwise.
 fn parse(alloc: Global, words: &[String]) -> Result<Task, Error> {
-    let report = Command::new(alloc, "report").about("Writes the report of the order file");
-    let certs = Command::new(alloc, "certs").about("Writes the certificates of its best runs");
-    let verify = Command::new(alloc, "verify").about(
-        "Writes its report, if the certificates behind it show that its best runs are the best",
-    );
-    let migrate = Command::new(alloc, "migrate").about(
-        "Writes the file of version 2 that it goes over to",
-    );
-    let command = Command::new(alloc, "umpire")
-        .about("Plays 1830 from written order sheets: the order file on standard input")
-        .bin_name("umpire")?
-        .subcommand_required(true)
-        .subcommand(report)?
-        .subcommand(certs)?
-        .subcommand(verify)?
-        .subcommand(migrate)?;
-    let matches = command.try_get_matches_from(words)?;
+    let matches = command(alloc)?.try_get_matches_from(words)?;
     Ok(match matches.subcommand_name() {
         Some("certs") => Task::Certs,
         Some("verify") => Task::Verify,
         Some("migrate") => Task::Migrate,
         _ => Task::Report,
     })
+}
+
+/// Returns the words that the command line may have. Fails if allocation fails.
+fn command<'a>(alloc: Global) -> Result<Command<'a>, AllocError> {
+    Command::new(alloc, "umpire")
+        .about("Plays 1830 from written order sheets: the order file on standard input")
+        .bin_name("umpire")?
+        .subcommand_required(true)
+        .subcommand(Command::new(alloc, "report").about("Writes the report of the order file"))?
+        .subcommand(Command::new(alloc, "certs").about("Writes the certificates of its best runs"))?
+        .subcommand(Command::new(alloc, "verify").about(
+            "Writes its report, if the certificates behind it show that its best runs are the best",
+        ))?
+        .subcommand(Command::new(alloc, "migrate").about(
+            "Writes the file of version 2 that it goes over to",
+        ))
 }
 
 /// Says what is wrong with the command line.
