@@ -43,201 +43,6 @@ pub(crate) enum TrailingClass {
     Places,
 }
 
-/// The forms of lines: those of the file and of the heads of its parts, those of orders, CERT and
-/// CLAIM, and then those of a certificate's text alone. A line spells an order if its words fit a
-/// row.
-const FORMS: [Form; 33] = [
-    Form {
-        keyword: Keyword::Game,
-        classes: &[Class::Number, Class::Number],
-        trailing_class: TrailingClass::Nothing,
-    },
-    Form {
-        keyword: Keyword::Players,
-        classes: &[],
-        trailing_class: TrailingClass::Names {
-            least: PLAYERS_LEAST,
-            most: PLAYERS_MOST,
-        },
-    },
-    Form {
-        keyword: Keyword::Sheet,
-        classes: &[Class::Name, Class::Round],
-        trailing_class: TrailingClass::Nothing,
-    },
-    Form {
-        keyword: Keyword::Turn,
-        classes: &[],
-        trailing_class: TrailingClass::Nothing,
-    },
-    Form {
-        keyword: Keyword::Company,
-        classes: &[Class::Company],
-        trailing_class: TrailingClass::Nothing,
-    },
-    Form {
-        keyword: Keyword::Buy,
-        classes: &[Class::Private],
-        trailing_class: TrailingClass::Nothing,
-    },
-    Form {
-        keyword: Keyword::Buy,
-        classes: &[Class::Company, Class::Word(Keyword::InitialOffering)],
-        trailing_class: TrailingClass::Nothing,
-    },
-    Form {
-        keyword: Keyword::Buy,
-        classes: &[Class::Company, Class::Word(Keyword::Pool)],
-        trailing_class: TrailingClass::Nothing,
-    },
-    Form {
-        keyword: Keyword::Bid,
-        classes: &[Class::Private, Class::Number],
-        trailing_class: TrailingClass::Nothing,
-    },
-    Form {
-        keyword: Keyword::Limit,
-        classes: &[Class::Private, Class::Number],
-        trailing_class: TrailingClass::Nothing,
-    },
-    Form {
-        keyword: Keyword::Par,
-        classes: &[Class::Company, Class::Number],
-        trailing_class: TrailingClass::Nothing,
-    },
-    Form {
-        keyword: Keyword::Sell,
-        classes: &[Class::Company, Class::Number],
-        trailing_class: TrailingClass::Nothing,
-    },
-    Form {
-        keyword: Keyword::Exchange,
-        classes: &[Class::Word(Keyword::Mohawk)],
-        trailing_class: TrailingClass::Nothing,
-    },
-    Form {
-        keyword: Keyword::Lay,
-        classes: &[Class::Tile, Class::Hex, Class::Rotation],
-        trailing_class: TrailingClass::Nothing,
-    },
-    Form {
-        keyword: Keyword::Lay,
-        classes: &[
-            Class::Tile,
-            Class::Hex,
-            Class::Rotation,
-            Class::Word(Keyword::Swap),
-        ],
-        trailing_class: TrailingClass::Nothing,
-    },
-    Form {
-        keyword: Keyword::Token,
-        classes: &[Class::Place],
-        trailing_class: TrailingClass::Nothing,
-    },
-    Form {
-        keyword: Keyword::Run,
-        classes: &[Class::Kind],
-        trailing_class: TrailingClass::Places,
-    },
-    Form {
-        keyword: Keyword::Run,
-        classes: &[Class::Word(Keyword::Best)],
-        trailing_class: TrailingClass::Nothing,
-    },
-    Form {
-        keyword: Keyword::Pay,
-        classes: &[],
-        trailing_class: TrailingClass::Nothing,
-    },
-    Form {
-        keyword: Keyword::Withhold,
-        classes: &[],
-        trailing_class: TrailingClass::Nothing,
-    },
-    Form {
-        keyword: Keyword::Train,
-        classes: &[Class::Kind, Class::Word(Keyword::Bank)],
-        trailing_class: TrailingClass::Nothing,
-    },
-    Form {
-        keyword: Keyword::Train,
-        classes: &[
-            Class::Kind,
-            Class::Word(Keyword::Bank),
-            Class::Word(Keyword::Trade),
-            Class::Kind,
-        ],
-        trailing_class: TrailingClass::Nothing,
-    },
-    Form {
-        keyword: Keyword::Train,
-        classes: &[Class::Kind, Class::Word(Keyword::Pool)],
-        trailing_class: TrailingClass::Nothing,
-    },
-    Form {
-        keyword: Keyword::Train,
-        classes: &[Class::Kind, Class::Company, Class::Number],
-        trailing_class: TrailingClass::Nothing,
-    },
-    Form {
-        keyword: Keyword::Discard,
-        classes: &[Class::Company, Class::Kind],
-        trailing_class: TrailingClass::Nothing,
-    },
-    Form {
-        keyword: Keyword::Private,
-        classes: &[Class::Private, Class::Number],
-        trailing_class: TrailingClass::Nothing,
-    },
-    Form {
-        keyword: Keyword::Raise,
-        classes: &[Class::Company, Class::Number],
-        trailing_class: TrailingClass::Nothing,
-    },
-    Form {
-        keyword: Keyword::Offer,
-        classes: &[
-            Class::Word(Keyword::Private),
-            Class::Private,
-            Class::Company,
-            Class::Number,
-        ],
-        trailing_class: TrailingClass::Nothing,
-    },
-    Form {
-        keyword: Keyword::Offer,
-        classes: &[
-            Class::Word(Keyword::Train),
-            Class::Kind,
-            Class::Company,
-            Class::Company,
-            Class::Number,
-        ],
-        trailing_class: TrailingClass::Nothing,
-    },
-    Form {
-        keyword: Keyword::Cert,
-        classes: &[Class::Round, Class::Company, Class::Number],
-        trailing_class: TrailingClass::Nothing,
-    },
-    Form {
-        keyword: Keyword::Claim,
-        classes: &[Class::Kind],
-        trailing_class: TrailingClass::Places,
-    },
-    Form {
-        keyword: Keyword::Certs,
-        classes: &[Class::Word(Keyword::One)],
-        trailing_class: TrailingClass::Nothing,
-    },
-    Form {
-        keyword: Keyword::Marks,
-        classes: &[Class::HexDigits],
-        trailing_class: TrailingClass::Nothing,
-    },
-];
-
 /// Which forms a line may have.
 #[derive(Clone, Copy)]
 pub(crate) enum Grammar {
@@ -291,37 +96,76 @@ impl Grammar {
     }
 }
 
-/// Returns all forms whose first word is a keyword.
+/// A form: its first word, the classes of the words after it, and after a semicolon the class that
+/// is repeated at the end.
+macro_rules! form {
+    ($keyword:ident) => { form!($keyword: ; TrailingClass::Nothing) };
+    ($keyword:ident: $($class:expr),+) => { form!($keyword: $($class),+; TrailingClass::Nothing) };
+    ($keyword:ident: $($class:expr),*; $trailing_class:expr) => {
+        Form {
+            keyword: Keyword::$keyword,
+            classes: &[$($class),*],
+            trailing_class: $trailing_class,
+        }
+    };
+}
+
+/// Returns all forms whose first word is a keyword. These are the forms of lines: those of the file
+/// and of the heads of its parts, those of orders, CERT and CLAIM, and then those of a
+/// certificate's text alone. A line spells an order if its words fit a form.
 fn forms_with(keyword: Keyword) -> &'static [Form]
     ensures rows { map row_of result.now ≡ rows_with keyword forms }
     ensures short { IsTrue (list_all is_short_row (map row_of result.now)) }
 {
     match keyword {
-        Keyword::Game => &FORMS[..1],
-        Keyword::Players => &FORMS[1..2],
-        Keyword::Sheet => &FORMS[2..3],
-        Keyword::Turn => &FORMS[3..4],
-        Keyword::Company => &FORMS[4..5],
-        Keyword::Buy => &FORMS[5..8],
-        Keyword::Bid => &FORMS[8..9],
-        Keyword::Limit => &FORMS[9..10],
-        Keyword::Par => &FORMS[10..11],
-        Keyword::Sell => &FORMS[11..12],
-        Keyword::Exchange => &FORMS[12..13],
-        Keyword::Lay => &FORMS[13..15],
-        Keyword::Token => &FORMS[15..16],
-        Keyword::Run => &FORMS[16..18],
-        Keyword::Pay => &FORMS[18..19],
-        Keyword::Withhold => &FORMS[19..20],
-        Keyword::Train => &FORMS[20..24],
-        Keyword::Discard => &FORMS[24..25],
-        Keyword::Private => &FORMS[25..26],
-        Keyword::Raise => &FORMS[26..27],
-        Keyword::Offer => &FORMS[27..29],
-        Keyword::Cert => &FORMS[29..30],
-        Keyword::Claim => &FORMS[30..31],
-        Keyword::Certs => &FORMS[31..32],
-        Keyword::Marks => &FORMS[32..],
+        Keyword::Game => &[form!(Game: Class::Number, Class::Number)],
+        Keyword::Players => &[
+            form!(Players: ; TrailingClass::Names { least: PLAYERS_LEAST, most: PLAYERS_MOST }),
+        ],
+        Keyword::Sheet => &[form!(Sheet: Class::Name, Class::Round)],
+        Keyword::Turn => &[form!(Turn)],
+        Keyword::Company => &[form!(Company: Class::Company)],
+        Keyword::Buy => &[
+            form!(Buy: Class::Private),
+            form!(Buy: Class::Company, Class::Word(Keyword::InitialOffering)),
+            form!(Buy: Class::Company, Class::Word(Keyword::Pool)),
+        ],
+        Keyword::Bid => &[form!(Bid: Class::Private, Class::Number)],
+        Keyword::Limit => &[form!(Limit: Class::Private, Class::Number)],
+        Keyword::Par => &[form!(Par: Class::Company, Class::Number)],
+        Keyword::Sell => &[form!(Sell: Class::Company, Class::Number)],
+        Keyword::Exchange => &[form!(Exchange: Class::Word(Keyword::Mohawk))],
+        Keyword::Lay => &[
+            form!(Lay: Class::Tile, Class::Hex, Class::Rotation),
+            form!(Lay: Class::Tile, Class::Hex, Class::Rotation, Class::Word(Keyword::Swap)),
+        ],
+        Keyword::Token => &[form!(Token: Class::Place)],
+        Keyword::Run => &[
+            form!(Run: Class::Kind; TrailingClass::Places),
+            form!(Run: Class::Word(Keyword::Best)),
+        ],
+        Keyword::Pay => &[form!(Pay)],
+        Keyword::Withhold => &[form!(Withhold)],
+        Keyword::Train => &[
+            form!(Train: Class::Kind, Class::Word(Keyword::Bank)),
+            form!(Train: Class::Kind, Class::Word(Keyword::Bank), Class::Word(Keyword::Trade),
+                Class::Kind),
+            form!(Train: Class::Kind, Class::Word(Keyword::Pool)),
+            form!(Train: Class::Kind, Class::Company, Class::Number),
+        ],
+        Keyword::Discard => &[form!(Discard: Class::Company, Class::Kind)],
+        Keyword::Private => &[form!(Private: Class::Private, Class::Number)],
+        Keyword::Raise => &[form!(Raise: Class::Company, Class::Number)],
+        Keyword::Offer => &[
+            form!(Offer: Class::Word(Keyword::Private), Class::Private, Class::Company,
+                Class::Number),
+            form!(Offer: Class::Word(Keyword::Train), Class::Kind, Class::Company, Class::Company,
+                Class::Number),
+        ],
+        Keyword::Cert => &[form!(Cert: Class::Round, Class::Company, Class::Number)],
+        Keyword::Claim => &[form!(Claim: Class::Kind; TrailingClass::Places)],
+        Keyword::Certs => &[form!(Certs: Class::Word(Keyword::One))],
+        Keyword::Marks => &[form!(Marks: Class::HexDigits)],
         _ => &[],
     }
 }

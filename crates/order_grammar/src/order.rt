@@ -13,7 +13,7 @@ use map_tables::{Hex, Lay, Place, Rotation, Run, TileNo};
 use tables::{Amount, Company, Kind, PLAYERS_MOST, Private, Round};
 
 /// What a line orders or says, in an order file or in the text of a certificate.
-#[derive(Debug, Drop, PartialEq, Eq)]
+#[derive(Drop)]
 pub enum Order {
     /// A line without words.
     Blank,
@@ -429,32 +429,36 @@ fn put_amount(keyword: Keyword, values: &[Value], order: &mut Order) -> bool
     requires { IsOfAmount keyword }
     ensures { put_if result order.new ≡ order_from keyword values.now Nothing }
 {
-    *order = match (keyword, values) {
-        (Keyword::Bid, [Value::Private(private), Value::Number(amount)]) => Order::Bid {
-            private: *private,
-            amount: *amount,
+    let [subject, Value::Number(number)] = values else {
+        return false;
+    };
+    let number = *number;
+    *order = match (keyword, *subject) {
+        (Keyword::Bid, Value::Private(private)) => Order::Bid {
+            private,
+            amount: number,
         },
-        (Keyword::Limit, [Value::Private(private), Value::Number(amount)]) => Order::Limit {
-            private: *private,
-            amount: *amount,
+        (Keyword::Limit, Value::Private(private)) => Order::Limit {
+            private,
+            amount: number,
         },
-        (Keyword::Par, [Value::Company(company), Value::Number(price)]) => Order::Par {
-            company: *company,
-            price: *price,
+        (Keyword::Par, Value::Company(company)) => Order::Par {
+            company,
+            price: number,
         },
-        (Keyword::Private, [Value::Private(private), Value::Number(price)]) => {
+        (Keyword::Private, Value::Private(private)) => {
             Order::BuyOwnedPrivate {
-                private: *private,
-                price: *price,
+                private,
+                price: number,
             }
         }
-        (Keyword::Sell, [Value::Company(company), Value::Number(shares)]) => Order::Sell {
-            company: *company,
-            shares: *shares,
+        (Keyword::Sell, Value::Company(company)) => Order::Sell {
+            company,
+            shares: number,
         },
-        (Keyword::Raise, [Value::Company(company), Value::Number(shares)]) => Order::Raise {
-            company: *company,
-            shares: *shares,
+        (Keyword::Raise, Value::Company(company)) => Order::Raise {
+            company,
+            shares: number,
         },
         _ => return false,
     };

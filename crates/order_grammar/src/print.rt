@@ -1,4 +1,4 @@
-ghost use Rattle.std.specs.Prelude.{◌≡◌, ◌++◌, ◌∷◌, [], IfOk, List, OnErr, OnOk};
+ghost use Rattle.std.specs.Prelude.{◌≡◌, ◌++◌, ◌∷◌, [], false, IfOk, List, OnErr, OnOk};
 ghost use Rattle.std.specs.Option.{option_copied};
 ghost use Rattle.map_tables.specs.Text.{text_of_place};
 ghost use Rattle.map_tables.specs.declared.place.Place.{Place as MapPlace};
@@ -7,7 +7,7 @@ ghost use Rattle.order_grammar.specs.Keyword.{text_of_keyword};
 ghost use Rattle.order_grammar.specs.Print.{AddsPrefix, condition_text, conditional_spelling, joined, places_line};
 ghost use Rattle.order_grammar.specs.Print.{places_text, spaced, spelling_of, text_of_round, text_of_value};
 ghost use Rattle.order_grammar.specs.Print.{values_text, words_text};
-ghost use Rattle.order_grammar.specs.Short.{order_in_short};
+ghost use Rattle.order_grammar.specs.Short.{has_short_form, order_in_short};
 ghost use Rattle.order_grammar.specs.declared.keyword.Keyword.TheVariants.{If, Players};
 ghost use Rattle.order_grammar.specs.declared.order.Order.TheVariants.{BuyTrain, Lay as LayOrder, Offer as OfferOrder};
 ghost use Rattle.order_grammar.specs.declared.order.Order.TheVariants.{Run};
@@ -100,8 +100,19 @@ pub fn print_order(text: &mut Vec<u8>, order: &Order) -> Result<(), AllocError>
     ensures ok { OnOk result (text.new.items ≡ text.old.items ++ spelling_of order.now) }
     ensures err { OnErr result (AddsPrefix text.old.items text.new.items (spelling_of order.now)) }
 {
+    match ShortOrder::of(order) {
+        Some(short) => print_short_order(text, short),
+        None => print_other_order(text, order),
+    }
+}
+
+/// Adds the spelling of an order that has no short form.
+fn print_other_order(text: &mut Vec<u8>, order: &Order) -> Result<(), AllocError>
+    requires { has_short_form order.now ≡ false }
+    ensures ok { OnOk result (text.new.items ≡ text.old.items ++ spelling_of order.now) }
+    ensures err { OnErr result (AddsPrefix text.old.items text.new.items (spelling_of order.now)) }
+{
     match order {
-        Order::Blank => Ok(()),
         Order::Game { game, version } => {
             let numbers = [Value::Number(*game), Value::Number(*version)];
             print_words(text, Keyword::Game, &numbers)
@@ -112,54 +123,10 @@ pub fn print_order(text: &mut Vec<u8>, order: &Order) -> Result<(), AllocError>
             print_words(text, Keyword::Sheet, &head)
         }
         Order::Turn => print_words(text, Keyword::Turn, &[]),
-        Order::BuyPrivate(private) => print_short_order(text, ShortOrder::BuyPrivate(*private)),
-        Order::Bid { private, amount } => {
-            let (private, amount) = (*private, *amount);
-            print_short_order(text, ShortOrder::Bid { private, amount })
-        }
-        Order::Limit { private, amount } => {
-            let (private, amount) = (*private, *amount);
-            print_short_order(text, ShortOrder::Limit { private, amount })
-        }
-        Order::Par { company, price } => {
-            let (company, price) = (*company, *price);
-            print_short_order(text, ShortOrder::Par { company, price })
-        }
-        Order::BuyShare { company, from } => {
-            let (company, from) = (*company, *from);
-            print_short_order(text, ShortOrder::BuyShare { company, from })
-        }
-        Order::Sell { company, shares } => {
-            let (company, shares) = (*company, *shares);
-            print_short_order(text, ShortOrder::Sell { company, shares })
-        }
-        Order::ExchangeMohawk => print_short_order(text, ShortOrder::ExchangeMohawk),
         Order::Company(company) => {
             print_words(text, Keyword::Company, &[Value::Company(*company)])
         }
-        Order::Lay(lay) => print_short_order(text, ShortOrder::Lay(*lay)),
-        Order::Token(place) => print_short_order(text, ShortOrder::Token(*place)),
         Order::Run { kind, run } => print_of_places(text, Keyword::Run, *kind, run.as_slice()),
-        Order::RunBest => print_short_order(text, ShortOrder::RunBest),
-        Order::Pay => print_short_order(text, ShortOrder::Pay),
-        Order::Withhold => print_short_order(text, ShortOrder::Withhold),
-        Order::BuyTrain { kind, from } => {
-            let (kind, from) = (*kind, *from);
-            print_short_order(text, ShortOrder::BuyTrain { kind, from })
-        }
-        Order::Discard { company, kind } => {
-            let (company, kind) = (*company, *kind);
-            print_short_order(text, ShortOrder::Discard { company, kind })
-        }
-        Order::BuyOwnedPrivate { private, price } => {
-            let (private, price) = (*private, *price);
-            print_short_order(text, ShortOrder::BuyOwnedPrivate { private, price })
-        }
-        Order::Raise { company, shares } => {
-            let (company, shares) = (*company, *shares);
-            print_short_order(text, ShortOrder::Raise { company, shares })
-        }
-        Order::Offer(offer) => print_short_order(text, ShortOrder::Offer(*offer)),
         Order::Certs => print_words(text, Keyword::Certs, &[Value::Word(Keyword::One)]),
         Order::Cert {
             round,
@@ -175,6 +142,8 @@ pub fn print_order(text: &mut Vec<u8>, order: &Order) -> Result<(), AllocError>
         }
         Order::Claim { kind, run } => print_of_places(text, Keyword::Claim, *kind, run.as_slice()),
         Order::Marks => print_words(text, Keyword::Marks, &[Value::HexDigits]),
+        // A line without words; the rest has a short form.
+        _ => Ok(()),
     }
 }
 
