@@ -60,7 +60,7 @@ impl Party {
 }
 
 /// What happened, as one line of the report.
-#[derive(Debug, Drop)]
+#[derive(Drop)]
 pub enum Event {
     /// A round begins.
     Round(Round),
@@ -246,7 +246,7 @@ pub enum TrainSeller {
 }
 
 /// Money that an event moves.
-#[derive(Clone, Copy, Debug, PartialEq, Eq)]
+#[derive(Clone, Copy)]
 pub struct Payment {
     /// Who pays.
     pub from: Party,
@@ -281,7 +281,7 @@ impl Payment {
 }
 
 /// What an event says of a private.
-#[derive(Clone, Copy, Debug, PartialEq, Eq)]
+#[derive(Clone, Copy)]
 pub struct Ownership {
     /// The private.
     pub private: Private,
@@ -290,7 +290,7 @@ pub struct Ownership {
 }
 
 /// A bid of a seat.
-#[derive(Clone, Copy, Debug, PartialEq, Eq)]
+#[derive(Clone, Copy)]
 pub struct Bid {
     /// Who bids.
     pub seat: Seat,
@@ -310,7 +310,7 @@ impl Default for Bid {
 }
 
 /// What an event says of the bids on a private.
-#[derive(Clone, Copy, Debug, PartialEq, Eq)]
+#[derive(Clone, Copy)]
 pub enum Bidding {
     /// A bid on a private, which replaces an older one of that seat.
     Made(Private, Bid),
@@ -342,7 +342,7 @@ impl Shareholder {
 }
 
 /// Shares of a company that an event moves.
-#[derive(Clone, Copy, Debug, PartialEq, Eq)]
+#[derive(Clone, Copy)]
 pub struct Transfer {
     /// The company.
     pub company: Company,
@@ -355,7 +355,7 @@ pub struct Transfer {
 }
 
 /// A company's par value that an event sets.
-#[derive(Clone, Copy, Debug, PartialEq, Eq)]
+#[derive(Clone, Copy)]
 pub struct ParValue {
     /// The company.
     pub company: Company,
@@ -364,7 +364,7 @@ pub struct ParValue {
 }
 
 /// A company's square on the stock market that an event sets.
-#[derive(Clone, Copy, Debug, PartialEq, Eq)]
+#[derive(Clone, Copy)]
 pub struct Placement {
     /// The company.
     pub company: Company,
@@ -373,7 +373,7 @@ pub struct Placement {
 }
 
 /// A company's presidency that an event sets.
-#[derive(Clone, Copy, Debug, PartialEq, Eq)]
+#[derive(Clone, Copy)]
 pub struct Office {
     /// The company.
     pub company: Company,
@@ -382,7 +382,7 @@ pub struct Office {
 }
 
 /// Where a train lies.
-#[derive(Clone, Copy, Debug, PartialEq, Eq)]
+#[derive(Clone, Copy)]
 pub enum TrainPlace {
     /// With the bank, never sold yet.
     Bank,
@@ -418,7 +418,7 @@ impl TrainPlace {
 }
 
 /// A train that an event moves.
-#[derive(Clone, Copy, Debug, PartialEq, Eq)]
+#[derive(Clone, Copy)]
 pub struct TrainMove {
     /// Its kind.
     pub kind: Kind,

@@ -26,27 +26,27 @@ use tables::{Amount, Company, Kind, Private, par_square};
 
 /// An order that is to be ruled, with its condition if it has one, in few bytes; in a contract it
 /// is the two.
-#[derive(Debug, Drop)]
+#[derive(Drop)]
 pub struct PackedLine {
     packed: PackedForm,
 }
 
 /// An order without a condition, or one under a condition in a box.
-#[derive(Debug, Drop)]
+#[derive(Drop)]
 enum PackedForm {
     Plain(PackedOrder),
     Conditional(Box<PackedConditional>),
 }
 
 /// An order under its condition.
-#[derive(Debug, Drop)]
+#[derive(Drop)]
 struct PackedConditional {
     condition: Condition,
     order: PackedOrder,
 }
 
 /// An order of few bytes, a run of few places, any other run in a box, or any other order in a box.
-#[derive(Debug, Drop)]
+#[derive(Drop)]
 enum PackedOrder {
     Short(ShortOrder),
     ShortRun { kind: Kind, run: ShortRun },
@@ -148,13 +148,13 @@ impl PackedOrder {
 }
 
 /// A ruling as an event keeps it, in few bytes; in a contract it is the ruling.
-#[derive(Debug, Drop)]
+#[derive(Drop)]
 pub struct PackedRuling {
     packed: PackedRulingForm,
 }
 
 /// What became of an order.
-#[derive(Clone, Copy, Debug)]
+#[derive(Clone, Copy)]
 enum OrderVerdict {
     Obeyed,
     Refused(Refusal),
@@ -172,7 +172,7 @@ impl OrderVerdict {
 }
 
 /// A packed order with its verdict, or what is wrong with the line.
-#[derive(Debug, Drop)]
+#[derive(Drop)]
 enum PackedRulingForm {
     Short {
         verdict: OrderVerdict,

@@ -5,14 +5,14 @@ use map_tables::{Hex, Place, StopNumber};
 use std::marker::Model;
 
 /// A place in two bytes.
-#[derive(Clone, Copy, Debug)]
+#[derive(Clone, Copy)]
 pub(crate) struct PackedPlace {
     hex: Hex,
     stop: PackedStop,
 }
 
 /// The stop that a place names, if it names one, in one byte.
-#[derive(Clone, Copy, Debug)]
+#[derive(Clone, Copy)]
 pub(crate) enum PackedStop {
     None,
     First,

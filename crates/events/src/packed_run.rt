@@ -11,7 +11,7 @@ use std::alloc::{AllocError, Global};
 use std::marker::Model;
 
 /// A run of two to five places.
-#[derive(Clone, Copy, Debug)]
+#[derive(Clone, Copy)]
 pub(crate) enum ShortRun {
     Two([PackedPlace; 2]),
     Three([PackedPlace; 3]),
@@ -71,7 +71,7 @@ impl ShortRun {
 }
 
 /// The places of a run, in order, in a block of exactly their number.
-#[derive(Debug, Drop)]
+#[derive(Drop)]
 pub(crate) struct LongRun {
     places: Vec<PackedPlace>,
 }

@@ -449,7 +449,7 @@ impl Printed for PrivateRule {
 }
 
 /// What became of a line that was taken up.
-#[derive(Debug, Drop)]
+#[derive(Drop)]
 pub enum Ruling {
     /// The order was carried out; its condition held, if it has one.
     Obeyed {
@@ -467,7 +467,7 @@ pub enum Ruling {
 }
 
 /// What became of a line, without its order.
-#[derive(Clone, Copy, Debug, PartialEq, Eq)]
+#[derive(Clone, Copy)]
 pub enum Verdict {
     /// The order was carried out.
     Obeyed,

@@ -22,7 +22,7 @@ use std::marker::Model;
 use turns::record_packed;
 
 /// A RAISE of a company's orders that is held over to the end of the turn, in few bytes.
-#[derive(Debug, Drop)]
+#[derive(Drop)]
 pub struct HeldRaise {
     line: ReadLine,
     sale: Sale,

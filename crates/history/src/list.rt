@@ -25,7 +25,7 @@ use totals::{GameView, ShareCount, TrainCount};
 /// A game: the number of its seats and the list of its events, oldest first. Beside the list it
 /// keeps its totals, the tiles and the tokens that lie on the map, and the sales that were offered
 /// in the round. It is passed by value, so it has few bytes.
-#[derive(Debug, Drop)]
+#[derive(Drop)]
 pub struct History {
     seats: usize,
     events: Vec<Event>,

@@ -8,7 +8,7 @@ use totals::{GameView, Totals};
 
 /// A list of events, the first of which were passed, and the totals of those. A reader who looks at
 /// a game as it stood, and then at the same game later, applies each event once.
-#[derive(Clone, Copy, Debug)]
+#[derive(Clone, Copy)]
 pub struct Walk<'a> {
     /// All events.
     pub events: &'a [Event],

@@ -24,7 +24,7 @@ const _: () = prove!(size_of::<Line>() <= 1024);
 const _: () = prove!(size_of::<Words>() <= 1024);
 
 /// A line that was read: its order with its condition, and its words as they are written.
-#[derive(Debug, Drop)]
+#[derive(Drop)]
 pub struct Line<'a> {
     pub condition: Option<Condition>,
     pub order: Order,

@@ -7,7 +7,7 @@ use tables::{Amount, Company, Kind, Private};
 
 /// An order of play that needs few bytes: any but a run through places. (An `Order` has room for a
 /// run.)
-#[derive(Clone, Copy, Debug, PartialEq, Eq)]
+#[derive(Clone, Copy)]
 pub enum ShortOrder {
     BuyPrivate(Private),
     Bid { private: Private, amount: Amount },

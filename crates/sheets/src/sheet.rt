@@ -59,7 +59,7 @@ impl<'a> Sheet<'a> {
 }
 
 /// A line of a sheet.
-#[derive(Debug, Drop)]
+#[derive(Drop)]
 pub struct NumberedLine<'a> {
     /// Its number in the sheet, from 1; blank lines have none.
     pub number: u32,

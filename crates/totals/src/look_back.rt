@@ -19,7 +19,7 @@ use order_grammar::Offer;
 use tables::{Amount, Money, Private, Round, Seat, bank_start, face, start_money};
 
 /// A list of events with the number of seats: a game as it stood after them.
-#[derive(Clone, Copy, Debug)]
+#[derive(Clone, Copy)]
 pub struct GameView<'a> {
     /// How many seats there are.
     pub seats: usize,
