@@ -64,32 +64,52 @@ pub fn push_objection(
         Objection::Best => fill(out, "; RUN BEST stands above it", &[]),
         Objection::Stops(hex) => push_stops(out, hex),
         Objection::NoCity(hex) => fill(out, "; % has no city", &[Bytes(hex.text().as_slice())]),
-        Objection::Apart(hex, other) => {
-            let (hex, other) = (hex.text(), other.text());
-            let pieces = [Bytes(hex.as_slice()), Bytes(other.as_slice())];
-            fill(out, "; no track leads from % to %", &pieces)
-        }
+        Objection::Apart(hex, other) => push_apart(out, hex, other),
         Objection::Kind(lay) => push_kinds(out, lay),
         Objection::Side(side, beyond) => push_side(out, side, beyond),
         Objection::NotBaltimore => fill(out, "; write it in a stock round, or write BO", &[]),
         Objection::NoPar => fill(out, "; write 100, 90, 82, 76, 71 or 67", &[]),
         Objection::Owner(private, owner) => {
-            let owner = match owner {
-                Some(Holder::Seat(seat)) => who(sheets, Some(seat)),
-                Some(Holder::Company(company)) => Words(company.code()),
-                None => Words("nobody"),
-            };
-            fill(out, "; % owns %", &[owner, Words(private.code())])
+            push_two(out, "; % owns %", owned_by(sheets, owner), private.code())
         }
         Objection::President(company, president) => {
-            let pieces = [who(sheets, president), Words(company.code())];
-            fill(out, "; % presides over %", &pieces)
+            push_two(
+                out,
+                "; % presides over %",
+                who(sheets, president),
+                company.code(),
+            )
         }
         Objection::NoTrain(company, kind) => {
-            let pieces = [Words(company.code()), Words(kind.code())];
-            fill(out, "; % has no %", &pieces)
+            push_two(out, "; % has no %", Words(company.code()), kind.code())
         }
     }
+}
+
+/// Adds words with two things in them.
+fn push_two(
+    out: &mut Vec<u8>,
+    words: &str,
+    first: Piece,
+    second: &'static str,
+) -> Result<(), AllocError> {
+    fill(out, words, &[first, Words(second)])
+}
+
+/// Returns whom a private belongs to.
+fn owned_by<'a>(sheets: &'a Sheets, owner: Option<Holder>) -> Piece<'a> {
+    match owner {
+        Some(Holder::Seat(seat)) => who(sheets, Some(seat)),
+        Some(Holder::Company(company)) => Words(company.code()),
+        None => Words("nobody"),
+    }
+}
+
+/// Adds that two hexes are not joined.
+fn push_apart(out: &mut Vec<u8>, hex: Hex, other: Hex) -> Result<(), AllocError> {
+    let (hex, other) = (hex.text(), other.text());
+    let pieces = [Bytes(hex.as_slice()), Bytes(other.as_slice())];
+    fill(out, "; no track leads from % to %", &pieces)
 }
 
 /// Adds how the stops of a hex are named.

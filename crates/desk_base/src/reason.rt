@@ -86,6 +86,12 @@ fn push_refusals(reasons: &mut Vec<Reason>) -> Result<(), AllocError> {
     for row in StockRule::rows() {
         reasons.push(Reason::Order(Refusal::Stock(row.rule)))?;
     }
+    push_refusals_on_the_map(reasons)?;
+    push_refusals_of_trades(reasons)
+}
+
+/// Adds each rule of lays, tokens and runs.
+fn push_refusals_on_the_map(reasons: &mut Vec<Reason>) -> Result<(), AllocError> {
     for row in LayRule::rows() {
         reasons.push(Reason::Order(Refusal::Lay(row.rule)))?;
     }
@@ -95,6 +101,11 @@ fn push_refusals(reasons: &mut Vec<Reason>) -> Result<(), AllocError> {
     for row in RunRule::rows() {
         reasons.push(Reason::Order(Refusal::Run(row.rule)))?;
     }
+    Ok(())
+}
+
+/// Adds each rule of payments, trains and privates.
+fn push_refusals_of_trades(reasons: &mut Vec<Reason>) -> Result<(), AllocError> {
     for row in PayRule::rows() {
         reasons.push(Reason::Order(Refusal::Pay(row.rule)))?;
     }

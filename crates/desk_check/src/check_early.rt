@@ -35,16 +35,12 @@ pub(crate) fn look_at_lines<'a>(
         if !heads.counts(head) {
             continue;
         }
-        let round = head.sent.round;
-        let is_played = rounds.line(round).is_some();
-        let is_last = last == Some(round);
-        if !is_played && !find_when(head, game, found)? {
-            continue;
+        let is_played = rounds.line(head.sent.round).is_some();
+        let is_last = last == Some(head.sent.round);
+        let can_come = is_played || find_when(head, game, found)?;
+        if can_come && is_looked_at(all, is_played, is_last) {
+            look_by_game(head, game, &before_last, is_last, found)?;
         }
-        if !is_looked_at(all, is_played, is_last) {
-            continue;
-        }
-        look_by_game(head, game, &before_last, is_last, found)?;
     }
     Ok(())
 }

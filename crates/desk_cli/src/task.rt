@@ -130,6 +130,84 @@ enum Operand {
     Players,
 }
 
+/// How what stands behind a word is given.
+#[derive(Clone, Copy)]
+enum Form {
+    /// `--` and its name.
+    Flag,
+    /// `--`, its name, and after it what the help calls by this name.
+    Option(&'static str),
+    /// A word that may be left out.
+    Word,
+    /// A word that may not be left out.
+    NeededWord,
+    /// Any number of words.
+    Words,
+}
+
+impl Operand {
+    /// Returns its name, how it is given, and its help.
+    fn row(self) -> (&'static str, Form, &'static str) {
+        match self {
+            Operand::Round => (
+                "ROUND",
+                Form::Word,
+                "The round, as OR2.1; the last one if none is named",
+            ),
+            Operand::Why => (
+                "why",
+                Form::Flag,
+                "Put under each refused line what rule it broke",
+            ),
+            Operand::Before => ("before", Form::Flag, "As it stood before that round"),
+            Operand::All => ("all", Form::Flag, "Tell all that there is"),
+            Operand::From => (
+                "from",
+                Form::Option("LINE"),
+                "Tell only what begins on this line of the file or below it",
+            ),
+            Operand::Codes => (
+                "CODE",
+                Form::Words,
+                "The codes, as G3; a list of them all if none is named",
+            ),
+            Operand::Lines => (
+                "lines",
+                Form::Flag,
+                "Write order lines, each with four spaces and its price",
+            ),
+            Operand::Best => (
+                "best",
+                Form::Flag,
+                "Tell what the company's best runs would earn after each",
+            ),
+            Operand::Tiles => (
+                "tiles",
+                Form::Flag,
+                "Write all tiles in their six rotations, without a game",
+            ),
+            Operand::After => (
+                "after",
+                Form::Option("ROUND"),
+                "As it stood after this round, as OR2.1",
+            ),
+            Operand::Company => ("COMPANY", Form::NeededWord, "The company, as PRR"),
+            Operand::Hex => ("HEX", Form::NeededWord, "The hex, as H10"),
+            Operand::Trains => (
+                "TRAIN",
+                Form::Words,
+                "The trains, as 4 4 D; those that it has if none is named",
+            ),
+            Operand::Player => ("PLAYER", Form::NeededWord, "The player's name"),
+            Operand::Players => (
+                "PLAYER",
+                Form::Words,
+                "Those who owe a sheet; the trial fails if somebody else does too",
+            ),
+        }
+    }
+}
+
 /// The words, as the help lists them.
 static WORDS: [Word; 12] = [
     Word {
@@ -238,17 +316,24 @@ pub(crate) fn asked_by<'a>(alloc: Global, words: &'a [String]) -> Result<Asked<'
 
 /// Returns what a command line may ask for.
 fn command_line<'a>(alloc: Global) -> Result<Command<'a>, AllocError> {
-    let mut command = Command::new(alloc, "desk")
-        .about(
-            "Tells of a game of 1830 what stands around its report: the order file on standard input",
-        )
-        .version(VERSION)
-        .bin_name("desk")?
-        .subcommand_required(true);
+    let mut command = program(alloc)?;
     for word in &WORDS {
         command = command.subcommand(command_of(alloc, word)?)?;
     }
     Ok(command)
+}
+
+/// Returns the program without its words.
+fn program<'a>(alloc: Global) -> Result<Command<'a>, AllocError> {
+    Ok(
+        Command::new(alloc, "desk")
+            .about(
+                "Tells of a game of 1830 what stands around its report: the order file on standard input",
+            )
+            .version(VERSION)
+            .bin_name("desk")?
+            .subcommand_required(true),
+    )
 }
 
 /// Returns a word with what may follow it.
@@ -264,57 +349,15 @@ fn command_of<'a>(alloc: Global, word: &'static Word) -> Result<Command<'a>, All
 
 /// Returns what may follow a word, with its help.
 fn argument_of<'a>(alloc: Global, operand: Operand) -> Arg<'a> {
-    match operand {
-        Operand::Round => {
-            Arg::new(alloc, "ROUND").help("The round, as OR2.1; the last one if none is named")
-        }
-        Operand::Why => flag(alloc, "why").help("Put under each refused line what rule it broke"),
-        Operand::Before => flag(alloc, "before").help("As it stood before that round"),
-        Operand::All => flag(alloc, "all").help("Tell all that there is"),
-        Operand::From => Arg::new(alloc, "from").long("from").value_name("LINE").help(
-            "Tell only what begins on this line of the file or below it",
-        ),
-        Operand::Codes => Arg::new(alloc, "CODE")
-            .num_args(0..)
-            .help("The codes, as G3; a list of them all if none is named"),
-        Operand::Lines => {
-            flag(alloc, "lines").help("Write order lines, each with four spaces and its price")
-        }
-        Operand::Best => {
-            flag(alloc, "best").help("Tell what the company's best runs would earn after each")
-        }
-        Operand::Tiles => {
-            flag(alloc, "tiles").help("Write all tiles in their six rotations, without a game")
-        }
-        Operand::After => Arg::new(alloc, "after")
-            .long("after")
-            .value_name("ROUND")
-            .help("As it stood after this round, as OR2.1"),
-        Operand::Company => {
-            Arg::new(alloc, "COMPANY")
-                .required(true)
-                .help("The company, as PRR")
-        }
-        Operand::Hex => Arg::new(alloc, "HEX")
-            .required(true)
-            .help("The hex, as H10"),
-        Operand::Trains => Arg::new(alloc, "TRAIN")
-            .num_args(0..)
-            .help("The trains, as 4 4 D; those that it has if none is named"),
-        Operand::Player => {
-            Arg::new(alloc, "PLAYER")
-                .required(true)
-                .help("The player's name")
-        }
-        Operand::Players => Arg::new(alloc, "PLAYER").num_args(0..).help(
-            "Those who owe a sheet; the trial fails if somebody else does too",
-        ),
+    let (name, form, help) = operand.row();
+    let argument = Arg::new(alloc, name).help(help);
+    match form {
+        Form::Flag => argument.long(name).action(ArgAction::SetTrue),
+        Form::Option(value) => argument.long(name).value_name(value),
+        Form::Word => argument,
+        Form::NeededWord => argument.required(true),
+        Form::Words => argument.num_args(0..),
     }
-}
-
-/// Returns a flag: `--` and this name.
-fn flag<'a>(alloc: Global, name: &'static str) -> Arg<'a> {
-    Arg::new(alloc, name).long(name).action(ArgAction::SetTrue)
 }
 
 /// Returns the row of a word; `None` if there is no such word.
@@ -394,47 +437,55 @@ fn take_list<'a>(
 /// Takes what was given after a word. Returns what is wrong with it; `None` if nothing is.
 fn take_operand(task: &mut Task, given: &ArgMatches, operand: Operand) -> Option<&'static str> {
     match operand {
-        Operand::Round => {
-            let word = given.get_str("ROUND")?;
-            task.round = read_round(word.as_bytes());
-            if task.round.is_some() {
-                return None;
-            }
-            return Some("this names no round; PR1, SR1 and OR1.1 are names of rounds");
-        }
         Operand::Why => task.why = given.get_flag("why"),
         Operand::Before => task.before = given.get_flag("before"),
         Operand::All => task.all = given.get_flag("all"),
-        Operand::From => {
-            let word = given.get_str("from")?;
-            match word.parse() {
-                Ok(line) => task.from = line,
-                Err(_) => return Some("behind --from the number of a line of the file is to stand"),
-            }
-        }
-        Operand::Tiles => task.tiles = given.get_flag("tiles"),
         Operand::Lines => task.lines = given.get_flag("lines"),
         Operand::Best => task.best = given.get_flag("best"),
-        Operand::After => {
-            let word = given.get_str("after")?;
-            task.round = read_round(word.as_bytes());
-            if task.round.is_none() {
-                return Some("this names no round; PR1, SR1 and OR1.1 are names of rounds");
-            }
-        }
-        Operand::Company => {
-            task.company = read_company(given.get_str("COMPANY")?.as_bytes());
-            if task.company.is_none() {
-                return Some("there is no such company; PRR is one");
-            }
-        }
-        Operand::Hex => {
-            task.hex = read_hex(given.get_str("HEX")?.as_bytes());
-            if task.hex.is_none() {
-                return Some("the map has no such hex; H10 is one");
-            }
-        }
+        Operand::Tiles => task.tiles = given.get_flag("tiles"),
+        Operand::Round => return take_round(task, given.get_str("ROUND")?),
+        Operand::After => return take_round(task, given.get_str("after")?),
+        Operand::From => return take_from(task, given.get_str("from")?),
+        Operand::Company => return take_company(task, given.get_str("COMPANY")?),
+        Operand::Hex => return take_hex(task, given.get_str("HEX")?),
         Operand::Codes | Operand::Trains | Operand::Player | Operand::Players => {}
     }
     None
+}
+
+/// Takes a round by its name. Returns what is wrong with it; `None` if nothing is.
+fn take_round(task: &mut Task, word: &str) -> Option<&'static str> {
+    task.round = read_round(word.as_bytes());
+    match task.round {
+        Some(_) => None,
+        None => Some("this names no round; PR1, SR1 and OR1.1 are names of rounds"),
+    }
+}
+
+/// Takes the number of the line from which on is told. Returns what is wrong with it; `None` if
+/// nothing is.
+fn take_from(task: &mut Task, word: &str) -> Option<&'static str> {
+    let Ok(line) = word.parse() else {
+        return Some("behind --from the number of a line of the file is to stand");
+    };
+    task.from = line;
+    None
+}
+
+/// Takes a company by its code. Returns what is wrong with it; `None` if nothing is.
+fn take_company(task: &mut Task, word: &str) -> Option<&'static str> {
+    task.company = read_company(word.as_bytes());
+    match task.company {
+        Some(_) => None,
+        None => Some("there is no such company; PRR is one"),
+    }
+}
+
+/// Takes a hex by its name. Returns what is wrong with it; `None` if nothing is.
+fn take_hex(task: &mut Task, word: &str) -> Option<&'static str> {
+    task.hex = read_hex(word.as_bytes());
+    match task.hex {
+        Some(_) => None,
+        None => Some("the map has no such hex; H10 is one"),
+    }
 }

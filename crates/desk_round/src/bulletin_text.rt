@@ -16,7 +16,7 @@ use report::name;
 use rounds::{End, Game};
 use sheets::first_line;
 use std::alloc::{AllocError, Global};
-use tables::{Company, Money, Round, Seat, Square, price};
+use tables::{Amount, Company, Money, Round, Seat, Square, price};
 
 /// The column of what a line brought.
 const BROUGHT: usize = 6;
@@ -71,17 +71,32 @@ impl Telling<'_> {
         let mut rest = behind_line(text);
         for group in &groups {
             self.push_heading(out, &mut walk, group)?;
-            let mut dividends = Vec::new(self.alloc);
-            for passed in group.from..group.to {
-                let line = first_line(rest).map_or(rest, |first| first.line);
-                rest = behind_line(rest);
-                if let Some(event) = events.get(passed) {
-                    self.push_event(out, &mut walk, passed, event, line, &mut dividends)?;
-                }
-            }
-            self.push_dividends(out, &mut dividends)?;
+            rest = self.push_events(out, &mut walk, group, rest)?;
         }
         Ok(())
+    }
+
+    /// Adds the events of a group, whose lines in the report begin this text. Returns the text
+    /// behind these.
+    fn push_events<'t>(
+        &self,
+        out: &mut Vec<u8>,
+        walk: &mut Walk,
+        group: &Group,
+        text: &'t [u8],
+    ) -> Result<&'t [u8], AllocError> {
+        let events = self.game.history().events();
+        let mut rest = text;
+        let mut dividends = Vec::new(self.alloc);
+        for passed in group.from..group.to {
+            let line = first_line(rest).map_or(rest, |first| first.line);
+            rest = behind_line(rest);
+            if let Some(event) = events.get(passed) {
+                self.push_event(out, walk, passed, event, line, &mut dividends)?;
+            }
+        }
+        self.push_dividends(out, &mut dividends)?;
+        Ok(rest)
     }
 
     /// Adds whose turn a group is of, and what it had before and after.
@@ -130,13 +145,7 @@ impl Telling<'_> {
         dividends: &mut Vec<u8>,
     ) -> Result<(), AllocError> {
         if let Event::Dividend { holder, amount, .. } = event {
-            let comma = if dividends.is_empty() { "" } else { ", " };
-            let amount = Number(Money::from(*amount));
-            let holder = match holder {
-                Holder::Seat(seat) => Bytes(name(self.game.sheets(), *seat)),
-                Holder::Company(company) => Words(company.code()),
-            };
-            return push(dividends, &[Words(comma), holder, Words(" "), amount]);
+            return self.push_dividend(dividends, *holder, *amount);
         }
         self.push_dividends(out, dividends)?;
         if let Event::Ruled { seat, line, ruling } = event {
@@ -150,6 +159,22 @@ impl Telling<'_> {
             return self.push_stops(out, &view, *company);
         }
         Ok(())
+    }
+
+    /// Adds what a holder is paid to the dividends that are on one line.
+    fn push_dividend(
+        &self,
+        dividends: &mut Vec<u8>,
+        holder: Holder,
+        amount: Amount,
+    ) -> Result<(), AllocError> {
+        let comma = if dividends.is_empty() { "" } else { ", " };
+        let amount = Number(Money::from(amount));
+        let holder = match holder {
+            Holder::Seat(seat) => Bytes(name(self.game.sheets(), seat)),
+            Holder::Company(company) => Words(company.code()),
+        };
+        push(dividends, &[Words(comma), holder, Words(" "), amount])
     }
 
     /// Adds the runs that a company has made by the line that was ruled last, stop by stop.

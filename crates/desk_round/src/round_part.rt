@@ -7,7 +7,7 @@ use crate::played::was_played;
 use crate::refusal_detail::Ruled;
 use crate::refused::refused_in;
 use crate::round_texts::{Told, tell};
-use crate::sheet_line::lines_of;
+use crate::sheet_line::{SheetLine, lines_of};
 use crate::why::push_why;
 use desk_base::Piece::Bytes;
 use desk_base::{DeskFault, fill, push, view_behind};
@@ -109,23 +109,37 @@ fn push_with_rules(
     let mut rest = text;
     let mut told = place_of(events, round);
     for place in refused_in(alloc, events, round)?.as_slice() {
-        let view = view_behind(&mut walk, *place, game.history().seats());
         let behind = place.saturating_add(1);
         rest = push_lines(out, rest, behind.saturating_sub(told))?;
         told = behind;
-        if let Some(Event::Ruled { seat, line, ruling }) = events.get(*place) {
-            let ruled = Ruled {
-                sheets: game.sheets(),
-                lines: lines.as_slice(),
-                view: &view,
-                round,
-                seat: *seat,
-                place: None,
-            };
-            push_why(alloc, out, ruled, *line, ruling)?;
-        }
+        push_why_at(alloc, out, game, round, lines.as_slice(), &mut walk, *place)?;
     }
     push(out, &[Bytes(rest)])
+}
+
+/// Adds the rule that is broken by the event at a place, of a round with these lines.
+fn push_why_at(
+    alloc: Global,
+    out: &mut Vec<u8>,
+    game: &Game,
+    round: Round,
+    lines: &[SheetLine],
+    walk: &mut Walk,
+    place: usize,
+) -> Result<(), AllocError> {
+    let view = view_behind(walk, place, game.history().seats());
+    let Some(Event::Ruled { seat, line, ruling }) = game.history().events().get(place) else {
+        return Ok(());
+    };
+    let ruled = Ruled {
+        sheets: game.sheets(),
+        lines,
+        view: &view,
+        round,
+        seat: *seat,
+        place: None,
+    };
+    push_why(alloc, out, ruled, *line, ruling)
 }
 
 /// Returns the place in the list of events of the one that begins a round; 0 if none does.
