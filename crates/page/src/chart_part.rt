@@ -57,14 +57,7 @@ pub(crate) fn put_chart(out: &mut Writer, view: &GameView) {
         out.label("b0", Point { x, y: -6 }, &[At(i32::from(column))]);
     }
     for row in 0..ROWS {
-        let y = HEIGHT * i32::from(row) + 33;
-        out.label("b0", Point { x: -13, y }, &[Letter(b'A' + row)]);
-        for column in 1..COLUMNS_END {
-            if let Some(square) = square(row, column) {
-                put_square(out, view, square);
-            }
-        }
-        out.put(&[Words("\n")]);
+        put_row(out, view, row);
     }
     out.begin_at(Point { x: 452, y: 480 });
     for (y, words) in LEGEND {
@@ -72,6 +65,22 @@ pub(crate) fn put_chart(out: &mut Writer, view: &GameView) {
     }
     out.end();
     out.end();
+}
+
+/// Adds a row with its letter.
+fn put_row(out: &mut Writer, view: &GameView, row: u8) {
+    let y = HEIGHT * i32::from(row) + 33;
+    out.label(
+        "b0",
+        Point { x: -13, y },
+        &[Letter(row.saturating_add(b'A'))],
+    );
+    for column in 1..COLUMNS_END {
+        if let Some(square) = square(row, column) {
+            put_square(out, view, square);
+        }
+    }
+    out.put(&[Words("\n")]);
 }
 
 /// Adds a square with its tokens.

@@ -62,16 +62,21 @@ fn put_description(out: &mut Writer, routes: &Routes) {
 fn put_grounds(out: &mut Writer, scene: &Scene) {
     out.begin_as(Tag::Group, "ground");
     for hex in Hex::ALL {
-        let look = look_at(scene.history, hex);
-        out.begin(Tag::Use);
-        out.value(Attr::Href, &[Words("#h")]);
-        put_shade(out, look.shade);
-        out.place_at(centre(hex));
-        put_title(out, scene, &look);
-        out.end();
-        out.put(&[Words("\n")]);
+        put_ground(out, scene, hex);
     }
     out.end();
+}
+
+/// Adds the ground of a hex, with its title.
+fn put_ground(out: &mut Writer, scene: &Scene, hex: Hex) {
+    let look = look_at(scene.history, hex);
+    out.begin(Tag::Use);
+    out.value(Attr::Href, &[Words("#h")]);
+    put_shade(out, look.shade);
+    out.place_at(centre(hex));
+    put_title(out, scene, &look);
+    out.end();
+    out.put(&[Words("\n")]);
 }
 
 /// Adds the class of a ground.

@@ -21,6 +21,18 @@ pub(crate) fn put_players(out: &mut Writer, scene: &Scene) {
         "Players and shares",
         "(P presides; &#9654; has priority; free is cash less bids)",
     );
+    put_headings(out);
+    out.begin(Tag::TableBody);
+    for number in 0..scene.seats {
+        put_player(out, scene, Seat::at(number));
+    }
+    put_places(out, scene);
+    out.end();
+    out.end();
+}
+
+/// Adds the headings of the table of players.
+fn put_headings(out: &mut Writer) {
     begin_head(out);
     put_heading(out, "", &[Words("Player")]);
     for word in ["Cash", "Free", "Certs", "Worth"] {
@@ -35,13 +47,6 @@ pub(crate) fn put_players(out: &mut Writer, scene: &Scene) {
     put_heading(out, "", &[Words("Privates")]);
     put_heading(out, "", &[Words("Sheet")]);
     end_head(out);
-    out.begin(Tag::TableBody);
-    for number in 0..scene.seats {
-        put_player(out, scene, Seat::at(number));
-    }
-    put_places(out, scene);
-    out.end();
-    out.end();
 }
 
 /// Adds the row of a player.

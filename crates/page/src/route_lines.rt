@@ -334,6 +334,21 @@ pub(crate) fn put_table(out: &mut Writer, routes: &Routes) {
 fn put_row(out: &mut Writer, route: &Route, number: usize) {
     out.begin(Tag::Row);
     put_company(out, route.company);
+    put_sample(out, route, number);
+    out.element(Tag::Cell, &[Words(route.kind.code())]);
+    put_visits(out, route);
+    out.begin_as(Tag::Cell, "num");
+    out.element(Tag::Bold, &[Number(Money::from(route.sum))]);
+    out.end();
+    out.element(
+        Tag::Cell,
+        &[Words(if route.is_best { "best" } else { "written" })],
+    );
+    out.end();
+}
+
+/// Adds a sample of the line of a route.
+fn put_sample(out: &mut Writer, route: &Route, number: usize) {
     out.begin(Tag::Cell);
     out.begin_as(Tag::Svg, "line");
     out.value(Attr::ViewBox, &[Words("0 0 90 14")]);
@@ -346,20 +361,15 @@ fn put_row(out: &mut Writer, route: &Route, number: usize) {
     out.end();
     out.end();
     out.end();
-    out.element(Tag::Cell, &[Words(route.kind.code())]);
+}
+
+/// Adds the places of a route.
+fn put_visits(out: &mut Writer, route: &Route) {
     out.begin(Tag::Cell);
     for (place, visit) in route.visits.iter().enumerate() {
         out.put(&[Words(if place == 0 { "" } else { " &#8211; " })]);
         put_visit(out, visit);
     }
-    out.end();
-    out.begin_as(Tag::Cell, "num");
-    out.element(Tag::Bold, &[Number(Money::from(route.sum))]);
-    out.end();
-    out.element(
-        Tag::Cell,
-        &[Words(if route.is_best { "best" } else { "written" })],
-    );
     out.end();
 }
 

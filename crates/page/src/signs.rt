@@ -2,7 +2,7 @@
 
 use map_tables::PerSide;
 use picture::PagePiece::{At, Words};
-use picture::{Attr, Point, Tag, Writer};
+use picture::{Attr, PagePiece, Point, Tag, Writer};
 use tables::{Company, PerCompany};
 
 /// What the token of a company looks like.
@@ -72,16 +72,10 @@ const CIRCLES: [(&str, i32); 4] = [("s", 14), ("v", 8), ("q", 7), ("d", 11)];
 pub(crate) fn put_signs(out: &mut Writer) {
     out.begin(Tag::Defs);
     for (name, data) in PATHS {
-        out.begin(Tag::Path);
-        out.value(Attr::Id, &[Words(name)]);
-        out.value(Attr::D, &[Words(data)]);
-        out.end();
+        put_sign(out, Tag::Path, name, Attr::D, Words(data));
     }
     for (name, radius) in CIRCLES {
-        out.begin(Tag::Circle);
-        out.value(Attr::Id, &[Words(name)]);
-        out.value(Attr::R, &[At(radius)]);
-        out.end();
+        put_sign(out, Tag::Circle, name, Attr::R, At(radius));
     }
     for company in Company::ALL {
         put_tokens(out, company);
@@ -89,7 +83,15 @@ pub(crate) fn put_signs(out: &mut Writer) {
     out.end();
 }
 
-/// Adds the token of a company, the small one, and the ring that keeps a slot for it.
+/// Adds a sign that is one shape with one attribute.
+fn put_sign(out: &mut Writer, shape: Tag, name: &'static str, attribute: Attr, value: PagePiece) {
+    out.begin(shape);
+    out.value(Attr::Id, &[Words(name)]);
+    out.value(attribute, &[value]);
+    out.end();
+}
+
+/// Adds the token of a company, the small one, and its ring.
 fn put_tokens(out: &mut Writer, company: Company) {
     let livery = &LIVERIES[company.index()];
     begin_sign(out, "t", company);
@@ -100,6 +102,11 @@ fn put_tokens(out: &mut Writer, company: Company) {
     put_disc(out, 8, livery.fill, "1");
     put_letter(out, if livery.is_dark { "zm zw" } else { "zm" }, 4, company);
     out.end();
+    put_ring(out, company);
+}
+
+/// Adds the ring that keeps a slot for a company.
+fn put_ring(out: &mut Writer, company: Company) {
     begin_sign(out, "r", company);
     out.begin(Tag::Circle);
     out.value(Attr::R, &[At(11)]);

@@ -153,18 +153,23 @@ fn put_laid_list(out: &mut Writer, history: &History) {
     out.begin_as(Tag::Listing, "laid");
     for hex in Hex::ALL {
         if let Some(lay) = tile_on(history.lays(), hex) {
-            out.begin(Tag::Item);
-            out.element(Tag::Bold, &[Named(hex)]);
-            out.put(&[
-                Words("&nbsp;"),
-                Number(Money::from(lay.tile.number())),
-                Words("/"),
-                Number(lay.rot.turns() as Money),
-                Words(if lay.swap { "s" } else { "" }),
-            ]);
-            out.end();
+            put_lay(out, lay);
         }
     }
+    out.end();
+}
+
+/// Adds a tile on the map.
+fn put_lay(out: &mut Writer, lay: Lay) {
+    out.begin(Tag::Item);
+    out.element(Tag::Bold, &[Named(lay.hex)]);
+    out.put(&[
+        Words("&nbsp;"),
+        Number(Money::from(lay.tile.number())),
+        Words("/"),
+        Number(lay.rot.turns() as Money),
+        Words(if lay.swap { "s" } else { "" }),
+    ]);
     out.end();
 }
 

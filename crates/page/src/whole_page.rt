@@ -68,13 +68,7 @@ fn page_text(alloc: Global, scene: &Scene, entries: &[Entry]) -> Result<Vec<u8>,
     let order = all_in_order(alloc, scene.history)?;
     let entries = thinned(alloc, entries)?;
     let mut out = Writer::page(alloc);
-    status_part::put_title(&mut out, scene, Tag::Title);
-    out.element(Tag::Style, &[Words(STYLE)]);
-    out.end();
-    out.begin(Tag::Body);
-    put_head(&mut out, scene);
-    out.begin(Tag::Main);
-    status_part::put_status(&mut out, scene);
+    begin_page(&mut out, scene);
     put_map_section(alloc, &mut out, scene, &routes)?;
     begin_section(&mut out, "chart", "Stock chart", "");
     put_chart(&mut out, &scene.history.now());
@@ -84,6 +78,17 @@ fn page_text(alloc: Global, scene: &Scene, entries: &[Entry]) -> Result<Vec<u8>,
     put_tiles_left(&mut out, scene.history);
     put_laid(&mut out, scene.history);
     out.finish()
+}
+
+/// Adds what stands before the map.
+fn begin_page(out: &mut Writer, scene: &Scene) {
+    status_part::put_title(out, scene, Tag::Title);
+    out.element(Tag::Style, &[Words(STYLE)]);
+    out.end();
+    out.begin(Tag::Body);
+    put_head(out, scene);
+    out.begin(Tag::Main);
+    status_part::put_status(out, scene);
 }
 
 /// Adds what stands above the sections.
