@@ -105,14 +105,24 @@ pub fn steps(
             return Err(OutcomeFault::Position);
         }
     }
+    steps_on(rt, &mut play, &mut search, call)
+}
+
+/// Plays one more round.
+fn steps_on(
+    rt: &HostRuntime,
+    play: &mut Play,
+    search: &mut Search,
+    call: Call,
+) -> Result<Outcome, OutcomeFault> {
     let last = play.last_round();
     call.begin(rt)?;
-    let is_played = has_stepped(&mut play, &mut search);
+    let is_played = has_stepped(play, search);
     made(rt)?;
     Ok(if is_played {
         Outcome::of_answer(play.last_round() != last && play.history().is_some())
     } else {
-        Outcome::of_refusal(is_broken_off(&mut play, &mut search, last))
+        Outcome::of_refusal(is_broken_off(play, search, last))
     })
 }
 

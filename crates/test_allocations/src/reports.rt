@@ -9,7 +9,7 @@ use best_run::Search;
 use report::{end_text, header_text, next_text, report, round_text};
 use rounds::{Play, Step, play};
 use sheets::Sheets;
-use std::alloc::AllocError;
+use std::alloc::{AllocError, Global};
 use std::rt::Runtime;
 use tables::Round;
 
@@ -29,13 +29,19 @@ pub fn writes_header(rt: &HostRuntime, sheets: &Sheets) -> Result<Outcome, Outco
     Ok(outcome_of(answer, HEADER))
 }
 
+/// Plays its first round.
+fn first_round<'a>(alloc: Global, sheets: &'a Sheets<'a>) -> Result<Play<'a>, OutcomeFault> {
+    let mut play = Play::start(alloc, sheets)?;
+    if has_stepped(&mut play, &mut Search::new(alloc)) {
+        Ok(play)
+    } else {
+        Err(OutcomeFault::Position)
+    }
+}
+
 /// Writes its round, as it was played last.
 pub fn writes_next(rt: &HostRuntime, sheets: &Sheets) -> Result<Outcome, OutcomeFault> {
-    let mut search = Search::new(rt.alloc());
-    let mut play = Play::start(rt.alloc(), sheets)?;
-    if !has_stepped(&mut play, &mut search) {
-        return Err(OutcomeFault::Position);
-    }
+    let play = first_round(rt.alloc(), sheets)?;
     Call::NextText.begin(rt)?;
     let answer = next_text(rt.alloc(), &play);
     made(rt)?;
@@ -44,12 +50,8 @@ pub fn writes_next(rt: &HostRuntime, sheets: &Sheets) -> Result<Outcome, Outcome
 
 /// Writes what follows its round.
 pub fn writes_end(rt: &HostRuntime, sheets: &Sheets) -> Result<Outcome, OutcomeFault> {
-    let mut search = Search::new(rt.alloc());
-    let mut play = Play::start(rt.alloc(), sheets)?;
-    if !has_stepped(&mut play, &mut search) {
-        return Err(OutcomeFault::Position);
-    }
-    ends(rt, &mut play, &mut search)
+    let mut play = first_round(rt.alloc(), sheets)?;
+    ends(rt, &mut play, &mut Search::new(rt.alloc()))
 }
 
 /// Writes what follows the rounds of a play that has reached its end.

@@ -17,10 +17,14 @@ fn runs_a_link(rt: HostRuntime) {
         panic!(rt; "refused")
     };
     let twos = [Kind::Two, Kind::Two];
-    assert_eq!(rt; claimed(rt.alloc(), &board, PRR, &twos), Ok(Some((1, 30))));
-    assert_eq!(rt; claimed(rt.alloc(), &board, PRR, &[]), Ok(Some((0, 0))));
-    let other = Company::NewYorkCentral;
-    assert_eq!(rt; claimed(rt.alloc(), &board, other, &twos), Ok(Some((0, 0))));
+    for (company, trains, earned) in [
+        (PRR, twos.as_slice(), (1, 30)),
+        (PRR, &[], (0, 0)),
+        (Company::NewYorkCentral, &twos, (0, 0)),
+    ] {
+        let found = claimed(rt.alloc(), &board, company, trains);
+        assert_eq!(rt; found, Ok(Some(earned)), "{company:?}");
+    }
 }
 
 /// Returns whether a run leads from one hex to another, in either direction.
@@ -50,17 +54,24 @@ fn runs_two_trains(rt: HostRuntime) {
         panic!(rt; "refused")
     };
     let trains = [Kind::Three, Kind::Two];
-    assert_eq!(rt;
-        claimed(rt.alloc(), &board, PRR, &trains),
-        Ok(Some((2, 60)))
-    );
-    let Ok(answer) = best(rt.alloc(), &board, PRR, &trains) else {
-        panic!(rt; "memory")
-    };
-    for far in [Hex::H10, Hex::H16] {
-        let mut runs = answer.claim.runs.as_slice().iter();
-        assert!(rt; runs.any(|claimed| runs_between(&claimed.run, Hex::H12, far)));
-    }
+    let found = claimed(rt.alloc(), &board, PRR, &trains);
+    assert_eq!(rt; found, Ok(Some((2, 60))));
+    assert_eq!(rt; run_to_both_ends(rt.alloc(), &board, &trains), Ok(true));
+}
+
+/// Returns whether the best of PRR's trains run from its home to both ends of the line.
+fn run_to_both_ends<N: Network>(
+    alloc: Global,
+    network: &N,
+    trains: &[Kind],
+) -> Result<bool, AllocError> {
+    let answer = best(alloc, network, PRR, trains)?;
+    let runs = answer.claim.runs.as_slice();
+    let mut ends = [Hex::H10, Hex::H16].iter();
+    Ok(ends.all(|far| {
+        runs.iter()
+            .any(|claimed| runs_between(&claimed.run, Hex::H12, *far))
+    }))
 }
 
 /// Returns whether PRR reaches three cities of a line, and a 3 and a 2 earn 60 there.

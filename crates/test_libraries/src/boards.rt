@@ -71,13 +71,22 @@ fn puts_a_token(rt: HostRuntime) {
     let Ok(mut board) = of_prr(rt.alloc(), &[laid(Hex::H10, TileNo::T57)]) else {
         panic!(rt; "refused")
     };
-    let (place, stop) = (first(Hex::H10).place(), first(Hex::H10));
-    let few = board.try_token(&asker(PRR, 39), place);
-    assert_eq!(rt; few, Err(TokenFault::Rule(TokenRule::CashTooSmall)));
-    assert_eq!(rt; board.try_token(&asker(PRR, 40), place), Ok(40));
+    let place = first(Hex::H10).place();
+    assert!(rt; costs_forty(&board, place));
     assert_eq!(rt; board.put_token(place, PRR), Ok(()));
-    assert!(rt; board.token(stop, PRR) && !board.full(stop, PRR));
-    assert!(rt; board.full(stop, Company::NewYorkCentral));
+    assert!(rt; is_full_of_prr(&board, first(Hex::H10)));
+}
+
+/// Returns whether PRR's token costs 40 at a place.
+fn costs_forty(board: &Board, place: Place) -> bool {
+    let few = Err(TokenFault::Rule(TokenRule::CashTooSmall));
+    board.try_token(&asker(PRR, 39), place) == few
+        && board.try_token(&asker(PRR, 40), place) == Ok(40)
+}
+
+/// Returns whether PRR's token lies on a stop, which is full for others but not for PRR.
+fn is_full_of_prr(board: &Board, stop: Stop) -> bool {
+    board.token(stop, PRR) && !board.full(stop, PRR) && board.full(stop, Company::NewYorkCentral)
 }
 
 /// Tests ERIE's home: green tiles come in phase 3, and a swapped tile's stop 0 leaves by its other
@@ -97,14 +106,15 @@ fn puts_a_swapped_tile(rt: HostRuntime) {
     let erie = asker(Company::Erie, 0);
     assert_eq!(rt; board.try_lay(&erie, swapped), Ok(0));
     assert_eq!(rt; board.put_lay(swapped), Ok(()));
-    let links = board.links(Hex::E11);
-    let leaves = links
-        .as_slice()
-        .iter()
-        .find(|link| link.b == TrackEnd::Stop(StopNumber::First));
-    assert!(rt; leaves.map(|link| link.a) == Some(TrackEnd::Side(Side::NorthWest)));
-    assert_eq!(rt;
-        board.try_lay(&erie, swapped),
-        Err(LayFault::Rule(LayRule::WrongTile))
-    );
+    assert!(rt; leaves_first_stop_by(&board, Hex::E11) == Some(TrackEnd::Side(Side::NorthWest)));
+    let again = board.try_lay(&erie, swapped);
+    assert_eq!(rt; again, Err(LayFault::Rule(LayRule::WrongTile)));
+}
+
+/// Returns where the first track to a hex's first stop begins.
+fn leaves_first_stop_by(board: &Board, hex: Hex) -> Option<TrackEnd> {
+    let links = board.links(hex);
+    let mut links = links.as_slice().iter();
+    let leaves = links.find(|link| link.b == TrackEnd::Stop(StopNumber::First))?;
+    Some(leaves.a)
 }

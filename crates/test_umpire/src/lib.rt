@@ -5,8 +5,9 @@
 //! `test_libraries`.
 //!
 //! Reading order: `examples` (those at the roots of crates), `support` (readers and writers that
-//! give and take as they are told), `running` (whole runs over them), `certifying` (certificates,
-//! written and verified, over them), `migrating` (a file that migrates to version 2, over them),
+//! give and take as they are told), `devices` (a call over them, each of whose calls may fail),
+//! `running` (whole runs over them), `certifying` (certificates, written and verified, over them),
+//! `migrating` (a file that migrates to version 2, over them),
 //! `watching` (a reader or writer that remembers a failure), `texts` (reports), `sequence` (the
 //! rounds after the bank is broken), `refusing` (a runner that refuses), `stepping` (a game a round
 //! at a time).
@@ -14,6 +15,8 @@
 
 #[cfg(test)]
 mod certifying;
+#[cfg(test)]
+mod devices;
 #[cfg(test)]
 mod examples;
 #[cfg(test)]

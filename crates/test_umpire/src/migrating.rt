@@ -1,7 +1,7 @@
 //! A file that goes over to version 2, over readers and writers that give and take as they are
 //! told.
 
-use crate::certifying::{any_write_may_fail, reads_that_may_fail, writes};
+use crate::devices::{any_write_may_fail, reads_that_may_fail, writes};
 use crate::support::Call;
 use std::test::Fail;
 

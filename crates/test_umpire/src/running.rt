@@ -1,6 +1,5 @@
-use crate::support::{
-    AfterEnd, Call, Endless, FIRST, FIRST_REPORT, Sink, Source, Trouble, outcome_of,
-};
+use crate::devices::{any_write_may_fail, reads_that_may_fail, writes};
+use crate::support::{AfterEnd, Call, Endless, FIRST, FIRST_REPORT, Sink, Source, outcome_by};
 use sheets::FileFault;
 use std::alloc::Global;
 use std::cell::Cell;
@@ -99,11 +98,12 @@ fn reads_no_further_than_the_limit(rt: HostRuntime) {
 
 #[test]
 fn takes_any_pieces(rt: HostRuntime) {
+    let (file, owed) = (FIRST.as_bytes(), FIRST_REPORT.as_bytes());
     for most in [1, 2, 7, 100] {
-        let sink = Sink::taking(rt.alloc(), most);
-        let run = outcome_of(rt.alloc(), Source::giving(FIRST, most), sink);
-        assert_eq!(rt; run.result, Ok(()), "by {most}");
-        assert_eq!(rt; run.text.as_slice(), FIRST_REPORT.as_bytes(), "by {most}");
+        assert!(rt;
+            writes(rt.alloc(), Call::Run, file, most, owed),
+            "by {most}"
+        );
     }
 }
 
@@ -112,7 +112,7 @@ fn calls_no_reader_after_its_end(rt: HostRuntime) {
     for after_end in [AfterEnd::Ends, AfterEnd::Fails, AfterEnd::Gives] {
         let mut source = Source::giving(FIRST, 1);
         source.after_end = after_end;
-        let run = outcome_of(rt.alloc(), source, Sink::taking(rt.alloc(), 7));
+        let run = outcome_by(rt.alloc(), Call::Run, source, Sink::taking(rt.alloc(), 7));
         assert_eq!(rt; run.result, Ok(()));
         assert_eq!(rt; run.text.as_slice(), FIRST_REPORT.as_bytes());
         // A call for each byte, and one that finds the end.
@@ -122,30 +122,12 @@ fn calls_no_reader_after_its_end(rt: HostRuntime) {
 
 #[test]
 fn stops_at_a_failed_read(rt: HostRuntime) {
-    // A byte a call; the last of these calls would find the end.
-    for bad in 0..=FIRST.len() {
-        let mut source = Source::giving(FIRST, 1);
-        source.bad = Some(bad);
-        let run = outcome_of(rt.alloc(), source, Sink::taking(rt.alloc(), 7));
-        assert_eq!(rt; run.result, Err(Fault::Read), "at {bad}");
-        assert!(rt; run.text.is_empty(), "at {bad}");
-        assert!(rt; run.read_failed && !run.write_failed, "at {bad}");
-        assert_eq!(rt; run.reads, bad + 1);
-    }
+    let reads = reads_that_may_fail(rt.alloc(), Call::Run, FIRST.as_bytes());
+    assert_eq!(rt; reads, FIRST.len() + 1);
 }
 
 #[test]
 fn stops_at_a_failed_write(rt: HostRuntime) {
-    for bad in 0..FIRST_REPORT.len() {
-        for trouble in [Trouble::Fails, Trouble::TakesNothing] {
-            let mut sink = Sink::taking(rt.alloc(), 1);
-            sink.bad = bad;
-            sink.trouble = trouble;
-            let run = outcome_of(rt.alloc(), Source::giving(FIRST, 50), sink);
-            assert_eq!(rt; run.result, Err(Fault::Write), "at {bad}");
-            let written = &FIRST_REPORT.as_bytes()[..bad];
-            assert_eq!(rt; run.text.as_slice(), written, "at {bad}");
-            assert!(rt; !run.read_failed && run.write_failed, "at {bad}");
-        }
-    }
+    let report = FIRST_REPORT.as_bytes();
+    assert!(rt; any_write_may_fail(rt.alloc(), Call::Run, FIRST.as_bytes(), report));
 }

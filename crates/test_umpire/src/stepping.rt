@@ -200,15 +200,24 @@ fn shows_nothing_before(alloc: Global, sheets: &Sheets) -> Result<bool, AllocErr
     Ok(shown.last_round.is_none() && shown.outcome.is_none() && !has_text(alloc, &play)?)
 }
 
-/// Returns the last of this many steps of a play, one at least.
-fn after_steps(alloc: Global, sheets: &Sheets, steps: u32) -> Result<After, AllocError> {
-    let mut search = Search::new(alloc);
-    let mut play = Play::start(alloc, sheets)?;
-    let mut last = step(alloc, &mut play, &mut search)?;
+/// Takes this many steps, one at least. Returns the last of them.
+fn last_step<R: Runner>(
+    alloc: Global,
+    play: &mut Play,
+    runner: &mut R,
+    steps: u32,
+) -> Result<After, AllocError> {
+    let mut last = step(alloc, play, runner)?;
     for _ in 1..steps {
-        last = step(alloc, &mut play, &mut search)?;
+        last = step(alloc, play, runner)?;
     }
     Ok(last)
+}
+
+/// Returns the last of this many steps of a play, one at least.
+fn after_steps(alloc: Global, sheets: &Sheets, steps: u32) -> Result<After, AllocError> {
+    let mut play = Play::start(alloc, sheets)?;
+    last_step(alloc, &mut play, &mut Search::new(alloc), steps)
 }
 
 /// Returns whether the last of this many steps returns this, and the play then shows this round and
@@ -283,12 +292,19 @@ fn after_refusals(
     steps: u32,
 ) -> Result<(After, After), AllocError> {
     let mut play = Play::start(alloc, sheets)?;
-    let mut last = step(alloc, &mut play, &mut Refusing)?;
-    for _ in 1..steps {
-        last = step(alloc, &mut play, &mut Refusing)?;
+    let last = last_step(alloc, &mut play, &mut Refusing, steps)?;
+    let later = last_step(alloc, &mut play, &mut Search::new(alloc), 1)?;
+    Ok((last, later))
+}
+
+/// Returns the same of the game in which PRR is to run its best in OR2.1; `None` if its file is
+/// refused.
+fn after_refused_runs(alloc: Global, steps: u32) -> Result<Option<(After, After)>, AllocError> {
+    let file = file(alloc, "RUN BEST\n")?;
+    match collect(alloc, file.as_slice()) {
+        Ok(sheets) => Ok(Some(after_refusals(alloc, &sheets, steps)?)),
+        Err(_) => Ok(None),
     }
-    let mut search = Search::new(alloc);
-    Ok((last, step(alloc, &mut play, &mut search)?))
 }
 
 /// Returns whether a step returns this fault, and the play then shows only that this round was the
@@ -365,11 +381,9 @@ fn writes_the_report_by_its_parts(rt: HostRuntime) -> Result<(), Fail> {
 
 #[test]
 fn plays_on_with_another_runner(rt: HostRuntime) -> Result<(), Fail> {
-    let file = file(rt.alloc(), "RUN BEST\n")?;
-    let Ok(sheets) = collect(rt.alloc(), file.as_slice()) else {
+    let Some((played, later)) = after_refused_runs(rt.alloc(), 4)? else {
         panic!(rt; "refused")
     };
-    let (played, later) = after_refusals(rt.alloc(), &sheets, 4)?;
     let round = Round::Operating { set: 2, number: 1 };
     assert!(rt; played.answer == Ok(Step::Played(Round::Stock(2))) && played.shown.has_history);
     assert!(rt; later.answer == Ok(Step::Played(round)));
@@ -378,11 +392,9 @@ fn plays_on_with_another_runner(rt: HostRuntime) -> Result<(), Fail> {
 
 #[test]
 fn stays_broken_off(rt: HostRuntime) -> Result<(), Fail> {
-    let file = file(rt.alloc(), "RUN BEST\n")?;
-    let Ok(sheets) = collect(rt.alloc(), file.as_slice()) else {
+    let Some((broken, again)) = after_refused_runs(rt.alloc(), 5)? else {
         panic!(rt; "refused")
     };
-    let (broken, again) = after_refusals(rt.alloc(), &sheets, 5)?;
     let round = Round::Operating { set: 2, number: 1 };
     let refused = PlayFault::Refused(round, Company::Pennsylvania);
     assert!(rt; is_broken_off(&broken, refused, Round::Stock(2)));

@@ -188,11 +188,6 @@ pub(crate) struct Outcome {
     pub(crate) reads: usize,
 }
 
-/// Returns the outcome of a run from this reader to this writer.
-pub(crate) fn outcome_of(alloc: Global, source: Source, sink: Sink) -> Outcome {
-    outcome_by(alloc, Call::Run, source, sink)
-}
-
 /// A call of the umpire.
 #[derive(Clone, Copy)]
 pub(crate) enum Call {
