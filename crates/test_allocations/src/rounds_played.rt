@@ -9,7 +9,6 @@ use history::History;
 use operating::play_company;
 use privates::play_opening;
 use sheets::Sheets;
-use std::alloc::Global;
 use std::rt::Runtime;
 use stock_round::play_stock;
 use tables::{Company, Round, Seat};
@@ -40,19 +39,14 @@ pub fn plays_stock(rt: &HostRuntime, sheets: &Sheets) -> Result<Outcome, Outcome
     })
 }
 
-/// Returns the game before the first operating round, in which PRR has floated.
-fn floated(alloc: Global, sheets: &Sheets) -> Result<History, OutcomeFault> {
-    let game = History::start(alloc, sheets.seats());
-    let game = play_opening(alloc, game, sheets, Round::Opening(1))?;
+/// Plays PRR's first turn: it lays a tile.
+pub fn plays_company(rt: &HostRuntime, sheets: &Sheets) -> Result<Outcome, OutcomeFault> {
+    let game = History::start(rt.alloc(), sheets.seats());
+    let game = play_opening(rt.alloc(), game, sheets, Round::Opening(1))?;
     if game.seats() != sheets.seats() {
         return Err(OutcomeFault::Position);
     }
-    Ok(play_stock(alloc, game, sheets, Round::Stock(1))?)
-}
-
-/// Plays PRR's first turn: it lays a tile.
-pub fn plays_company(rt: &HostRuntime, sheets: &Sheets) -> Result<Outcome, OutcomeFault> {
-    let game = floated(rt.alloc(), sheets)?;
+    let game = play_stock(rt.alloc(), game, sheets, Round::Stock(1))?;
     if game.seats() != sheets.seats() || !game.floated(PRR) {
         return Err(OutcomeFault::Position);
     }

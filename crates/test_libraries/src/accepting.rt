@@ -1,9 +1,9 @@
 //! The marks of the best are accepted as they are, and no others.
 
-use crate::boards::{PRR, first, laid};
+use crate::boards::{PRR, first, laid, line};
 use crate::four_stops::FourStops;
 use best_run::best;
-use board::Board;
+use board::{Board, BoardFault};
 use certificate::{Bits, Claim, ClaimedRuns, accepts, write_marks};
 use map_tables::{Hex, TileNo};
 use reach::Network;
@@ -32,13 +32,25 @@ fn is_accepted_as_it_is<N: Network>(
 ) -> Result<bool, AllocError> {
     let mut found = best(alloc, network, PRR, trains)?;
     let marks = listed(alloc, &found.marks)?;
-    let mut is_right = accepts(network, PRR, trains, &found.claim, &marks);
-    for count in 0..marks.len() {
-        is_right &= !accepts(network, PRR, trains, &found.claim, &marks[..count]);
-    }
+    let mut is_right = only_all_are_accepted(network, trains, &found.claim, &marks);
     is_right &= nothing_is_refused(alloc, network, trains, &marks)?;
     found.claim.revenue = found.claim.revenue.saturating_sub(1);
     Ok(is_right && !accepts(network, PRR, trains, &found.claim, &marks))
+}
+
+/// Returns whether a claim is accepted by these marks, and by no prefix of them.
+fn only_all_are_accepted<N: Network>(
+    network: &N,
+    trains: &[Kind],
+    claim: &Claim,
+    marks: &[bool],
+) -> bool {
+    for count in 0..marks.len() {
+        if accepts(network, PRR, trains, claim, &marks[..count]) {
+            return false;
+        }
+    }
+    accepts(network, PRR, trains, claim, marks)
 }
 
 /// Returns whether a claim of nothing, which holds, is refused by these marks and by those that are
@@ -60,19 +72,16 @@ fn nothing_is_refused<N: Network>(
     )
 }
 
-/// Tests a D and a 2 on a line of three cities with tokens in the middle and at an end.
+/// Returns a line of three cities with tokens in the middle and at an end.
+fn line_with_two_tokens(alloc: Global) -> Result<Board, BoardFault> {
+    let tokens = [Hex::H12, Hex::H16].map(|hex| (first(hex).place(), PRR));
+    Board::of(alloc, &line(), &tokens, Kind::Two)
+}
+
+/// Tests a D and a 2 on that line.
 #[test]
 fn accepts_the_best_on_a_line(rt: HostRuntime) -> Result<(), AllocError> {
-    let line = [
-        laid(Hex::H10, TileNo::T57),
-        laid(Hex::H14, TileNo::T9),
-        laid(Hex::H16, TileNo::T57),
-    ];
-    let tokens = [
-        (first(Hex::H12).place(), PRR),
-        (first(Hex::H16).place(), PRR),
-    ];
-    let Ok(board) = Board::of(rt.alloc(), &line, &tokens, Kind::Two) else {
+    let Ok(board) = line_with_two_tokens(rt.alloc()) else {
         panic!(rt; "refused")
     };
     let trains = [Kind::Diesel, Kind::Two];
@@ -80,10 +89,8 @@ fn accepts_the_best_on_a_line(rt: HostRuntime) -> Result<(), AllocError> {
     Ok(())
 }
 
-/// Tests a 3 and two 2s on a longer line, on which another city lies past the second, which is
-/// full.
-#[test]
-fn accepts_the_best_before_a_full_city(rt: HostRuntime) -> Result<(), AllocError> {
+/// Returns a longer line, on which another city lies past the second, which is full.
+fn line_with_a_full_city(alloc: Global) -> Result<Board, BoardFault> {
     let line = [
         laid(Hex::H4, TileNo::T57),
         laid(Hex::H6, TileNo::T9),
@@ -94,7 +101,13 @@ fn accepts_the_best_before_a_full_city(rt: HostRuntime) -> Result<(), AllocError
         (first(Hex::H10).place(), Company::NewYorkCentral),
         (first(Hex::H12).place(), PRR),
     ];
-    let Ok(board) = Board::of(rt.alloc(), &line, &tokens, Kind::Two) else {
+    Board::of(alloc, &line, &tokens, Kind::Two)
+}
+
+/// Tests a 3 and two 2s on that line.
+#[test]
+fn accepts_the_best_before_a_full_city(rt: HostRuntime) -> Result<(), AllocError> {
+    let Ok(board) = line_with_a_full_city(rt.alloc()) else {
         panic!(rt; "refused")
     };
     let trains = [Kind::Three, Kind::Two, Kind::Two];

@@ -1,11 +1,11 @@
 //! The best of a company's trains: worked examples, found by hand on the printed map.
 
-use crate::boards::{PRR, first, laid, of_prr};
+use crate::boards::{PRR, first, laid, line, of_prr};
 use crate::claims::claimed;
 use crate::four_stops::FourStops;
 use best_run::best;
 use board::PlainBoard;
-use map_tables::{Hex, Lay, Run, TileNo};
+use map_tables::{Hex, Run, TileNo};
 use reach::{Network, reached};
 use std::alloc::{AllocError, Global};
 use tables::{Company, Kind};
@@ -37,15 +37,6 @@ fn runs_between(run: &Run, one: Hex, other: Hex) -> bool {
     }
 }
 
-/// Returns a line of three cities, with PRR's home in the middle.
-fn line() -> [Lay; 3] {
-    [
-        laid(Hex::H10, TileNo::T57),
-        laid(Hex::H14, TileNo::T9),
-        laid(Hex::H16, TileNo::T57),
-    ]
-}
-
 /// Tests a 2 that runs west from PRR's home and a 3 that runs east. That is more than the 3 earns
 /// alone by running through.
 #[test]
@@ -54,8 +45,6 @@ fn runs_two_trains(rt: HostRuntime) {
         panic!(rt; "refused")
     };
     let trains = [Kind::Three, Kind::Two];
-    let found = claimed(rt.alloc(), &board, PRR, &trains);
-    assert_eq!(rt; found, Ok(Some((2, 60))));
     assert_eq!(rt; run_to_both_ends(rt.alloc(), &board, &trains), Ok(true));
 }
 
@@ -82,7 +71,7 @@ fn is_line<N: Network>(alloc: Global, network: &N) -> Result<bool, AllocError> {
     Ok(reach.stops() == stops.as_slice() && earned == Some((2, 60)))
 }
 
-/// Tests a board of a line.
+/// Tests that from its home PRR reaches the cities at both ends of the line over H14.
 #[test]
 fn board_is_a_network(rt: HostRuntime) -> Result<(), AllocError> {
     let Ok(board) = of_prr(rt.alloc(), &line()) else {

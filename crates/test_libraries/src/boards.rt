@@ -4,7 +4,7 @@ use board::{Asker, Board, BoardFault, LayFault, TokenFault, TurnStep};
 use map_tables::{
     Hex, Lay, LayRule, Place, Rotation, Side, Stop, StopNumber, TileNo, TokenRule, TrackEnd,
 };
-use reach::{Network, reached};
+use reach::Network;
 use std::alloc::Global;
 use tables::{Company, Kind, Money, PRIVATES};
 
@@ -46,22 +46,13 @@ pub(crate) fn of_prr(alloc: Global, lays: &[Lay]) -> Result<Board, BoardFault> {
     Board::of(alloc, lays, &[(first(Hex::H12).place(), PRR)], Kind::Two)
 }
 
-/// Tests that from its home PRR reaches the cities at both ends of the line over H14.
-#[test]
-fn reaches_along_tiles(rt: HostRuntime) {
-    let lays = [
+/// Returns a line of three cities, with PRR's home in the middle.
+pub(crate) fn line() -> [Lay; 3] {
+    [
         laid(Hex::H10, TileNo::T57),
         laid(Hex::H14, TileNo::T9),
         laid(Hex::H16, TileNo::T57),
-    ];
-    let Ok(board) = of_prr(rt.alloc(), &lays) else {
-        panic!(rt; "refused")
-    };
-    let Ok(reach) = reached(rt.alloc(), &board, PRR) else {
-        panic!(rt; "memory")
-    };
-    let stops = [Hex::H10, Hex::H12, Hex::H16].map(first);
-    assert_eq!(rt; reach.stops(), stops.as_slice());
+    ]
 }
 
 /// Tests that the second token costs 40, and that the city is then full for others but not for its
@@ -89,25 +80,32 @@ fn is_full_of_prr(board: &Board, stop: Stop) -> bool {
     board.token(stop, PRR) && !board.full(stop, PRR) && board.full(stop, Company::NewYorkCentral)
 }
 
+/// A swapped tile on ERIE's home.
+const SWAPPED: Lay = Lay {
+    hex: Hex::E11,
+    tile: TileNo::T59,
+    rot: Rotation::Zero,
+    swap: true,
+};
+
+/// Returns the board of phase 3 with ERIE's home token.
+fn of_erie(alloc: Global) -> Result<Board, BoardFault> {
+    let home = [(first(Hex::E11).place(), Company::Erie)];
+    Board::of(alloc, &[], &home, Kind::Three)
+}
+
 /// Tests ERIE's home: green tiles come in phase 3, and a swapped tile's stop 0 leaves by its other
 /// side.
 #[test]
 fn puts_a_swapped_tile(rt: HostRuntime) {
-    let swapped = Lay {
-        hex: Hex::E11,
-        tile: TileNo::T59,
-        rot: Rotation::Zero,
-        swap: true,
-    };
-    let home: [(Place, Company); 1] = [(first(Hex::E11).place(), Company::Erie)];
-    let Ok(mut board) = Board::of(rt.alloc(), &[], &home, Kind::Three) else {
+    let Ok(mut board) = of_erie(rt.alloc()) else {
         panic!(rt; "refused")
     };
     let erie = asker(Company::Erie, 0);
-    assert_eq!(rt; board.try_lay(&erie, swapped), Ok(0));
-    assert_eq!(rt; board.put_lay(swapped), Ok(()));
+    assert_eq!(rt; board.try_lay(&erie, SWAPPED), Ok(0));
+    assert_eq!(rt; board.put_lay(SWAPPED), Ok(()));
     assert!(rt; leaves_first_stop_by(&board, Hex::E11) == Some(TrackEnd::Side(Side::NorthWest)));
-    let again = board.try_lay(&erie, swapped);
+    let again = board.try_lay(&erie, SWAPPED);
     assert_eq!(rt; again, Err(LayFault::Rule(LayRule::WrongTile)));
 }
 

@@ -59,7 +59,7 @@ fn verify_takes_what_certs_writes(rt: HostRuntime) -> Result<(), Fail> {
     assert!(rt; text.as_slice().starts_with(prefix));
     let input = joined(rt.alloc(), &[file.as_slice(), b"\n", text.as_slice()])?;
     let report = outcome_in(rt.alloc(), Call::Run, file.as_slice(), 1_000).text;
-    for most in [1, 7, 1_000] {
+    for &most in &[1, 7, 1_000] {
         let owed = text.as_slice();
         assert!(rt; writes(rt.alloc(), Call::Certs, file.as_slice(), most, owed));
         let owed = report.as_slice();

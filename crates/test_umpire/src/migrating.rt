@@ -31,7 +31,7 @@ SHEET CYD PR1";
 #[test]
 fn migrate_takes_any_pieces(rt: HostRuntime) {
     let (file, owed) = (FILE.as_bytes(), NEW_FILE.as_bytes());
-    for most in [1, 7, 1_000] {
+    for &most in &[1, 7, 1_000] {
         assert!(rt; writes(rt.alloc(), Call::Migrate, file, most, owed));
         assert!(rt; writes(rt.alloc(), Call::Migrate, owed, most, owed));
     }

@@ -4,7 +4,7 @@ ghost use Rattle.std.specs.Prelude.{◌≡◌, true};
 use certificate::{Runner, RunnerFault};
 use reach::Network;
 use rounds::{PlayFault, play_with};
-use sheets::{Sheets, collect};
+use sheets::collect;
 use std::alloc::{AllocError, Global};
 use std::test::Fail;
 use tables::{Company, Kind, Money, Round};
@@ -88,33 +88,24 @@ pub(crate) fn file(alloc: Global, run: &str) -> Result<Vec<u8>, AllocError> {
     Ok(text)
 }
 
-/// Returns why the game of some sheets is not played with a runner that refuses; `None` if it is
-/// played.
-fn fault(alloc: Global, sheets: &Sheets) -> Option<PlayFault> {
-    match play_with(alloc, sheets, &mut Refusing) {
-        Ok(_) => None,
-        Err(fault) => Some(fault),
-    }
+/// Returns why the game in which this is the order to run is not played with a runner that refuses;
+/// `None` if it is played.
+fn fault(alloc: Global, run: &str) -> Result<Option<PlayFault>, Fail> {
+    let file = file(alloc, run)?;
+    let sheets = collect(alloc, file.as_slice())?;
+    Ok(play_with(alloc, &sheets, &mut Refusing).err())
 }
 
 #[test]
 fn a_refusal_names_its_round_and_company(rt: HostRuntime) -> Result<(), Fail> {
-    let file = file(rt.alloc(), "RUN BEST\n")?;
-    let Ok(sheets) = collect(rt.alloc(), file.as_slice()) else {
-        panic!(rt; "refused")
-    };
     let round = Round::Operating { set: 2, number: 1 };
     let refused = PlayFault::Refused(round, Company::Pennsylvania);
-    assert_eq!(rt; fault(rt.alloc(), &sheets), Some(refused));
+    assert_eq!(rt; fault(rt.alloc(), "RUN BEST\n")?, Some(refused));
     Ok(())
 }
 
 #[test]
 fn a_run_that_is_written_out_asks_no_runner(rt: HostRuntime) -> Result<(), Fail> {
-    let file = file(rt.alloc(), "RUN 2 H12.0 H10.0\n")?;
-    let Ok(sheets) = collect(rt.alloc(), file.as_slice()) else {
-        panic!(rt; "refused")
-    };
-    assert_eq!(rt; fault(rt.alloc(), &sheets), None);
+    assert_eq!(rt; fault(rt.alloc(), "RUN 2 H12.0 H10.0\n")?, None);
     Ok(())
 }

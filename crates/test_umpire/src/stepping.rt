@@ -238,6 +238,20 @@ fn shows(
     )
 }
 
+/// Returns whether a game shows nothing before its one round is played, then that round, and then
+/// that it has stopped, also after one step more.
+fn is_stepped_through(alloc: Global, sheets: &Sheets) -> Result<bool, AllocError> {
+    let first = Round::Opening(1);
+    let awaiting = End::Awaiting(Round::Opening(2));
+    let ended = Step::Ended(awaiting);
+    Ok(
+        shows_nothing_before(alloc, sheets)?
+            && shows(alloc, sheets, 1, Step::Played(first), first, None)?
+            && shows(alloc, sheets, 2, ended, first, Some(awaiting))?
+            && shows(alloc, sheets, 3, ended, first, Some(awaiting))?,
+    )
+}
+
 /// Takes a step. Returns the end of the report, if the step returns that play has stopped.
 fn end_at<R: Runner>(
     alloc: Global,
@@ -297,14 +311,11 @@ fn after_refusals(
     Ok((last, later))
 }
 
-/// Returns the same of the game in which PRR is to run its best in OR2.1; `None` if its file is
-/// refused.
-fn after_refused_runs(alloc: Global, steps: u32) -> Result<Option<(After, After)>, AllocError> {
+/// Returns the same of the game in which PRR is to run its best in OR2.1.
+fn after_refused_runs(alloc: Global, steps: u32) -> Result<(After, After), Fail> {
     let file = file(alloc, "RUN BEST\n")?;
-    match collect(alloc, file.as_slice()) {
-        Ok(sheets) => Ok(Some(after_refusals(alloc, &sheets, steps)?)),
-        Err(_) => Ok(None),
-    }
+    let sheets = collect(alloc, file.as_slice())?;
+    Ok(after_refusals(alloc, &sheets, steps)?)
 }
 
 /// Returns whether a step returns this fault, and the play then shows only that this round was the
@@ -343,7 +354,7 @@ fn file_of_bank(alloc: Global) -> Result<String, AllocError> {
     let mut text = String::new(alloc);
     text.push_str(FIRST_OPENING)?;
     for round in 2..134 {
-        for name in ["ANN", "BOB", "CYD"] {
+        for &name in &["ANN", "BOB", "CYD"] {
             write!(text, "SHEET {name} PR{round}\n")?;
         }
     }
@@ -353,37 +364,21 @@ fn file_of_bank(alloc: Global) -> Result<String, AllocError> {
 
 #[test]
 fn steps_through_a_game(rt: HostRuntime) -> Result<(), Fail> {
-    let Ok(sheets) = collect(rt.alloc(), FIRST.as_bytes()) else {
-        panic!(rt; "refused")
-    };
-    let first = Round::Opening(1);
-    let awaiting = End::Awaiting(Round::Opening(2));
-    let ended = Step::Ended(awaiting);
-    assert!(rt; shows_nothing_before(rt.alloc(), &sheets)?);
-    for (steps, answer, end) in [
-        (1, Step::Played(first), None),
-        (2, ended, Some(awaiting)),
-        (3, ended, Some(awaiting)),
-    ] {
-        assert!(rt; shows(rt.alloc(), &sheets, steps, answer, first, end)?);
-    }
+    let sheets = collect(rt.alloc(), FIRST.as_bytes())?;
+    assert!(rt; is_stepped_through(rt.alloc(), &sheets)?);
     Ok(())
 }
 
 #[test]
 fn writes_the_report_by_its_parts(rt: HostRuntime) -> Result<(), Fail> {
-    let Ok(sheets) = collect(rt.alloc(), FIRST.as_bytes()) else {
-        panic!(rt; "refused")
-    };
+    let sheets = collect(rt.alloc(), FIRST.as_bytes())?;
     assert!(rt; is_report_by_parts(rt.alloc(), &sheets, FIRST_REPORT.as_bytes())?);
     Ok(())
 }
 
 #[test]
 fn plays_on_with_another_runner(rt: HostRuntime) -> Result<(), Fail> {
-    let Some((played, later)) = after_refused_runs(rt.alloc(), 4)? else {
-        panic!(rt; "refused")
-    };
+    let (played, later) = after_refused_runs(rt.alloc(), 4)?;
     let round = Round::Operating { set: 2, number: 1 };
     assert!(rt; played.answer == Ok(Step::Played(Round::Stock(2))) && played.shown.has_history);
     assert!(rt; later.answer == Ok(Step::Played(round)));
@@ -392,9 +387,7 @@ fn plays_on_with_another_runner(rt: HostRuntime) -> Result<(), Fail> {
 
 #[test]
 fn stays_broken_off(rt: HostRuntime) -> Result<(), Fail> {
-    let Some((broken, again)) = after_refused_runs(rt.alloc(), 5)? else {
-        panic!(rt; "refused")
-    };
+    let (broken, again) = after_refused_runs(rt.alloc(), 5)?;
     let round = Round::Operating { set: 2, number: 1 };
     let refused = PlayFault::Refused(round, Company::Pennsylvania);
     assert!(rt; is_broken_off(&broken, refused, Round::Stock(2)));

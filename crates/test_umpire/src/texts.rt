@@ -39,18 +39,14 @@ fn first_round() -> Option<&'static str> {
 
 #[test]
 fn writes_a_game(rt: HostRuntime) -> Result<(), Fail> {
-    let Ok(sheets) = collect(rt.alloc(), FIRST.as_bytes()) else {
-        panic!(rt; "refused")
-    };
+    let sheets = collect(rt.alloc(), FIRST.as_bytes())?;
     assert!(rt; is_report(rt.alloc(), &sheets, FIRST_REPORT)?);
     Ok(())
 }
 
 #[test]
 fn writes_a_round_of_it(rt: HostRuntime) -> Result<(), Fail> {
-    let Ok(sheets) = collect(rt.alloc(), FIRST.as_bytes()) else {
-        panic!(rt; "refused")
-    };
+    let sheets = collect(rt.alloc(), FIRST.as_bytes())?;
     assert!(rt; has_one_round(rt.alloc(), &sheets, first_round().unwrap_or_default())?);
     Ok(())
 }
