@@ -60,7 +60,7 @@ pub(crate) fn put_chart(out: &mut Writer, view: &GameView) {
         put_row(out, view, row);
     }
     out.begin_at(Point { x: 452, y: 480 });
-    for (y, words) in LEGEND {
+    for &(y, words) in &LEGEND {
         put_words(out, 0, y, words);
     }
     out.end();
@@ -123,7 +123,7 @@ fn put_price(out: &mut Writer, corner: Point, square: Square, mark: &'static str
 
 /// Returns whether a square is that of a par value.
 fn is_par_square(square: Square) -> bool {
-    for par in PARS {
+    for &par in &PARS {
         if let Some(its) = par_square(par) {
             if its.row == square.row && its.column == square.column {
                 return true;

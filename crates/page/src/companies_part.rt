@@ -126,7 +126,7 @@ fn put_treasury(out: &mut Writer, scene: &Scene, company: Company) {
     out.begin(Tag::Cell);
     out.within();
     let mut before = "";
-    for kind in Kind::ALL {
+    for &kind in &Kind::ALL {
         for _ in 0..scene.history.trains(Some(company), kind) {
             out.put(&[Words(before), Words(kind.code())]);
             before = " ";
@@ -166,7 +166,7 @@ pub(crate) fn put_owners(out: &mut Writer, scene: &Scene) {
         ],
     );
     out.begin(Tag::TableBody);
-    for private in Private::ALL {
+    for &private in &Private::ALL {
         put_private(out, scene, private);
     }
     out.end();
@@ -245,7 +245,7 @@ pub(crate) fn put_trains(out: &mut Writer, scene: &Scene) {
         &["Train", "#Bank", "#Pool", "#Price", "Stops", "Rusts"],
     );
     out.begin(Tag::TableBody);
-    for kind in Kind::ALL {
+    for &kind in &Kind::ALL {
         put_kind(out, scene, kind);
     }
     out.end();

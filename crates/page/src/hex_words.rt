@@ -170,7 +170,7 @@ fn put_tokens(out: &mut Writer, scene: &Scene, stop: Stop) {
         out.put(&[Words(before), Words(company.code())]);
         before = " ";
     }
-    for company in Company::ALL {
+    for &company in &Company::ALL {
         if is_kept(scene.history, stop, company) {
             out.put(&[Words(", one kept for "), Words(company.code())]);
         }
@@ -183,7 +183,7 @@ fn put_terrain(out: &mut Writer, scene: &Scene, look: &Look) {
     if look.lay.is_none() && cost > 0 {
         out.put(&[Words("; costs "), Number(Money::from(cost))]);
     }
-    for private in Private::ALL {
+    for &private in &Private::ALL {
         if private_in(private, look.hex) {
             put_private(out, scene, private);
         }

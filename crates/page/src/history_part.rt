@@ -169,7 +169,7 @@ fn rounded(least: usize) -> usize
     ensures least { 0 < result }
     ensures most { result ≤ 1000000 }
 {
-    for step in [
+    for &step in &[
         10, 20, 25, 50, 100, 200, 250, 500, 1_000, 2_000, 2_500, 5_000, 10_000, 20_000, 50_000,
         100_000,
     ] {
@@ -328,7 +328,7 @@ fn put_figures(out: &mut Writer, scene: &Scene, entries: &[Entry]) {
     for number in 0..scene.seats {
         put_heading(out, "num", &[Name(scene.name(Seat::at(number)))]);
     }
-    for company in Company::ALL {
+    for &company in &Company::ALL {
         put_heading(out, "num", &[Words(company.code())]);
     }
     end_head(out);

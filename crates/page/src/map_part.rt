@@ -36,7 +36,7 @@ pub(crate) fn put_map(
     put_tracks(out, scene);
     put_lines(out, scene, routes.routes.as_slice());
     out.begin_as(Tag::Group, "top");
-    for hex in Hex::ALL {
+    for &hex in &Hex::ALL {
         put_labels(out, scene, &look_at(scene.history, hex));
     }
     put_tags(alloc, out, scene.history, routes.routes.as_slice())?;
@@ -61,7 +61,7 @@ fn put_description(out: &mut Writer, routes: &Routes) {
 /// Adds the ground of each hex, with its title.
 fn put_grounds(out: &mut Writer, scene: &Scene) {
     out.begin_as(Tag::Group, "ground");
-    for hex in Hex::ALL {
+    for &hex in &Hex::ALL {
         put_ground(out, scene, hex);
     }
     out.end();
@@ -106,7 +106,7 @@ pub(crate) fn put_rim(out: &mut Writer, shade: Shade) {
 /// Adds the rim and the track of each hex, and the closed borders.
 fn put_tracks(out: &mut Writer, scene: &Scene) {
     out.begin_as(Tag::Group, "top");
-    for hex in Hex::ALL {
+    for &hex in &Hex::ALL {
         let look = look_at(scene.history, hex);
         if has_drawing(&look) {
             out.begin_at(centre(hex));
@@ -195,7 +195,7 @@ fn put_cost(out: &mut Writer, look: &Look) {
 /// Adds the codes of the privates of a hex that players own, or nobody yet.
 fn put_privates(out: &mut Writer, scene: &Scene, hex: Hex) {
     let view = scene.history.now();
-    for private in Private::ALL {
+    for &private in &Private::ALL {
         if private_in(private, hex) {
             match view.owner(private) {
                 Some(Holder::Seat(_)) => put_private(out, private, hex, "x", "n"),

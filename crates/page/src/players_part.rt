@@ -35,10 +35,10 @@ pub(crate) fn put_players(out: &mut Writer, scene: &Scene) {
 fn put_headings(out: &mut Writer) {
     begin_head(out);
     put_heading(out, "", &[Words("Player")]);
-    for word in ["Cash", "Free", "Certs", "Worth"] {
+    for &word in &["Cash", "Free", "Certs", "Worth"] {
         put_heading(out, "num", &[Words(word)]);
     }
-    for company in Company::ALL {
+    for &company in &Company::ALL {
         begin_heading(out, "num");
         put_token(out, company);
         out.put(&[Words(company.code())]);
@@ -63,7 +63,7 @@ fn put_player(out: &mut Writer, scene: &Scene, seat: Seat)
     begin_row(out, "");
     let name = scene.name(seat);
     put_row_head(out, &[Name(name), Words(mark)]);
-    for figure in [
+    for &figure in &[
         purse.cash,
         purse.free,
         Money::from(purse.certificates),
@@ -71,7 +71,7 @@ fn put_player(out: &mut Writer, scene: &Scene, seat: Seat)
     ] {
         put_number(out, figure);
     }
-    for company in Company::ALL {
+    for &company in &Company::ALL {
         let shares = scene.history.shares(company, Shareholder::Seat(seat));
         if view.president(company) == Some(seat) {
             out.begin_as(Tag::Cell, "num");
@@ -95,7 +95,7 @@ pub(crate) fn put_privates(out: &mut Writer, scene: &Scene, holder: Holder) {
     out.begin(Tag::Cell);
     out.within();
     let mut before = "";
-    for private in Private::ALL {
+    for &private in &Private::ALL {
         if scene.history.owner(private) == Some(holder) {
             out.put(&[Words(before), Words(private.code())]);
             before = " ";
@@ -130,7 +130,7 @@ fn put_places(out: &mut Writer, scene: &Scene) {
         for _ in 0..4 {
             out.element(Tag::Cell, &[]);
         }
-        for company in Company::ALL {
+        for &company in &Company::ALL {
             put_some(out, figure_of(scene, company, figure));
         }
         out.element(Tag::Cell, &[]);

@@ -71,13 +71,13 @@ const CIRCLES: [(&str, i32); 4] = [("s", 14), ("v", 8), ("q", 7), ("d", 11)];
 /// Adds the signs to which pictures refer.
 pub(crate) fn put_signs(out: &mut Writer) {
     out.begin(Tag::Defs);
-    for (name, data) in PATHS {
+    for &(name, data) in &PATHS {
         put_sign(out, Tag::Path, name, Attr::D, Words(data));
     }
-    for (name, radius) in CIRCLES {
+    for &(name, radius) in &CIRCLES {
         put_sign(out, Tag::Circle, name, Attr::R, At(radius));
     }
-    for company in Company::ALL {
+    for &company in &Company::ALL {
         put_tokens(out, company);
     }
     out.end();
@@ -178,7 +178,7 @@ pub(crate) fn put_legend(out: &mut Writer) {
     put_words(out, -126, 138, "side of a tile; from 6 on again from 0.");
     out.end();
     put_sign_legend(out);
-    for company in Company::ALL {
+    for &company in &Company::ALL {
         let number = company.index() as i32;
         let place = COMPANIES.plus(Point {
             x: 92 * (number / 4),

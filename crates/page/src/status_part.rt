@@ -41,7 +41,7 @@ const LINKS: [(&str, &str); 7] = [
 /// Adds the links to the sections.
 pub(crate) fn put_links(out: &mut Writer) {
     out.begin(Tag::Nav);
-    for (section, words) in LINKS {
+    for &(section, words) in &LINKS {
         out.begin(Tag::Anchor);
         out.value(Attr::Href, &[Words(section)]);
         out.within();

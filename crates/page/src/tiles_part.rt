@@ -52,7 +52,7 @@ fn put_tile(out: &mut Writer, number: TileNo, rotation: Rotation) {
     draw_track(out, &look);
     draw_stops(out, &look, &[[Marker::Free; 2]; 2]);
     put_value(out, &look);
-    for side in Side::ALL {
+    for &side in &Side::ALL {
         if leads_to(&look, side) {
             let place = on_ring(Ring::Digit, side);
             out.label("j", place, &[Number(side.number() as Money)]);
@@ -88,8 +88,8 @@ pub(crate) fn put_tiles_left(out: &mut Writer, history: &History) {
         "(rotation 0 with the numbers of the sides; a rotation r adds r)",
     );
     out.begin_as(Tag::Listing, "tiles");
-    for (colour, _) in COLOURS {
-        for number in TileNo::ALL {
+    for &(colour, _) in &COLOURS {
+        for &number in &TileNo::ALL {
             if tile(number).colour as u8 == colour as u8 {
                 put_left(out, history, number);
             }
@@ -151,7 +151,7 @@ pub(crate) fn put_laid(out: &mut Writer, history: &History) {
 /// Adds the list of the tiles on the map.
 fn put_laid_list(out: &mut Writer, history: &History) {
     out.begin_as(Tag::Listing, "laid");
-    for hex in Hex::ALL {
+    for &hex in &Hex::ALL {
         if let Some(lay) = tile_on(history.lays(), hex) {
             put_lay(out, lay);
         }
@@ -193,7 +193,7 @@ pub fn tile_sheet(alloc: Global) -> Result<Vec<u8>, AllocError>
     out.value(Attr::Hidden, &[Words("true")]);
     put_signs(&mut out);
     out.end();
-    for (colour, words) in COLOURS {
+    for &(colour, words) in &COLOURS {
         put_colour(&mut out, colour, words);
     }
     out.finish()
@@ -206,7 +206,7 @@ fn put_colour(out: &mut Writer, colour: Colour, words: &'static str) {
     put_caption(out, "Tile, how many, and its rotations", "");
     put_head(out, &["Tile", "0", "1", "2", "3", "4", "5"]);
     out.begin(Tag::TableBody);
-    for number in TileNo::ALL {
+    for &number in &TileNo::ALL {
         let entry = tile(number);
         if entry.colour as u8 == colour as u8 {
             begin_row(out, "");
@@ -219,7 +219,7 @@ fn put_colour(out: &mut Writer, colour: Colour, words: &'static str) {
                     count,
                 ],
             );
-            for rotation in Rotation::ALL {
+            for &rotation in &Rotation::ALL {
                 out.begin(Tag::Cell);
                 put_tile(out, number, rotation);
                 out.end();

@@ -50,7 +50,7 @@ fn markers_at(history: &History, stop: Stop, slots: u8) -> [Marker; 2] {
         *marker = Marker::Token(*company);
     }
     let last = if slots > 1 { 1 } else { 0 };
-    for company in Company::ALL {
+    for &company in &Company::ALL {
         if tokens.len() <= last && is_kept(history, stop, company) {
             markers[last] = Marker::Kept(company);
         }

@@ -89,7 +89,7 @@ fn entry_of(history: &History, round: Round) -> Entry {
         }
     }
     let mut prices = [None; COMPANIES];
-    for company in Company::ALL {
+    for &company in &Company::ALL {
         if let Some(square) = view.square(company) {
             prices[company.index()] = Some(price(square));
         }
