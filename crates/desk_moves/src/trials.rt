@@ -34,12 +34,29 @@ pub fn trial(
     form: TrialForm,
 ) -> Result<Vec<u8>, MovesFault> {
     let sheets = collect(alloc, file)?;
-    let round = round_awaited(alloc, &sheets)?;
-    must_name_all(&sheets, players, round)?;
+    let round = round_to_try(alloc, &sheets, players)?;
     let tried = tried_file(alloc, file, &sheets, round)?;
+    text_of_trial(alloc, tried.as_slice(), round, form)
+}
+
+/// Returns the round that is awaited, where each name is a player's, and those who owe a sheet for
+/// it are all named, if anybody is. The error says what is not so, or is `Memory`.
+fn round_to_try(alloc: Global, sheets: &Sheets, players: &[&str]) -> Result<Round, MovesFault> {
+    let round = round_awaited(alloc, sheets)?;
+    must_name_all(sheets, players, round)?;
+    Ok(round)
+}
+
+/// Returns a round of the file with the sheets that were added.
+fn text_of_trial(
+    alloc: Global,
+    tried: &[u8],
+    round: Round,
+    form: TrialForm,
+) -> Result<Vec<u8>, MovesFault> {
     match form {
-        TrialForm::Bulletin => Ok(bulletin(alloc, tried.as_slice(), Some(round))?),
-        TrialForm::Rules => Ok(round_with_rules(alloc, tried.as_slice(), Some(round))?),
+        TrialForm::Bulletin => Ok(bulletin(alloc, tried, Some(round))?),
+        TrialForm::Rules => Ok(round_with_rules(alloc, tried, Some(round))?),
     }
 }
 
