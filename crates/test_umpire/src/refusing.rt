@@ -4,7 +4,7 @@ ghost use Rattle.std.specs.Prelude.{◌≡◌, true};
 use certificate::{Runner, RunnerFault};
 use reach::Network;
 use rounds::{PlayFault, play_with};
-use sheets::collect;
+use sheets::{Sheets, collect};
 use std::alloc::{AllocError, Global};
 use std::test::Fail;
 use tables::{Company, Kind, Money, Round};
@@ -88,12 +88,20 @@ pub(crate) fn file(alloc: Global, run: &str) -> Result<Vec<u8>, AllocError> {
     Ok(text)
 }
 
-/// Returns why the game in which this is the order to run is not played with a runner that refuses;
-/// `None` if it is played.
+/// Returns why the game of some sheets is not played with a runner that refuses; `None` if it is
+/// played.
+fn fault_of(alloc: Global, sheets: &Sheets) -> Option<PlayFault> {
+    match play_with(alloc, sheets, &mut Refusing) {
+        Ok(_) => None,
+        Err(fault) => Some(fault),
+    }
+}
+
+/// Returns the same of the game in which this is the order to run.
 fn fault(alloc: Global, run: &str) -> Result<Option<PlayFault>, Fail> {
     let file = file(alloc, run)?;
     let sheets = collect(alloc, file.as_slice())?;
-    Ok(play_with(alloc, &sheets, &mut Refusing).err())
+    Ok(fault_of(alloc, &sheets))
 }
 
 #[test]
