@@ -130,84 +130,6 @@ enum Operand {
     Players,
 }
 
-/// How what stands behind a word is given.
-#[derive(Clone, Copy)]
-enum Form {
-    /// `--` and its name.
-    Flag,
-    /// `--`, its name, and after it what the help calls by this name.
-    Option(&'static str),
-    /// A word that may be left out.
-    Word,
-    /// A word that may not be left out.
-    NeededWord,
-    /// Any number of words.
-    Words,
-}
-
-impl Operand {
-    /// Returns its name, how it is given, and its help.
-    fn row(self) -> (&'static str, Form, &'static str) {
-        match self {
-            Operand::Round => (
-                "ROUND",
-                Form::Word,
-                "The round, as OR2.1; the last one if none is named",
-            ),
-            Operand::Why => (
-                "why",
-                Form::Flag,
-                "Put under each refused line what rule it broke",
-            ),
-            Operand::Before => ("before", Form::Flag, "As it stood before that round"),
-            Operand::All => ("all", Form::Flag, "Tell all that there is"),
-            Operand::From => (
-                "from",
-                Form::Option("LINE"),
-                "Tell only what begins on this line of the file or below it",
-            ),
-            Operand::Codes => (
-                "CODE",
-                Form::Words,
-                "The codes, as G3; a list of them all if none is named",
-            ),
-            Operand::Lines => (
-                "lines",
-                Form::Flag,
-                "Write order lines, each with four spaces and its price",
-            ),
-            Operand::Best => (
-                "best",
-                Form::Flag,
-                "Tell what the company's best runs would earn after each",
-            ),
-            Operand::Tiles => (
-                "tiles",
-                Form::Flag,
-                "Write all tiles in their six rotations, without a game",
-            ),
-            Operand::After => (
-                "after",
-                Form::Option("ROUND"),
-                "As it stood after this round, as OR2.1",
-            ),
-            Operand::Company => ("COMPANY", Form::NeededWord, "The company, as PRR"),
-            Operand::Hex => ("HEX", Form::NeededWord, "The hex, as H10"),
-            Operand::Trains => (
-                "TRAIN",
-                Form::Words,
-                "The trains, as 4 4 D; those that it has if none is named",
-            ),
-            Operand::Player => ("PLAYER", Form::NeededWord, "The player's name"),
-            Operand::Players => (
-                "PLAYER",
-                Form::Words,
-                "Those who owe a sheet; the trial fails if somebody else does too",
-            ),
-        }
-    }
-}
-
 /// The words, as the help lists them.
 static WORDS: [Word; 12] = [
     Word {
@@ -349,15 +271,57 @@ fn command_of<'a>(alloc: Global, word: &'static Word) -> Result<Command<'a>, All
 
 /// Returns what may follow a word, with its help.
 fn argument_of<'a>(alloc: Global, operand: Operand) -> Arg<'a> {
-    let (name, form, help) = operand.row();
-    let argument = Arg::new(alloc, name).help(help);
-    match form {
-        Form::Flag => argument.long(name).action(ArgAction::SetTrue),
-        Form::Option(value) => argument.long(name).value_name(value),
-        Form::Word => argument,
-        Form::NeededWord => argument.required(true),
-        Form::Words => argument.num_args(0..),
+    match operand {
+        Operand::Round => {
+            Arg::new(alloc, "ROUND").help("The round, as OR2.1; the last one if none is named")
+        }
+        Operand::Why => flag(alloc, "why").help("Put under each refused line what rule it broke"),
+        Operand::Before => flag(alloc, "before").help("As it stood before that round"),
+        Operand::All => flag(alloc, "all").help("Tell all that there is"),
+        Operand::From => Arg::new(alloc, "from").long("from").value_name("LINE").help(
+            "Tell only what begins on this line of the file or below it",
+        ),
+        Operand::Codes => Arg::new(alloc, "CODE")
+            .num_args(0..)
+            .help("The codes, as G3; a list of them all if none is named"),
+        Operand::Lines => {
+            flag(alloc, "lines").help("Write order lines, each with four spaces and its price")
+        }
+        Operand::Best => {
+            flag(alloc, "best").help("Tell what the company's best runs would earn after each")
+        }
+        Operand::Tiles => {
+            flag(alloc, "tiles").help("Write all tiles in their six rotations, without a game")
+        }
+        Operand::After => Arg::new(alloc, "after")
+            .long("after")
+            .value_name("ROUND")
+            .help("As it stood after this round, as OR2.1"),
+        Operand::Company => {
+            Arg::new(alloc, "COMPANY")
+                .required(true)
+                .help("The company, as PRR")
+        }
+        Operand::Hex => Arg::new(alloc, "HEX")
+            .required(true)
+            .help("The hex, as H10"),
+        Operand::Trains => Arg::new(alloc, "TRAIN")
+            .num_args(0..)
+            .help("The trains, as 4 4 D; those that it has if none is named"),
+        Operand::Player => {
+            Arg::new(alloc, "PLAYER")
+                .required(true)
+                .help("The player's name")
+        }
+        Operand::Players => Arg::new(alloc, "PLAYER").num_args(0..).help(
+            "Those who owe a sheet; the trial fails if somebody else does too",
+        ),
     }
+}
+
+/// Returns a flag: `--` and this name.
+fn flag<'a>(alloc: Global, name: &'static str) -> Arg<'a> {
+    Arg::new(alloc, name).long(name).action(ArgAction::SetTrue)
 }
 
 /// Returns the row of a word; `None` if there is no such word.
