@@ -1,5 +1,6 @@
 ghost use Rattle.std.specs.Prelude.{◌≡◌, IfSome, true};
-ghost use Rattle.tables.specs.Chart.{entry_at, is_on_chart, par_square_of, price_of, row_at, square_at, zone_of};
+ghost use Rattle.tables.specs.Chart.{entry_at, entry_in, is_on_chart, par_square_of, price_of, row_at, square_at};
+ghost use Rattle.tables.specs.Chart.{zone_of};
 
 use crate::seat::Amount;
 use crate::squares::{Square, Zone};
@@ -96,6 +97,15 @@ fn row_at(row: u8) -> &'static [Option<Entry>]
 fn entry_at(square: Square) -> Option<Entry>
     ensures { result ≡ entry_at square.row square.column }
 {
-    let before = usize::from(square.column).checked_sub(1)?;
-    *row_at(square.row).get(before)?
+    entry_in(row_at(square.row), square.column)
+}
+
+/// Returns what a row has in a column, by its number from 1; `None` where the row has none.
+fn entry_in(row: &[Option<Entry>], column: u8) -> Option<Entry>
+    ensures { result ≡ entry_in row.now column }
+{
+    match column {
+        0 => None,
+        column => row.get(usize::from(column) - 1).copied().flatten(),
+    }
 }
