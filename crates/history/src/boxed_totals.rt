@@ -10,7 +10,7 @@ use std::alloc::{AllocError, Global};
 use totals::Totals;
 
 /// The totals of a list of events. There is no box before the first event.
-#[derive(Debug, Drop)]
+#[derive(Drop)]
 pub(crate) struct BoxedTotals {
     boxed: Option<Box<Totals>>,
 }

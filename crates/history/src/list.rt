@@ -1,14 +1,18 @@
 ghost use Rattle.std.specs.Prelude.{◌≡◌, ◌↔◌, ◌≤◌, ◌<◌, ◌++◌, IsTrue, IsOk, MatchResult, OnOk, OnErr, option_map, pos};
-ghost use Rattle.std.specs.Prelude.{slice_get, vec_capacity, vec_len, []};
+ghost use Rattle.std.specs.Prelude.{is_some, slice_get, vec_capacity, vec_len, []};
 ghost use Rattle.std.specs.List.{cons_option};
 ghost use Rattle.std.specs.Option.{option_copied};
-ghost use Rattle.events.specs.Event.{sum_of};
+ghost use Rattle.events.specs.Event.{obeyed_of, sum_of, tile_laid, token_placed};
+ghost use Rattle.events.specs.Offers.{offered_in};
+ghost use Rattle.events.specs.Orders.{said_by};
 ghost use Rattle.events.specs.Packed.{TakesBox};
 ghost use Rattle.totals.specs.Bids.{bid_of};
 ghost use Rattle.totals.specs.LookBack.{FitsMemory, IsModerate, broken_in, cash_of, owner_of, sv_price_of, with_event};
+ghost use Rattle.totals.specs.Offers.{is_among};
 ghost use Rattle.totals.specs.Operating.{lays_of, tokens_of};
 ghost use Rattle.totals.specs.Shares.{is_floated, par_of, shares_of, square_of};
 ghost use Rattle.history.specs.Sound.{IsSound};
+ghost use Rattle.totals.specs.Totals.{flag_then};
 ghost use Rattle.totals.specs.Trains.{phase_of, trains_held};
 ghost use Rattle.order_grammar.specs.Condition.{ordered};
 
@@ -86,14 +90,10 @@ impl History {
         ensures err { OnErr result (self.new ≡ self.old) }
     {
         self.events.reserve(1)?;
-        self.lays.reserve(1)?;
-        self.offers.reserve(1)?;
         self.totals.reserve(*self.events.allocator())?;
-        self.tokens.reserve(1)?;
+        make_room(&mut self.lays, &mut self.tokens, &mut self.offers)?;
         self.totals.apply(&event);
-        push_any(&mut self.lays, event.lay())?;
-        push_any(&mut self.tokens, event.token())?;
-        apply_offer(&mut self.offers, &event)?;
+        keep(&mut self.lays, &mut self.tokens, &mut self.offers, &event)?;
         self.events.push(event)?;
         Ok(())
     }
@@ -251,6 +251,48 @@ impl History {
     {
         self.now().phase()
     }
+}
+
+/// Makes room for one more tile, token and offer. Fails only if allocation fails.
+fn make_room(
+    lays: &mut Vec<Lay>,
+    tokens: &mut Vec<(Place, Company)>,
+    offers: &mut Vec<(Seat, Offer)>,
+) -> Result<(), AllocError>
+    ensures lays { lays.new.items ≡ lays.old.items }
+    ensures tokens { tokens.new.items ≡ tokens.old.items }
+    ensures offers { offers.new.items ≡ offers.old.items }
+    ensures room_of_lays { OnOk result (vec_len lays.new < vec_capacity lays.new) }
+    ensures room_of_tokens { OnOk result (vec_len tokens.new < vec_capacity tokens.new) }
+    ensures room_of_offers { OnOk result (vec_len offers.new < vec_capacity offers.new) }
+{
+    lays.reserve(1)?;
+    tokens.reserve(1)?;
+    offers.reserve(1)?;
+    Ok(())
+}
+
+/// Adds the tile, the token and the offer of an event, if it has one, to lists that have room for
+/// it.
+fn keep(
+    lays: &mut Vec<Lay>,
+    tokens: &mut Vec<(Place, Company)>,
+    offers: &mut Vec<(Seat, Offer)>,
+    event: &Event,
+) -> Result<(), AllocError>
+    requires room_of_lays { vec_len lays.old < vec_capacity lays.old }
+    requires room_of_tokens { vec_len tokens.old < vec_capacity tokens.old }
+    requires room_of_offers { vec_len offers.old < vec_capacity offers.old }
+    ensures lays { lays.new.items ≡ lays.old.items ++ cons_option (tile_laid event.now) [] }
+    ensures tokens { tokens.new.items ≡ tokens.old.items ++ cons_option (token_placed event.now) [] }
+    ensures offers { (seat : Seat) (sale : Offer) → is_among seat sale offers.new.items
+        ≡ flag_then event.now (is_some (said_by seat (offered_in sale) (obeyed_of event.now)))
+        (is_among seat sale offers.old.items) }
+    ensures ok { IsOk result }
+{
+    push_any(lays, event.lay())?;
+    push_any(tokens, event.token())?;
+    apply_offer(offers, event)
 }
 
 /// Adds one thing at the end of a list that has room for it, if there is one.

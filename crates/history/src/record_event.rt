@@ -47,7 +47,7 @@ impl History {
         ensures ok { OnOk result (self.new ≡ revenues_recorded self.old) }
         ensures sound { IsSound self.new }
     {
-        for private in Private::ALL {
+        for &private in &Private::ALL {
             self.record_revenue(private)?;
         }
         Ok(())

@@ -1,4 +1,4 @@
-use Rattle.std.proofs.Common.{◌≤◌, sym, subst, ◌∙◌, arith}
+use Rattle.std.proofs.Common.{◌≤◌, refl, sym, subst, ◌∙◌, arith}
 use Rattle.std.proofs.lemmas.List.Elements.{All-push}
 use Rattle.events.specs.Event.{sum_of, tile_laid, token_placed}
 use Rattle.events.specs.declared.event.Event.{Event}
@@ -14,11 +14,11 @@ invariant_of-self-2 c =
     rw (c.in_ok-push.ensures.items, c.reserve.ensures.items) (
       sums,
       c.apply.ensures _ (omega (arith, c.push.ensures, c.reserve.ensures))
-          (c.reserve-4.ensures.same _ c.self.invariant.1),
-      all_kept tile_laid events c.args.event _ _ _ (c.reserve-2.ensures.items ∙ c.self.invariant.2) c.lay.ensures
-          c.push_any.ensures.kept,
-      all_kept token_placed events c.args.event _ _ _ (c.reserve-5.ensures.items ∙ c.self.invariant.3) c.token.ensures
-          c.push_any-2.ensures.kept,
-      offers_applied events c.args.event _ _ c.apply_offer.ensures.applied
-          (subst (λ offers. AreOffersOf offers events) (sym c.reserve-3.ensures.items) c.self.invariant.4),
+          (c.reserve-2.ensures.same _ c.self.invariant.1),
+      all_kept tile_laid events c.args.event _ _ _ (c.make_room.ensures.lays ∙ c.self.invariant.2) refl
+          c.keep.ensures.lays,
+      all_kept token_placed events c.args.event _ _ _ (c.make_room.ensures.tokens ∙ c.self.invariant.3) refl
+          c.keep.ensures.tokens,
+      offers_applied events c.args.event _ _ c.keep.ensures.offers
+          (subst (λ offers. AreOffersOf offers events) (sym c.make_room.ensures.offers) c.self.invariant.4),
     )
