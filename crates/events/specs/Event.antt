@@ -5,7 +5,7 @@
 -- the bank is broken or that a president is bankrupt. Every fact about a game looks back over one
 -- of them.
 use Rattle.std.specs.Prelude.{◌≡◌, ℕ, Bool, true, false, List, Option, Some, None, if◌then◌else◌, is_some}
-use Rattle.order_grammar.specs.declared.order.Order.{Order}
+pub use Rattle.order_grammar.specs.declared.order.Order.{Order}
 use Rattle.order_grammar.specs.declared.order.Order.TheVariants as order
 use Rattle.order_grammar.specs.declared.order.ShareSource.{ShareSource}
 use Rattle.order_grammar.specs.declared.order.ShareSource.TheVariants as source
@@ -35,8 +35,8 @@ use Rattle.events.specs.declared.event.TrainSeller.TheVariants as seller
 use Rattle.events.specs.declared.event.Transfer.{Transfer}
 use Rattle.events.specs.declared.ruling.Ruling.{Ruling}
 use Rattle.events.specs.declared.ruling.Ruling.TheVariants.{Obeyed}
-use Rattle.map_tables.specs.declared.lay.Lay.{Lay}
-use Rattle.map_tables.specs.declared.place.Place.{Place}
+pub use Rattle.map_tables.specs.declared.lay.Lay.{Lay}
+pub use Rattle.map_tables.specs.declared.place.Place.{Place}
 use Rattle.tables.specs.Chart.{par_square_of}
 use Rattle.tables.specs.declared.roster.Company.{Company}
 use Rattle.tables.specs.declared.roster.Company.TheVariants.{NewYorkCentral}

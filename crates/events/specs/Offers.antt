@@ -3,7 +3,7 @@
 use Rattle.std.specs.Prelude.{ℕ, ◌==◌, Bool, false, ◌&&◌, if◌then◌else◌, Option, Some, None}
 use Rattle.events.specs.Event.{obeyed_says, order_obeyed}
 use Rattle.events.specs.declared.ruling.Ruling.{Ruling}
-use Rattle.order_grammar.specs.declared.order.Offer.{Offer}
+pub use Rattle.order_grammar.specs.declared.order.Offer.{Offer}
 use Rattle.order_grammar.specs.declared.order.Offer.TheVariants as offer
 use Rattle.order_grammar.specs.declared.order.Order.{Order}
 use Rattle.order_grammar.specs.declared.order.Order.TheVariants as order

@@ -15,7 +15,7 @@ use Rattle.events.specs.declared.ruling.Verdict.{Verdict}
 use Rattle.events.specs.declared.ruling.Verdict.TheVariants as verdict
 use Rattle.order_grammar.specs.Condition.{Ordered, ordered}
 use Rattle.order_grammar.specs.Short.{has_short_form, order_in_short}
-use Rattle.order_grammar.specs.declared.condition.Condition.{Condition}
+pub use Rattle.order_grammar.specs.declared.condition.Condition.{Condition}
 use Rattle.order_grammar.specs.declared.order.Order.{Order}
 use Rattle.order_grammar.specs.declared.order.Order.TheVariants as order
 use Rattle.order_grammar.specs.declared.short.ShortOrder.{ShortOrder}

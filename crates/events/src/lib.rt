@@ -22,6 +22,7 @@ pub use event::{
     Bid, Bidding, Event, Holder, Office, Ownership, ParValue, Party, Payment, Placement, SUM_MOST,
     Shareholder, TrainMove, TrainPlace, TrainSeller, Transfer,
 };
+pub use order_grammar::Offer;
 pub use packed::{PackedLine, PackedRuling, is_offer};
 pub use ruling::{
     OpeningRule, PayRule, PrivateRule, Refusal, Ruling, StockRule, TrainRule, Verdict,

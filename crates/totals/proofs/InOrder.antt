@@ -8,12 +8,10 @@ use Rattle.std.proofs.lemmas.List.{append-nil}
 use Rattle.std.proofs.lemmas.List.Elements.{filter_map-append}
 use Rattle.std.specs.List.{cons_option, filter_map}
 use Rattle.std.proofs.lemmas.List.Sums.{fold_push, sum_by-append}
-use Rattle.events.specs.Event.{tile_laid, token_placed}
+use Rattle.events.specs.Event.{Lay, Place, tile_laid, token_placed}
 use Rattle.events.specs.declared.event.Event.{Event}
 use Rattle.totals.specs.AtEnd.{LaysGrow, RulingsAreCounted, TokensGrow}
 use Rattle.totals.specs.Operating.{lays_of, rulings_then, tokens_of, tokens_placed}
-use Rattle.map_tables.specs.declared.lay.Lay.{Lay}
-use Rattle.map_tables.specs.declared.place.Place.{Place}
 use Rattle.tables.specs.Roster.{same_company}
 use Rattle.tables.specs.declared.roster.Company.{Company}
 

@@ -1,14 +1,13 @@
 -- A ruling that obeys no order that speaks of a thing, and the event that tells of it, say nothing
 -- of it.
 use Rattle.std.proofs.Common.{◌≡◌, ℕ, ◌==◌, Bool, true, false, if◌then◌else◌, Option, None, refl, subst, sym, ap, ◌∙◌}
-use Rattle.events.specs.Event.{obeyed_by, obeyed_of}
+use Rattle.events.specs.Event.{Order, obeyed_by, obeyed_of}
 use Rattle.events.specs.Orders.{said_by}
+use Rattle.events.specs.Packed.{Condition}
 use Rattle.events.specs.declared.event.Event.{Event}
 use Rattle.events.specs.declared.event.Event.TheVariants.{Ruled}
 use Rattle.events.specs.declared.ruling.Ruling.{Ruling}
 use Rattle.events.specs.declared.ruling.Ruling.TheVariants.{Faulty, Obeyed, Refused}
-use Rattle.order_grammar.specs.declared.condition.Condition.{Condition}
-use Rattle.order_grammar.specs.declared.order.Order.{Order}
 use Rattle.tables.specs.declared.seat.Seat.{Seat}
 
 -- no word is none, of whichever seat

@@ -5,11 +5,10 @@
 use Rattle.std.specs.Prelude.{◌≡◌, ◌==◌, Bool, false, ◌&&◌, ◌||◌, List, Option, Some, None, is_some}
 use Rattle.std.specs.List.{list_any}
 use Rattle.events.specs.Event.{obeyed_of}
-use Rattle.events.specs.Offers.{offered_in, same_offer}
+use Rattle.events.specs.Offers.{Offer, offered_in, same_offer}
 use Rattle.events.specs.Orders.{said_by}
 use Rattle.events.specs.declared.event.Event.{Event}
 use Rattle.totals.specs.LookBack.{in_round, now_said}
-use Rattle.order_grammar.specs.declared.order.Offer.{Offer}
 use Rattle.tables.specs.declared.seat.Seat.{Seat}
 
 -- an offer is a seat's offer of this sale

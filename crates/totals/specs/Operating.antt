@@ -3,11 +3,9 @@
 -- were ruled since then.
 use Rattle.std.specs.Prelude.{ℕ, ◌+◌, ◌==◌, Bool, if◌then◌else◌, List, Option, Some, None, is_some}
 use Rattle.std.specs.List.{count_by, filter_map, fold}
-use Rattle.events.specs.Event.{operated_by, round_begun_by, ruled_by, tile_laid, token_placed}
+use Rattle.events.specs.Event.{Lay, Place, operated_by, round_begun_by, ruled_by, tile_laid, token_placed}
 use Rattle.events.specs.declared.event.Event.{Event}
 use Rattle.totals.specs.LookBack.{in_round, now_said}
-use Rattle.map_tables.specs.declared.lay.Lay.{Lay}
-use Rattle.map_tables.specs.declared.place.Place.{Place}
 use Rattle.tables.specs.Roster.{same_company}
 use Rattle.tables.specs.declared.roster.Company.{Company}
 use Rattle.tables.specs.declared.seat.Seat.{Seat}

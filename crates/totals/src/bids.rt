@@ -98,7 +98,7 @@ impl GameView<'_> {
         ensures within { bids_of self.now.events.now seat < 2 ^ 35 }
     {
         let mut sum: u64 = 0;
-        for private in Private::ALL {
+        for &private in &Private::ALL {
             sum += u64::from(self.tied_on(seat, private));
         }
         Money::from(sum)

@@ -7,8 +7,7 @@ ghost use Rattle.totals.specs.LookBack.{paid_by, paid_to};
 ghost use Rattle.totals.specs.Shares.{brought_to, sale_said, taken_from};
 
 use crate::event_folds::{Account, Topic};
-use events::{Bidding, Event, Party, Shareholder};
-use order_grammar::Offer;
+use events::{Bidding, Event, Offer, Party, Shareholder};
 use tables::{Amount, Company, Private, Seat};
 
 /// The cash of a party.

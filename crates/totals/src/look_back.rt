@@ -14,8 +14,7 @@ use crate::event_folds::balance;
 use crate::event_topics::Cash;
 use crate::owners::Owners;
 use crate::totals::Totals;
-use events::{Event, Holder, Party};
-use order_grammar::Offer;
+use events::{Event, Holder, Offer, Party};
 use tables::{Amount, Money, Private, Round, Seat, bank_start, face, start_money};
 
 /// A list of events with the number of seats: a game as it stood after them.

@@ -5,8 +5,7 @@ ghost use Rattle.totals.specs.Offers.{has_consent, has_offered, is_among};
 use crate::event_folds::{InRound, last_said};
 use crate::event_topics::OfferBy;
 use crate::look_back::GameView;
-use events::is_offer;
-use order_grammar::Offer;
+use events::{Offer, is_offer};
 use tables::Seat;
 
 impl GameView<'_> {

@@ -54,7 +54,7 @@ impl Owners {
     pub fn cheapest_unsold(&self) -> Option<Private>
         ensures { result ≡ cheapest_in self.now }
     {
-        for private in Private::ALL {
+        for &private in &Private::ALL {
             if !self.is_sold(private) {
                 return Some(private);
             }

@@ -26,7 +26,7 @@ use tables::{
 /// Balances of cash, shares and trains are what came to each party or place, minus what went from
 /// it. Companies' turns, seats' sales, rulings and limits are those of the round that began last.
 /// The greatest bids are of all bids that were ever made.
-#[derive(Clone, Copy, Debug)]
+#[derive(Clone, Copy)]
 pub struct Totals {
     /// How many events there are.
     event_count: usize,
