@@ -12,6 +12,7 @@ pub mod Run
 pub mod RunBest
 pub mod Pay
 pub mod Train
+pub mod ForcedPurchase
 pub mod Private
 pub mod CompanyOrders
 pub mod TurnEnd

@@ -29,9 +29,7 @@ use Rattle.map_tables.specs.declared.lay.Lay.{Lay}
 use Rattle.map_tables.specs.declared.place.Place.{Place}
 use Rattle.market.specs.Moves.{square_left_of, right_of}
 use Rattle.market.specs.Token.{with_move}
-use Rattle.forced_purchase.specs.declared.operator.Operator.{Operator}
-use Rattle.forced_purchase.proofs.Cheapest.{cheapest_plain}
-use Rattle.operating.proofs.ForcedGames.{operator}
+use Rattle.operating.proofs.ForcedGames.{cheapest_plain, operator}
 use Rattle.purchases.proofs.TrainSteps.{IsPassedOn, OfClosings, of_bop, of_choice, of_iterate}
 use Rattle.purchases.proofs.TrainSteps.{of_next, of_phase, of_trade, of_train_owner}
 use Rattle.operating.specs.HomeToken.{has_home_token, with_home}
@@ -39,11 +37,10 @@ use Rattle.operating.specs.Pay.{withheld, pay_judgement, withhold_judgement, wit
 use Rattle.operating.specs.RunBest.{BestRuled, best_judgement}
 use Rattle.certs.specs.Dividend.{all_paid, paid_for, paid_out, paid_to, paid_to_seats}
 use Rattle.operating.specs.TurnEnd.{EndLeads}
-use Rattle.forced_purchase.specs.Forced.{after_forced, concluded, next_to_sell, one_share}
-use Rattle.forced_purchase.specs.Forced.{sold_further, sold_singly, with_aid, with_one_sold}
-use Rattle.forced_purchase.specs.Raise.{after_raise_line, after_raises, needed_rule, sale_rule}
-use Rattle.forced_purchase.specs.Raise.{raise_rule, raise_ruled, with_ruling, with_sale}
-use Rattle.forced_purchase.specs.Shortfall.{cheapest, falls_short, lack_of}
+use Rattle.operating.specs.ForcedPurchase.{Operator, after_forced, after_raise_line, after_raises, cheapest}
+use Rattle.operating.specs.ForcedPurchase.{concluded, falls_short, lack_of, needed_rule, next_to_sell, one_share}
+use Rattle.operating.specs.ForcedPurchase.{raise_rule, raise_ruled, sale_rule, sold_further, sold_singly}
+use Rattle.operating.specs.ForcedPurchase.{with_aid, with_one_sold, with_ruling, with_sale}
 use Rattle.operating.specs.Progress.{is_unpaid, pay_done}
 use Rattle.operating.specs.TurnState.{TurnState, turn_state, line_recorded, ruled}
 use Rattle.purchases.specs.Train.{after_train, begins_phase, bought, with_trade, cost_of}

@@ -10,12 +10,11 @@ use Rattle.events.specs.declared.ruling.Refusal.{Refusal}
 use Rattle.events.specs.declared.ruling.Refusal.TheVariants as refusal
 use Rattle.events.specs.declared.ruling.Ruling.{Ruling}
 use Rattle.events.specs.declared.ruling.Ruling.TheVariants.{Obeyed, Refused, Faulty}
-use Rattle.forced_purchase.specs.Raise.{needed_rule, sale_rule}
 use Rattle.operating.specs.CompanyOrders.{is_held}
+use Rattle.operating.specs.ForcedPurchase.{Operator, needed_rule, sale_rule}
 use Rattle.order_grammar.specs.declared.condition.Condition.{Condition}
 use Rattle.order_grammar.specs.declared.condition.Version.TheVariants.{One}
 use Rattle.order_grammar.specs.declared.order.Order.{Order}
-use Rattle.forced_purchase.specs.declared.operator.Operator.{Operator}
 use Rattle.rounds.specs.Play.{AreRounds, Between, before_play}
 use Rattle.sheets.specs.File.{version_of}
 use Rattle.totals.specs.LookBack.{Game}
