@@ -1,4 +1,3 @@
 -- What the desk finds of a game as it stands.
 pub mod Earnings
 pub mod Stack
-pub mod StockLeft

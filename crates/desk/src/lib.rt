@@ -1,16 +1,15 @@
 //! A game as it stands, at its end or between two of its rounds, as text. No call reads or writes a
 //! stream.
 //!
-//! Each figure comes from a reader of the game's list, or from `player_figures`, `earnings`,
-//! `stack` or `stock_left`, whose contracts define it. The games of `games/desk/` test the layout.
+//! Each figure comes from a reader of the game's list, from `desk_base`, or from `player_figures`,
+//! `earnings` or `stack`, whose contracts define it. The games of `games/desk/` test the layout.
 //!
-//! Reading order: `round_name` (the round that is asked for), `between_rounds` (the game at a
-//! moment). Then the figures that the readers of a game do not have (`player_figures`, `earnings`,
-//! `stack`, `stock_left`, `state_rows`), and their layout: `lines`, `state_round`, `state_players`,
-//! `state_companies`, `state_stock`, `state_chart`, `state_map`, `whole_state` (`state`).
+//! Reading order: `round_name` (the round that is asked for). Then the figures that the readers of
+//! a game do not have (`player_figures`, `earnings`, `stack`, `state_rows`), and their layout:
+//! `lines`, `state_round`, `state_players`, `state_companies`, `state_stock`, `state_chart`,
+//! `state_map`, `whole_state` (`state`).
 #![tactic(auto)]
 
-mod between_rounds;
 mod earnings;
 mod lines;
 mod player_figures;
@@ -23,14 +22,10 @@ mod state_players;
 mod state_round;
 mod state_rows;
 mod state_stock;
-mod stock_left;
 mod whole_state;
 
-pub use between_rounds::{Moment, Stood, play_before, play_behind, stood_at_last, stood_now};
-pub use desk_base::{DeskFault, best_at};
 pub use earnings::{Earnings, earnings_of};
 pub use player_figures::{Purse, purse_of};
 pub use round_name::read_round;
 pub use stack::{all_in_order, before_in_stack, company_at, operates};
-pub use stock_left::{has_token, tile_on, tiles_left, tokens_left, trains_left};
 pub use whole_state::{state, state_text};

@@ -1,13 +1,11 @@
 //! What each company has: its place on the stock market, its figures, its shares and its tokens.
 
-use crate::between_rounds::Stood;
 use crate::earnings::earnings_of;
 use crate::stack::before_in_stack;
 use crate::state_players::push_privates;
 use crate::state_rows::{company_row, share_row};
-use crate::stock_left::tokens_left;
 use desk_base::Piece::{Bytes, Column, Number, Right, Words};
-use desk_base::{Piece, fill, push};
+use desk_base::{Piece, Stood, fill, push, tokens_left};
 use history::{History, Holder, Shareholder};
 use report::name;
 use sheets::Sheets;

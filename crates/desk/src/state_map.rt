@@ -1,9 +1,8 @@
 //! The map as text, with the tiles and the tokens that lie on it.
 
 use crate::lines::end_open_line;
-use crate::stock_left::{has_token, tile_on};
 use desk_base::Piece::{Bytes, Column, Number, Words};
-use desk_base::{fill, push};
+use desk_base::{fill, has_token, push, tile_on};
 use history::History;
 use map_tables::{
     Hex, HexKind, Lay, Stop, StopNumber, TileKind, hex_kind, printed_slots, printed_stops, tile,

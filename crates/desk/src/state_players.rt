@@ -1,10 +1,9 @@
 //! What each player has, and who owns each private.
 
-use crate::between_rounds::Stood;
 use crate::player_figures::purse_of;
 use crate::state_rows::private_row;
 use desk_base::Piece::{Bytes, Column, Number, Right, Words};
-use desk_base::{fill, push};
+use desk_base::{Stood, fill, push};
 use history::{History, Holder};
 use report::name;
 use std::alloc::AllocError;

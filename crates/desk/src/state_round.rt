@@ -1,9 +1,8 @@
 //! What is awaited and who owes it, or how the game ended; and what the phase and the set bring.
 
-use crate::between_rounds::Stood;
 use crate::state_rows::game_row;
 use desk_base::Piece::{Bytes, Number, Words};
-use desk_base::{Piece, fill, owes, push};
+use desk_base::{Piece, Stood, fill, owes, push};
 use report::name;
 use rounds::End;
 use std::alloc::AllocError;

@@ -1,7 +1,7 @@
 //! The rows of a state: the figures of a company, its shares, a private, a kind of train, and the
 //! game. What is printed of them is a function of the row.
 ghost use Rattle.std.specs.Prelude.{◌≡◌, option_map, pos};
-ghost use Rattle.desk.specs.StockLeft.{trains_left};
+ghost use Rattle.desk_base.specs.StockLeft.{trains_left};
 ghost use Rattle.events.specs.Event.{party_of_company};
 ghost use Rattle.events.specs.declared.event.Shareholder.TheVariants.{BankPool, InitialOffering};
 ghost use Rattle.market.specs.OperatingOrder.{operates};
@@ -14,7 +14,7 @@ ghost use Rattle.totals.specs.Shares.{is_started, par_of, president_of, shares_o
 ghost use Rattle.totals.specs.Trains.{phase_of, trains_held};
 
 use crate::stack::operates;
-use crate::stock_left::trains_left;
+use desk_base::trains_left;
 use history::{GameView, Holder, Party, ShareCount, Shareholder, TrainCount};
 use tables::{Amount, Company, Kind, Money, Private, Seat, Square, certificate_limit, face, train};
 

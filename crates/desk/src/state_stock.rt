@@ -2,9 +2,8 @@
 
 use crate::lines::{end_open_line, next_place};
 use crate::state_rows::train_row;
-use crate::stock_left::{tile_on, tiles_left};
 use desk_base::Piece::{Bytes, Column, Number, Right, Words};
-use desk_base::{fill, push};
+use desk_base::{fill, push, tile_on, tiles_left};
 use history::History;
 use map_tables::{Colour, Hex, TileNo, tile};
 use std::alloc::AllocError;

@@ -6,7 +6,6 @@ ghost use Rattle.std.specs.Prelude.{IfErr, OnOk};
 ghost use Rattle.desk_base.specs.Refusal.{HasNoState, IsOfGame};
 ghost use Rattle.sheets.specs.File.{IsAccepted};
 
-use crate::between_rounds::{Moment, Stood, play_before, play_behind, stood_at_last, stood_now};
 use crate::stack::all_in_order;
 use crate::state_chart::push_chart;
 use crate::state_companies::push_companies;
@@ -14,7 +13,7 @@ use crate::state_map::push_map;
 use crate::state_players::{push_owners, push_players};
 use crate::state_round::{push_awaited, push_matters};
 use crate::state_stock::{push_laid, push_tiles_left, push_trains};
-use desk_base::DeskFault;
+use desk_base::{DeskFault, Moment, Stood, play_before, play_behind, stood_at_last, stood_now};
 use rounds::{Play, play};
 use sheets::{Sheets, collect};
 use std::alloc::{AllocError, Global};

@@ -8,4 +8,5 @@ pub mod Laid
 pub mod Reason
 pub mod Refusal
 pub mod SetNumber
+pub mod StockLeft
 pub mod Stopped

@@ -1,14 +1,18 @@
 //! What the desk's libraries share: what a code means, how many operating rounds a set has, which
-//! rounds can still come in a game, why an order is wrong, and a text piece by piece.
+//! rounds can still come in a game, why an order is wrong, a game between two rounds, what is left
+//! of its tokens, trains and tiles, and a text piece by piece.
 //!
-//! Reading order: `text` (`Piece`, `push`, `fill`), `reason` (`Reason`), `advice`, `explaining`
-//! (`explain`), `set_number` (`number_in_set`, `end_after`), `coming` (`can_come`), `objection`
-//! (`Objection`), `beyond` (what lies at a side), `map_facts`, `by_tables` (what the map and the
-//! tables show), `belongings` (what somebody has), `cause` (which one it was of several).
+//! Reading order: `text` (`Piece`, `push`, `fill`), `wrapped` (lines of 80 columns), `reason`
+//! (`Reason`), `advice`, `explaining` (`explain`), `set_number` (`number_in_set`, `end_after`),
+//! `between_rounds` (`Stood`), `stock_left`, `coming` (`can_come`), `objection` (`Objection`),
+//! `beyond` (what lies at a side), `map_facts`, `by_tables` (what the map and the tables show),
+//! `belongings` (what somebody has), `cause` (which one it was of several), `map_state`,
+//! `run_line`.
 #![tactic(auto)]
 
 mod advice;
 mod belongings;
+mod between_rounds;
 mod beyond;
 mod by_tables;
 mod cause;
@@ -20,10 +24,14 @@ mod map_state;
 mod objection;
 mod owed;
 mod reason;
+mod run_line;
 mod set_number;
+mod stock_left;
 mod text;
+mod wrapped;
 
 pub use belongings::{objection_by_view, other_president};
+pub use between_rounds::{Moment, Stood, play_before, play_behind, stood_at_last, stood_now};
 pub use beyond::{Beyond, beyond_side, push_beyond};
 pub use by_tables::objection_to;
 pub use cause::{Cause, cause_of_slot};
@@ -35,5 +43,8 @@ pub use map_state::{best_at, board_at, trains_of, view_behind};
 pub use objection::{Objection, push_objection, who};
 pub use owed::owes;
 pub use reason::Reason;
+pub use run_line::push_run;
 pub use set_number::{end_after, number_after, number_in_set};
+pub use stock_left::{has_token, tile_on, tiles_left, tokens_left, trains_left};
 pub use text::{Piece, fill, push, width_in_hand};
+pub use wrapped::{push_wrapped, push_wrapped_lines};

@@ -68,7 +68,7 @@ pub fn trains_of(alloc: Global, view: &GameView, company: Company) -> Result<Vec
     ensures { IfOk result (λ trains. trains.items ≡ trains_now view.now.events.now company) }
 {
     let mut trains = Vec::new(alloc);
-    for kind in Kind::ALL {
+    for &kind in &Kind::ALL {
         push_trains(&mut trains, kind, view.trains(Some(company), kind))?;
     }
     Ok(trains)

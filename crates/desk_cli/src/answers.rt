@@ -2,10 +2,10 @@
 
 use crate::streams::StreamFault;
 use crate::task::{Job, Task};
-use desk::{Moment, state};
-use desk_base::{DeskFault, Reason, all_reasons_text, explain, list_text, reason_text};
+use desk::state;
+use desk_base::{DeskFault, Moment, Reason, all_reasons_text, explain, list_text, reason_text};
 use desk_check::{Extent, check};
-use desk_moves::{LayForm, MovesFault, Progress, Question, TrialForm, answer, trial};
+use desk_moves::{LayForm, MovesFault, Progress, Question, answer, trial};
 use desk_round::{bulletin, round, round_with_rules, runs};
 use page::{page, tile_sheet};
 use report::refusal_text;
@@ -173,14 +173,16 @@ fn moves_told_of<P: Progress>(
     answer(alloc, file, task.round, question, progress)
 }
 
-/// Returns the text of a trial.
+/// Returns the text of a trial: the round as a bulletin, or as its part of the report, with the
+/// rules that refused lines broke, where they are asked for.
 fn trial_told_of(alloc: Global, file: &[u8], task: &Task) -> Result<Vec<u8>, MovesFault> {
-    let form = if task.why {
-        TrialForm::Rules
+    let tried = trial(alloc, file, task.names.as_slice())?;
+    let (file, round) = (tried.bytes.as_slice(), Some(tried.round));
+    if task.why {
+        Ok(round_with_rules(alloc, file, round)?)
     } else {
-        TrialForm::Bulletin
-    };
-    trial(alloc, file, task.names.as_slice(), form)
+        Ok(bulletin(alloc, file, round)?)
+    }
 }
 
 /// Returns an `Answer` with the text of moves, or with why there is none.

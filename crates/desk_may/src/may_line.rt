@@ -1,8 +1,7 @@
 //! A line of what a player may do, or may not.
 
 use desk_base::Piece::{Column, Right, Words};
-use desk_base::{Reason, fill, push};
-use desk_round::push_wrapped;
+use desk_base::{Reason, fill, push, push_wrapped};
 use history::Refusal;
 use order_grammar::{Order, print_order};
 use std::alloc::{AllocError, Global};

@@ -3,8 +3,7 @@ ghost use Rattle.std.specs.Prelude.{◌≡◌};
 ghost use Rattle.moves.specs.Bids.{least_bid_of};
 
 use crate::may_line::{push_may, push_may_not};
-use desk::Stood;
-use desk_base::fill;
+use desk_base::{Stood, fill};
 use history::{History, Refusal};
 use moves::{OpeningMoves, Priced, bids};
 use order_grammar::Order;

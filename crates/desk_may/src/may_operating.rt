@@ -1,9 +1,8 @@
 //! What a player's companies may buy in an operating round.
 
 use crate::may_line::{push_may, push_may_not, push_note_column};
-use desk::Stood;
 use desk_base::Piece::{Bytes, Column, Number, Words};
-use desk_base::{fill, push};
+use desk_base::{Stood, fill, push};
 use history::{History, Holder, Party, Refusal, TrainSeller};
 use market::operating_order;
 use moves::{Priced, owned_privates, trains};

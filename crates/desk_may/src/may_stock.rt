@@ -2,9 +2,8 @@
 
 use crate::may_line::{push_may, push_may_not, push_note_column};
 use certs::{Purchase, Sale, may_buy, may_sell};
-use desk::Stood;
 use desk_base::Piece::{Bytes, Number, Words};
-use desk_base::{fill, push};
+use desk_base::{Stood, fill, push};
 use history::{History, Holder, Refusal, Shareholder, StockRule};
 use market::fall;
 use moves::{Priced, StockMoves, deals};

@@ -4,9 +4,8 @@ use crate::hex_sides::push_sides;
 use crate::turn_start::board_now;
 use board::Board;
 use board_state::OnMap;
-use desk::Stood;
 use desk_base::Piece::{Bytes, Column, Number, Right, Words};
-use desk_base::{fill, push};
+use desk_base::{Stood, fill, push};
 use history::Holder;
 use map_tables::{
     Colour, Hex, HexKind, Stop, StopNumber, TileKind, hex_kind, joined_stop, printed_colour,

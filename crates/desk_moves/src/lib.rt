@@ -33,5 +33,5 @@ mod words;
 pub use fault::{MovesFault, NoAnswer};
 pub use progress::Progress;
 pub use questions::{LayForm, Question, answer};
-pub use trials::{TrialForm, trial};
+pub use trials::{TrialFile, trial};
 pub use words::{read_company, read_hex, read_kind};

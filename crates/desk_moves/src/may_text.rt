@@ -2,9 +2,8 @@
 
 use crate::fault::{MovesFault, NoAnswer};
 use certs::Holdings;
-use desk::Stood;
 use desk_base::Piece::{Bytes, Number};
-use desk_base::{Piece, fill};
+use desk_base::{Piece, Stood, fill};
 use desk_may::{push_of_opening, push_of_operating, push_of_stock};
 use history::Party;
 use report::name;

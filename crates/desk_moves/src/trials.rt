@@ -1,12 +1,10 @@
-//! A trial: the file with an empty sheet for each player who owes one, played one round on. Nothing
-//! of it is kept.
+//! A trial: the file with an empty sheet for each player who owes one, to be played one round on.
 ghost use Rattle.std.specs.Prelude.{◌≡◌, ◌++◌, IfOk, OnOk, is_none};
 ghost use Rattle.desk_moves.specs.Trial.{empty_sheet, has_open_line, sheet_owed, tried_file, with_line_end};
 ghost use Rattle.sheets.specs.File.{sheet_of};
 
 use crate::fault::{MovesFault, NoAnswer};
 use crate::may_text::seat_named;
-use desk_round::{bulletin, round_with_rules};
 use order_grammar::print_round;
 use report::name;
 use rounds::{End, play};
@@ -14,29 +12,26 @@ use sheets::{Sheets, collect};
 use std::alloc::{AllocError, Global};
 use tables::{Round, Seat};
 
-/// How a trial is told.
-#[derive(Clone, Copy)]
-pub enum TrialForm {
-    /// As a bulletin.
-    Bulletin,
-    /// As the round's part of the report, with the rules that refused lines broke.
-    Rules,
+/// A file to be played one round on.
+#[derive(Drop)]
+pub struct TrialFile {
+    /// The order file, with an empty sheet at its end for each player who owes one.
+    pub bytes: Vec<u8>,
+    /// The round that those sheets are for.
+    pub round: Round,
 }
 
-/// Returns how the round that is awaited would come out if each player who owes a sheet for it sent
-/// an empty one. If players are named, they must be all who owe one. The error is the fault of the
-/// file, that the game is over, that nobody has a name, that somebody who is not named owes a
-/// sheet, or `Memory`.
-pub fn trial(
-    alloc: Global,
-    file: &[u8],
-    players: &[&str],
-    form: TrialForm,
-) -> Result<Vec<u8>, MovesFault> {
+/// Returns the file of a game with an empty sheet for each player who owes one for the round that
+/// is awaited, and that round. If players are named, they must be all who owe one. The error is the
+/// fault of the file, that the game is over, that nobody has a name, that somebody who is not named
+/// owes a sheet, or `Memory`.
+pub fn trial(alloc: Global, file: &[u8], players: &[&str]) -> Result<TrialFile, MovesFault>
+    ensures { IfOk result (λ tried. tried.bytes.items ≡ tried_file file.now tried.round) }
+{
     let sheets = collect(alloc, file)?;
     let round = round_to_try(alloc, &sheets, players)?;
-    let tried = tried_file(alloc, file, &sheets, round)?;
-    text_of_trial(alloc, tried.as_slice(), round, form)
+    let bytes = tried_file(alloc, file, &sheets, round)?;
+    Ok(TrialFile { bytes, round })
 }
 
 /// Returns the round that is awaited, where each name is a player's, and those who owe a sheet for
@@ -45,19 +40,6 @@ fn round_to_try(alloc: Global, sheets: &Sheets, players: &[&str]) -> Result<Roun
     let round = round_awaited(alloc, sheets)?;
     must_name_all(sheets, players, round)?;
     Ok(round)
-}
-
-/// Returns a round of the file with the sheets that were added.
-fn text_of_trial(
-    alloc: Global,
-    tried: &[u8],
-    round: Round,
-    form: TrialForm,
-) -> Result<Vec<u8>, MovesFault> {
-    match form {
-        TrialForm::Bulletin => Ok(bulletin(alloc, tried, Some(round))?),
-        TrialForm::Rules => Ok(round_with_rules(alloc, tried, Some(round))?),
-    }
 }
 
 /// Returns the round that is awaited. The error says that the game is over, or is `Memory`.

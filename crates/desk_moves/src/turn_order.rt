@@ -1,8 +1,7 @@
 //! Who operates before a company.
 
-use desk::Stood;
 use desk_base::Piece::Words;
-use desk_base::{Piece, fill, push};
+use desk_base::{Piece, Stood, fill, push};
 use market::operating_order;
 use rounds::End;
 use std::alloc::AllocError;

@@ -7,9 +7,10 @@ use crate::round_part::{round_asked, text_of};
 use crate::sheet_line::{SheetLine, lines_of, sheet_line};
 use crate::train_runs::push_ran;
 use crate::why::{FAULTY_COLUMNS, push_rule};
-use crate::wrapped::{push_wrapped, push_wrapped_lines};
 use desk_base::Piece::{Bytes, Column, Cut, Number, Right, Words};
-use desk_base::{DeskFault, Piece, fill, owes, push, view_behind, who};
+use desk_base::{
+    DeskFault, Piece, fill, owes, push, push_wrapped, push_wrapped_lines, view_behind, who,
+};
 use history::{Event, GameView, Holder, PackedRuling, Party, Ruling, Verdict, Walk};
 use order_grammar::{print_condition, print_order};
 use report::name;

@@ -7,7 +7,7 @@
 //! broke), `figures` (the figures that it compared), `done` (how far a company's turn had come),
 //! `cause` (which cause of several it was), `refusal_detail` (what is added after the rule),
 //! `track` and `ways` (where track breaks or leads), `train_runs` (`runs`), `groups` (whose turn an
-//! event belongs to), `wrapped`, `bulletin_text` (`bulletin`).
+//! event belongs to), `bulletin_text` (`bulletin`).
 #![tactic(auto)]
 
 mod bulletin_text;
@@ -25,9 +25,7 @@ mod track;
 mod train_runs;
 mod ways;
 mod why;
-mod wrapped;
 
 pub use round_part::{round, round_with_rules};
 pub use round_texts::bulletin;
-pub use train_runs::{push_run, runs};
-pub use wrapped::push_wrapped;
+pub use train_runs::runs;

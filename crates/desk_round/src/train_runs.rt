@@ -1,16 +1,13 @@
 //! What the trains of each company ran in a round, stop by stop.
 
 use crate::round_texts::{Told, tell};
-use board::Board;
 use desk_base::Piece::{Number, Words};
-use desk_base::{DeskFault, Piece, best_at, board_at, fill, push, view_behind};
+use desk_base::{DeskFault, Piece, best_at, board_at, fill, push, push_run, view_behind};
 use history::{Event, GameView, History, Ruling, Walk};
-use map_tables::{Place, Run};
-use order_grammar::{Order, print_order};
-use reach::Network;
+use order_grammar::Order;
 use rounds::Game;
 use std::alloc::{AllocError, Global};
-use tables::{Amount, Company, Kind, Money, Round};
+use tables::{Amount, Company, Money, Round};
 
 /// Returns what each company ran in a round of the game of a file, as lines that a sheet could
 /// have, each with the values of its stops and their sum. For an obeyed RUN BEST it gives runs that
@@ -139,39 +136,4 @@ fn push_best(
         push_run(out, &board, claimed.kind, &claimed.run)?;
     }
     Ok(())
-}
-
-/// Adds the line of a run: its order, what it earns, and what each of its stops is worth.
-pub fn push_run(out: &mut Vec<u8>, board: &Board, kind: Kind, run: &Run) -> Result<(), AllocError> {
-    let order = Order::Run {
-        kind,
-        run: run.duplicate(),
-    };
-    print_order(out, &order)?;
-    let sum = sum_of(board, run.as_slice());
-    fill(out, "    %", &[Number(Money::from(sum))])?;
-    push_values(out, board, run.as_slice())
-}
-
-/// Returns what the stops of a run are worth together, in dollars.
-fn sum_of(board: &Board, places: &[Place]) -> Amount {
-    let mut sum: Amount = 0;
-    for place in places {
-        if let Some(stop) = place.stop() {
-            sum = sum.saturating_add(board.value(stop));
-        }
-    }
-    sum
-}
-
-/// Adds what the stops of a run are worth, each behind a sign, and the end of the line.
-fn push_values(out: &mut Vec<u8>, board: &Board, places: &[Place]) -> Result<(), AllocError> {
-    let mut sign = " = ";
-    for place in places {
-        if let Some(stop) = place.stop() {
-            push(out, &[Words(sign), Number(Money::from(board.value(stop)))])?;
-            sign = " + ";
-        }
-    }
-    fill(out, "\n", &[])
 }

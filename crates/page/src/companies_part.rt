@@ -5,7 +5,8 @@ use crate::scene::Scene;
 use crate::table_forms::{
     NOTHING, begin_row, begin_table, put_caption, put_company, put_head, put_number, put_row_head,
 };
-use desk::{before_in_stack, earnings_of, operates, tokens_left, trains_left};
+use desk::{before_in_stack, earnings_of, operates};
+use desk_base::{tokens_left, trains_left};
 use history::{GameView, Holder, Party};
 use map_tables::{home, private_hexes};
 use picture::PagePiece::{Hex, Letter, Name, Number, Place, Round, Words};

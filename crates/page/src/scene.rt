@@ -3,8 +3,7 @@ ghost use Rattle.std.specs.Prelude.{◌≡◌, ◌≤◌};
 ghost use Rattle.map_tables.specs.OnMap.{links_on};
 ghost use Rattle.totals.specs.Operating.{lays_of};
 
-use desk::{Stood, tile_on};
-use desk_base::owes;
+use desk_base::{Stood, owes, tile_on};
 use history::History;
 use map_tables::Hex;
 use picture::Look;

@@ -6,7 +6,7 @@ use crate::map_part::{put_rim, put_shade, put_value};
 use crate::signs::put_signs;
 use crate::style::STYLE;
 use crate::table_forms::{begin_row, begin_table, put_caption, put_head, put_row_head};
-use desk::{tile_on, tiles_left};
+use desk_base::{tile_on, tiles_left};
 use history::History;
 use map_tables::{Colour, Hex, Lay, Rotation, Side, TileNo, TrackEnd, tile};
 use picture::PagePiece::{Hex as Named, Number, Words};

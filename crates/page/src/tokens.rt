@@ -4,7 +4,7 @@ ghost use Rattle.page.specs.Shown.{token_there, tokens_there};
 
 use arrayvec::ArrayVec;
 use board_state::{same_hex, same_stop};
-use desk::has_token;
+use desk_base::has_token;
 use history::History;
 use map_tables::{Hex, Stop, StopNumber, home, private_hexes};
 use picture::Marker;

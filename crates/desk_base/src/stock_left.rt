@@ -2,7 +2,7 @@
 //! map.
 ghost use Rattle.std.specs.Prelude.{◌≡◌};
 ghost use Rattle.board.specs.LayRules.{is_tile, on_map_of};
-ghost use Rattle.desk.specs.StockLeft.{tiles_left, tokens_left, trains_left};
+ghost use Rattle.desk_base.specs.StockLeft.{tiles_left, tokens_left, trains_left};
 ghost use Rattle.totals.specs.Operating.{tokens_of};
 ghost use Rattle.map_tables.specs.OnMap.{has_token, names, tile_on};
 

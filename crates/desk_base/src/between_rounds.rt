@@ -3,8 +3,9 @@ ghost use Rattle.std.specs.Prelude.{IfErr};
 ghost use Rattle.desk_base.specs.Refusal.{IsOfGame};
 ghost use Rattle.rounds.specs.Play.{IsTheGame};
 
+use crate::fault::DeskFault;
+use crate::set_number::{end_after, number_after, number_in_set};
 use best_run::Search;
-use desk_base::{DeskFault, end_after, number_after, number_in_set};
 use history::History;
 use rounds::{End, Game, Play, Step};
 use sheets::Sheets;

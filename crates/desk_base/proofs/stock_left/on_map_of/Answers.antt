@@ -3,8 +3,8 @@ use Rattle.std.proofs.lemmas.List.Sums.{count_by_more_no, count_by_more_yes}
 use Rattle.board.specs.LayRules.{is_tile}
 use Rattle.map_tables.specs.OnMap.{tile_on}
 use Rattle.map_tables.specs.declared.hex.Hex.{Hex}
-use Rattle.desk.proofs.stock_left.on_map_of.Goals.{then-has_tile, else-has_tile}
-use Rattle.desk.proofs.stock_left.on_map_of.Goals as goal
+use Rattle.desk_base.proofs.stock_left.on_map_of.Goals.{then-has_tile, else-has_tile}
+use Rattle.desk_base.proofs.stock_left.on_map_of.Goals as goal
 
 pub loop-hex-preserved : goal.loop-hex-preserved
 loop-hex-preserved c =

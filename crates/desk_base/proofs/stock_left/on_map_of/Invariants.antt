@@ -2,7 +2,7 @@ use Rattle.std.proofs.Common.{◌≡◌, take}
 use Rattle.std.specs.List.{count_by}
 use Rattle.board.specs.LayRules.{is_tile}
 use Rattle.map_tables.specs.OnMap.{tile_on}
-use Rattle.desk.proofs.stock_left.on_map_of.Given as goal
+use Rattle.desk_base.proofs.stock_left.on_map_of.Given as goal
 
 -- the hexes so far on which the tile lies
 abbrev pub invariant-loop-hex : goal.invariant-loop-hex

@@ -1,7 +1,7 @@
 //! A text in lines of at most 80 columns.
 
-use desk_base::Piece::{Bytes, Column, Words};
-use desk_base::{push, width_in_hand};
+use crate::text::Piece::{Bytes, Column, Words};
+use crate::text::{push, width_in_hand};
 use std::alloc::AllocError;
 
 /// The most columns of a line.
@@ -22,11 +22,7 @@ pub fn push_wrapped(out: &mut Vec<u8>, column: usize, text: &[u8]) -> Result<(),
 }
 
 /// Adds the lines of a text from this column on, each wrapped.
-pub(crate) fn push_wrapped_lines(
-    out: &mut Vec<u8>,
-    column: usize,
-    text: &[u8],
-) -> Result<(), AllocError> {
+pub fn push_wrapped_lines(out: &mut Vec<u8>, column: usize, text: &[u8]) -> Result<(), AllocError> {
     let mut from = 0;
     for (at, byte) in text.iter().enumerate() {
         if *byte == b'\n' {

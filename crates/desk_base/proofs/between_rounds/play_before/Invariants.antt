@@ -1,5 +1,5 @@
 use Rattle.rounds.specs.Steps.{IsUnbroken, places_ahead}
-use Rattle.desk.proofs.between_rounds.play_before.Given as goal
+use Rattle.desk_base.proofs.between_rounds.play_before.Given as goal
 
 -- no fault has broken play off
 abbrev pub invariant-loop-asked : goal.invariant-loop-asked
