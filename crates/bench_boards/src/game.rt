@@ -127,7 +127,7 @@ fn number_of(word: &str) -> Result<u32, LinesFault> {
 
 /// Returns the kind of train that a word names. The error is `Line`.
 fn kind_of(word: &str) -> Result<Kind, LinesFault> {
-    for kind in Kind::ALL {
+    for &kind in &Kind::ALL {
         if kind.code() == word {
             return Ok(kind);
         }
@@ -137,7 +137,7 @@ fn kind_of(word: &str) -> Result<Kind, LinesFault> {
 
 /// Returns the company that a word names. The error is `Line`.
 fn company_of(word: &str) -> Result<Company, LinesFault> {
-    for company in Company::ALL {
+    for &company in &Company::ALL {
         if company.code() == word {
             return Ok(company);
         }

@@ -67,7 +67,7 @@ fn counted<C: Certificates>(owners: &Owners, held: &C, seat: Seat) -> ShareCount
         +ℤ certificates_in (C.certificates held.now seat) companies }
 {
     let mut count = ShareCount::from(privates_owned(owners, seat));
-    for company in Company::ALL {
+    for &company in &Company::ALL {
         count += held.certificates_of(seat, company);
     }
     count

@@ -160,7 +160,7 @@ fn trains_of(alloc: Global, view: &GameView, company: Company) -> Result<Company
     ensures { IfOk result (λ trains. trains.items ≡ trains_now view.now.events.now company) }
 {
     let mut trains = CompanyTrains::new(alloc);
-    for kind in Kind::ALL {
+    for &kind in &Kind::ALL {
         push_trains(&mut trains, kind, view.trains(Some(company), kind))?;
     }
     Ok(trains)

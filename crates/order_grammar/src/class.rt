@@ -219,7 +219,7 @@ fn read_round_number(series: Series, digits: &[u8]) -> Reading
 fn read_private(word: &[u8]) -> Reading
     ensures { result ≡ private_reading (raised word.now) }
 {
-    for private in Private::ALL {
+    for &private in &Private::ALL {
         if is_word(word, private.code().as_bytes()) {
             return Reading::Value(Value::Private(private));
         }
@@ -230,7 +230,7 @@ fn read_private(word: &[u8]) -> Reading
 fn read_company(word: &[u8]) -> Reading
     ensures { result ≡ company_reading (raised word.now) }
 {
-    for company in Company::ALL {
+    for &company in &Company::ALL {
         if is_word(word, company.code().as_bytes()) {
             return Reading::Value(Value::Company(company));
         }
@@ -241,7 +241,7 @@ fn read_company(word: &[u8]) -> Reading
 fn read_kind(word: &[u8]) -> Reading
     ensures { result ≡ kind_reading (raised word.now) }
 {
-    for kind in Kind::ALL {
+    for &kind in &Kind::ALL {
         if is_word(word, kind.code().as_bytes()) {
             return Reading::Value(Value::Kind(kind));
         }

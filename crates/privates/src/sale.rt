@@ -133,7 +133,7 @@ pub(crate) fn settle_all(history: &mut History) -> Result<(), AllocError>
         ≡ settled history.old.seats history.old.events) }
     ensures underway { OnOk result (IsUnderway history.new) }
 {
-    for _private in Private::ALL {
+    for _private in &Private::ALL {
         settle(history)?;
     }
     Ok(())

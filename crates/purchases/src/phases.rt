@@ -39,7 +39,7 @@ fn rust_kinds(history: &mut History, new: Kind) -> Result<(), AllocError>
     ensures after { OnOk result (history.new ≡ with_rusted new history.old) }
     ensures sound { OnOk result (IsSound history.new) }
 {
-    for kind in Kind::ALL {
+    for &kind in &Kind::ALL {
         rust_kind_at(history, kind, new)?;
     }
     Ok(())
@@ -81,7 +81,7 @@ fn rust_of_companies(history: &mut History, kind: Kind) -> Result<(), AllocError
         ≡ fold (with_company_rusted kind) history.old companies) }
     ensures sound { OnOk result (IsSound history.new) }
 {
-    for company in Company::ALL {
+    for &company in &Company::ALL {
         rust_trains_of(history, Some(company), kind)?;
     }
     Ok(())
@@ -121,7 +121,7 @@ fn close_all(history: &mut History) -> Result<(), AllocError>
     ensures after { OnOk result (history.new ≡ with_all_closed history.old) }
     ensures sound { OnOk result (IsSound history.new) }
 {
-    for private in Private::ALL {
+    for &private in &Private::ALL {
         close(history, private)?;
     }
     Ok(())
@@ -146,7 +146,7 @@ fn keep_limits(alloc: Global, history: &mut History) -> Result<(), AllocError>
     ensures after { OnOk result (history.new ≡ with_limits_kept history.old) }
     ensures sound { OnOk result (IsSound history.new) }
 {
-    for company in Company::ALL {
+    for &company in &Company::ALL {
         keep_limit(alloc, history, company)?;
     }
     Ok(())

@@ -63,7 +63,7 @@ fn shares_worth(view: &GameView, seat: Seat) -> u128
     ensures small { result ≤ 2 ^ 112 }
 {
     let mut sum = 0;
-    for company in Company::ALL {
+    for &company in &Company::ALL {
         sum += company_worth(view, seat, company);
     }
     sum
@@ -86,7 +86,7 @@ fn privates_worth(view: &GameView, seat: Seat) -> Amount
 {
     let owners = view.owners();
     let mut sum = 0;
-    for private in Private::ALL {
+    for &private in &Private::ALL {
         sum += private_worth(view, &owners, seat, private);
     }
     sum

@@ -153,7 +153,7 @@ fn plain_company(line: UnreadLine) -> Option<Company>
     let Some(code) = line.text.strip_prefix(b"COMPANY ") else {
         return None;
     };
-    for company in Company::ALL {
+    for &company in &Company::ALL {
         if code == company.code().as_bytes() {
             return Some(company);
         }

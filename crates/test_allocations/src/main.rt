@@ -47,7 +47,7 @@ fn make_all(rt: &HostRuntime) -> Result<(), OutcomeFault> {
     let words: Vec<String> = env::args(rt)?.collect(rt.alloc())?;
     let named = words.get(1);
     let mut count: usize = 0;
-    for call in Call::ALL {
+    for &call in &Call::ALL {
         if named.is_none_or(|name| name.as_str() == call.name()) {
             print_outcome(rt, make(rt, call)?)?;
             count = count.saturating_add(1);

@@ -9,7 +9,7 @@ use tables::{Amount, Company, Kind, Money};
 
 /// Returns whether a claim runs no more trains of each kind than there are.
 fn are_taken_from(trains: &[Kind], runs: &[ClaimedRun]) -> bool {
-    for kind in Kind::ALL {
+    for &kind in &Kind::ALL {
         let have = trains.iter().filter(|train| **train == kind).count();
         if have < runs.iter().filter(|run| run.kind == kind).count() {
             return false;
