@@ -7,7 +7,8 @@ ghost use Rattle.best_run.specs.Moves.{own_before, passed, with_run_finished, tu
 ghost use Rattle.search_task.specs.Crossed.{marked_all, misses};
 ghost use Rattle.search_task.specs.Spots.{node_at, stop_in};
 
-use search_task::{BORDERS, BitPlace, Borders, Segment, Spots, Task};
+use legal_runs::BORDERS;
+use search_task::{BitPlace, Borders, Segment, Spots, Task};
 use tables::Amount;
 
 /// The trains assigned so far.

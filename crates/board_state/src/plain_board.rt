@@ -5,7 +5,7 @@ ghost use Rattle.board_state.specs.MapState.{map_state_of};
 use crate::fault::BoardFault;
 use crate::fit::fault_of;
 use crate::on_map::OnMap;
-use crate::stop_facts::{count_naming, has_token, last_on};
+use crate::stop_facts::{count_naming, has_token, tile_on};
 use map_tables::{Hex, Lay, Links, Place, Stop, laid_links, printed_links};
 use std::alloc::Global;
 use std::marker::Model;
@@ -58,7 +58,7 @@ impl OnMap for PlainBoard {
     ghost laid = { λ board. board };
 
     fn tile_on(&self, hex: Hex) -> Option<Lay> {
-        last_on(&self.lays, hex)
+        tile_on(&self.lays, hex)
     }
 
     fn links_on(&self, hex: Hex) -> Links {

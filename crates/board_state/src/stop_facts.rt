@@ -74,9 +74,9 @@ pub(crate) fn is_stop(stop: Stop) -> bool
     stop.number.index() < printed_stops(stop.hex)
 }
 
-/// Returns the last of some lays on a hex.
+/// Returns the tile that lies on a hex, by some lays: the last that was laid there.
 #[tactic(auto, unfolding(map_tables::specs::OnMap::tile_on))]
-pub(crate) fn last_on(lays: &[Lay], hex: Hex) -> Option<Lay>
+pub fn tile_on(lays: &[Lay], hex: Hex) -> Option<Lay>
     ensures { result ≡ tile_on lays.now hex }
 {
     for lay in lays.iter().rev() {
@@ -98,7 +98,7 @@ pub(crate) fn count_naming(tokens: &[(Place, Company)], stop: Stop) -> usize
 fn slots_on(lays: &[Lay], hex: Hex) -> u8
     ensures { result ≡ slots_on lays.now hex }
 {
-    match last_on(lays, hex) {
+    match tile_on(lays, hex) {
         Some(lay) => tile(lay.tile).slots,
         None => printed_slots(hex),
     }
@@ -124,7 +124,7 @@ pub(crate) fn taken_at(tokens: &[(Place, Company)], stop: Stop) -> usize
 }
 
 /// Returns whether one of some tokens is a company's and names a stop.
-pub(crate) fn has_token(tokens: &[(Place, Company)], stop: Stop, company: Company) -> bool
+pub fn has_token(tokens: &[(Place, Company)], stop: Stop, company: Company) -> bool
     ensures { result ≡ has_token tokens.now stop company }
 {
     tokens.iter().any(|token| names(stop, token.0) && same_company(token.1, company))

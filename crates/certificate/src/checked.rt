@@ -70,7 +70,7 @@ impl Runner for Checked {
 }
 
 /// Returns whether a group shows the best runs of a company's trains in a round.
-fn shows<N: Network>(
+pub fn shows<N: Network>(
     network: &N,
     round: Round,
     company: Company,

@@ -39,7 +39,7 @@ mod writer;
 
 pub use accept::{accepts, accepts_bits, write_marks};
 pub use bits::{BitReader, Bits};
-pub use checked::Checked;
+pub use checked::{Checked, shows};
 pub use group::Group;
 pub use hex::{HexFault, print_hex, read_hex};
 pub use legal_runs::{

@@ -16,10 +16,7 @@ use crate::known_stops::KnownStops;
 use crate::ranking::Ranking;
 use map_tables::Stop;
 use reach::{Network, ReachedStops, StopMarks, reached_stops};
-use tables::{Amount, Company, Kind};
-
-/// How many kinds of trains there are.
-pub(crate) const KINDS: usize = 6;
+use tables::{Amount, Company, Kind, PerKind};
 
 /// The trains of a kind.
 #[derive(Clone, Copy)]
@@ -38,7 +35,7 @@ pub(crate) struct Tree {
     pub(crate) ranking: Ranking,
     pub(crate) links: HexLinks,
     pub(crate) known: KnownStops,
-    pub(crate) groups: [Group; KINDS],
+    pub(crate) groups: PerKind<Group>,
     /// How many trains there are.
     pub(crate) count: usize,
 }

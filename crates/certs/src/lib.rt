@@ -30,7 +30,7 @@ pub use counted_certificates::counted_now;
 pub use dividend::pay_out;
 pub use holdings::Holdings;
 pub use president::successor;
-pub use purchase::{is_over_six, market_price, may_buy, share_price};
+pub use purchase::{is_over_six, market_price, may_buy, purchase_cost, share_price};
 pub use sale::{may_sell, none_is_left};
 pub use sell::{record_president, sell_block};
 pub use share_deal::{Purchase, Sale};

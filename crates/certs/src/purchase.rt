@@ -14,7 +14,8 @@ use crate::share_deal::Purchase;
 use history::{GameView, History, ShareCount, Shareholder, StockRule};
 use order_grammar::ShareSource;
 use tables::{
-    Amount, Company, Money, Seat, Zone, certificate_limit, par_square, price, rules, zone,
+    Amount, Company, Money, PRESIDENT_SHARES, Seat, Zone, certificate_limit, par_square, price,
+    rules, zone,
 };
 
 /// The most shares of a company that a seat may hold if no zone lifts that.
@@ -95,12 +96,12 @@ fn is_wrong_start(now: &GameView, purchase: Purchase) -> bool
     }
 }
 
-/// Returns what a purchase costs, in dollars.
-fn cost(now: &GameView, purchase: Purchase) -> Money
+/// Returns what a purchase costs, in dollars: the president's certificate twice the par value.
+pub fn purchase_cost(now: &GameView, purchase: Purchase) -> Money
     ensures { result ≡ pos (cost_of now.now.events.now purchase) }
 {
     match purchase {
-        Purchase::Par { price, .. } => 2 * Money::from(price),
+        Purchase::Par { price, .. } => Money::from(PRESIDENT_SHARES) * Money::from(price),
         Purchase::Share { company, from } => share_price(now, company, from),
     }
 }
@@ -136,7 +137,7 @@ fn is_short(now: &GameView, seat: Seat, purchase: Purchase) -> bool
     ensures { result ≡ is_short_of_cash now.now.seats now.now.events.now seat
         (cost_of now.now.events.now purchase) }
 {
-    now.free_cash(seat) < cost(now, purchase)
+    now.free_cash(seat) < purchase_cost(now, purchase)
 }
 
 /// Returns whether a certificate of a company would count, and a seat has reached the limit.

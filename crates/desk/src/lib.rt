@@ -25,7 +25,8 @@ mod state_stock;
 mod whole_state;
 
 pub use earnings::{Earnings, earnings_of};
+pub use market::operates;
 pub use player_figures::{Purse, purse_of};
 pub use round_name::read_round;
-pub use stack::{all_in_order, before_in_stack, company_at, operates};
+pub use stack::{all_in_order, before_in_stack, company_at};
 pub use whole_state::{state, state_text};

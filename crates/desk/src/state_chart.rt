@@ -7,13 +7,7 @@ use desk_base::Piece::{Bytes, Column, Right, Words};
 use desk_base::{fill, push};
 use history::{GameView, History};
 use std::alloc::AllocError;
-use tables::{Money, Zone, price, square, zone};
-
-/// How many rows the chart has.
-const ROWS: u8 = 11;
-
-/// The column behind the last of the longest row; the first is 1.
-const COLUMNS_END: u8 = 20;
+use tables::{CHART_COLUMNS_END, CHART_ROWS, Money, Zone, price, square, zone};
 
 /// The width of a square.
 const SQUARE: usize = 4;
@@ -35,9 +29,9 @@ pub(crate) fn push_chart(out: &mut Vec<u8>, history: &History) -> Result<(), All
             Words("1   2   3   4   5   6   7   8   9  10  11  12  13  14  15  16  17  18  19\n"),
         ],
     )?;
-    for row in 0..ROWS {
+    for row in 0..CHART_ROWS {
         push(out, &[Bytes(&[b'A' + row])])?;
-        for column in 1..COLUMNS_END {
+        for column in 1..CHART_COLUMNS_END {
             if let Some(square) = square(row, column) {
                 push(
                     out,
@@ -72,7 +66,7 @@ fn mark(zone: Zone) -> &'static str {
 fn push_tokens(out: &mut Vec<u8>, view: &GameView, row: u8, above: usize) -> Result<(), AllocError>
     requires { above < 9 }
 {
-    for column in 1..COLUMNS_END {
+    for column in 1..CHART_COLUMNS_END {
         if let Some(square) = square(row, column) {
             for place in above..above + SHOWN {
                 if let Some(company) = company_at(view, square, place) {

@@ -13,9 +13,10 @@ ghost use Rattle.totals.specs.LookBack.{cash_of, is_sold, owner_of, priority_of}
 ghost use Rattle.totals.specs.Shares.{is_started, par_of, president_of, shares_of, square_of};
 ghost use Rattle.totals.specs.Trains.{phase_of, trains_held};
 
-use crate::stack::operates;
 use desk_base::trains_left;
 use history::{GameView, Holder, Party, ShareCount, Shareholder, TrainCount};
+use market::operates;
+use privates::price_of;
 use tables::{Amount, Company, Kind, Money, Private, Seat, Square, certificate_limit, face, train};
 
 /// The figures of the whole game.
@@ -67,17 +68,6 @@ pub(crate) fn private_row(view: &GameView, private: Private) -> PrivateRow
         price: price_of(view, private),
         is_sold: view.is_sold(private),
         owner: view.owner(private),
-    }
-}
-
-/// Returns the price of an unsold private, in dollars: its face value, except for SV, whose price
-/// falls.
-fn price_of(view: &GameView, private: Private) -> Amount
-    ensures { result ≡ price_of view.now.events.now private }
-{
-    match private {
-        Private::SchuylkillValley => view.sv_price(),
-        _ => face(private),
     }
 }
 

@@ -6,6 +6,7 @@ ghost use Rattle.purchases.specs.Discard.{is_president};
 use crate::objection::Objection;
 use history::{GameView, Holder};
 use order_grammar::{Offer, Order, TrainSource};
+use purchases::is_president;
 use tables::{Company, Kind, Seat};
 
 /// Returns the president of a company, or `Some(None)` if it has none; `None` if the seat itself
@@ -19,13 +20,6 @@ pub fn other_president(view: &GameView, company: Company, seat: Seat) -> Option<
     } else {
         Some(president)
     }
-}
-
-/// Returns whether a seat presides.
-fn is_president(president: Option<Seat>, seat: Seat) -> bool
-    ensures { result ≡ is_president president seat }
-{
-    matches!(president, Some(president) if president == seat)
 }
 
 /// Returns why a seat may not give this order, with the code of the rule that it breaks: the seat

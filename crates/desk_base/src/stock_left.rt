@@ -4,11 +4,11 @@ ghost use Rattle.std.specs.Prelude.{◌≡◌};
 ghost use Rattle.board.specs.LayRules.{is_tile, on_map_of};
 ghost use Rattle.desk_base.specs.StockLeft.{tiles_left, tokens_left, trains_left};
 ghost use Rattle.totals.specs.Operating.{tokens_of};
-ghost use Rattle.map_tables.specs.OnMap.{has_token, names, tile_on};
+ghost use Rattle.map_tables.specs.OnMap.{has_token, tile_on};
 
-use board_state::{same_company, same_hex, same_stop};
+use board_state::tile_on;
 use history::{GameView, History};
-use map_tables::{Hex, Lay, Place, Stop, TileNo, joined_stop, tile};
+use map_tables::{Hex, Lay, Stop, TileNo, tile};
 use tables::{Company, Kind, tokens, train};
 
 /// Returns how many tokens a company has not placed.
@@ -59,37 +59,9 @@ fn has_tile(lays: &[Lay], hex: Hex, number: TileNo) -> bool
     }
 }
 
-/// Returns the tile that lies on a hex: the last that was laid there.
-#[tactic(auto, unfolding(map_tables::specs::OnMap::tile_on))]
-pub fn tile_on(lays: &[Lay], hex: Hex) -> Option<Lay>
-    ensures { result ≡ tile_on lays.now hex }
-{
-    for lay in lays.iter().rev() {
-        if same_hex(lay.hex, hex) {
-            return Some(*lay);
-        }
-    }
-    None
-}
-
 /// Returns whether a company has a token at a stop, among those that were placed.
 pub fn has_token(history: &History, stop: Stop, company: Company) -> bool
     ensures { result ≡ has_token (tokens_of history.now.events) stop company }
 {
-    for token in history.tokens() {
-        if names(stop, token.0) && same_company(token.1, company) {
-            return true;
-        }
-    }
-    false
-}
-
-/// Returns whether a place names a stop, or a part of it.
-fn names(stop: Stop, place: Place) -> bool
-    ensures { result ≡ names stop place }
-{
-    match place.stop() {
-        Some(part) => same_stop(joined_stop(part), stop),
-        None => false,
-    }
+    board_state::has_token(history.tokens(), stop, company)
 }

@@ -2,7 +2,6 @@
 pub mod FaultLemmas
 pub mod FileLemmas
 pub mod HeadLemmas
-pub mod NameLemmas
 pub mod RefusedLemmas
 pub mod RoundLemmas
 pub mod SentLemmas

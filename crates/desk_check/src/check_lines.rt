@@ -1,9 +1,7 @@
 //! The lines of a file, by their numbers in the file.
-ghost use Rattle.std.specs.Prelude.{◌≡◌, ◌+◌, ◌≤◌, length};
+ghost use Rattle.std.specs.Prelude.{◌+◌, ◌≤◌, length};
 ghost use Rattle.sheets.specs.Limits.{file_most};
-ghost use Rattle.sheets.specs.Text.{is_blank};
 
-use order_grammar::{LINE_MOST, has_word};
 use sheets::first_line;
 
 /// A line of a file.
@@ -52,12 +50,4 @@ impl<'a> Iterator for FileLines<'a> {
             rest: piece.rest,
         })
     }
-}
-
-/// Returns whether a line counts nowhere: it has no words and at most 1,024 bytes.
-#[tactic(auto, unfolding(sheets::specs::Text::is_blank))]
-pub(crate) fn is_blank(line: &[u8]) -> bool
-    ensures { result ≡ is_blank line.now }
-{
-    line.len() <= LINE_MOST && !has_word(line)
 }

@@ -3,18 +3,17 @@
 ghost use Rattle.std.specs.Prelude.{◌≡◌, ◌≤◌, ◌++◌, IfOk, OnOk, length};
 ghost use Rattle.desk_check.specs.Heads.{AreKept, came};
 ghost use Rattle.desk_check.specs.SheetLines.{head_here, heads_in};
-ghost use Rattle.sheets.specs.File.{begins, players_of, unread_fault, version_of};
+ghost use Rattle.sheets.specs.File.{begins, players_of};
 ghost use Rattle.sheets.specs.Limits.{file_most};
 ghost use Rattle.sheets.specs.Text.{lines_of};
 
 use crate::check_found::{Found, Matter};
-use crate::check_lines::{FileLine, FileLines, is_blank};
+use crate::check_lines::{FileLine, FileLines};
 use crate::check_mail::is_mail;
 use crate::check_names::likeness_of;
 use crate::check_sheets::{Beginning, Heads, begun_by};
-use order_grammar::{Fault, Order, read_line_in};
 use report::name;
-use sheets::Sheets;
+use sheets::{Sheets, is_blank, unread_fault};
 use std::alloc::{AllocError, Global};
 use tables::Seat;
 
@@ -101,7 +100,7 @@ impl<'a> Pass<'a> {
             return Ok(());
         }
         if self.preamble >= PREAMBLE {
-            let fault = unread_fault(sheets, line.text);
+            let fault = unread_fault(sheets.version(), line.text);
             return self.found.add_line(line, Matter::Unread(fault));
         }
         self.preamble += 1;
@@ -125,19 +124,4 @@ fn look_at_names<'a>(
         }
     }
     Ok(())
-}
-
-/// Returns the fault of a line that is in no sheet: its own; otherwise an unknown player if it is a
-/// SHEET line, or out of place.
-#[tactic(auto, unfolding(sheets::specs::File::unread_fault))]
-fn unread_fault(sheets: &Sheets, line: &[u8]) -> Fault
-    ensures { result ≡ unread_fault (version_of sheets.now) line.now }
-{
-    match &read_line_in(sheets.version(), line) {
-        Err(fault) => *fault,
-        Ok(line) => match &line.order {
-            Order::Sheet { .. } => Fault::UnknownPlayer,
-            _ => Fault::OutOfPlace,
-        },
-    }
 }

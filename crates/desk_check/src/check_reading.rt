@@ -6,10 +6,10 @@ ghost use Rattle.desk_check.specs.SheetFaults.{faults_of, is_open_then, is_out_o
 ghost use Rattle.desk_check.specs.SheetFaults.{number_then, said_of_fault, told_from};
 ghost use Rattle.desk_check.specs.Unplayed.{has_place, look_of};
 ghost use Rattle.sheets.specs.Limits.{lines_most};
-ghost use Rattle.sheets.specs.Part.{line_read, opens_part};
+ghost use Rattle.sheets.specs.Part.{line_read};
 
 use crate::check_found::{Found, Matter, Said};
-use crate::check_lines::{FileLine, FileLines, is_blank};
+use crate::check_lines::{FileLine, FileLines};
 use crate::check_mail::is_mail;
 use crate::check_orders::Block;
 use crate::check_seat::has_to_order;
@@ -17,7 +17,7 @@ use crate::check_sheets::{Head, Sent};
 use desk_base::{Objection, objection_by_view, objection_to, other_president};
 use history::GameView;
 use order_grammar::{Fault, Order, Version, begins_with_word};
-use sheets::{LINES_MOST, NumberedLine, UnreadLine, is_of_file};
+use sheets::{LINES_MOST, NumberedLine, UnreadLine, is_blank, is_head_of, is_of_file};
 use std::alloc::AllocError;
 use tables::{COMPANIES, Company, PerCompany, Round};
 
@@ -256,19 +256,9 @@ fn look_at(line: &NumberedLine, round: Round, is_open: bool) -> Look
 {
     match line.order() {
         Err(fault) => Look::Bad(fault),
-        Ok(order) if is_head(round, order) => Look::Head,
+        Ok(order) if is_head_of(round, order) => Look::Head,
         Ok(order) if has_place(round, order, is_open) => Look::Good,
         Ok(_) => Look::Bad(Fault::OutOfPlace),
-    }
-}
-
-/// Returns whether an order begins a written turn of a sheet for a round, or a company's orders.
-fn is_head(round: Round, order: &Order) -> bool
-    ensures { result ≡ opens_part round (Ok order.now) }
-{
-    match round {
-        Round::Opening(_) | Round::Stock(_) => matches!(order, Order::Turn),
-        Round::Operating { .. } => matches!(order, Order::Company(_)),
     }
 }
 

@@ -1,17 +1,14 @@
 //! Why a file is refused: which line it is, and what is wrong with it.
 
-use crate::check_lines::{FileLine, FileLines, is_blank};
+use crate::check_lines::{FileLine, FileLines};
 use crate::check_mail::is_mail;
 use crate::check_words::words_of;
 use order_grammar::{Fault, NAME_MOST, Order, begins_with_word, read_line};
-use sheets::{FILE_MOST, FileFault};
+use sheets::{FILE_MOST, FileFault, GAME, is_blank};
 use tables::PLAYERS_LEAST;
 
 /// What some editors write before the first line of a text.
 const BYTE_ORDER_MARK: &[u8] = b"\xEF\xBB\xBF";
-
-/// The game that is played, as its header line names it.
-const GAME: u32 = 1830;
 
 /// What is wrong with a line of a mail.
 const MAIL: &str = "it is of a mail; cut it off, or put # before it";

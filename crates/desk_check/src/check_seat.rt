@@ -1,7 +1,6 @@
 //! What a seat has to order as a round begins.
 ghost use Rattle.std.specs.Prelude.{◌≡◌};
 ghost use Rattle.desk_check.specs.Looked.{has_to_order};
-ghost use Rattle.purchases.specs.Discard.{is_president};
 
 use history::GameView;
 use tables::{Company, Seat};
@@ -11,11 +10,4 @@ pub(crate) fn has_to_order(view: &GameView, company: Company, seat: Seat) -> boo
     ensures { result ≡ has_to_order view.now.events.now company seat }
 {
     view.president(company) == Some(seat) && view.floated(company) && view.square(company).is_some()
-}
-
-/// Returns whether a seat presides.
-fn is_president(president: Option<Seat>, seat: Seat) -> bool
-    ensures { result ≡ is_president president seat }
-{
-    matches!(president, Some(president) if president == seat)
 }

@@ -4,10 +4,10 @@ ghost use Rattle.desk_check.specs.Heads.{AreKept, came, with_head};
 ghost use Rattle.desk_check.specs.SheetLines.{Begins, complete_by, is_at, last_line};
 ghost use Rattle.desk_check.specs.SheetLines.{sheet_key_of};
 ghost use Rattle.order_grammar.specs.Line.{reading_of};
-ghost use Rattle.sheets.specs.File.{players_of, sheet_key_begun, seat_from};
+ghost use Rattle.sheets.specs.File.{players_of, sheet_key_begun};
 
 use crate::check_lines::FileLine;
-use order_grammar::{Name, Order, begins_with_word, read_line};
+use order_grammar::{Order, begins_with_word, read_line};
 use sheets::Sheets;
 use std::alloc::{AllocError, Global};
 use std::collections::HashMap;
@@ -146,25 +146,9 @@ fn sheet_named(sheets: &Sheets, line: &[u8]) -> Option<Sent>
     let Order::Sheet { name, round } = &read.order else {
         return None;
     };
-    let seat = seat_of(sheets, name)?;
+    let seat = sheets.seat_of(name)?;
     Some(Sent {
         seat,
         round: *round,
     })
-}
-
-/// Returns the seat of the player with a name; `None` if no player has it.
-#[tactic(auto, using(crate::proofs::NameLemmas::pointwise_is_same_word))]
-fn seat_of(sheets: &Sheets, name: &Name) -> Option<Seat>
-    ensures { result ≡ seat_from 0 (players_of sheets.now) name.now }
-{
-    for number in 0..sheets.seats() {
-        let seat = Seat::at(number);
-        if let Some(player) = sheets.name(seat)
-            && player == name.text()
-        {
-            return Some(seat);
-        }
-    }
-    None
 }

@@ -1,15 +1,13 @@
 //! What a player may buy and bid in an opening.
-ghost use Rattle.std.specs.Prelude.{◌≡◌};
-ghost use Rattle.moves.specs.Bids.{least_bid_of};
 
 use crate::may_line::{push_may, push_may_not};
 use desk_base::{Stood, fill};
 use history::{History, Refusal};
-use moves::{OpeningMoves, Priced, bids};
+use moves::{OpeningMoves, Priced, bids, least_bid};
 use order_grammar::Order;
 use privates::judge;
 use std::alloc::{AllocError, Global};
-use tables::{Amount, PLAYERS_MOST, Private, Seat, face};
+use tables::{Amount, PLAYERS_MOST, Private, Seat};
 
 /// Adds the privates that a player may buy, and the least bid on each on which they may bid; and of
 /// the other unsold ones why they may not.
@@ -78,18 +76,4 @@ fn push_others(
 /// Returns whether a private is in a list.
 fn has(listed: &[Priced<Private>], private: Private) -> bool {
     listed.iter().any(|one| one.what == private)
-}
-
-/// What a bid is over the face, and over each earlier bid on the private, at least, in dollars.
-const STEP: Amount = 5;
-
-/// Returns the least bid on a private that is not too low.
-fn least_bid(history: &History, private: Private) -> Amount
-    ensures { result ≡ least_bid_of history.now.events private }
-{
-    let least = face(private).saturating_add(STEP);
-    match history.now().greatest_bid(private) {
-        Some(bid) => least.max(bid.saturating_add(STEP)),
-        None => least,
-    }
 }

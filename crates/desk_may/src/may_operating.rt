@@ -2,16 +2,16 @@
 
 use crate::may_line::{push_may, push_may_not, push_note_column};
 use desk_base::Piece::{Bytes, Column, Number, Words};
-use desk_base::{Stood, fill, push};
+use desk_base::{Stood, fill};
 use history::{History, Holder, Party, Refusal, TrainSeller};
 use market::operating_order;
-use moves::{Priced, owned_privates, trains};
+use moves::{Priced, least_price, owned_privates, trains};
 use order_grammar::{Order, TrainSource};
 use purchases::{TrainPurchase, judge_private, judge_purchase, sells};
 use report::name;
 use sheets::Sheets;
 use std::alloc::{AllocError, Global};
-use tables::{Amount, Company, Kind, Money, Private, Seat, face, limit};
+use tables::{Company, Kind, Money, Private, Seat, face, limit};
 
 /// A company of a player's, in a game as it stood.
 #[derive(Clone, Copy)]
@@ -201,9 +201,4 @@ fn order_of_train(purchase: TrainPurchase) -> Order {
         kind: purchase.kind,
         from,
     }
-}
-
-/// Returns the least price of a private: half of its face value.
-fn least_price(private: Private) -> Amount {
-    face(private) / 2
 }

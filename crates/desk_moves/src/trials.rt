@@ -1,10 +1,10 @@
 //! A trial: the file with an empty sheet for each player who owes one, to be played one round on.
 ghost use Rattle.std.specs.Prelude.{◌≡◌, ◌++◌, IfOk, OnOk, is_none};
 ghost use Rattle.desk_moves.specs.Trial.{empty_sheet, has_open_line, sheet_owed, tried_file, with_line_end};
-ghost use Rattle.sheets.specs.File.{sheet_of};
 
 use crate::fault::{MovesFault, NoAnswer};
 use crate::may_text::seat_named;
+use desk_base::owes;
 use order_grammar::print_round;
 use report::name;
 use rounds::{End, play};
@@ -61,7 +61,7 @@ fn must_name_all(sheets: &Sheets, players: &[&str], round: Round) -> Result<(), 
     }
     for seat in 0..sheets.seats() {
         let seat = Seat::at(seat);
-        if !players.is_empty() && owes(sheets, seat, round) && !is_named(sheets, players, seat) {
+        if !players.is_empty() && owes(sheets, seat, &round) && !is_named(sheets, players, seat) {
             return Err(MovesFault::Asked(NoAnswer::OwesToo));
         }
     }
@@ -116,7 +116,7 @@ fn has_open_line(text: &[u8]) -> bool
 fn push_owed(out: &mut Vec<u8>, sheets: &Sheets, seat: Seat, round: Round) -> Result<(), AllocError>
     ensures { OnOk result (out.new.items ≡ out.old.items ++ sheet_owed sheets.now round seat.0) }
 {
-    if owes(sheets, seat, round) {
+    if owes(sheets, seat, &round) {
         push_empty_sheet(out, sheets, seat, round)?;
     }
     Ok(())
@@ -137,11 +137,4 @@ fn push_empty_sheet(
     print_round(out, &round)?;
     out.push(b'\n')?;
     Ok(())
-}
-
-/// Returns whether the player of a seat owes a sheet for a round.
-fn owes(sheets: &Sheets, seat: Seat, round: Round) -> bool
-    ensures { result ≡ is_none (sheet_of sheets.now seat.0 round) }
-{
-    sheets.sheet(seat, &round).is_none()
 }

@@ -16,7 +16,7 @@ use certs::{Sale, none_is_left};
 use desk_base::Cause;
 use history::{GameView, LayRule, OpeningRule, Refusal, RunRule, StockRule, TrainRule};
 use order_grammar::{Offer, Order, TrainSource};
-use purchases::has_trains;
+use purchases::{has_train, has_trains, may_be_traded};
 use tables::{Amount, Company, Kind, Round, Seat};
 
 /// Returns why a line of a round has no place where it stands.
@@ -153,13 +153,6 @@ fn cause_of_best(view: &GameView, company: Company) -> Cause
     }
 }
 
-/// Returns whether a company has a train of a kind.
-fn has_train(view: &GameView, company: Company, kind: Kind) -> bool
-    ensures { result ≡ has_train view.now.events.now company kind }
-{
-    view.trains(Some(company), kind) > 0
-}
-
 /// Returns why no money is to be raised for a train of a company.
 fn cause_of_raise(view: &GameView, company: Company) -> Cause
     ensures { result ≡ cause_of_raise view.now.events.now company }
@@ -259,13 +252,6 @@ fn cause_of_trade(kind: Kind, trade_in: Kind) -> Cause
         Kind::Diesel => Cause::NeverTraded,
         _ => Cause::NotForDiesel,
     }
-}
-
-/// Returns whether a train of a kind may be traded in for a D.
-fn may_be_traded(kind: Kind) -> bool
-    ensures { result ≡ may_be_traded kind }
-{
-    matches!(kind, Kind::Four | Kind::Five | Kind::Six)
 }
 
 /// Returns why a president must stay who orders a sale; `None` for other orders.

@@ -9,7 +9,7 @@ use map_tables::{HEXES, Hex, Side, neighbour};
 const NUMBERED: usize = 3;
 
 /// How many borders the hexes of the map have.
-pub(crate) const BORDERS: usize = NUMBERED * HEXES;
+pub const BORDERS: usize = NUMBERED * HEXES;
 
 /// Returns the number of the border at a side of a hex.
 pub(crate) fn border(hex: Hex, side: Side) -> usize

@@ -10,7 +10,7 @@ use crate::check::check_run;
 use crate::claim::{Claim, ClaimedRun};
 use crate::used::Used;
 use reach::Network;
-use tables::{Amount, Company, Kind, Money};
+use tables::{Amount, Company, Kind, Money, same_kind};
 
 /// Returns whether a claim for a company's trains holds: its places name the walks of a legal set
 /// of runs for them, which earns what is claimed. Allocates nothing.
@@ -64,11 +64,4 @@ fn has_enough(trains: &[Kind], claimed: &[ClaimedRun], kind: Kind) -> bool
     let runs = claimed.iter().filter(|run| same_kind(run.kind, kind));
     let of_kind = trains.iter().filter(|train| same_kind(**train, kind));
     runs.count() <= of_kind.count()
-}
-
-/// Returns whether two kinds are one. (By their numbers, which the prover knows at once.)
-fn same_kind(kind: Kind, other: Kind) -> bool
-    ensures { result ≡ same_kind kind other }
-{
-    kind.index() == other.index()
 }

@@ -36,7 +36,7 @@ mod two_train;
 mod used;
 mod write;
 
-pub use border_numbers::border_to;
+pub use border_numbers::{BORDERS, border_to};
 pub use check::{RunFault, check_run};
 pub use claim::{Claim, ClaimedRun, ClaimedRuns};
 pub use in_turn::claim_holds;

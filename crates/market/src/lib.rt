@@ -14,5 +14,5 @@ mod order;
 mod token;
 
 pub use moves::{down, fall, left, right, up};
-pub use order::operating_order;
+pub use order::{operates, operating_order};
 pub use token::{move_token_down, move_token_left, move_token_right, move_token_up};

@@ -15,13 +15,10 @@ use Rattle.events.specs.declared.ruling.StockRule.{StockRule}
 use Rattle.order_grammar.specs.declared.order.ShareSource.{ShareSource}
 use Rattle.order_grammar.specs.declared.order.ShareSource.TheVariants.{InitialOffering, BankPool}
 use Rattle.stock_round.specs.Exchange.{exchange_source, is_no_exchange}
+use Rattle.tables.specs.Chart.{par_values}
 use Rattle.tables.specs.Roster.{companies}
 use Rattle.tables.specs.declared.roster.Company.{Company}
 use Rattle.tables.specs.declared.seat.Seat.{Seat}
-
--- the par values
-abbrev pub par_values : List ℕ
-par_values = 67 ∷ 71 ∷ 76 ∷ 82 ∷ 90 ∷ 100 ∷ []
 
 -- where a share may be bought
 abbrev pub sources : List ShareSource

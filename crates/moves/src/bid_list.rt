@@ -1,14 +1,14 @@
 //! What a seat may buy and bid as its turn of an opening begins.
-ghost use Rattle.std.specs.Prelude.{◌≡◌, ◌≤◌, ◌∷◌, [], pos, IfOk, OnOk};
+ghost use Rattle.std.specs.Prelude.{◌≡◌, ◌≤◌, ◌∷◌, [], IfOk, OnOk};
 ghost use Rattle.moves.specs.Bids.{IsBidAnswer, IsPrivateAnswer, least_bid_of};
 ghost use Rattle.moves.specs.Listed.{AreListed, Lists};
 ghost use Rattle.privates.specs.Bank.{price_of};
 ghost use Rattle.tables.specs.Roster.{privates};
 
 use crate::priced::{Priced, push_priced};
-use history::{GameView, History};
+use history::History;
 use order_grammar::Order;
-use privates::judge;
+use privates::{judge, price_of};
 use std::alloc::{AllocError, Global};
 use tables::{Amount, BID_STEP, Money, Private, Seat, face};
 
@@ -61,16 +61,6 @@ fn push_purchase(
     }
 }
 
-/// Returns what the bank asks for a private: SV's price may have fallen, the others' is their face.
-fn price_of(view: &GameView, private: Private) -> Amount
-    ensures { result ≡ price_of view.now.events.now private }
-{
-    match private {
-        Private::SchuylkillValley => view.sv_price(),
-        _ => face(private),
-    }
-}
-
 /// Adds a private with the least bid on it if a seat may bid that.
 #[tactic(auto, using(crate::proofs::BidLemmas::lists_bid, crate::proofs::BidLemmas::lists_not_bid))]
 fn push_bid(
@@ -90,9 +80,9 @@ fn push_bid(
     }
 }
 
-/// Returns the least bid on a private that is not too low: 5 over its face and over the greatest
-/// earlier bid on it.
-fn least_bid(history: &History, private: Private) -> Amount
+/// Returns the least bid on a private that is not too low, in dollars: 5 over its face and over the
+/// greatest earlier bid on it.
+pub fn least_bid(history: &History, private: Private) -> Amount
     ensures { result ≡ least_bid_of history.now.events private }
 {
     let least = face(private).saturating_add(BID_STEP);

@@ -1,24 +1,18 @@
 //! What a seat may buy and sell as its turn of a stock round begins.
 ghost use Rattle.std.specs.Prelude.{◌≡◌, ◌≤◌, ◌<◌, ◌∷◌, [], pos, IfOk, OnOk};
-ghost use Rattle.certs.specs.Purchase.{cost_of};
 ghost use Rattle.certs.specs.declared.share_deal.Purchase.{Purchase};
 ghost use Rattle.certs.specs.declared.share_deal.Sale.{Sale};
 ghost use Rattle.moves.specs.Deals.{IsPurchaseAnswer, IsSaleAnswer, all_purchases, all_sales, brought_by};
 ghost use Rattle.moves.specs.Deals.{exchange_of, purchases_of, sales_of, shares_of, starts_of};
 ghost use Rattle.moves.specs.Listed.{AreListed, Lists};
-ghost use Rattle.stock_round.specs.Exchange.{is_no_exchange, is_offered, is_owner, is_pooled};
-ghost use Rattle.totals.specs.LookBack.{owner_of};
-ghost use Rattle.tables.specs.declared.roster.Private.TheVariants.{MohawkHudson};
 
 use crate::priced::{Priced, push_priced};
-use certs::{Purchase, Sale, is_over_six, market_price, may_buy, may_sell, share_price};
-use history::{GameView, History, Holder, Shareholder};
+use certs::{Purchase, Sale, market_price, may_buy, may_sell, purchase_cost};
+use history::{GameView, History};
 use order_grammar::ShareSource;
 use std::alloc::{AllocError, Global};
-use tables::{Amount, Company, Money, Private, Seat};
-
-/// The par values, in dollars.
-const PAR_VALUES: [Amount; 6] = [67, 71, 76, 82, 90, 100];
+use stock_round::{exchange_source, is_no_exchange};
+use tables::{Amount, Company, Money, PAR_VALUES, Seat};
 
 /// The numbers of shares that a sale may name: a company has ten.
 const NUMBERS: [Amount; 10] = [1, 2, 3, 4, 5, 6, 7, 8, 9, 10];
@@ -132,18 +126,8 @@ fn push_purchase(
         (purchase ∷ []) purchases.old.items purchases.new.items) }
 {
     match may_buy(history, seat, purchase, None) {
-        Ok(()) => push_priced(purchases, purchase, cost(&history.now(), purchase)),
+        Ok(()) => push_priced(purchases, purchase, purchase_cost(&history.now(), purchase)),
         Err(_) => Ok(()),
-    }
-}
-
-/// Returns what a purchase costs, in dollars.
-fn cost(view: &GameView, purchase: Purchase) -> Money
-    ensures { result ≡ pos (cost_of view.now.events.now purchase) }
-{
-    match purchase {
-        Purchase::Par { price, .. } => 2 * Money::from(price),
-        Purchase::Share { company, from } => share_price(view, company, from),
     }
 }
 
@@ -196,43 +180,5 @@ fn exchange(history: &History, seat: Seat) -> Option<ShareSource>
     if is_no_exchange(history, seat) {
         return None;
     }
-    if is_offered(history) {
-        Some(ShareSource::InitialOffering)
-    } else {
-        Some(ShareSource::BankPool)
-    }
-}
-
-/// Returns whether a seat may not exchange MH: it does not own it, no share of NYC is there, or the
-/// seat would come over six.
-fn is_no_exchange(history: &History, seat: Seat) -> bool
-    ensures { result ≡ is_no_exchange history.now.events seat }
-{
-    !owns_mohawk(history, seat)
-        || !(is_offered(history) || is_pooled(history))
-        || is_over_six(&history.now(), seat, Company::NewYorkCentral, 1)
-}
-
-/// Returns whether a seat owns MH.
-fn owns_mohawk(history: &History, seat: Seat) -> bool
-    ensures { result ≡ is_owner seat (owner_of history.now.events MohawkHudson) }
-{
-    match history.owner(Private::MohawkHudson) {
-        Some(Holder::Seat(owner)) => owner == seat,
-        _ => false,
-    }
-}
-
-/// Returns whether there is a share of NYC in the initial offering.
-fn is_offered(history: &History) -> bool
-    ensures { result ≡ is_offered history.now.events }
-{
-    history.shares(Company::NewYorkCentral, Shareholder::InitialOffering) > 0
-}
-
-/// Returns whether there is one in the bank pool.
-fn is_pooled(history: &History) -> bool
-    ensures { result ≡ is_pooled history.now.events }
-{
-    history.shares(Company::NewYorkCentral, Shareholder::BankPool) > 0
+    Some(exchange_source(history))
 }

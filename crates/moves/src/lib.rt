@@ -19,10 +19,10 @@ mod priced;
 mod token_list;
 mod train_list;
 
-pub use bid_list::{OpeningMoves, bids};
+pub use bid_list::{OpeningMoves, bids, least_bid};
 pub use deal_list::{StockMoves, deals};
 pub use lay_list::{Lays, lays};
-pub use owned::owned_privates;
+pub use owned::{least_price, owned_privates};
 pub use priced::Priced;
 pub use token_list::{Tokens, tokens};
 pub use train_list::trains;

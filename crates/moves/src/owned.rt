@@ -1,5 +1,5 @@
 //! Which privates of players a company may buy.
-ghost use Rattle.std.specs.Prelude.{◌≡◌, ◌∷◌, [], pos, IfOk, OnOk};
+ghost use Rattle.std.specs.Prelude.{◌≡◌, ◌∷◌, [], IfOk, OnOk};
 ghost use Rattle.moves.specs.Listed.{AreListed, Lists};
 ghost use Rattle.moves.specs.Owned.{IsOwnedAnswer, broken_behind_consent, judgement_with_consent, least_price_of};
 ghost use Rattle.moves.specs.Owned.{is_no_players};
@@ -7,8 +7,8 @@ ghost use Rattle.purchases.specs.Private.{is_too_dear};
 ghost use Rattle.tables.specs.Roster.{privates};
 
 use crate::priced::{Priced, push_priced};
-use history::{GameView, History, Holder, Party, PrivateRule};
-use purchases::judge_private;
+use history::{GameView, History, Holder, PrivateRule};
+use purchases::{is_too_dear, judge_private};
 use std::alloc::{AllocError, Global};
 use tables::{Amount, Company, Money, Private, face};
 
@@ -48,8 +48,8 @@ fn push_private(
     }
 }
 
-/// Returns the least price of a private: half of its face value.
-fn least_price(private: Private) -> Amount
+/// Returns the least price at which a company may buy a private, in dollars: half of its face value.
+pub fn least_price(private: Private) -> Amount
     ensures { result ≡ least_price_of private }
 {
     face(private) / 2
@@ -110,12 +110,4 @@ fn is_no_players(owner: Option<Holder>) -> bool
     ensures { result ≡ is_no_players owner }
 {
     !matches!(owner, Some(Holder::Seat(_)))
-}
-
-/// Returns whether a company has less than a price.
-fn is_too_dear(view: &GameView, company: Company, price: Amount) -> bool
-    ensures { result ≡ is_too_dear
-        (record { seats = view.now.seats; events = view.now.events.now }) company price }
-{
-    view.cash(Party::of_company(company)) < Money::from(price)
 }

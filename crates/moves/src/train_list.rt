@@ -4,12 +4,12 @@ ghost use Rattle.moves.specs.Listed.{AreListed, Lists};
 ghost use Rattle.moves.specs.Trains.{IsTrainAnswer, all_trains, broken_behind_consent};
 ghost use Rattle.moves.specs.Trains.{judgement_with_consent, trains_of_bank, trains_of_companies};
 ghost use Rattle.moves.specs.Trains.{trains_of_kind, trains_of_others};
-ghost use Rattle.purchases.specs.Train.{IsSmallPurchase, is_not_sellers};
+ghost use Rattle.purchases.specs.Train.{IsSmallPurchase};
 ghost use Rattle.purchases.specs.declared.train.TrainPurchase.{TrainPurchase};
 
 use crate::priced::{Priced, push_priced};
 use history::{History, TrainRule, TrainSeller};
-use purchases::{TrainPurchase, judge_purchase};
+use purchases::{TrainPurchase, is_not_sellers, judge_purchase};
 use std::alloc::{AllocError, Global};
 use tables::{Company, Kind, Money};
 
@@ -165,20 +165,8 @@ fn broken_behind_consent(
 ) -> Option<TrainRule>
     ensures { result ≡ broken_behind_consent history.now company purchase }
 {
-    if is_not_sellers(history, company, purchase) {
+    if is_not_sellers(&history.now(), company, purchase.kind, purchase.from) {
         return Some(TrainRule::NotSellers);
     }
     None
-}
-
-/// Returns whether a company that is to sell a train has none of the kind, or is the buyer.
-fn is_not_sellers(history: &History, buyer: Company, purchase: TrainPurchase) -> bool
-    ensures { result ≡ is_not_sellers history.now.events buyer purchase.kind purchase.from }
-{
-    match purchase.from {
-        TrainSeller::Company(seller) => {
-            history.trains(Some(seller), purchase.kind) <= 0 || buyer == seller
-        }
-        TrainSeller::Bank | TrainSeller::BankPool => false,
-    }
 }

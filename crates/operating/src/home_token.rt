@@ -2,10 +2,10 @@
 ghost use Rattle.std.specs.Prelude.{◌≡◌, OnOk};
 ghost use Rattle.operating.specs.HomeToken.{has_home_token, with_home};
 ghost use Rattle.history.specs.Sound.{IsSound};
-ghost use Rattle.map_tables.specs.OnMap.{has_token, names, same_stop};
 
+use board_state::has_token;
 use history::{Event, History};
-use map_tables::{Place, Stop, home, joined_stop};
+use map_tables::home;
 use std::alloc::AllocError;
 use tables::Company;
 
@@ -33,28 +33,4 @@ pub fn has_home_token(history: &History, company: Company) -> bool
     ensures { result ≡ has_home_token history.now.events company }
 {
     has_token(history.tokens(), home(company), company)
-}
-
-/// Returns whether one of some tokens is a company's and lies at a stop.
-fn has_token(tokens: &[(Place, Company)], stop: Stop, company: Company) -> bool
-    ensures { result ≡ has_token tokens.now stop company }
-{
-    tokens.iter().any(|token| names(stop, token.0) && token.1.index() == company.index())
-}
-
-/// Returns whether a place names a stop, or a part of it.
-fn names(stop: Stop, place: Place) -> bool
-    ensures { result ≡ names stop place }
-{
-    match place.stop() {
-        Some(part) => is_same_stop(joined_stop(part), stop),
-        None => false,
-    }
-}
-
-/// Returns whether two stops are one.
-fn is_same_stop(a: Stop, b: Stop) -> bool
-    ensures { result ≡ same_stop a b }
-{
-    a.hex.index() == b.hex.index() && a.number.index() == b.number.index()
 }

@@ -22,7 +22,6 @@
 //! `best_laws`.
 #![tactic(auto)]
 
-mod amount;
 mod best_laws;
 mod board_asker;
 mod company_orders;

@@ -7,7 +7,6 @@ ghost use Rattle.operating.specs.Token.{TokenLeads};
 ghost use Rattle.order_grammar.specs.declared.order.Order.TheVariants as form;
 ghost use Rattle.sheets.specs.Part.{line_with};
 
-use crate::amount::amount_of;
 use crate::board_asker::asker;
 use crate::company_turn::CompanyTurn;
 use crate::map_state::update_map_state;
@@ -17,6 +16,7 @@ use map_tables::Place;
 use order_grammar::Order;
 use sheets::ReadLine;
 use std::alloc::AllocError;
+use tables::amount_of;
 use turns::record;
 
 impl CompanyTurn {

@@ -46,7 +46,8 @@ pub use print::{
     print_run_prefix, print_short_order,
 };
 pub use read::{
-    CERT_LINE_MOST, LINE_MOST, Line, read_cert_line, read_line, read_line_in, read_order_in,
+    CERT_LINE_MOST, LINE_MOST, Line, is_printable, read_cert_line, read_line, read_line_in,
+    read_order_in,
 };
 pub use short::ShortOrder;
 pub use words::{Span, Token, Words, begins_with_word, has_word};

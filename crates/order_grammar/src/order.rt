@@ -1,6 +1,7 @@
-ghost use Rattle.std.specs.Prelude.{◌≡◌};
+ghost use Rattle.std.specs.Prelude.{◌≡◌, false};
 ghost use Rattle.order_grammar.specs.Family.{IsOfAmount, IsOfCertificate, IsOfFile, IsOfOne, IsOfTrains};
 ghost use Rattle.order_grammar.specs.Order.{keyword_of_source, order_from, put_if, text_of_source};
+ghost use Rattle.order_grammar.specs.Short.{has_short_form};
 ghost use Rattle.order_grammar.specs.declared.keyword.Keyword.TheVariants.{Buy, Lay as LayWord, Offer as OfferWord};
 ghost use Rattle.order_grammar.specs.declared.keyword.Keyword.TheVariants.{Train};
 ghost use Rattle.order_grammar.specs.declared.order.Trailing.TheVariants.{Nothing};
@@ -8,6 +9,7 @@ ghost use Rattle.order_grammar.specs.declared.order.Value.TheVariants.{Number};
 
 use crate::keyword::Keyword;
 use crate::name::Name;
+use crate::short::ShortOrder;
 use arrayvec::ArrayVec;
 use map_tables::{Hex, Lay, Place, Rotation, Run, TileNo};
 use tables::{Amount, Company, Kind, PLAYERS_MOST, Private, Round};
@@ -229,8 +231,18 @@ impl Order {
     pub fn duplicate(&self) -> Order
         ensures { result ≡ self.now }
     {
+        match ShortOrder::of(self) {
+            Some(short) => short.order(),
+            None => self.duplicate_other(),
+        }
+    }
+
+    /// Returns an order equal to this one, which has no short form.
+    fn duplicate_other(&self) -> Order
+        requires { has_short_form self.now ≡ false }
+        ensures { result ≡ self.now }
+    {
         match self {
-            Order::Blank => Order::Blank,
             Order::Game { game, version } => Order::Game {
                 game: *game,
                 version: *version,
@@ -241,55 +253,11 @@ impl Order {
                 round: *round,
             },
             Order::Turn => Order::Turn,
-            Order::BuyPrivate(private) => Order::BuyPrivate(*private),
-            Order::Bid { private, amount } => Order::Bid {
-                private: *private,
-                amount: *amount,
-            },
-            Order::Limit { private, amount } => Order::Limit {
-                private: *private,
-                amount: *amount,
-            },
-            Order::Par { company, price } => Order::Par {
-                company: *company,
-                price: *price,
-            },
-            Order::BuyShare { company, from } => Order::BuyShare {
-                company: *company,
-                from: *from,
-            },
-            Order::Sell { company, shares } => Order::Sell {
-                company: *company,
-                shares: *shares,
-            },
-            Order::ExchangeMohawk => Order::ExchangeMohawk,
             Order::Company(company) => Order::Company(*company),
-            Order::Lay(lay) => Order::Lay(*lay),
-            Order::Token(place) => Order::Token(*place),
             Order::Run { kind, run } => Order::Run {
                 kind: *kind,
                 run: run.duplicate(),
             },
-            Order::RunBest => Order::RunBest,
-            Order::Pay => Order::Pay,
-            Order::Withhold => Order::Withhold,
-            Order::BuyTrain { kind, from } => Order::BuyTrain {
-                kind: *kind,
-                from: *from,
-            },
-            Order::Discard { company, kind } => Order::Discard {
-                company: *company,
-                kind: *kind,
-            },
-            Order::BuyOwnedPrivate { private, price } => Order::BuyOwnedPrivate {
-                private: *private,
-                price: *price,
-            },
-            Order::Raise { company, shares } => Order::Raise {
-                company: *company,
-                shares: *shares,
-            },
-            Order::Offer(offer) => Order::Offer(*offer),
             Order::Certs => Order::Certs,
             Order::Cert {
                 round,
@@ -305,6 +273,8 @@ impl Order {
                 run: run.duplicate(),
             },
             Order::Marks => Order::Marks,
+            // A line without words; the rest has a short form.
+            _ => Order::Blank,
         }
     }
 }

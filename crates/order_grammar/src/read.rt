@@ -166,7 +166,7 @@ fn printable_length(line: &[u8]) -> usize
 }
 
 /// Returns whether a byte may stand before a comment.
-fn is_printable(byte: u8) -> bool
+pub fn is_printable(byte: u8) -> bool
     ensures { result ≡ is_printable byte }
 {
     (0x20..=0x7E).contains(&byte)

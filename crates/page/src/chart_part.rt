@@ -5,22 +5,15 @@ use desk::company_at;
 use history::GameView;
 use picture::PagePiece::{At, Letter, Number, Words};
 use picture::{Attr, Point, Tag, Writer};
-use tables::{Company, Money, Square, Zone, par_square, price, square, zone};
-
-/// How many rows the chart has.
-const ROWS: u8 = 11;
-
-/// The column after the last of the longest row; the first is 1.
-const COLUMNS_END: u8 = 20;
+use tables::{
+    CHART_COLUMNS_END, CHART_ROWS, Company, Money, Square, Zone, par_square, price, square, zone,
+};
 
 /// The width of a square.
 const WIDTH: i32 = 60;
 
 /// The height of a square.
 const HEIGHT: i32 = 56;
-
-/// The par values.
-const PARS: [u32; 6] = [100, 90, 82, 76, 71, 67];
 
 /// The lines below the chart: how far down each is, and its words.
 const LEGEND: [(i32, &str); 6] = [
@@ -52,11 +45,11 @@ pub(crate) fn put_chart(out: &mut Writer, view: &GameView) {
                 order. The table of companies names the squares.",
         )],
     );
-    for column in 1..COLUMNS_END {
+    for column in 1..CHART_COLUMNS_END {
         let x = WIDTH * i32::from(column) - 30;
         out.label("b0", Point { x, y: -6 }, &[At(i32::from(column))]);
     }
-    for row in 0..ROWS {
+    for row in 0..CHART_ROWS {
         put_row(out, view, row);
     }
     out.begin_at(Point { x: 452, y: 480 });
@@ -75,7 +68,7 @@ fn put_row(out: &mut Writer, view: &GameView, row: u8) {
         Point { x: -13, y },
         &[Letter(row.saturating_add(b'A'))],
     );
-    for column in 1..COLUMNS_END {
+    for column in 1..CHART_COLUMNS_END {
         if let Some(square) = square(row, column) {
             put_square(out, view, square);
         }
@@ -123,14 +116,7 @@ fn put_price(out: &mut Writer, corner: Point, square: Square, mark: &'static str
 
 /// Returns whether a square is that of a par value.
 fn is_par_square(square: Square) -> bool {
-    for &par in &PARS {
-        if let Some(its) = par_square(par) {
-            if its.row == square.row && its.column == square.column {
-                return true;
-            }
-        }
-    }
-    false
+    matches!(par_square(price(square)), Some(par) if par == square)
 }
 
 /// Adds the tokens of a square: the earlier lies above, so that it is drawn later.

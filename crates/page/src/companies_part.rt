@@ -11,6 +11,7 @@ use history::{GameView, Holder, Party};
 use map_tables::{home, private_hexes};
 use picture::PagePiece::{Hex, Letter, Name, Number, Place, Round, Words};
 use picture::{Tag, Writer};
+use privates::price_of;
 use tables::{Company, Kind, Money, Private, Seat, face, price, revenue, rusts, train};
 
 /// Adds what each company has, in this order.
@@ -181,7 +182,8 @@ fn put_private(out: &mut Writer, scene: &Scene, private: Private) {
     begin_row(out, "");
     put_row_head(out, &[Words(private.code())]);
     put_number(out, Money::from(face(private)));
-    put_number(out, if is_sold { 0 } else { price_of(&view, private) });
+    let price = if is_sold { 0 } else { price_of(&view, private) };
+    put_number(out, Money::from(price));
     put_number(out, Money::from(revenue(private)));
     put_hexes(out, private);
     match view.owner(private) {
@@ -204,14 +206,6 @@ fn put_hexes(out: &mut Writer, private: Private) {
         before = " ";
     }
     out.end();
-}
-
-/// Returns the price of an unsold private: its face, but for SV, whose price falls.
-fn price_of(view: &GameView, private: Private) -> Money {
-    match private {
-        Private::SchuylkillValley => Money::from(view.sv_price()),
-        _ => Money::from(face(private)),
-    }
 }
 
 /// Adds a cell with the bids on a private.

@@ -8,10 +8,7 @@ use desk_base::has_token;
 use history::History;
 use map_tables::{Hex, Stop, StopNumber, home, private_hexes};
 use picture::Marker;
-use tables::{Company, Private};
-
-/// How many companies there are.
-const COMPANIES: usize = 8;
+use tables::{COMPANIES, Company, Private};
 
 /// Returns whether a slot of a stop is kept for the home token of a company, which it has not
 /// placed.

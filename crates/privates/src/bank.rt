@@ -9,7 +9,7 @@ use tables::{Amount, Money, Private, Seat, face};
 
 /// Returns the price of a private at the bank, in dollars: SV's price may have fallen, the others'
 /// is their face.
-pub(crate) fn price_of(view: &GameView, private: Private) -> Amount
+pub fn price_of(view: &GameView, private: Private) -> Amount
     ensures { result ≡ price_of view.now.events.now private }
 {
     match private {

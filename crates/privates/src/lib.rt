@@ -28,6 +28,7 @@ mod sale;
 mod standing;
 mod turn;
 
+pub use bank::price_of;
 pub use bidding::auction;
 pub use opening::play_opening;
 pub use standing::judge_standing;

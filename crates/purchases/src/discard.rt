@@ -12,12 +12,11 @@ ghost use Rattle.purchases.specs.Discard.{discard_in, discard_judgement, discard
 ghost use Rattle.purchases.specs.Discard.{is_no_discard, is_president, kinds_then, line_of, lines_of, next_discard};
 ghost use Rattle.purchases.specs.Discard.{presides_then, with_next_discarded, without_first};
 ghost use Rattle.totals.specs.Shares.{president_said};
-ghost use Rattle.tables.specs.Train.{same_kind};
 
 use history::{Event, GameView, History, Ruling, TrainRule};
 use order_grammar::Order;
 use std::alloc::{AllocError, Global};
-use tables::{Company, Kind, Seat};
+use tables::{Company, Kind, Seat, same_kind};
 
 /// Returns the rule that a line DISCARD of a seat breaks; `None` if it breaks none.
 pub(crate) fn judge_discard(
@@ -41,14 +40,14 @@ fn is_no_discard(view: &GameView, seat: Seat, company: Company, kind: Kind) -> b
 }
 
 /// Returns whether a seat presides.
-pub(crate) fn is_president(president: Option<Seat>, seat: Seat) -> bool
+pub fn is_president(president: Option<Seat>, seat: Seat) -> bool
     ensures { result ≡ is_president president seat }
 {
     matches!(president, Some(president) if president == seat)
 }
 
 /// Returns whether a company has a train of a kind.
-pub(crate) fn has_train(view: &GameView, company: Company, kind: Kind) -> bool
+pub fn has_train(view: &GameView, company: Company, kind: Kind) -> bool
     ensures { result ≡ has_train view.now.events.now company kind }
 {
     view.trains(Some(company), kind) > 0
@@ -222,17 +221,10 @@ fn remove_first(lines: &mut Vec<Kind>, kind: Kind)
 {
     let mut place = 0;
     while place < lines.len() {
-        if is_kind(lines[place], kind) {
+        if same_kind(lines[place], kind) {
             lines.remove(place);
             return;
         }
         place += 1;
     }
-}
-
-/// Returns whether two kinds are the same.
-fn is_kind(one: Kind, kind: Kind) -> bool
-    ensures { result ≡ same_kind one kind }
-{
-    one == kind
 }

@@ -24,8 +24,10 @@ mod private;
 mod standing;
 mod train;
 
-pub use private::{buy_private, judge_private};
+pub use discard::{has_train, is_president};
+pub use private::{buy_private, is_too_dear, judge_private};
 pub use standing::rule_standing_lines;
 pub use train::{
-    NUMBERED, TrainPurchase, buy_train, has_trains, judge_purchase, purchase_of, sells,
+    NUMBERED, TrainPurchase, buy_train, has_trains, is_not_sellers, judge_purchase, may_be_traded,
+    purchase_of, sells,
 };

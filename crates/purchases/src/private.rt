@@ -46,7 +46,7 @@ fn broken_by(
 }
 
 /// Returns whether a company has less than a price.
-fn is_too_dear(view: &GameView, company: Company, price: Amount) -> bool
+pub fn is_too_dear(view: &GameView, company: Company, price: Amount) -> bool
     ensures { result ≡ is_too_dear
         (record { seats = view.now.seats; events = view.now.events.now }) company price }
 {

@@ -239,7 +239,7 @@ fn presidents_agree(view: &GameView, giver: Option<Seat>, taker: Option<Seat>, s
 }
 
 /// Returns whether a company that is to sell a train has none of the kind, or is the buyer.
-fn is_not_sellers(view: &GameView, buyer: Company, kind: Kind, from: TrainSeller) -> bool
+pub fn is_not_sellers(view: &GameView, buyer: Company, kind: Kind, from: TrainSeller) -> bool
     ensures { result ≡ is_not_sellers view.now.events.now buyer kind from }
 {
     match from {
@@ -266,7 +266,7 @@ fn may_trade(view: &GameView, company: Company, kind: Kind, trade_in: Kind) -> b
 }
 
 /// Returns whether a train of a kind may be traded in for a D.
-fn may_be_traded(kind: Kind) -> bool
+pub fn may_be_traded(kind: Kind) -> bool
     ensures { result ≡ may_be_traded kind }
 {
     matches!(kind, Kind::Four | Kind::Five | Kind::Six)

@@ -3,11 +3,9 @@ ghost use Rattle.std.specs.Prelude.{◌≡◌, ℕ, ◌-◌, ◌<◌, ◌||◌, 
 ghost use Rattle.std.specs.Int.{bit_at};
 ghost use Rattle.search_task.specs.Marks.{AreApart, AreBarred, AreBoth, AreOnly, FillWords, Freer, IsOneOf};
 
+use legal_runs::BORDERS;
 use reach::SPOTS;
 use std::marker::Model;
-
-/// How many borders the hexes of the map have.
-pub const BORDERS: usize = 279;
 
 /// How many words have a bit for each border.
 const BORDER_WORDS: usize = 5;

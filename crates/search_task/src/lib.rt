@@ -34,7 +34,7 @@ mod spots;
 mod steps;
 mod task;
 
-pub use bit_set::{BORDERS, BitPlace, BitSet, Borders, Spots, mixed_with};
+pub use bit_set::{BitPlace, BitSet, Borders, Spots, mixed_with};
 pub use crossing::Crossing;
 pub use segments::Segments;
 pub use steps::Steps;

@@ -260,9 +260,10 @@ fn sheet_key_of(players: &Players, order: &Order) -> Option<SheetKey>
     })
 }
 
-/// Returns the code of a line of a file of some version that is in no sheet.
+/// Returns the fault of a line of a file of some version that is in no sheet: its own, or otherwise
+/// that its sheet is for a player who does not play, or that it is out of place.
 #[tactic(auto, unfolding(crate::specs::File::unread_fault))]
-fn unread_fault(version: Version, line: &[u8]) -> Fault
+pub fn unread_fault(version: Version, line: &[u8]) -> Fault
     ensures { result ≡ unread_fault version line.now }
 {
     let mut order = Order::Blank;

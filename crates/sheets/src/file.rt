@@ -3,8 +3,8 @@ ghost use Rattle.std.specs.Prelude.{slice_get, is_none, is_some, Err};
 ghost use Rattle.order_grammar.specs.Line.{reading_of};
 ghost use Rattle.sheets.specs.CompanyOrders.{company_orders_for};
 ghost use Rattle.sheets.specs.File.{Fails, IsAccepted, body_content, content_of, header_version, lines_content};
-ghost use Rattle.sheets.specs.File.{players_content, players_of, sheet_of, unread_of, version_in, version_numbered};
-ghost use Rattle.sheets.specs.File.{version_of};
+ghost use Rattle.sheets.specs.File.{players_content, players_of, seat_from, sheet_of, unread_of, version_in};
+ghost use Rattle.sheets.specs.File.{version_numbered, version_of};
 ghost use Rattle.sheets.specs.Part.{parts_for};
 ghost use Rattle.sheets.specs.Sheet.{sent_in_version};
 ghost use Rattle.sheets.specs.Text.{written_lines};
@@ -16,14 +16,14 @@ use crate::players::{Players, players_named};
 use crate::sheet::{Lines, Sheet};
 use crate::sheet_key::SheetKey;
 use crate::text::first_written;
-use order_grammar::{Fault, Order, Version, read_line};
+use order_grammar::{Fault, Name, Order, Version, read_line};
 use std::alloc::Global;
 use std::collections::HashMap;
 use std::marker::Model;
 use tables::{Company, Round, Seat};
 
 /// The game that an order file is for, as its header line names it.
-const GAME: u32 = 1830;
+pub const GAME: u32 = 1830;
 
 /// The most bytes of an order file.
 pub const FILE_MOST: usize = 67_108_864;
@@ -120,6 +120,13 @@ impl<'a> Sheets<'a> {
     {
         let name = self.players.name(seat)?;
         Some(name.text())
+    }
+
+    /// Returns the seat of the player with a name; `None` if no player has it.
+    pub fn seat_of(&self, name: &Name) -> Option<Seat>
+        ensures { result ≡ seat_from 0 (players_of self.now) name.now }
+    {
+        self.players.seat_of(name)
     }
 }
 

@@ -47,10 +47,10 @@ mod sheet;
 mod sheet_key;
 mod text;
 
-pub use collecting::SHEETS_MOST;
+pub use collecting::{SHEETS_MOST, unread_fault};
 pub use fault::FileFault;
-pub use file::{FILE_MOST, Sheets, collect, examine};
-pub use parts::PartsLeft;
+pub use file::{FILE_MOST, GAME, Sheets, collect, examine};
+pub use parts::{PartsLeft, is_head_of};
 pub use place::{fault_out_of_place, is_of_file};
 pub use sheet::{LINES_MOST, Lines, NumberedLine, ReadLine, Sheet, UnreadLine};
-pub use text::{LineAndRest, first_line};
+pub use text::{LineAndRest, first_line, is_blank};

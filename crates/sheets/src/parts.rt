@@ -184,8 +184,9 @@ fn opens_part(round: Round, line: UnreadLine) -> bool
     }
 }
 
-/// Returns whether an order opens a part of a sheet for a round.
-fn is_head_of(round: Round, order: &Order) -> bool
+/// Returns whether an order opens a part of a sheet for a round: a written turn, or a company's
+/// orders.
+pub fn is_head_of(round: Round, order: &Order) -> bool
     ensures { result ≡ opens_part round (Ok order.now) }
 {
     match round {

@@ -61,7 +61,7 @@ fn without_return(line: &[u8]) -> &[u8]
 
 /// Returns whether a line counts nowhere: it has no words and at most 1,024 bytes.
 #[tactic(auto, unfolding(crate::specs::Text::is_blank))]
-fn is_blank(line: &[u8]) -> bool
+pub fn is_blank(line: &[u8]) -> bool
     ensures { result ≡ is_blank line.now }
 {
     line.len() <= LINE_MOST && !has_word(line)

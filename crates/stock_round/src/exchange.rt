@@ -30,7 +30,7 @@ pub(crate) fn judge(history: &History, seat: Seat) -> Option<StockRule>
 
 /// Returns whether a seat may not exchange MH: it does not own it, no share of NYC is there, or the
 /// seat would have over six.
-fn is_no_exchange(history: &History, seat: Seat) -> bool
+pub fn is_no_exchange(history: &History, seat: Seat) -> bool
     ensures { result ≡ is_no_exchange history.now.events seat }
 {
     !owns_mohawk(history, seat)
@@ -100,7 +100,7 @@ fn give_up_mohawk(history: &mut History, seat: Seat) -> Result<(), AllocError>
 
 /// Returns where the share of NYC for MH comes from: the initial offering first, otherwise the bank
 /// pool.
-fn exchange_source(history: &History) -> ShareSource
+pub fn exchange_source(history: &History) -> ShareSource
     ensures { result ≡ exchange_source history.now.events }
 {
     if is_offered(history) {

@@ -28,4 +28,5 @@ mod sell;
 mod standing;
 mod turn;
 
+pub use exchange::{exchange_source, is_no_exchange};
 pub use playing::play_stock;

@@ -1,5 +1,4 @@
-ghost use Rattle.std.specs.Prelude.{◌≡◌, ◌≤◌, pos, unwrap_or};
-ghost use Rattle.std.specs.Int.RustNames.{unsigned_abs};
+ghost use Rattle.std.specs.Prelude.{◌≡◌, ◌≤◌, unwrap_or};
 ghost use Rattle.certs.specs.Purchase.{share_price_of};
 ghost use Rattle.totals.specs.Shares.{par_of};
 ghost use Rattle.history.specs.Sound.{IsLed};
@@ -8,7 +7,7 @@ ghost use Rattle.tables.specs.Chart.{price_most};
 use certs::share_price;
 use history::History;
 use order_grammar::ShareSource;
-use tables::{Amount, Company, Money};
+use tables::{Amount, Company, amount_of};
 
 /// Returns what a seat pays for a share of a company that is started, in dollars.
 pub(crate) fn share_cost(history: &History, company: Company, from: ShareSource) -> Amount
@@ -29,13 +28,4 @@ pub(crate) fn par_value(history: &History, company: Company) -> Amount
         Some(par) => amount_of(par),
         None => 0,
     }
-}
-
-/// Returns a small sum of money as an amount.
-fn amount_of(sum: Money) -> Amount
-    requires sum { pos (unsigned_abs sum) ≡ sum }
-    requires small { unsigned_abs sum ≤ price_most }
-    ensures { result ≡ unsigned_abs sum }
-{
-    sum as Amount
 }

@@ -121,6 +121,10 @@ par_squares_from row (printed ∷ rows) = par_squares_in row 1 printed ++ par_sq
 abbrev pub par_squares : List Square
 par_squares = par_squares_from 0 chart
 
+-- the par values, from the least, in dollars
+abbrev pub par_values : List ℕ
+par_values = 67 ∷ 71 ∷ 76 ∷ 82 ∷ 90 ∷ 100 ∷ []
+
 -- the square of a par value: that which is marked and has this price
 abbrev pub par_square_of : ℕ → Option Square
 par_square_of par = find (λ square. price_of square == par) par_squares

@@ -5,6 +5,15 @@ ghost use Rattle.tables.specs.Chart.{zone_of};
 use crate::seat::Amount;
 use crate::squares::{Square, Zone};
 
+/// How many rows the chart has.
+pub const CHART_ROWS: u8 = 11;
+
+/// The column after the last of the longest row of the chart; the first is 1.
+pub const CHART_COLUMNS_END: u8 = 20;
+
+/// The par values, from the least, in dollars.
+pub const PAR_VALUES: [Amount; 6] = [67, 71, 76, 82, 90, 100];
+
 /// Returns the square at a row from 0 (the printed A) and a column from 1; `None` if the chart has
 /// none.
 pub fn square(row: u8, column: u8) -> Option<Square>

@@ -19,8 +19,10 @@ mod rule_table;
 mod seat;
 mod squares;
 
-pub use chart::{par_square, price, square, zone};
-pub use rolling_stock::{KINDS, Kind, PerKind, Trains, limit, rounds_in_set, rusts, train};
+pub use chart::{CHART_COLUMNS_END, CHART_ROWS, PAR_VALUES, par_square, price, square, zone};
+pub use rolling_stock::{
+    KINDS, Kind, PerKind, Trains, limit, rounds_in_set, rusts, same_kind, train,
+};
 pub use roster::{
     BID_STEP, COMPANIES, Company, POOL_SHARES_MOST, PRESIDENT_SHARES, PRIVATES, PerCompany,
     PerPrivate, Private, SHARES, face, revenue, token_price, tokens,
@@ -28,7 +30,7 @@ pub use roster::{
 pub use round::{NUMBER_MOST, OPERATING_MOST, Round};
 pub use rule_table::{Printed, RuleRow, rule_with_code};
 pub use seat::{
-    Amount, Money, PLAYERS_LEAST, PLAYERS_MOST, PerSeat, Seat, bank_start, certificate_limit,
-    start_money,
+    Amount, Money, PLAYERS_LEAST, PLAYERS_MOST, PerSeat, Seat, amount_of, bank_start,
+    certificate_limit, start_money,
 };
 pub use squares::{Square, Zone};

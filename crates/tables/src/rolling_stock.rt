@@ -1,6 +1,6 @@
 ghost use Rattle.std.specs.Prelude.{◌≡◌, ◌<◌, codes};
 ghost use Rattle.tables.specs.Train.{code_of_kind, limit_of, index_of_kind, rounds_in_set_of, rusting_of, stops_of};
-ghost use Rattle.tables.specs.Train.{trains_of};
+ghost use Rattle.tables.specs.Train.{same_kind, trains_of};
 
 use crate::seat::Amount;
 
@@ -8,7 +8,7 @@ use crate::seat::Amount;
 pub const KINDS: usize = 6;
 
 /// A value for each kind of train, in the order in which they come: that of a kind is at its
-/// `place`.
+/// `index`.
 pub type PerKind<T> = [T; KINDS];
 
 /// A kind of train. It is also the phase that the first train of the kind begins. A game begins in
@@ -23,6 +23,13 @@ pub enum Kind {
     Six,
     /// D, which visits any number of stops.
     Diesel,
+}
+
+/// Returns whether two kinds are the same. (By their numbers, which the prover knows at once.)
+pub fn same_kind(a: Kind, b: Kind) -> bool
+    ensures { result ≡ same_kind a b }
+{
+    a.index() == b.index()
 }
 
 /// The trains of a kind: the price of one at the bank, and how many there are.

@@ -1,4 +1,5 @@
-ghost use Rattle.std.specs.Prelude.{◌≡◌, ◌<◌};
+ghost use Rattle.std.specs.Prelude.{◌≡◌, ◌<◌, ◌≤◌, pos};
+ghost use Rattle.std.specs.Int.RustNames.{unsigned_abs};
 ghost use Rattle.tables.specs.Roster.{bank_start_of, certificate_limit_of, start_money_of};
 ghost use Rattle.tables.specs.Seat.{left_of, seat_at};
 
@@ -8,6 +9,15 @@ pub type Money = i128;
 
 /// A sum of dollars in a table, an order or an event; never under 0.
 pub type Amount = u32;
+
+/// Returns a sum of 0 to 1,000,000 dollars, as an event names it.
+pub fn amount_of(sum: Money) -> Amount
+    requires whole { pos (unsigned_abs sum) ≡ sum }
+    requires small { unsigned_abs sum ≤ 1000000 }
+    ensures { result ≡ unsigned_abs sum }
+{
+    sum as Amount
+}
 
 /// A seat at the table, numbered from 0 in the order of the players line.
 #[derive(Clone, Copy, Debug, PartialEq, Eq, Hash, Default)]

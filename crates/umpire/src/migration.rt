@@ -1,5 +1,4 @@
 ghost use Rattle.order_grammar.specs.Words.{before_comment, is_printable};
-ghost use Rattle.sheets.specs.Text.{is_blank};
 ghost use Rattle.std.specs.Io.KnownBytes.{Appends};
 ghost use Rattle.std.specs.List.{list_all};
 ghost use Rattle.std.specs.Prelude.{◌≡◌, ◌≤◌, ◌++◌, false, drop, length, IfErr, OnErr, OnOk, Some};
@@ -16,8 +15,8 @@ use crate::input::read_file;
 use crate::output::write_text;
 use crate::refusal::refuse;
 use crate::watched::Watched;
-use order_grammar::{LINE_MOST, Version, begins_with_word, has_word};
-use sheets::{FileFault, examine, first_line};
+use order_grammar::{LINE_MOST, Version, begins_with_word, is_printable};
+use sheets::{FileFault, examine, first_line, is_blank};
 use std::alloc::Global;
 use std::io::{Read, Write};
 
@@ -134,14 +133,6 @@ fn from_header(file: &[u8]) -> &[u8]
     rest
 }
 
-/// Returns whether a line counts nowhere: it has no words and at most 1,024 bytes.
-#[tactic(auto, unfolding(sheets::specs::Text::is_blank))]
-fn is_blank(line: &[u8]) -> bool
-    ensures { result ≡ is_blank line.now }
-{
-    line.len() <= LINE_MOST && !has_word(line)
-}
-
 /// Adds what follows a header line after what is gathered, each line as one of version 2.
 fn put_body<W: Write>(
     gathered: &mut Vec<u8>,
@@ -209,11 +200,4 @@ fn is_printable_line(line: &[u8]) -> bool
         }
     }
     true
-}
-
-/// Returns whether a byte may stand before a comment.
-fn is_printable(byte: u8) -> bool
-    ensures { result ≡ is_printable byte }
-{
-    (0x20..=0x7E).contains(&byte)
 }

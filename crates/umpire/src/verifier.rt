@@ -1,12 +1,12 @@
 //! What goes by a text of certificates.
-ghost use Rattle.std.specs.Prelude.{◌≡◌, ◌↔◌, IfOk, IsTrue, true};
-ghost use Rattle.certificate.specs.Checked.{AnswersBy, Shows};
+ghost use Rattle.std.specs.Prelude.{◌≡◌, IfOk, true};
+ghost use Rattle.certificate.specs.Checked.{AnswersBy};
 ghost use Rattle.legal_runs.specs.Set.{IsGreatestMoney};
 ghost use Rattle.umpire.specs.Groups.{groups_of};
 ghost use Rattle.umpire.specs.Verifier.{AnswersByText};
 
 use crate::groups::{next_head, read_group};
-use certificate::{Group, Runner, RunnerFault, accepts_bits};
+use certificate::{Group, Runner, RunnerFault, shows};
 use reach::Network;
 use std::alloc::Global;
 use std::marker::Model;
@@ -94,21 +94,4 @@ fn revenue_by<N: Network>(
     } else {
         Err(RunnerFault::Refused)
     }
-}
-
-/// Returns whether a group shows the best runs of a company's trains in a round.
-fn shows<N: Network>(
-    network: &N,
-    round: Round,
-    company: Company,
-    trains: &[Kind],
-    group: &Group,
-) -> bool
-    ensures { let position = N.position network.now in
-        IsTrue result ↔ Shows position round company trains.now group.now }
-{
-    if group.round != round || group.company != company {
-        return false;
-    }
-    accepts_bits(network, company, trains, &group.claim, &group.bits)
 }

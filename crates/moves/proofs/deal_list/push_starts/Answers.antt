@@ -1,8 +1,9 @@
 use Rattle.std.proofs.Common.{◌∷◌, [], ℕ, refl}
 use Rattle.certs.specs.declared.share_deal.Purchase.TheVariants.{Par}
-use Rattle.moves.specs.Deals.{IsPurchaseAnswer, par_values}
+use Rattle.moves.specs.Deals.{IsPurchaseAnswer}
 use Rattle.moves.proofs.ListedLemmas.{lists_done, lists_next, lists_none}
 use Rattle.moves.proofs.deal_list.push_starts.Goals as goal
+use Rattle.tables.specs.Chart.{par_values}
 
 pub loop-price-init : goal.loop-price-init
 loop-price-init c = lists_none (IsPurchaseAnswer c.args.history.now.seats c.args.history.now.events c.args.seat) _ _ refl

@@ -2,7 +2,7 @@
 -- there.
 use Rattle.std.proofs.Common.{sym, ◌∙◌}
 use Rattle.board_state.proofs.Tiles.{tile_here, tile_before}
-use Rattle.board_state.proofs.stop_facts.last_on.Goals as goal
+use Rattle.board_state.proofs.stop_facts.tile_on.Goals as goal
 
 pub returns-then-same_hex : goal.returns-then-same_hex
 returns-then-same_hex c =

@@ -3,7 +3,7 @@ use Rattle.std.proofs.Common.{◌≡◌}
 use Rattle.std.specs.Iterator.Adapters.{rev_source}
 use Rattle.std.specs.Slice.Iter.{iter_rest}
 use Rattle.map_tables.specs.OnMap.{tile_on}
-use Rattle.board_state.proofs.stop_facts.last_on.Given as goal
+use Rattle.board_state.proofs.stop_facts.tile_on.Given as goal
 
 abbrev pub invariant-loop-lay : goal.invariant-loop-lay
 invariant-loop-lay l =
