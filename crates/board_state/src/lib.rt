@@ -29,4 +29,4 @@ pub use fault::BoardFault;
 pub use fit::{fault_of, has_bad_side, is_open, is_wrong_kind};
 pub use on_map::{OnMap, full_on_map, links_on_map, red_on_map, slots, token_on_map, value_on_map};
 pub use plain_board::PlainBoard;
-pub use stop_facts::{has_token, same_company, same_hex, same_stop, tile_on};
+pub use stop_facts::{has_token, same_company, same_hex, same_stop, slots_on, tile_on};

@@ -94,8 +94,8 @@ pub(crate) fn count_naming(tokens: &[(Place, Company)], stop: Stop) -> usize
     tokens.iter().filter(|token| names(stop, token.0)).count()
 }
 
-/// Returns how many tokens each stop of a hex takes.
-fn slots_on(lays: &[Lay], hex: Hex) -> u8
+/// Returns how many tokens each stop of a hex takes, by the tiles that were laid.
+pub fn slots_on(lays: &[Lay], hex: Hex) -> u8
     ensures { result ≡ slots_on lays.now hex }
 {
     match tile_on(lays, hex) {

@@ -2,11 +2,9 @@
 
 use crate::lines::end_open_line;
 use desk_base::Piece::{Bytes, Column, Number, Words};
-use desk_base::{fill, has_token, push, tile_on};
+use desk_base::{fill, has_token, push, slots_on, tile_on};
 use history::History;
-use map_tables::{
-    Hex, HexKind, Lay, Stop, StopNumber, TileKind, hex_kind, printed_slots, printed_stops, tile,
-};
+use map_tables::{Hex, HexKind, Lay, Stop, StopNumber, TileKind, hex_kind, printed_stops, tile};
 use std::alloc::AllocError;
 use tables::{Company, Money};
 
@@ -119,12 +117,4 @@ fn push_cities(out: &mut Vec<u8>, history: &History, hex: Hex) -> Result<(), All
         }
     }
     Ok(())
-}
-
-/// Returns how many slots each city of a hex has.
-fn slots_on(lays: &[Lay], hex: Hex) -> u8 {
-    match tile_on(lays, hex) {
-        Some(lay) => tile(lay.tile).slots,
-        None => printed_slots(hex),
-    }
 }

@@ -33,7 +33,7 @@ mod wrapped;
 pub use belongings::{objection_by_view, other_president};
 pub use between_rounds::{Moment, Stood, play_before, play_behind, stood_at_last, stood_now};
 pub use beyond::{Beyond, beyond_side, push_beyond};
-pub use board_state::tile_on;
+pub use board_state::{slots_on, tile_on};
 pub use by_tables::objection_to;
 pub use cause::{Cause, cause_of_slot};
 pub use coming::can_come;
