@@ -45,7 +45,7 @@ pub use objection::{Objection, push_objection, who};
 pub use owed::owes;
 pub use reason::Reason;
 pub use run_line::push_run;
-pub use set_number::{end_after, number_after, number_in_set};
+pub use set_number::{end_after, number_in_set};
 pub use stock_left::{has_token, tiles_left, tokens_left, trains_left};
 pub use text::{Piece, fill, push, width_in_hand};
 pub use wrapped::{push_wrapped, push_wrapped_lines};

@@ -67,7 +67,7 @@ pub fn number_in_set(game: &Game) -> u8
 }
 
 /// Returns that number by the list of events and the reason why play stopped.
-pub fn number_after(history: &History, end: End) -> u8
+pub(crate) fn number_after(history: &History, end: End) -> u8
     ensures { result ≡ number_in_set end history.now.events }
 {
     match end {

@@ -2,7 +2,7 @@
 
 use order_grammar::{print_number, print_round};
 use std::alloc::AllocError;
-use tables::{Money, Round};
+use tables::{Money, Round, Square};
 
 /// The least byte that is printed as it is, and the greatest.
 const PRINTABLE: (u8, u8) = (b' ', b'~');
@@ -23,6 +23,8 @@ pub enum Piece<'a> {
     Right(usize, Money),
     /// A round: `OR2.1`.
     Round(Round),
+    /// A square of the stock market, by the letter of its row and its column: `A7`.
+    Square(Square),
     /// Spaces up to this column of the last line, counted from 0; none if the line is that long.
     Column(usize),
     /// A line of a file, cut to this many bytes. A byte that is no printable ASCII is `?`.
@@ -58,6 +60,7 @@ fn push_piece(out: &mut Vec<u8>, piece: Piece) -> Result<(), AllocError> {
         Piece::Number(number) => print_number(out, number),
         Piece::Right(width, number) => push_right(out, width, number),
         Piece::Round(round) => print_round(out, &round),
+        Piece::Square(square) => push_square(out, square),
         Piece::Column(column) => push_spaces(out, column.saturating_sub(width_in_hand(out))),
         Piece::Cut(line, most) => push_cut(out, line.get(..most).unwrap_or(line)),
     }
@@ -71,6 +74,12 @@ pub fn width_in_hand(text: &[u8]) -> usize {
         }
     }
     text.len()
+}
+
+/// Adds the letter of a square's row, and its column.
+fn push_square(out: &mut Vec<u8>, square: Square) -> Result<(), AllocError> {
+    out.push(b'A'.saturating_add(square.row))?;
+    print_number(out, square.column)
 }
 
 /// Adds a number at the right of a column of this many bytes. A wider number is printed whole.

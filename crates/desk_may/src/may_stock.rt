@@ -3,16 +3,13 @@
 use crate::may_line::{push_may, push_may_not, push_note_column};
 use certs::{Purchase, Sale, may_buy, may_sell};
 use desk_base::Piece::{Bytes, Number, Words};
-use desk_base::{Stood, fill, push};
+use desk_base::{Piece, Stood, fill, push};
 use history::{History, Holder, Refusal, Shareholder, StockRule};
 use market::fall;
 use moves::{Priced, StockMoves, deals};
 use order_grammar::{Order, ShareSource};
 use std::alloc::{AllocError, Global};
-use tables::{Amount, Company, Money, Private, Seat, Square, price};
-
-/// The par value of which a line says why a company may not be started: the least.
-const LEAST_PAR: Amount = 67;
+use tables::{Company, Money, PAR_VALUES, Private, Seat, Square, price};
 
 /// Where a share may be bought.
 const SOURCES: [ShareSource; 2] = [ShareSource::InitialOffering, ShareSource::BankPool];
@@ -123,13 +120,8 @@ fn is_greatest(sale: Priced<Sale>, next: Option<&Priced<Sale>>) -> bool {
 
 /// Adds the price of a square with its name.
 fn push_square(out: &mut Vec<u8>, square: Square) -> Result<(), AllocError> {
-    let row = [b'A'.saturating_add(square.row)];
-    let pieces = [
-        Number(Money::from(price(square))),
-        Bytes(&row),
-        Number(Money::from(square.column)),
-    ];
-    fill(out, "% %%", &pieces)
+    let price = Number(Money::from(price(square)));
+    fill(out, "% %", &[price, Piece::Square(square)])
 }
 
 /// Adds the exchange of MH, if the player owns it: where the share comes from, or why there is
@@ -169,27 +161,18 @@ fn push_not_bought(
     company: Company,
 ) -> Result<(), AllocError> {
     if !history.now().is_started(company) {
-        let start = Purchase::Par {
-            company,
-            price: LEAST_PAR,
-        };
+        // (at the least par value)
+        let price = PAR_VALUES[0];
+        let start = Purchase::Par { company, price };
         return push_not_this(alloc, out, history, seat, start);
     }
     for from in &SOURCES {
         let from = *from;
-        if history.shares(company, place_of(from)) > 0 {
+        if history.shares(company, Shareholder::of_source(from)) > 0 {
             push_not_this(alloc, out, history, seat, Purchase::Share { company, from })?;
         }
     }
     Ok(())
-}
-
-/// Returns the place of the shares of a source.
-fn place_of(from: ShareSource) -> Shareholder {
-    match from {
-        ShareSource::InitialOffering => Shareholder::InitialOffering,
-        ShareSource::BankPool => Shareholder::BankPool,
-    }
 }
 
 /// Adds a purchase, if the player may not make it, with why.

@@ -326,13 +326,8 @@ fn push_square(out: &mut Vec<u8>, square: Option<Square>) -> Result<(), AllocErr
     let Some(square) = square else {
         return fill(out, "-", &[]);
     };
-    let row = [b'A'.saturating_add(square.row)];
-    let pieces = [
-        Number(Money::from(price(square))),
-        Bytes(&row),
-        Number(Money::from(square.column)),
-    ];
-    fill(out, "% %%", &pieces)
+    let price = Number(Money::from(price(square)));
+    fill(out, "% %", &[price, Piece::Square(square)])
 }
 
 /// Returns the last event that rules a line; `None` if none does.

@@ -5,9 +5,9 @@ use itoa::Integer;
 use std::alloc::AllocError;
 
 /// Adds a text at the left of a column of this many bytes, filled up with spaces. A wider text is
-/// printed whole. Fails only if allocation fails.
+/// printed whole.
 #[tactic(auto, unfolding(crate::specs::Column::at_left))]
-pub fn push_left(out: &mut Vec<u8>, text: &[u8], width: usize) -> Result<(), AllocError>
+pub(crate) fn push_left(out: &mut Vec<u8>, text: &[u8], width: usize) -> Result<(), AllocError>
     ensures { OnOk result (Adds out.old out.new (at_left width text.now)) }
 {
     out.extend_from_slice(text)?;
@@ -15,9 +15,12 @@ pub fn push_left(out: &mut Vec<u8>, text: &[u8], width: usize) -> Result<(), All
 }
 
 /// Adds a number at the right of a column of this many bytes. A wider number is printed whole.
-/// Fails only if allocation fails.
 #[tactic(auto, unfolding(crate::specs::Column::at_right))]
-pub fn push_right<I: Integer>(out: &mut Vec<u8>, number: I, width: usize) -> Result<(), AllocError>
+pub(crate) fn push_right<I: Integer>(
+    out: &mut Vec<u8>,
+    number: I,
+    width: usize,
+) -> Result<(), AllocError>
     ensures { OnOk result (Adds out.old out.new (at_right width (I.text number))) }
 {
     let mut buffer = itoa::Buffer::new();
@@ -26,7 +29,7 @@ pub fn push_right<I: Integer>(out: &mut Vec<u8>, number: I, width: usize) -> Res
     out.extend_from_slice(digits)
 }
 
-/// Adds spaces. Fails only if allocation fails.
+/// Adds spaces.
 fn push_spaces(out: &mut Vec<u8>, count: usize) -> Result<(), AllocError>
     ensures { OnOk result (Adds out.old out.new (replicate count 32)) }
 {

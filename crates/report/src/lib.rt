@@ -23,8 +23,7 @@ mod parts;
 mod statement;
 mod text;
 
-pub use column::{push_left, push_right};
 pub use end_worth::player_worth;
-pub use line::{name, push_name, push_square};
+pub use line::name;
 pub use parts::{end_text, header_text, next_text, outcome_text, unread_text};
 pub use text::{refusal_text, report, round_text};

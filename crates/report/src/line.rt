@@ -491,8 +491,8 @@ fn train_owner(owner: Option<Company>) -> &'static [u8]
 }
 
 /// Adds a square of the stock market: the letter of its row, and its column. A row that is none of
-/// the chart's has no letter. Fails only if allocation fails.
-pub fn push_square(out: &mut Vec<u8>, square: Square) -> Result<(), AllocError>
+/// the chart's has no letter.
+fn push_square(out: &mut Vec<u8>, square: Square) -> Result<(), AllocError>
     ensures { OnOk result (Adds out.old out.new (text_of_square square)) }
 {
     if let Some(letter) = ROWS.get(usize::from(square.row)) {
@@ -501,9 +501,8 @@ pub fn push_square(out: &mut Vec<u8>, square: Square) -> Result<(), AllocError>
     print_number(out, square.column)
 }
 
-/// Adds the name of a seat's player; nothing for a seat that nobody has. Fails only if allocation
-/// fails.
-pub fn push_name(out: &mut Vec<u8>, sheets: &Sheets, seat: Seat) -> Result<(), AllocError>
+/// Adds the name of a seat's player; nothing for a seat that nobody has.
+pub(crate) fn push_name(out: &mut Vec<u8>, sheets: &Sheets, seat: Seat) -> Result<(), AllocError>
     ensures { OnOk result (Adds out.old out.new (name_of sheets.now seat)) }
 {
     out.extend_from_slice(name(sheets, seat))
