@@ -1,7 +1,7 @@
 //! The map as text, with the tiles and the tokens that lie on it.
 
 use crate::lines::end_open_line;
-use desk_base::Piece::{Bytes, Column, Number, Words};
+use desk_base::Piece::{Bytes, Column, Count, Number, Words};
 use desk_base::{fill, has_token, push, slots_on, tile_on};
 use history::History;
 use map_tables::{Hex, HexKind, Lay, Stop, StopNumber, TileKind, hex_kind, printed_stops, tile};
@@ -62,7 +62,7 @@ fn push_tile(out: &mut Vec<u8>, lays: &[Lay], hex: Hex) -> Result<(), AllocError
             &[
                 Column(column_of(hex)),
                 Number(Money::from(lay.tile.number())),
-                Number(lay.rot.turns() as Money),
+                Count(lay.rot.turns()),
                 Words(if lay.swap { "s" } else { "" }),
             ],
         ),

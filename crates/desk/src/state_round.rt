@@ -1,7 +1,7 @@
 //! What is awaited and who owes it, or how the game ended; and what the phase and the set bring.
 
 use crate::state_rows::game_row;
-use desk_base::Piece::{Bytes, Number, Words};
+use desk_base::Piece::{Bytes, Count, Number, Words};
 use desk_base::{Piece, Stood, fill, owes, push};
 use report::name;
 use rounds::End;
@@ -48,7 +48,7 @@ pub(crate) fn push_matters(out: &mut Vec<u8>, stood: &Stood) -> Result<(), Alloc
             Words(row.phase.code()),
             Bytes(name(stood.sheets, row.priority)),
             Number(Money::from(stood.in_set)),
-            Number(row.certificates as Money),
+            Count(row.certificates),
         ],
     )
 }

@@ -2,7 +2,7 @@
 
 use crate::lines::{end_open_line, next_place};
 use crate::state_rows::train_row;
-use desk_base::Piece::{Bytes, Column, Number, Right, Words};
+use desk_base::Piece::{Bytes, Column, Count, Number, Right, Words};
 use desk_base::{fill, push, tile_on, tiles_left};
 use history::History;
 use map_tables::{Colour, Hex, TileNo, tile};
@@ -63,7 +63,7 @@ pub(crate) fn push_laid(out: &mut Vec<u8>, history: &History) -> Result<(), Allo
                     place,
                     Number(Money::from(lay.tile.number())),
                     Bytes(hex.as_slice()),
-                    Number(lay.rot.turns() as Money),
+                    Count(lay.rot.turns()),
                     Words(if lay.swap { " SWAP" } else { "" }),
                 ],
             )?;
@@ -87,7 +87,7 @@ pub(crate) fn push_tiles_left(out: &mut Vec<u8>, history: &History) -> Result<()
                         place,
                         Column(COLOUR),
                         Number(Money::from(number.number())),
-                        Number(tiles_left(history.lays(), *number) as Money),
+                        Count(tiles_left(history.lays(), *number)),
                     ],
                 )?;
             }

@@ -2,7 +2,7 @@
 //! be good where that is known.
 
 use crate::beyond::{Beyond, push_beyond};
-use crate::text::Piece::{Bytes, Number, Words};
+use crate::text::Piece::{Bytes, Count, Number, Words};
 use crate::text::{Piece, fill};
 use history::Holder;
 use map_tables::{Hex, HexKind, Lay, Side, TileKind, hex_kind, printed_stops, tile};
@@ -153,6 +153,6 @@ fn word_of(kind: TileKind) -> &'static str {
 
 /// Adds which side is bad, and where it leads.
 fn push_side(out: &mut Vec<u8>, side: Side, beyond: Beyond) -> Result<(), AllocError> {
-    fill(out, "; at side % ", &[Number(side.number() as Money)])?;
+    fill(out, "; at side % ", &[Count(side.number())])?;
     push_beyond(out, beyond)
 }

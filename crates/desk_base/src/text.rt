@@ -19,6 +19,8 @@ pub enum Piece<'a> {
     Bytes(&'a [u8]),
     /// A number in digits.
     Number(Money),
+    /// How many there are, in digits.
+    Count(usize),
     /// A number at the right of a column of this many bytes.
     Right(usize, Money),
     /// A round: `OR2.1`.
@@ -58,6 +60,7 @@ fn push_piece(out: &mut Vec<u8>, piece: Piece) -> Result<(), AllocError> {
         Piece::Words(words) => out.extend_from_slice(words.as_bytes()),
         Piece::Bytes(bytes) => out.extend_from_slice(bytes),
         Piece::Number(number) => print_number(out, number),
+        Piece::Count(count) => print_number(out, count),
         Piece::Right(width, number) => push_right(out, width, number),
         Piece::Round(round) => print_round(out, &round),
         Piece::Square(square) => push_square(out, square),

@@ -3,12 +3,12 @@
 use crate::check_found::Said;
 use crate::check_hints::push_hint;
 use crate::check_text::push_rule;
-use desk_base::Piece::{Number, Words};
+use desk_base::Piece::{Count, Words};
 use desk_base::{Objection, fill, push_objection, who};
 use order_grammar::Fault;
 use sheets::Sheets;
 use std::alloc::AllocError;
-use tables::{Money, Round};
+use tables::Round;
 
 /// Adds what there is to say of a line of a sheet.
 pub(crate) fn push_said(
@@ -45,7 +45,7 @@ pub(crate) fn push_said(
         }
         Said::Again(company, line) => {
             let words = "the orders of % begin on line %: nobody looks at these";
-            fill(out, words, &[Words(company.code()), Number(line as Money)])
+            fill(out, words, &[Words(company.code()), Count(line)])
         }
     }
 }

@@ -5,13 +5,13 @@ use crate::check_found::{Finding, Found, Lateness, Matter, Standing};
 use crate::check_hints::push_hint;
 use crate::check_refused::{Cause, Refusal};
 use crate::check_said::push_said;
-use desk_base::Piece::{Bytes, Cut, Number, Words};
+use desk_base::Piece::{Bytes, Count, Cut, Words};
 use desk_base::{Piece, explain, push};
 use report::name;
 use rounds::End;
 use sheets::{FileFault, Sheets};
 use std::alloc::AllocError;
-use tables::{Money, Round};
+use tables::Round;
 
 /// How many columns of a line are shown.
 const COLUMNS: usize = 60;
@@ -41,7 +41,7 @@ pub(crate) fn push_found(
         out,
         &[
             Words("and of "),
-            Number(found.unlisted as Money),
+            Count(found.unlisted),
             Words(" lines more: unread, like mail, or with a fault\n"),
         ],
     )
@@ -49,7 +49,7 @@ pub(crate) fn push_found(
 
 /// Adds a finding.
 fn push_finding(out: &mut Vec<u8>, sheets: &Sheets, finding: &Finding) -> Result<(), AllocError> {
-    push(out, &[Number(finding.line as Money), PARTED])?;
+    push(out, &[Count(finding.line), PARTED])?;
     if let Matter::Line(sent, _) = finding.matter {
         let name = Bytes(name(sheets, sent.seat));
         push(out, &[name, Words(" "), Piece::Round(sent.round), PARTED])?;
@@ -68,7 +68,7 @@ fn push_matter(out: &mut Vec<u8>, sheets: &Sheets, finding: &Finding) -> Result<
         }
         Matter::Mail(sheet) => {
             let words = "it looks like mail, and counts as a line of the sheet of line ";
-            push(out, &[Words(words), Number(sheet as Money)])
+            push(out, &[Words(words), Count(sheet)])
         }
         Matter::Replaces {
             line,
@@ -132,7 +132,7 @@ fn push_replaced(
         out,
         &[
             Words("it replaces the sheet of line "),
-            Number(line as Money),
+            Count(line),
             Words(parted),
             named,
             Words(words),
@@ -172,11 +172,7 @@ pub(crate) fn push_refusal(
     refusal: Refusal,
 ) -> Result<(), AllocError> {
     let (number, parted, line) = match refusal.line {
-        Some(line) => (
-            Number(line.number as Money),
-            PARTED,
-            Cut(line.text, COLUMNS),
-        ),
+        Some(line) => (Count(line.number), PARTED, Cut(line.text, COLUMNS)),
         None => (Words("the file"), NOTHING, NOTHING),
     };
     let (before, what, words) = said(refusal.cause);
@@ -204,7 +200,7 @@ fn said(cause: Cause) -> (Piece, Piece, Piece) {
         Cause::Said(words) => (NOTHING, NOTHING, Words(words)),
         Cause::Number(count) => (
             NOTHING,
-            Number(count as Money),
+            Count(count),
             Words(" players are named, and 3 to 6 play"),
         ),
         Cause::Name(name, words) => (Words("the name "), Cut(name, COLUMNS), Words(words)),

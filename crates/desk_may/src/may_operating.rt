@@ -1,7 +1,7 @@
 //! What a player's companies may buy in an operating round.
 
 use crate::may_line::{push_may, push_may_not, push_note_column};
-use desk_base::Piece::{Bytes, Column, Number, Words};
+use desk_base::Piece::{Bytes, Column, Count, Number, Words};
 use desk_base::{Stood, fill};
 use history::{History, Holder, Party, Refusal, TrainSeller};
 use market::operating_order;
@@ -85,7 +85,7 @@ impl Buyer<'_> {
                 none = "";
             }
         }
-        let most = Number(limit(self.history.phase()) as Money);
+        let most = Count(limit(self.history.phase()));
         fill(out, "% of %\n", &[Words(none), most])
     }
 

@@ -1,12 +1,11 @@
 //! What meets at the sides of a hex.
 
 use board::Board;
-use desk_base::Piece::{Bytes, Column, Number, Words};
+use desk_base::Piece::{Bytes, Column, Count, Words};
 use desk_base::{fill, push};
 use map_tables::{Hex, HexKind, Link, Place, Side, TrackEnd, hex_kind, neighbour};
 use reach::Network;
 use std::alloc::AllocError;
-use tables::Money;
 
 /// The column of the neighbour.
 const NEIGHBOUR: usize = 13;
@@ -29,7 +28,7 @@ pub(crate) fn push_sides(out: &mut Vec<u8>, board: &Board, hex: Hex) -> Result<(
 
 /// Adds a side.
 fn push_side(out: &mut Vec<u8>, board: &Board, hex: Hex, side: Side) -> Result<(), AllocError> {
-    let number = Number(side.number() as Money);
+    let number = Count(side.number());
     fill(
         out,
         "% %%",
@@ -106,7 +105,7 @@ fn other_end(link: &Link, end: TrackEnd) -> Option<TrackEnd> {
 /// Adds an end of track in a hex: a stop as a run names it, or the number of a side.
 fn push_end(out: &mut Vec<u8>, hex: Hex, end: TrackEnd) -> Result<(), AllocError> {
     match end {
-        TrackEnd::Side(side) => push(out, &[Number(side.number() as Money)]),
+        TrackEnd::Side(side) => push(out, &[Count(side.number())]),
         TrackEnd::Stop(number) => {
             let place = Place {
                 hex,

@@ -4,7 +4,7 @@ use crate::hex_sides::push_sides;
 use crate::turn_start::board_now;
 use board::Board;
 use board_state::OnMap;
-use desk_base::Piece::{Bytes, Column, Number, Right, Words};
+use desk_base::Piece::{Bytes, Column, Count, Number, Right, Words};
 use desk_base::{Stood, fill, push};
 use history::Holder;
 use map_tables::{
@@ -49,7 +49,7 @@ fn push_ground(out: &mut Vec<u8>, board: &Board, hex: Hex) -> Result<(), AllocEr
     match board.tile_on(hex) {
         Some(lay) => {
             let number = Number(Money::from(lay.tile.number()));
-            let turns = Number(lay.rot.turns() as Money);
+            let turns = Count(lay.rot.turns());
             let swap = Words(if lay.swap { " SWAP" } else { "" });
             fill(out, "%%, rotation %%\n", &[Column(18), number, turns, swap])?;
         }

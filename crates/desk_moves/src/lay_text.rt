@@ -8,7 +8,7 @@ use crate::progress::Progress;
 use crate::questions::LayForm;
 use crate::turn_order::push_before;
 use crate::turn_start::{asker_at_start, board_at_start};
-use desk_base::Piece::{Bytes, Column, Number, Right, Words};
+use desk_base::Piece::{Bytes, Column, Count, Number, Right, Words};
 use desk_base::{Stood, fill, push, tiles_left, trains_of};
 use history::{History, Party};
 use map_tables::{Lay, Place, laid_links};
@@ -178,7 +178,7 @@ pub(crate) fn push_rotations(
     let mut sign = "";
     for other in from {
         if is_same_track(other.what, lay) {
-            let turns = Number(other.what.rot.turns() as Money);
+            let turns = Count(other.what.rot.turns());
             let swap = if other.what.swap { "s" } else { "" };
             push(out, &[Words(sign), turns, Words(swap)])?;
             sign = "=";

@@ -2,7 +2,7 @@
 
 use crate::fault::{MovesFault, NoAnswer};
 use certs::Holdings;
-use desk_base::Piece::{Bytes, Number};
+use desk_base::Piece::{Bytes, Count, Number};
 use desk_base::{Piece, Stood, fill};
 use desk_may::{push_of_opening, push_of_operating, push_of_stock};
 use history::Party;
@@ -10,7 +10,7 @@ use report::name;
 use rounds::End;
 use sheets::Sheets;
 use std::alloc::{AllocError, Global};
-use tables::{Money, Round, Seat, certificate_limit};
+use tables::{Round, Seat, certificate_limit};
 
 /// Returns what the player of a name may do in the round that comes next, as their turn begins, if
 /// it began now. The error says that nobody has that name or that the game is over, or is `Memory`.
@@ -49,7 +49,7 @@ fn push_head(out: &mut Vec<u8>, stood: &Stood, seat: Seat, round: Round) -> Resu
     let cash = Number(history.cash(Party::of_seat(seat)));
     let free = Number(history.now().free_cash(seat));
     let held = Number(Holdings::of(history).counted(seat));
-    let most = Number(certificate_limit(history.seats()) as Money);
+    let most = Count(certificate_limit(history.seats()));
     let pieces = [
         Bytes(name(stood.sheets, seat)),
         Piece::Round(round),

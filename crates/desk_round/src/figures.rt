@@ -7,7 +7,7 @@ ghost use Rattle.desk_round.specs.Figures.{opening_figures, operating_figures, p
 ghost use Rattle.desk_round.specs.Figures.{stock_figures, stops_figures};
 
 use certs::{Holdings, market_price, share_price};
-use desk_base::Piece::{Bytes, Number, Words};
+use desk_base::Piece::{Bytes, Count, Number, Words};
 use desk_base::{Piece, fill};
 use history::{
     GameView, Holder, LayRule, OpeningRule, Party, PrivateRule, Refusal, RunRule, ShareCount,
@@ -305,7 +305,7 @@ fn phrase<'a>(sheets: &'a Sheets, player: Piece<'a>, figures: Figures) -> Phrase
         ),
         Figures::Certificates(counted, most) => (
             " (% has % of %)",
-            [player, Number(counted), Number(most as Money)],
+            [player, Number(counted), Count(most)],
         ),
         Figures::Price(company, 0) => (" (% has no price)", [Words(company.code()), NONE, NONE]),
         Figures::Price(company, price) => (
@@ -316,7 +316,7 @@ fn phrase<'a>(sheets: &'a Sheets, player: Piece<'a>, figures: Figures) -> Phrase
         Figures::OnSale(kind) => (" (the bank sells a %)", [Words(kind.code()), NONE, NONE]),
         Figures::Stops(most) | Figures::Trains(most) => (
             " (which is %)",
-            [Number(most as Money), NONE, NONE],
+            [Count(most), NONE, NONE],
         ),
         Figures::Face(face) => (
             " (the face value is %)",

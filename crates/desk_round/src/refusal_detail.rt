@@ -6,7 +6,7 @@ use crate::figures::{figures_of, push_figures};
 use crate::sheet_line::{LinePlace, SheetLine};
 use crate::track::break_of;
 use crate::ways::{push_ways_to_stop, push_ways_to_tile};
-use desk_base::Piece::{Bytes, Number, Words};
+use desk_base::Piece::{Bytes, Count, Number, Words};
 use desk_base::{
     Cause, Objection, bad_side, beyond_side, board_at, cause_of_slot, fill, objection_by_view,
     objection_to, push, push_beyond, push_objection,
@@ -20,7 +20,7 @@ use order_grammar::{Fault, Order, TrainSource};
 use report::name;
 use sheets::Sheets;
 use std::alloc::{AllocError, Global};
-use tables::{Company, Money, Private, Round, Seat};
+use tables::{Company, Private, Round, Seat};
 
 /// Where a line was ruled.
 #[derive(Clone, Copy)]
@@ -128,7 +128,7 @@ fn push_bad_side(out: &mut Vec<u8>, lay: Lay) -> Result<(), AllocError> {
     let Some(side) = bad_side(lay) else {
         return Ok(());
     };
-    fill(out, " (at side % ", &[Number(side.number() as Money)])?;
+    fill(out, " (at side % ", &[Count(side.number())])?;
     push_beyond(out, beyond_side(lay.hex, side))?;
     fill(out, ")", &[])
 }

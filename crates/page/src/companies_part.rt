@@ -9,7 +9,7 @@ use desk::{before_in_stack, earnings_of, operates};
 use desk_base::{tokens_left, trains_left};
 use history::{GameView, Holder, Party};
 use map_tables::{home, private_hexes};
-use picture::PagePiece::{Hex, Letter, Name, Number, Place, Round, Words};
+use picture::PagePiece::{Count, Hex, Letter, Name, Number, Place, Round, Words};
 use picture::{Tag, Writer};
 use privates::price_of;
 use tables::{Company, Kind, Money, Private, Seat, face, price, revenue, rusts, train};
@@ -258,7 +258,7 @@ fn put_kind(out: &mut Writer, scene: &Scene, kind: Kind) {
     put_number(out, Money::from(scene.history.trains(None, kind)));
     put_number(out, Money::from(train(kind).price));
     match kind.stops() {
-        Some(stops) => out.element(Tag::Cell, &[Number(stops as Money)]),
+        Some(stops) => out.element(Tag::Cell, &[Count(stops)]),
         None => out.element(Tag::Cell, &[Words("all")]),
     }
     match rusts(kind) {

@@ -7,7 +7,7 @@ use map_tables::{
     Hex, HexKind, Link, Stop, StopNumber, TileKind, TrackEnd, hex_kind, printed_value,
     terrain_cost, tile,
 };
-use picture::PagePiece::{Hex as Named, Number, Place, Words};
+use picture::PagePiece::{Count, Hex as Named, Number, Place, Words};
 use picture::{Look, Shade, Stops, Tag, Writer};
 use tables::{Company, Money, Private};
 
@@ -62,7 +62,7 @@ fn put_ground(out: &mut Writer, look: &Look) {
             Words(", tile "),
             Number(Money::from(lay.tile.number())),
             Words(", rotation "),
-            Number(lay.rot.turns() as Money),
+            Count(lay.rot.turns()),
             Words(if lay.swap { ", swapped" } else { "" }),
         ]),
     }
@@ -112,8 +112,8 @@ fn put_links(out: &mut Writer, look: &Look) {
             ..
         } = link
         {
-            let (from, to) = (from.number() as Money, to.number() as Money);
-            out.put(&[Words(before), Number(from), Words("-"), Number(to)]);
+            let (from, to) = (Count(from.number()), Count(to.number()));
+            out.put(&[Words(before), from, Words("-"), to]);
             before = " ";
         }
     }
@@ -156,7 +156,7 @@ fn put_sides(out: &mut Writer, look: &Look, stop: StopNumber) {
     for link in look.links.as_slice() {
         if let (TrackEnd::Side(side), TrackEnd::Stop(its)) = (link.a, link.b) {
             if its.index() == stop.index() {
-                out.put(&[Words(before), Number(side.number() as Money)]);
+                out.put(&[Words(before), Count(side.number())]);
                 before = " ";
             }
         }

@@ -10,7 +10,7 @@ use crate::table_forms::{
 };
 use crate::tiles_part::begin_section;
 use crate::worth_history::Entry;
-use picture::PagePiece::{Name, Number, Round, Words};
+use picture::PagePiece::{Count, Name, Number, Round, Words};
 use picture::{Attr, Point, Tag, Writer};
 use tables::{COMPANIES, Company, Money, PerCompany, PerSeat, Seat};
 
@@ -201,10 +201,10 @@ fn put_grid(out: &mut Writer, most: usize)
 {
     for part in 0..5 {
         let value = (most / PARTS).saturating_mul(part).min(VALUE_MOST);
-        let down = Number(height_of(value, most) as Money);
+        let down = Count(height_of(value, most));
         out.path("grid", &[Words("M60 "), down, Words("H840")]);
         let y = height_of(value, most) as i32 + 4;
-        out.label("axis", Point { x: 54, y }, &[Number(value as Money)]);
+        out.label("axis", Point { x: 54, y }, &[Count(value)]);
     }
 }
 
@@ -296,8 +296,8 @@ fn next_name(last: &Entry, series: &[Series], is_named: &PerCompany<bool>) -> Op
 
 /// Adds the name of a line, and what leads from its end to it.
 fn put_name(out: &mut Writer, scene: &Scene, line: Series, end: usize, y: usize) {
-    let from = Number(end as Money);
-    let to = Number(y as Money);
+    let from = Count(end);
+    let to = Count(y);
     out.path("lead", &[Words("M842 "), from, Words("L862 "), to]);
     let place = Point {
         x: 866,

@@ -8,7 +8,7 @@ use crate::signs::{put_legend, put_signs};
 use crate::tokens::{markers_in, private_in};
 use history::Holder;
 use map_tables::{Hex, Lay, printed_value, terrain_cost};
-use picture::PagePiece::{Hex as Named, Number, Round, Words};
+use picture::PagePiece::{Count, Hex as Named, Number, Round, Words};
 use picture::{
     Attr, Look, Point, Shade, Stops, Tag, Writer, cost_point, draw_stops, draw_track, kind_point,
     private_point, value_point,
@@ -236,7 +236,7 @@ fn put_tile(out: &mut Writer, lay: Lay) {
         &[
             Number(Money::from(lay.tile.number())),
             Words("/"),
-            Number(lay.rot.turns() as Money),
+            Count(lay.rot.turns()),
             Words(if lay.swap { "s" } else { "" }),
         ],
     );

@@ -9,8 +9,8 @@ use crate::table_forms::{begin_row, begin_table, put_caption, put_head, put_row_
 use desk_base::{tile_on, tiles_left};
 use history::History;
 use map_tables::{Colour, Hex, Lay, Rotation, Side, TileNo, TrackEnd, tile};
-use picture::PagePiece::{Hex as Named, Number, Words};
-use picture::{Attr, Look, Marker, Point, Ring, Tag, Writer, draw_stops, draw_track, on_ring};
+use picture::PagePiece::{Count, Hex as Named, Number, Words};
+use picture::{Attr, Look, Marker, Ring, Tag, Writer, draw_stops, draw_track, on_ring};
 use std::alloc::{AllocError, Global};
 use tables::Money;
 
@@ -41,7 +41,7 @@ fn put_tile(out: &mut Writer, number: TileNo, rotation: Rotation) {
             Words("tile "),
             Number(Money::from(number.number())),
             Words(", rotation "),
-            Number(rotation.turns() as Money),
+            Count(rotation.turns()),
         ],
     );
     out.begin(Tag::Use);
@@ -55,7 +55,7 @@ fn put_tile(out: &mut Writer, number: TileNo, rotation: Rotation) {
     for &side in &Side::ALL {
         if leads_to(&look, side) {
             let place = on_ring(Ring::Digit, side);
-            out.label("j", place, &[Number(side.number() as Money)]);
+            out.label("j", place, &[Count(side.number())]);
         }
     }
     out.end();
@@ -120,7 +120,7 @@ pub(crate) fn begin_section(
 
 /// Adds how many tiles of a number are left.
 fn put_left(out: &mut Writer, history: &History, number: TileNo) {
-    let left = tiles_left(history.lays(), number) as Money;
+    let left = tiles_left(history.lays(), number);
     out.put(&[Words("\n")]);
     out.begin(Tag::Item);
     if left == 0 {
@@ -128,7 +128,7 @@ fn put_left(out: &mut Writer, history: &History, number: TileNo) {
     }
     put_tile(out, number, Rotation::Zero);
     out.element(Tag::Bold, &[Number(Money::from(number.number()))]);
-    out.put(&[Words(" &#215;"), Number(left)]);
+    out.put(&[Words(" &#215;"), Count(left)]);
     out.end();
 }
 
@@ -167,7 +167,7 @@ fn put_lay(out: &mut Writer, lay: Lay) {
         Words("&nbsp;"),
         Number(Money::from(lay.tile.number())),
         Words("/"),
-        Number(lay.rot.turns() as Money),
+        Count(lay.rot.turns()),
         Words(if lay.swap { "s" } else { "" }),
     ]);
     out.end();

@@ -2,13 +2,13 @@
 
 use crate::curve::{Curve, Way, track_of};
 use crate::look::{Look, Stops};
-use crate::piece::PagePiece::{At, Number, Point as To, Words};
+use crate::piece::PagePiece::{At, Count, Point as To, Words};
 use crate::point::Point;
 use crate::strands::strands;
 use crate::tag::{Attr, Tag};
 use crate::writer::Writer;
 use map_tables::{ENDS, Link, StopNumber};
-use tables::{Company, Money};
+use tables::Company;
 
 /// What lies in a slot of a city.
 #[derive(Clone, Copy)]
@@ -123,7 +123,7 @@ fn draw_town(out: &mut Writer, look: &Look, stop: StopNumber) {
     let place = look.place(stop);
     out.sign("#v", place);
     if look.count > 1 {
-        out.label("n", place.down(4), &[Number(stop.index() as Money)]);
+        out.label("n", place.down(4), &[Count(stop.index())]);
     }
 }
 
@@ -142,7 +142,7 @@ fn draw_city(out: &mut Writer, look: &Look, stop: StopNumber, markers: &[Marker;
     if look.count > 1 {
         let place = look.number_place(stop);
         out.sign("#q", place);
-        out.label("n", place.down(4), &[Number(stop.index() as Money)]);
+        out.label("n", place.down(4), &[Count(stop.index())]);
     }
 }
 

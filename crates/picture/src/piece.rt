@@ -19,6 +19,8 @@ pub enum PagePiece<'a> {
     Letter(u8),
     /// A number in digits.
     Number(Money),
+    /// How many there are, in digits.
+    Count(usize),
     /// A small number in digits, as a coordinate.
     At(i32),
     /// A point as it stands in the data of a path: its coordinates, parted by a space or by the
@@ -40,6 +42,7 @@ pub(crate) fn put_piece(out: &mut Writer, piece: PagePiece) {
         PagePiece::Name(name) => put_name(out, name),
         PagePiece::Letter(letter) => put_name(out, &[letter]),
         PagePiece::Number(number) => put_number(out, number),
+        PagePiece::Count(count) => put_number(out, count as Money),
         PagePiece::At(number) => put_small(out, number),
         PagePiece::Point(point) => put_point(out, point),
         PagePiece::Round(round) => put_round(out, round),
