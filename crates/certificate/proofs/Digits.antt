@@ -121,18 +121,6 @@ digit_ended bytes more_bytes count number value old half_full low gained before 
     ∙ ap (λ (l : List Bool). l ++ bits_of 4 value)
     (ap (λ (n : ℕ). bits_of_bytes bytes ++ bits_of n number) (sym half_full) ∙ before)))))
 
--- so few bits are a small number
-pub is_low : (count number : ℕ) → count < 8 → number < 2 ^ count → number < 128
-is_low zero number few low = omega arith
-is_low (suc zero) number few low = omega arith
-is_low (suc (suc zero)) number few low = omega arith
-is_low (suc (suc (suc zero))) number few low = omega arith
-is_low (suc (suc (suc (suc zero)))) number few low = omega arith
-is_low (suc (suc (suc (suc (suc zero))))) number few low = omega arith
-is_low (suc (suc (suc (suc (suc (suc zero)))))) number few low = omega arith
-is_low (suc (suc (suc (suc (suc (suc (suc zero))))))) number few low = omega arith
-is_low (suc (suc (suc (suc (suc (suc (suc (suc count)))))))) number few low = absurd (omega arith)
-
 -- the highest bit comes first
 pub first_bit : (count number : ℕ) → 0 < count
     → bits_of count number ≡ nat_eq (number / 2 ^ (count - 1) % 2) 1 ∷ bits_of (count - 1) number
@@ -231,12 +219,6 @@ digit_read first [] = refl
 digit_read first (b ∷ []) = refl
 digit_read first (b ∷ c ∷ []) = refl
 digit_read first (b ∷ c ∷ d ∷ bits) = refl
-
-pub bits_left : (first : Bool) (bits : List Bool) → drop 1 (drop 1 (drop 1 bits)) ≡ drop 4 (first ∷ bits)
-bits_left first [] = refl
-bits_left first (b ∷ []) = refl
-bits_left first (b ∷ c ∷ []) = refl
-bits_left first (b ∷ c ∷ d ∷ bits) = refl
 
 take_none : (count : ℕ) → take count (let none : List Bool = [] in none) ≡ []
 take_none zero = refl

@@ -1,6 +1,6 @@
 -- A walk by marks reads them over the nodes ahead; a walk that writes marks writes those of the
 -- nodes ahead.
-use Rattle.std.proofs.Common.{◌≡◌, ◌↔◌, ℕ, ◌-◌, ◌<◌, ◌≤◌, length, Bool, true, false, inl, inr, Option, Some, None}
+use Rattle.std.proofs.Common.{◌≡◌, ℕ, ◌-◌, ◌<◌, ◌≤◌, Bool, true, false, inl, inr, Option, Some, None}
 use Rattle.std.proofs.Common.{if◌then◌else◌, List, [], ◌∷◌, ◌++◌, append_assoc, append-nil, refl, ap, sym, ◌∙◌, subst}
 use Rattle.std.proofs.Common.{arith}
 use Rattle.std.proofs.lemmas.Bool.{le-leb, lt-leb}
@@ -10,7 +10,7 @@ use Rattle.reach.specs.Stops.{AreReachedStops}
 use Rattle.tables.specs.declared.rolling_stock.Kind.{Kind}
 use Rattle.tables.specs.declared.roster.Company.{Company}
 use Rattle.certificate.specs.Holding.{AreReached, Writes, is_leaf, left_over}
-use Rattle.certificate.specs.Read.{AreZeros, IsRead, IsWritten}
+use Rattle.certificate.specs.Read.{IsRead, IsWritten}
 use Rattle.certificate.specs.Tree.{Node, bound, children, greatest_first, node_of, root_of}
 use Rattle.certificate.specs.Walked.{Walks, at_end, capped, cuts, ends, has_no_train, splits}
 use Rattle.certificate.specs.Walking.{IsTree, IsBetweenRuns, node_from, trains_of_tree}
@@ -153,23 +153,3 @@ root_is tree trains is = ap (node_of [] []) is
 
 pub root_is_between : (position : Position) (tree : Tree) → IsTree position tree → IsBetweenRuns position tree 0 []
 root_is_between position tree tree_is = record { tree_is = tree_is; earns = refl }
-
--- bits that fill up a digit
-pub zeros_none : (most : ℕ) (bits : List Bool) → bits ≡ [] → AreZeros most bits
-zeros_none most bits none = subst (λ (l : List Bool). AreZeros most l) (sym none) (omega arith, tt)
-
-pub zeros_one : (most : ℕ) (bits rest : List Bool) → bits ≡ true ∷ rest → AreZeros most bits → ⊥
-zeros_one most bits rest is zeros =
-    let first : AreZeros most (true ∷ rest) = subst (λ (l : List Bool). AreZeros most l) is zeros in
-    let wrong : true ≡ false = first.1.0 in cc
-
-pub zeros_over : (bits rest : List Bool) → bits ≡ false ∷ rest → AreZeros 0 bits → ⊥
-zeros_over bits rest is zeros = omega (arith, ap length is, zeros.0)
-
-pub zeros_more : (most : ℕ) (bits rest : List Bool) → bits ≡ false ∷ rest → 0 < most
-    → AreZeros (most - 1) rest ↔ AreZeros most bits
-zeros_more most bits rest is some = (
-  λ zeros. subst (λ (l : List Bool). AreZeros most l) (sym is) (omega (arith, zeros.0), (refl, zeros.1)),
-  λ zeros. let first : AreZeros most (false ∷ rest) =
-      subst (λ (l : List Bool). AreZeros most l) is zeros in (omega (arith, first.0), first.1.1),
-)

@@ -4,7 +4,6 @@ mod Transfers
 pub mod Presidents
 mod Counts
 mod CompanyTableLemmas
-pub mod ByGame
 mod ShareDeals
 pub mod PresidesByGame
 mod Others

@@ -2,10 +2,10 @@
 use Rattle.std.proofs.Common.{◌≡◌, ℕ, zero, suc, ◌*◌, ◌^◌, ◌<◌, ◌≤◌, List, [], ◌∷◌, ℤ, pos, ◌+ℤ◌, ◌≤ℤ◌, ◌-ℤ◌, ◌==◌}
 use Rattle.std.proofs.Common.{if◌then◌else◌, Bool, true, false, length, get_or, set, sym, subst, inl, inr, arith}
 use lib.IntN.{neg_ℤ}
-use Rattle.std.proofs.lemmas.Bool.{cases_eq, cases_lt}
+use Rattle.std.proofs.lemmas.Bool.{cases_eq}
 use Rattle.std.proofs.lemmas.Bool.Decides.{nat_tests}
 use Rattle.std.proofs.lemmas.Int.{ints}
-use Rattle.std.proofs.lemmas.List.{get_or_past, get_or-set_other, get_or-set_same, length-set}
+use Rattle.std.proofs.lemmas.List.{get_or-set_other, get_or-set_same, length-set}
 use Rattle.tables.proofs.Filled.{entry_changed}
 use Rattle.certs.specs.Rows.{IsBounded, IsSmall, total}
 use Rattle.totals.specs.LookBack.{IsModerate}
@@ -170,20 +170,6 @@ small_between row from k shares less from_in some held is_less bounded =
       not_under = not_under_moved row from k false shares _ some held (bounded.not_under k) there;
       not_over = omega (arith, ints, small, fewer);
     }
-
--- a row without entries is bounded
-none_bounded : IsBounded []
-none_bounded = record { not_under = λ i. omega (arith, ints); not_over = omega (arith, ints); short = omega arith }
-
--- where each of eight rows is bounded, all are
-pub bounded_all : (rows : List (List ℤ)) → length rows ≡ 8 → ((k : ℕ) → k < 8 → IsBounded (get_or rows k []))
-    → (k : ℕ) → IsBounded (get_or rows k [])
-bounded_all rows eight each k =
-    elim (cases_lt k 8) [
-      | inl within ↦ each k within
-      | inr past ↦ subst (λ (row : List ℤ). IsBounded row) (sym (get_or_past rows k [] (omega (arith, eight))))
-          none_bounded
-    ]
 
 -- with one row changed all are bounded
 pub bounded_set : (rows : List (List ℤ)) (at : ℕ) (row : List ℤ) → at < length rows → IsBounded row

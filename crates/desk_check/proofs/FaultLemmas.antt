@@ -1,18 +1,14 @@
 -- Faults that are told of lines, one after another.
-use Rattle.std.proofs.Common.{◌≡◌, ℕ, ◌+◌, ◌≤◌, Bool, true, false, List, [], ◌∷◌, ◌++◌, Option, Some, None, cond, refl, sym, ap}
+use Rattle.std.proofs.Common.{◌≡◌, ℕ, ◌+◌, ◌≤◌, Bool, true, false, List, [], ◌∷◌, ◌++◌, Option, Some, cond, refl, sym, ap}
 use Rattle.std.proofs.Common.{◌∙◌, append_assoc, arith, subst}
 use Rattle.std.proofs.lemmas.Bool.{ltb-false, or_parts}
-use Rattle.std.proofs.lemmas.Grind.{flat_map-append}
 use Rattle.std.proofs.lemmas.List.{append-nil}
 use Rattle.std.specs.Prelude.{nat_lt}
-use Rattle.desk_check.specs.Found.{AddsLine, finding, reported}
+use Rattle.desk_check.specs.Found.{reported}
 use Rattle.desk_check.specs.SheetFaults.{TellsFaults, Told, ends_sheet, fault_of_line, faults_in, faults_told}
-use Rattle.desk_check.specs.SheetFaults.{is_open_then, number_then, told_by, told_from}
-use Rattle.desk_check.specs.declared.check_found.Finding.{Finding}
+use Rattle.desk_check.specs.SheetFaults.{is_open_then, number_then, told_from}
 use Rattle.desk_check.specs.declared.check_found.Found.{Found}
-use Rattle.desk_check.specs.declared.check_found.Matter.{Matter}
 use Rattle.desk_check.specs.declared.check_found.Said.{Said}
-use Rattle.desk_check.specs.declared.check_lines.FileLine.{FileLine}
 use Rattle.desk_check.specs.declared.check_sheets.Sent.{Sent}
 use Rattle.order_grammar.specs.declared.condition.Version.{Version}
 use Rattle.sheets.specs.File.{is_sheet_line}
@@ -49,55 +45,6 @@ tells_no_more old mid new faults first then_ = record {
       let none_yet : mid.unlisted ≡ 0 = omega (arith, then_.unlisted, none) in
       then_.told none ∙ append-nil (faults_told mid.findings.items) ∙ first.told none_yet;
 }
-
--- what one more finding tells
-told_with_one : (findings : List Finding) (one : Finding)
-    → faults_told (findings ++ one ∷ []) ≡ faults_told findings ++ told_by one.line one.matter
-told_with_one findings one =
-    flat_map-append (λ (its : Finding). told_by its.line its.matter) findings (one ∷ [])
-    ∙ ap (λ told. faults_told findings ++ told) (append-nil (told_by one.line one.matter))
-
--- what is told of a line, unless it comes before the first that is reported
-abbrev pub told_here : ℕ → ℕ → Matter → List Told
-told_here from line said = cond (nat_lt line from) [] (told_by line said)
-
-told_reported : (findings : List Finding) (line : FileLine) (said : Matter) (is_early : Bool) →
-    faults_told (findings ++ cond is_early [] (finding line said ∷ []))
-    ≡ faults_told findings ++ cond is_early [] (told_by line.number said)
-told_reported findings line said true =
-    ap faults_told (append-nil findings) ∙ sym (append-nil (faults_told findings))
-told_reported findings line said false = told_with_one findings (finding line said)
-
--- one more finding of a line
-pub line_tells : (old new : Found) (line : FileLine) (said : Matter) → AddsLine old line said new
-    → TellsFaults old new (told_here old.from line.number said)
-line_tells old new line said added = record {
-  from = added.from;
-  unlisted = added.unlisted;
-  told = λ none.
-      ap faults_told (added.added none)
-      ∙ told_reported old.findings.items line said (nat_lt line.number old.from);
-}
-
--- a finding that tells no fault of a line of a sheet
-pub other_tells : (old new : Found) (line : FileLine) (said : Matter) → new.from ≡ old.from
-    → new.unlisted ≡ old.unlisted → new.findings.items ≡ old.findings.items ++ finding line said ∷ []
-    → told_by line.number said ≡ [] → TellsFaults old new []
-other_tells old new line said from unlisted items none_told = record {
-  from = from;
-  unlisted = omega (arith, unlisted);
-  told = λ none.
-      ap faults_told items ∙ told_with_one old.findings.items (finding line said)
-      ∙ ap (λ told. faults_told old.findings.items ++ told) none_told;
-}
-
--- of a line of which nothing is said nothing is told
-pub nothing_tells : (found : Found) (sent : Sent) (line : ℕ) → TellsFaults found found (told_from found.from sent line None)
-nothing_tells found sent line =
-    elim (nat_lt line found.from) as (λ (test : Bool). TellsFaults found found (cond test [] [])) [
-      | true ↦ tells_none found
-      | false ↦ tells_none found
-    ]
 
 -- where a sheet ends nothing is told
 pub faults_ended : (version : Version) (sent : Sent) (from number : ℕ) (is_open : Bool) (passed : ℕ) (text : List ℕ)

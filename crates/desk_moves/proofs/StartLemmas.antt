@@ -83,11 +83,6 @@ state_behind_home game company =
     (place_of (home_of company)) company))
     (ap (λ (said : Option Kind). unwrap_or said Two) (last_said_before phase_set events game.events home refl refl))
 
--- if it lies already, nothing changes
-pub state_with_its_token : (game : Game) (company : Company) → has_home_token game.events company ≡ true
-    → map_state_now (with_home game company).events ≡ map_state_now game.events
-state_with_its_token game company lies = rw lies refl
-
 -- otherwise it is the last token
 pub state_with_new_token : (game : Game) (company : Company) → has_home_token game.events company ≡ false
     → map_state_now (with_home game company).events

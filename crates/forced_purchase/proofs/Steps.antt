@@ -190,10 +190,6 @@ times_none : (by : Operator) (times : ℕ) (game : Game) → falls_short by game
 times_none by zero game enough = refl
 times_none by (suc times) game enough = not_sold by game enough ∙ ap (sold_further by) (times_none by times game enough)
 
-pub none_needed : (by : Operator) (game : Game) → falls_short by game ≡ false → game ≡ sold_singly by game
-unfolding sold_singly
-none_needed by game enough = times_none by 40 game enough
-
 -- the president is bankrupt
 pub bankrupt_then : (by : Operator) (old new : Game) → falls_short by old ≡ true
     → new ≡ with_event old (event.Bankrupt by.president) → new ≡ concluded by old

@@ -1,8 +1,8 @@
 -- What lies on the map by a list still fits after a lay, a token or a home token of a company's
 -- turn. A home token keeps a list sound.
-use Rattle.std.proofs.Common.{◌≡◌, ℕ, ◌+◌, ◌<◌, List, [], ◌∷◌, ◌++◌, length, take, get_or, ap, ◌∙◌, Option, None}
+use Rattle.std.proofs.Common.{◌≡◌, ℕ, ◌+◌, List, [], ◌∷◌, ◌++◌, ap, ◌∙◌, Option, None}
 use Rattle.std.proofs.Common.{unwrap_or, refl, sym, subst, false}
-use Rattle.std.proofs.lemmas.List.{append-nil, take_more}
+use Rattle.std.proofs.lemmas.List.{append-nil}
 use Rattle.board.proofs.FitLaws.{home_keeps_fit, lay_keeps_fit, token_keeps_fit}
 use Rattle.board.specs.Homes.{Fits}
 use Rattle.board.specs.LayRules.{map_rules}
@@ -34,17 +34,6 @@ use Rattle.totals.proofs.InOrder.{lays_before, lays_grow, tokens_before, tokens_
 use Rattle.totals.specs.LookBack.{Game, cash_of, with_event}
 use Rattle.totals.specs.Operating.{lays_of, tokens_of}
 use Rattle.totals.specs.Trains.{phase_of}
-
--- the tiles of some events, with that of one more
-pub lays_more : (events : List Event) (i : ℕ) (d : Event) → i < length events
-    → lays_of (take (i + 1) events) ≡ lays_of (take i events) ++ lays_of (get_or events i d ∷ [])
-lays_more events i d below = ap lays_of (take_more events i d below) ∙ lays_grow (take i events) (get_or events i d)
-
--- and the tokens
-pub tokens_more : (events : List Event) (i : ℕ) (d : Event) → i < length events
-    → tokens_of (take (i + 1) events) ≡ tokens_of (take i events) ++ tokens_of (get_or events i d ∷ [])
-tokens_more events i d below = ap tokens_of (take_more events i d below)
-    ∙ tokens_grow (take i events) (get_or events i d)
 
 -- the phase is the same after an event that begins none
 same_phase : (events : List Event) (event : Event) → phase_set event ≡ None

@@ -4,9 +4,8 @@ use Rattle.std.proofs.Common.{◌≡◌, ◌-◌, ◌<◌, List, [], ◌∷◌, 
 use Rattle.std.proofs.Common.{length-append}
 use Rattle.std.proofs.lemmas.List.{append_assoc, append-nil}
 use Rattle.std.proofs.lemmas.List.Elements.{filter_map-append}
-use Rattle.board_state.specs.MapState.{MapState, map_state_of}
+use Rattle.board_state.specs.MapState.{MapState}
 use Rattle.events.specs.Event.{tile_laid, token_placed}
-use Rattle.events.specs.declared.event.Event.{Event}
 use Rattle.totals.specs.LookBack.{Game}
 use Rattle.totals.specs.Operating.{lays_of, tokens_of}
 use Rattle.operating.proofs.TurnGames.{of_steps}
@@ -14,7 +13,7 @@ use Rattle.operating.proofs.TurnLaws.{adds_by}
 use Rattle.operating.proofs.TurnSteps.{of_line, of_withheld_if_unpaid}
 use Rattle.operating.specs.CompanyOrders.{ReadingLeads}
 use Rattle.operating.specs.Laws.{OnlyAdds}
-use Rattle.operating.specs.MapState.{BeginsWith, IsPrefix, map_state_now}
+use Rattle.operating.specs.MapState.{BeginsWith, IsPrefix}
 use Rattle.operating.specs.Pay.{withheld_if_unpaid}
 use Rattle.operating.specs.TurnState.{TurnState, turn_state}
 use Rattle.forced_purchase.specs.declared.operator.Operator.{Operator}
@@ -23,7 +22,6 @@ use Rattle.order_grammar.specs.declared.fault.Fault.{Fault}
 use Rattle.order_grammar.specs.declared.order.Order.{Order}
 use Rattle.std.specs.Prelude.{Result, slice_get}
 use Rattle.sheets.specs.Part.{Numbered}
-use Rattle.tables.specs.declared.rolling_stock.Kind.{Kind}
 use Rattle.tables.specs.declared.roster.Company.{Company}
 
 -- what is after a prefix
@@ -67,25 +65,6 @@ fewer_left prefix recorded all x is begins =
 -- all are a prefix
 pub whole_prefix : {A : Type 0} (prefix all : List A) → prefix ≡ all → BeginsWith prefix all
 whole_prefix prefix all is = record { rest = []; is = sym is ∙ sym (append-nil prefix) }
-
--- the map state now is a prefix
-pub now_prefix : (laid : MapState) (events : List Event) → laid ≡ map_state_now events → IsPrefix laid events
-now_prefix laid events is =
-    record {
-      lays = whole_prefix laid.lays (lays_of events) (ap (λ (g : MapState). g.lays) is);
-      tokens = whole_prefix laid.tokens (tokens_of events) (ap (λ (g : MapState). g.tokens) is);
-    }
-
--- before anything is brought there is a prefix
-pub no_prefix : (laid : MapState) (phase : Kind) (events : List Event) → laid ≡ map_state_of [] [] phase
-    → IsPrefix laid events
-no_prefix laid phase events is =
-    subst (λ (g : MapState). IsPrefix g events) (sym is)
-    (record {
-      lays = record { rest = lays_of events; is = refl };
-      tokens =
-          record { rest = tokens_of events; is = refl };
-    })
 
 longer : {A : Type 0} (prefix all more : List A) → BeginsWith prefix all → BeginsWith prefix (all ++ more)
 longer prefix all more begins =

@@ -1,6 +1,6 @@
 -- The trains of a company, one for one, and what its best runs earn.
 use Rattle.std.proofs.Common.{◌≡◌, ◌≤◌, ◌||◌, Bool, true, false, not, [], ◌∷◌, refl, List, length, arith, ℕ}
-use Rattle.std.proofs.Common.{zero, suc, ◌++◌, replicate, ap, ◌+◌, ◌∙◌, add-one, ◌<◌, ℤ, pos, ◌≤ℤ◌, sym, subst}
+use Rattle.std.proofs.Common.{zero, suc, ◌++◌, replicate, ap, ◌+◌, ◌∙◌, ◌<◌, ℤ, pos, ◌≤ℤ◌, sym, subst}
 use Rattle.std.proofs.lemmas.Int.{ints}
 use Rattle.std.specs.Int.RustNames.{unsigned_abs}
 use mir.Syntax.{w128}
@@ -41,13 +41,6 @@ one_behind thing (suc n) = ap (λ (things : List _). thing ∷ things) (one_behi
 regrouped : {A : Type 0} (xs ys zs : List A) → (xs ++ ys) ++ zs ≡ xs ++ (ys ++ zs)
 regrouped [] ys zs = refl
 regrouped (x ∷ xs) ys zs = ap (λ (rest : List _). x ∷ rest) (regrouped xs ys zs)
-
--- one more train after this many of its kind
-pub one_more_train : (first : List Kind) (kind : Kind) (n : ℕ)
-    → (first ++ replicate n kind) ++ kind ∷ [] ≡ first ++ replicate (n + 1) kind
-one_more_train first kind n =
-    rw add-one (regrouped first (replicate n kind) (kind ∷ [])
-    ∙ ap (λ (rest : List Kind). first ++ rest) (one_behind kind n))
 
 -- a greatest revenue is small
 pub small_greatest :

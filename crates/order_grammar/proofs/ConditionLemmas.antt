@@ -52,10 +52,6 @@ pub small_condition : (condition : Condition) → HasSmallCondition (Some condit
 small_condition (Price company price) small = le-leb price number_most small
 small_condition other small = refl
 
-pub condition_small : (condition : Condition) → is_small_condition condition ≡ true → HasSmallCondition (Some condition)
-condition_small (Price company price) small = leb-true price number_most small
-condition_small other small = tt
-
 -- a condition that was read, or that its number is too large
 abbrev condition_as : Condition → Bool → Result Condition Fault
 condition_as condition small = cond small (Ok condition) (Err NumberTooLarge)

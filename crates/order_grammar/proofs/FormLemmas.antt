@@ -4,8 +4,8 @@ use Rattle.std.proofs.Common.{Ok, Err, fold, ltb, length, get_or, drop, map, ref
 use Rattle.std.specs.List.{list_all}
 use Rattle.std.proofs.lemmas.Bool.{false_from_ne_true, le-ltb, lt-ltb}
 use Rattle.std.proofs.lemmas.List.Recursion.{and_at}
-use Rattle.std.proofs.lemmas.List.{append-nil, at_drop_all, drop_more, length-map, get_or-map}
-use Rattle.order_grammar.specs.Form.{Row, forms, trailing_reading, values_reading, row_reading, rows_reading}
+use Rattle.std.proofs.lemmas.List.{drop_more, length-map, get_or-map}
+use Rattle.order_grammar.specs.Form.{Row, forms, values_reading, row_reading, rows_reading}
 use Rattle.order_grammar.specs.Form.{words_reading, nearness, nearer, order_of_values, values_by_row}
 use Rattle.order_grammar.specs.Keyword.{keyword_of, text_of_keyword}
 use Rattle.order_grammar.specs.Row.{has_forms, is_short_row, joined_values, row_of, rows_of, rows_with}
@@ -21,7 +21,6 @@ use Rattle.order_grammar.specs.declared.form.TrailingClass.{TrailingClass}
 use Rattle.order_grammar.specs.declared.keyword.Keyword.{Keyword}
 use Rattle.order_grammar.specs.declared.keyword.Keyword.TheVariants as keyword
 use Rattle.order_grammar.specs.declared.order.Order.{Order}
-use Rattle.order_grammar.specs.declared.order.Trailing.{Trailing}
 use Rattle.order_grammar.specs.declared.order.Value.{Value}
 use Rattle.order_grammar.specs.declared.words.Token.{Token}
 use Rattle.order_grammar.proofs.KeywordLemmas.{keyword_of-same, same-keyword_of, same_keyword, same_word-self}
@@ -189,35 +188,6 @@ pub values_reading-none : (prefix : List Value) (too_large : Bool) (classes : Li
     i < length classes → all ≡ [] → joined_values prefix too_large (values_reading (drop i classes) r all)
     ≡ Err WrongWords
 values_reading-none prefix too_large classes r i d all lt none = rw (none, drop_more classes i d lt) refl
-
--- after the last class
-values_reading-end : (classes : List Class) (r : TrailingClass) (i : ℕ) (words : List (List ℕ)) → length classes ≤ i →
-    values_reading (drop i classes) r words ≡ values_reading [] r words
-values_reading-end classes r i words le = at_drop_all (λ (cs : List Class). values_reading cs r words) classes i le
-
--- the rest is not what is repeated
-pub values_reading-no_trailing : (prefix : List Value) (too_large : Bool) (classes : List Class) (r : TrailingClass)
-    (i : ℕ)
-    (words : List (List ℕ)) (found : Option Trailing) →
-    length classes ≤ i → found ≡ trailing_reading r words → found ≡ None
-    → joined_values prefix too_large (values_reading (drop i classes) r words) ≡ Err WrongWords
-values_reading-no_trailing prefix too_large classes r i words found le is none =
-    let no : trailing_reading r words ≡ None = sym is ∙ none in
-    ap (joined_values prefix too_large) (values_reading-end classes r i words le) ∙ rw (no, values_reading) refl
-
--- the rest is
-pub values_reading-trailing : (prefix : List Value) (too_large : Bool) (classes : List Class) (r : TrailingClass)
-    (i : ℕ)
-    (words : List (List ℕ)) (found : Option Trailing) (t : Trailing) →
-    length classes ≤ i → found ≡ trailing_reading r words → found ≡ Some t →
-    joined_values prefix too_large (values_reading (drop i classes) r words)
-    ≡ cond too_large (Err NumberTooLarge) (Ok (prefix, t))
-values_reading-trailing prefix too_large classes r i words found t le is some =
-    let yes : trailing_reading r words ≡ Some t = sym is ∙ some in
-    ap (joined_values prefix too_large) (values_reading-end classes r i words le)
-    ∙ rw (yes, values_reading)
-    (ap (λ (all : List Value). cond {A = Result (List Value × Trailing) Fault} too_large (Err NumberTooLarge)
-    (Ok (all, t))) (append-nil prefix))
 
 -- the first of a line's words and the others, read by some rows, are what the words are by them
 pub table_read : (words left : List Placed) (given : Option Token) (first : Token) (rows : List Row)

@@ -1,6 +1,6 @@
 -- Orders and their parts: an order is made of its parts, and words spell it as they spell those.
 use Rattle.std.proofs.Common.{◌≡◌, ℕ, Bool, true, false, inl, inr, List, [], ◌∷◌, Option, Some, None, length, map}
-use Rattle.std.proofs.Common.{unwrap_or, refl, sym, ap, subst, ◌∙◌}
+use Rattle.std.proofs.Common.{refl}
 use Rattle.std.specs.List.{list_any}
 use Rattle.std.proofs.lemmas.Bool.{cases_Bool, false≢true, le-leb, leb-true, and_parts}
 use Rattle.map_tables.specs.declared.hex.Hex.{Hex}
@@ -307,11 +307,3 @@ of_parts (Offer (offer.Private private buyer price)) words h = h.0
 of_parts (Offer (offer.Train kind seller buyer price)) words h = h.0
 of_parts (Lay lay) words h = lay_of_parts lay.tile lay.hex lay.rot lay.swap words h
 of_parts other words h = h.0
-
--- the order that parts make is that of which they are
-pub remade : (order : Order) (parts : Parts) (made : Option Order) → Some parts ≡ parts_of order →
-    made ≡ order_from parts.keyword parts.values parts.trailing → unwrap_or made Blank ≡ order
-remade order parts made is by =
-    let again : order_from parts.keyword parts.values parts.trailing ≡ Some order =
-    subst (IsMadeAgain order) (sym is) (made_again order) in
-    ap (λ (o : Option Order). unwrap_or o Blank) (by ∙ again)

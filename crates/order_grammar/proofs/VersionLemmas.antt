@@ -4,7 +4,7 @@ use Rattle.std.proofs.Common.{◌≡◌, ℕ, zero, suc, ◌<◌, Bool, true, fa
 use Rattle.std.proofs.Common.{Option, Some, None, Result, Ok, Err, Contains, codes, length, refl, sym, ap, subst, ◌∙◌}
 use Rattle.std.proofs.Common.{arith}
 use Rattle.std.specs.List.{list_all}
-use Rattle.std.proofs.lemmas.Bool.{cases_Bool, cases_lt, le-ltb, lt-ltb, and_from, and_parts, false≢true}
+use Rattle.std.proofs.lemmas.Bool.{cases_Bool, cases_lt, le-ltb, lt-ltb, and_from, false≢true}
 use Rattle.order_grammar.specs.Condition.{Ordered, ordered, unconditional, conditional_reading}
 use Rattle.order_grammar.specs.Form.{order_forms, words_reading, rows_reading}
 use Rattle.order_grammar.specs.Limits.{line_most}
@@ -24,14 +24,14 @@ use Rattle.order_grammar.specs.declared.fault.Fault.{Fault}
 use Rattle.order_grammar.specs.declared.fault.Fault.TheVariants.{TooLong, StrayByte, UnknownWord, WrongWords}
 use Rattle.order_grammar.specs.declared.fault.Fault.TheVariants.{NumberTooLarge}
 use Rattle.order_grammar.specs.declared.order.Order.{Order}
-use Rattle.order_grammar.proofs.ConditionLemmas.{is_small_condition, small_condition, condition_small, ordered_as}
+use Rattle.order_grammar.proofs.ConditionLemmas.{is_small_condition, small_condition, ordered_as}
 use Rattle.order_grammar.proofs.ConditionLemmas.{condition_for_read, ConditionalSays, conditional_says}
 use Rattle.order_grammar.proofs.KeywordLemmas.{same_word-is, same_word-self}
 use Rattle.order_grammar.proofs.LineFaultLemmas.{stray_byte, not_printable, all_printable, unknown_begins, other_fault}
 use Rattle.order_grammar.proofs.LineFaultLemmas.{begins_some_form, read_by_all, large_spell}
 use Rattle.order_grammar.proofs.PartLemmas.{rows_of_orders, known_read, unknown_read, read_known, passed, denied}
 use Rattle.order_grammar.proofs.RowLemmas.{read_as, words_for_read}
-use Rattle.order_grammar.proofs.SmallLemmas.{are_small, small_by_parts, small_of_parts}
+use Rattle.order_grammar.proofs.SmallLemmas.{are_small, small_by_parts}
 use Rattle.order_grammar.proofs.SpellsLemmas.{words_read_spell}
 
 -- whether the numbers of a condition, if there is one, and of an order are small enough for a line
@@ -45,13 +45,6 @@ small_under None order first small = small_by_parts order small
 small_under (Some condition) order first small =
     and_from (is_small_condition condition) (are_small (parts_of order)) (small_condition condition first)
     (small_by_parts order small)
-
-under_small : (condition : Option Condition) (order : Order) → are_small_under condition order ≡ true →
-    AreSmall (ordered condition order)
-under_small None order small = (tt, small_of_parts order small)
-under_small (Some condition) order small =
-    let both = and_parts (is_small_condition condition) (are_small (parts_of order)) small in
-    (condition_small condition both.0, small_of_parts order both.1)
 
 -- an order that was read, without a condition
 unconditional_as : (order : Order) (small : Bool) →

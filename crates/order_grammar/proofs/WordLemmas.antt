@@ -1,6 +1,6 @@
 -- Words of a text: where they end, and how they come one after the other.
 use Rattle.std.proofs.Common.{◌≡◌, ℕ, suc, ◌+◌, ◌-◌, ◌<◌, ◌≤◌, ◌==◌, Bool, true, false, ◌&&◌, not, cond, List, [], ◌∷◌}
-use Rattle.std.proofs.Common.{◌++◌, Option, Some, None, unwrap_or, is_some, ltb, length, take, drop, map, refl, sym, ap}
+use Rattle.std.proofs.Common.{◌++◌, Option, Some, None, unwrap_or, ltb, length, take, drop, map, refl, sym, ap}
 use Rattle.std.proofs.Common.{subst, ◌∙◌, inl, inr, slice_range, arith}
 use Rattle.std.specs.Char.{to_ascii_uppercase}
 use Rattle.std.specs.List.{list_all, position_or_len, zip}
@@ -10,7 +10,7 @@ use Rattle.std.proofs.lemmas.List.Sums.{prefix_len-le-length}
 use Rattle.std.proofs.lemmas.List.Recursion.{is_position_or_len}
 use Rattle.order_grammar.specs.Token.{GivesFirst, placed}
 use Rattle.order_grammar.specs.Words.{Placed, LieFrom, before, with_word, words_from, raised, same_word, with_placed}
-use Rattle.order_grammar.specs.Words.{placed_from, first_of_words, has_words, texts_of}
+use Rattle.order_grammar.specs.Words.{placed_from, first_of_words, texts_of}
 use Rattle.order_grammar.specs.declared.words.Token.{Token}
 
 -- where the part before a byte ends
@@ -271,12 +271,6 @@ first_placed at text spaces count r within is some size =
 pub texts_of-line : (line : List ℕ) (words : List Placed) → words ≡ placed_from 0 [] (before 35 line) →
     texts_of words ≡ map raised (words_from [] (before 35 line))
 texts_of-line line words is = ap texts_of is ∙ texts_of-placed 0 [] (before 35 line)
-
--- a word is given where there is one
-pub gives_some : (words left : List Placed) (given : Option Token) → GivesFirst words given left
-    → is_some given ≡ has_words (texts_of words)
-gives_some [] left given h = ap is_some h.0
-gives_some (word ∷ words) left given h = ap is_some h.1
 
 -- and is the first
 pub gives_first : (words left : List Placed) (given : Option Token) (token : Token) → GivesFirst words given left

@@ -17,9 +17,8 @@ use Rattle.privates.specs.Closing.{closed}
 use Rattle.privates.specs.Standing.{after_standing_line}
 use Rattle.sheets.specs.Part.{Numbered}
 use Rattle.tables.specs.Rules.{first_broken}
-use Rattle.tables.specs.Turns.{Play}
 use Rattle.tables.specs.declared.seat.Seat.{Seat}
-use Rattle.turns.specs.RoundOfTurns.{RoundRules, in_turn, turns_of}
+use Rattle.turns.specs.RoundOfTurns.{RoundRules, in_turn}
 use Rattle.turns.specs.RoundOfTurns as turns
 use Rattle.turns.specs.Ruling.{after_ruling as turn_ruled, has_place_in_turn, line_ruling}
 
@@ -80,7 +79,3 @@ opening_rules =
       over = all_sold;
       closed = closed;
     }
-
--- the turns of an opening round
-abbrev pub opening_turns : ℕ → Play (List Event) Numbered
-opening_turns seats = turns_of opening_rules seats

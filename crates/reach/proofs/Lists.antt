@@ -38,17 +38,6 @@ among_next xs i x d low h =
       | inr next ↦ inr (sym next)
     ]
 
--- the next is among one more
-pub next_among : {A : Type 0} (xs : List A) (i : ℕ) (d : A) → i < length xs → IsAmong (get_or xs i d) (take (i + 1) xs)
-next_among xs i d low =
-    subst (λ ys. IsAmong (get_or xs i d) ys) (sym (take_more xs i d low)) (among_end (take i xs) (get_or xs i d))
-
--- the first i are among one more
-pub among_sooner : {A : Type 0} (xs : List A) (i : ℕ) (x d : A) → i < length xs → IsAmong x (take i xs)
-    → IsAmong x (take (i + 1) xs)
-among_sooner xs i x d low h =
-    subst (λ ys. IsAmong x ys) (sym (take_more xs i d low)) (among_before (take i xs) x (get_or xs i d) h)
-
 -- the element at an index is one
 pub among_at : {A : Type 0} (xs : List A) (i : ℕ) (d : A) → i < length xs → IsAmong (get_or xs i d) xs
 among_at [] i d low = absurd (omega arith)

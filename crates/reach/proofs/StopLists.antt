@@ -1,16 +1,15 @@
 -- Stops as marks, and lists of stops in order.
 use Rattle.std.proofs.Common.{◌≡◌, ℕ, zero, suc, ◌<◌, Bool, true, false, ◌⊎◌, inl, inr, List, [], ◌∷◌, ◌++◌, length}
 use Rattle.std.proofs.Common.{get_or, set, replicate, refl, ap, sym, ◌∙◌, subst, arith, get_or-set_same, length-set}
-use Rattle.std.proofs.lemmas.List.{length-replicate, set-get_or}
+use Rattle.std.proofs.lemmas.List.{length-replicate}
 use Rattle.std.specs.List.{AllByRecursion}
 use Rattle.map_tables.specs.declared.place.Stop.{Stop}
-use Rattle.reach.specs.Position.{Position, IsAmong}
-use Rattle.reach.specs.Reached.{IsReach, Reaching, AreSortedBy, stop_order}
-use Rattle.reach.specs.Stops.{AreReachedStops, marks_of}
+use Rattle.reach.specs.Position.{IsAmong}
+use Rattle.reach.specs.Reached.{AreSortedBy, stop_order}
+use Rattle.reach.specs.Stops.{marks_of}
 use Rattle.reach.proofs.Collected.{none_marked}
 use Rattle.reach.proofs.Marking.{set_cases, set_keeps}
 use Rattle.reach.proofs.Spots.{order_low, same_order}
-use Rattle.tables.specs.declared.roster.Company.{Company}
 
 -- there is a mark for each stop of the map
 pub marks_long : (stops : List Stop) → length (marks_of stops) ≡ 186
@@ -66,15 +65,6 @@ mark_among (first ∷ stops) stop (inr later) =
     set_keeps (marks_of stops) (stop_order first) (stop_order stop) (omega (arith, marks_long stops, order_low first))
     (mark_among stops stop later)
 
--- the mark of a stop that is none of the others is taken away
-pub unmark_last : (stops : List Stop) (stop : Stop) → ¬ IsAmong stop stops
-    → set (marks_of (stop ∷ stops)) (stop_order stop) false ≡ marks_of stops
-unmark_last stops stop new =
-    let marks : List Bool = marks_of stops in
-    let n : ℕ = stop_order stop in
-    let off : get_or marks n false ≡ false = not_true (get_or marks n false) (λ is. new (among_mark stops stop is)) in
-    set_back marks n ∙ ap (set marks n) (sym off) ∙ set-get_or marks n false
-
 -- what holds of all holds of each
 pub all_each : {A : Type 0} (P : A → Type 0) (things : List A) (thing : A) → AllByRecursion P things
     → IsAmong thing things → P thing
@@ -123,13 +113,3 @@ same_list (stop ∷ stops) (other ∷ others) in_order also there back =
     (subst (λ n. n < stop_order one) (sym order) (all_each (λ s. stop_order other < stop_order s) others one also.0
     among)) (back one (inr among)))
     in ap (λ s. s ∷ stops) same ∙ ap (λ ls. other ∷ ls) rest
-
--- a company reaches these stops and no others
-pub one_reach : (position : Position) (company : Company) (reach : Reaching) (stops : List Stop)
-    → IsReach position company reach → AreReachedStops position company stops → reach.stops ≡ stops
-one_reach position company reach stops is reached =
-    let other : Reaching = reached.0 in
-    same_list reach.stops other.stops is.in_order reached.1.in_order
-    (λ stop among. (reached.1.stops stop).1 ((is.stops stop).0 among))
-    (λ stop among. (is.stops stop).1 ((reached.1.stops stop).0 among))
-    ∙ reached.2

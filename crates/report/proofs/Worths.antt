@@ -1,24 +1,11 @@
 -- What a player is worth is summed up value by value. It fits: no account that a list makes is over
 -- 2 to the power of 100, and no price over 350.
-use Rattle.std.proofs.Common.{◌≡◌, ℕ, ◌+◌, ◌*◌, ◌^◌, ◌<◌, ◌≤◌, List, length, take, get_or, sum_by, pos, ℤ, ◌+ℤ◌, arith}
-use Rattle.std.proofs.Math.Nat.{mul-le-mul}
+use Rattle.std.proofs.Common.{◌≡◌, ℕ, ◌+◌, ◌^◌, ◌<◌, ◌≤◌, List, length, take, get_or, sum_by, pos, ℤ, ◌+ℤ◌, arith}
 use Rattle.std.proofs.lemmas.Int.{ints}
 use Rattle.std.proofs.lemmas.List.Sums.{sum_by_more}
-use Rattle.std.specs.Prelude.{negsuc}
 use mir.Syntax.{w128}
 use mir.Val.{of_z, to_z}
-use Rattle.tables.specs.Chart.{price_most}
 use Rattle.totals.specs.LookBack.{IsModerate}
-use Rattle.totals.specs.Trains.{at_least_zero}
-
--- a moderate sum is not many
-pub not_many : (shares : ℤ) → IsModerate shares → at_least_zero shares ≤ 2 ^ 100
-not_many (pos n) moderate = let over = moderate.not_over in omega (arith, ints, over)
-not_many (negsuc n) moderate = omega arith
-
--- so what is paid for each of them fits
-pub worth_fits : (shares price : ℕ) → shares ≤ 2 ^ 100 → price ≤ price_most → shares * price ≤ 2 ^ 109
-worth_fits shares price many small = let most = mul-le-mul many small in omega (arith, most)
 
 -- one more value is added to those of the first n
 pub sum_step : {X : Type 0} (f : X → ℕ) (xs : List X) (n : ℕ) (d : X) (sum value : ℕ) → n < length xs

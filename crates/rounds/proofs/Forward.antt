@@ -1,7 +1,7 @@
 -- The sequence goes forward in the order of all rounds, and no sheet is past the last of them: so
 -- play reaches an end.
-use Rattle.std.proofs.Common.{◌≡◌, ℕ, zero, suc, ◌+◌, ◌<◌, ◌≤◌, Bool, true, false, Option, Some}
-use Rattle.std.proofs.Common.{None, is_some, is_none, not, refl, inl, inr, arith, List, length, ap}
+use Rattle.std.proofs.Common.{◌≡◌, ℕ, zero, suc, ◌+◌, ◌<◌, ◌≤◌, Bool, true, false}
+use Rattle.std.proofs.Common.{is_some, refl, inl, inr, arith, List, length, ap}
 use Rattle.std.proofs.Common.{rules}
 use Rattle.std.proofs.lemmas.Bool.{and_parts, cases_lt, lt-ltb}
 use Rattle.std.specs.List.{list_all, range_with_len}
@@ -31,14 +31,6 @@ posted_each p first (suc n) k all from below =
       | inl later ↦ posted_each p (first + 1) n k (and_parts (p first) _ all).1 (omega arith) (omega arith)
       | inr here ↦ let same : first ≡ k = omega arith in rw (← same) (and_parts (p first) _ all).0
     ]
-
--- the test for nothing, from the test for something
-pub missing_from : {X : Type 0} (found : Option X) (missing : Bool) → is_some found ≡ not missing
-    → missing ≡ is_none found
-missing_from None true same = refl
-missing_from None false same = same
-missing_from (Some x) true same = same
-missing_from (Some x) false same = refl
 
 -- a round that follows a round has a later place
 later_place : (round : Round) (in_set : ℕ) (all_sold broken : Bool) → number_of round ≤ number_most →

@@ -48,10 +48,6 @@ more_written_turns file round seat old sheet new taker before is_seat is_sheet l
     ∙ ap (λ (written_turns : List (List Numbered)). written_turns_for seat file round ++ written_turns ∷ []) here
     ∙ sym (map-range_with_len_more (λ seat. written_turns_of (parts_for file round seat)) 0 seat seat (zero-add seat))
 
--- once the standing lines are ruled a sheet is at a head
-pub at_head : (sheet new : Parts) → new ≡ record { before = []; opened = sheet.opened } → IsAtHead new
-at_head sheet new left = ap (λ (parts : Parts). parts.before) left
-
 -- what is left of a sheet at a head is its written turns
 lines_at_head : (sheet : Parts) → IsAtHead sheet → lines_in sheet ≡ lines_in_written_turns (written_turns_of sheet)
 lines_at_head sheet is_at_head =

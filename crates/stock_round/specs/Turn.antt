@@ -2,8 +2,7 @@
 -- before left. In a turn a seat buys once, but may buy several certificates of a company whose
 -- square is brown, and sells any number of times, before and after. A seat that neither bought nor
 -- sold passes, even if it gave up MH.
-use Rattle.std.specs.Prelude.{ℕ, false, List}
-use Rattle.events.specs.declared.event.Event.{Event}
+use Rattle.std.specs.Prelude.{ℕ, false}
 use Rattle.events.specs.declared.ruling.Ruling.{Ruling}
 use Rattle.order_grammar.specs.declared.order.Order.{Order}
 use Rattle.sheets.specs.Part.{Numbered}
@@ -12,9 +11,8 @@ use Rattle.stock_round.specs.Deals.{has_acted, no_deals, with_deal}
 use Rattle.stock_round.specs.Orders.{after_act, refusal_of}
 use Rattle.stock_round.specs.Standing.{after_standing_line}
 use Rattle.stock_round.specs.declared.deals.ShareDeals.{ShareDeals}
-use Rattle.tables.specs.Turns.{Play}
 use Rattle.tables.specs.declared.seat.Seat.{Seat}
-use Rattle.turns.specs.RoundOfTurns.{RoundRules, in_turn, turns_of}
+use Rattle.turns.specs.RoundOfTurns.{RoundRules, in_turn}
 use Rattle.turns.specs.RoundOfTurns as turns
 use Rattle.turns.specs.Ruling.{after_ruling as turn_ruled, has_place_in_turn, line_ruling}
 
@@ -51,7 +49,3 @@ stock_rules =
       over = λ events. false;
       closed = λ seats events. closed events;
     }
-
--- the turns of a stock round
-abbrev pub stock_turns : ℕ → Play (List Event) Numbered
-stock_turns seats = turns_of stock_rules seats

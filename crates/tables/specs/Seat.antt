@@ -20,7 +20,3 @@ left_of seats seat = if nat_lt (seat.0 + 1) (min seats 256) then seat_at (seat.0
 abbrev pub seats_from : ℕ → ℕ → Seat → List Seat
 seats_from seats zero seat = []
 seats_from seats (suc count) seat = seat ∷ seats_from seats count (left_of seats seat)
-
--- all seats of a table, each at the left of the one before, beginning with this one
-abbrev pub round_the_table : ℕ → Seat → List Seat
-round_the_table seats seat = seats_from seats seats seat

@@ -1,5 +1,5 @@
 -- The totals that a reader is lent, if there are any.
-use Rattle.std.proofs.Common.{◌≡◌, List, [], ◌∷◌, Bor, Option, Some, None, length, refl, ap, subst, arith}
+use Rattle.std.proofs.Common.{◌≡◌, List, [], ◌∷◌, Bor, Option, Some, None, length, refl, subst, arith}
 use Rattle.std.specs.Prelude.{MatchOption}
 use Rattle.events.specs.declared.event.Event.{Event}
 use Rattle.totals.specs.Totals.{AreTotalsOf}
@@ -20,12 +20,6 @@ pub are_lent :
     ((all : Bor Totals) → totals ≡ Some all → AreTotalsOf all.now events) → AreLent totals events
 are_lent None events empty kept = none_in events (empty refl)
 are_lent (Some all) events empty kept = kept all refl
-
--- and the other way round
-pub lent_empty : (totals : Option (Bor Totals)) (events : List Event) → AreLent totals events → totals ≡ None
-    → length events ≡ 0
-lent_empty None events lent is = ap length lent
-lent_empty (Some all) events lent is = absurd cc
 
 pub lent_kept :
     (totals : Option (Bor Totals)) (events : List Event) → AreLent totals events → (all : Bor Totals)

@@ -1,6 +1,6 @@
 -- What the ruling of a line says of its order.
 use Rattle.std.proofs.Common.{◌≡◌, ℕ, Bool, true, false, if◌then◌else◌, Option, Some, None, option_map, List, Result}
-use Rattle.std.proofs.Common.{Ok, Err, refl, subst}
+use Rattle.std.proofs.Common.{Ok, Err, refl}
 use Rattle.events.specs.declared.event.Event.{Event}
 use Rattle.events.specs.declared.ruling.Refusal.{Refusal}
 use Rattle.events.specs.declared.ruling.Refusal.TheVariants as refusal
@@ -14,7 +14,7 @@ use Rattle.order_grammar.specs.declared.order.Order.{Order}
 use Rattle.sheets.specs.Part.{Numbered}
 use Rattle.tables.specs.declared.seat.Seat.{Seat}
 use Rattle.turns.specs.RoundOfTurns.{InTurn, in_turn}
-use Rattle.turns.specs.Ruling.{IsToDo, after_ruling, judged, line_ruling, obeyed_by, placed_ruling, recorded, ruling_of}
+use Rattle.turns.specs.Ruling.{after_ruling, judged, line_ruling, obeyed_by, placed_ruling, recorded, ruling_of}
 use Rattle.turns.specs.Ruling.{under}
 use Rattle.turns.specs.Small.{IsSmallOrder, IsSmallReading, IsSmallRuling}
 
@@ -44,12 +44,6 @@ pub small_ruling : (has_place : Order → Bool) (judgement : Order → Option Re
     IsSmallReading line.reading → IsSmallRuling (line_ruling has_place judgement events line)
 small_ruling has_place judgement events line small =
     small_ruling_of has_place (under events line.condition judgement) line.condition line.reading small
-
--- the order of a small line that is obeyed is small
-pub small_to_do : (has_place : Order → Bool) (judgement : Order → Option Refusal) (events : List Event)
-    (line : Numbered) (order : Order) →
-    IsToDo has_place judgement events line order → IsSmallReading line.reading → IsSmallOrder order
-small_to_do has_place judgement events line order to_do small = subst IsSmallReading to_do.read small
 
 -- a family's own rule is broken where it is as a refusal
 pub none_as_refusal : {Rule : Type 0} (refusal : Rule → Refusal) (broken : Option Rule)

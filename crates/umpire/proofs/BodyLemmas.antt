@@ -29,9 +29,6 @@ pub record AreBlank (file rest : List ℕ) : Type 0 where
   pub whole : file ≡ prefix ++ rest
   pub stays : file_in_two file ≡ prefix ++ file_in_two rest
 
-pub none_blank : (file : List ℕ) → AreBlank file file
-none_blank file = record { prefix = []; whole = refl; stays = refl }
-
 pub one_more_blank : (file text line rest : List ℕ) → AreBlank file text → FirstEnded text line rest
     → is_blank line ≡ true → AreBlank file rest
 one_more_blank file text line rest so_far first blank =
@@ -44,29 +41,6 @@ one_more_blank file text line rest so_far first blank =
       whole = so_far.whole ∙ ap (λ l. so_far.prefix ++ l) whole ∙ sym (append_assoc so_far.prefix more rest);
       stays = so_far.stays ∙ ap (λ l. so_far.prefix ++ l) stays
           ∙ sym (append_assoc so_far.prefix more (file_in_two rest));
-    }
-
--- the header line is reached
-pub at_header : (file text line : List ℕ) (lines : List (List ℕ)) → AreBlank file text → lines_of text ≡ line ∷ lines
-    → is_blank line ≡ false → IsFromHeader file text
-at_header file text line lines so_far are counts =
-    record {
-      prefix = so_far.prefix;
-      whole = so_far.whole;
-      stays = so_far.stays;
-      counts = λ other others e. let both : line ∷ lines ≡ other ∷ others = sym are ∙ e in let same : line ≡ other =
-          cc in rw (← same) counts;
-    }
-
--- there is none
-pub no_header : (file text : List ℕ) → AreBlank file text → text ≡ [] → IsFromHeader file text
-no_header file text so_far none =
-    record {
-      prefix = so_far.prefix;
-      whole = so_far.whole;
-      stays = so_far.stays;
-      counts = λ other others e. let wrong : ◌≡◌ {A = List (List ℕ)} [] (other ∷ others) =
-          ap lines_of (sym none) ∙ e in absurd (cc);
     }
 
 -- a file without a header line stays

@@ -12,17 +12,6 @@ use Rattle.umpire.proofs.Parts.{LeavesRest, prefix_of_part, none_of}
 pub gathers_none : (old : Option (List ℕ)) (before : List ℕ) → Gathers old old before before []
 gathers_none old before = record { done = []; whole = sym (append-nil before); appended = Appends-nil old }
 
--- a text is kept after what was gathered
-pub gathers_more : (old : Option (List ℕ)) (before after text : List ℕ) → after ≡ before ++ text
-    → Gathers old old before after text
-gathers_more old before after text is = record { done = []; whole = is; appended = Appends-nil old }
-
--- what was gathered is written
-pub gathers_written : (old new : Option (List ℕ)) (before after : List ℕ) → Appends old new before → after ≡ []
-    → Gathers old new before after []
-gathers_written old new before after written none =
-    record { done = before; whole = ap (λ l. before ++ l) none; appended = written }
-
 -- so is a text after it
 pub gathers_all : (old mid new : Option (List ℕ)) (before after text : List ℕ) → Appends old mid before → after ≡ []
     → Appends mid new text → Gathers old new before after text
@@ -45,12 +34,6 @@ gathers_both old mid new before between after first second a b =
           ∙ ap (λ l. l ++ second) a.whole ∙ append_assoc before first second;
       appended = Appends-trans old mid new a.done b.done a.appended b.appended;
     }
-
--- a text that was begun is written with what was gathered
-pub gathers_end : (old mid new : Option (List ℕ)) (after text : List ℕ) → Gathers old mid [] after text
-    → Appends mid new after → Appends old new text
-gathers_end old mid new after text gathered written =
-    rw (← gathered.whole) (Appends-trans old mid new gathered.done after gathered.appended written)
 
 -- a prefix of what is gathered, with what comes after it, is a prefix of the whole
 pub prefix_behind : (old mid new : Option (List ℕ)) (before between first second rest : List ℕ)
