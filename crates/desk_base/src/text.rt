@@ -19,7 +19,7 @@ pub enum Piece<'a> {
     Bytes(&'a [u8]),
     /// A number in digits.
     Number(Money),
-    /// How many there are, in digits.
+    /// How many there are, or the number of a line, of a side or of a rotation, in digits.
     Count(usize),
     /// A number at the right of a column of this many bytes.
     Right(usize, Money),

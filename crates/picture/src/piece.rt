@@ -19,7 +19,7 @@ pub enum PagePiece<'a> {
     Letter(u8),
     /// A number in digits.
     Number(Money),
-    /// How many there are, in digits.
+    /// How many there are, or the number of a line, of a side or of a rotation, in digits.
     Count(usize),
     /// A small number in digits, as a coordinate.
     At(i32),
