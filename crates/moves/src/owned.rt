@@ -48,7 +48,8 @@ fn push_private(
     }
 }
 
-/// Returns the least price at which a company may buy a private, in dollars: half of its face value.
+/// Returns the least price at which a company may buy a private, in dollars: half of its face
+/// value.
 pub fn least_price(private: Private) -> Amount
     ensures { result ≡ least_price_of private }
 {
