@@ -3,11 +3,11 @@ use Rattle.purchases.proofs.DiscardLemmas.{first_goes, first_later, none_goes}
 use Rattle.purchases.specs.Discard.{without_first}
 use Rattle.purchases.proofs.discard.remove_first.Goals as goal
 
-pub returns-then-is_kind : goal.returns-then-is_kind
-returns-then-is_kind c =
+pub returns-then-same_kind : goal.returns-then-same_kind
+returns-then-same_kind c =
     c.remove.ensures.items
     ∙ first_goes c.args.kind c.index.result.now c.loop-place.lines.items c.loop-place.place (omega arith)
-    c.index.ensures (sym c.is_kind.ensures ∙ c.if-is_kind.true) c.loop-place.invariant.kept
+    c.index.ensures (sym c.same_kind.ensures ∙ c.if-same_kind.true) c.loop-place.invariant.kept
     ∙ ap (without_first c.args.kind) c.loop-place.invariant.same
 
 pub loop-place-preserved : goal.loop-place-preserved
@@ -15,7 +15,7 @@ loop-place-preserved c =
     record {
       same = c.loop-place.invariant.same;
       kept = first_later c.args.kind c.index.result.now c.loop-place.lines.items c.loop-place.place (omega arith)
-          c.index.ensures (sym c.is_kind.ensures ∙ c.if-is_kind.false) c.loop-place.invariant.kept;
+          c.index.ensures (sym c.same_kind.ensures ∙ c.if-same_kind.false) c.loop-place.invariant.kept;
     }
 
 pub returns : goal.returns
