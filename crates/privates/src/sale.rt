@@ -1,4 +1,5 @@
-ghost use Rattle.std.specs.Prelude.{◌≡◌, ◌≤◌, ◌<◌, OnOk, Some, length, map};
+ghost use Rattle.std.specs.Prelude.{◌≡◌, ◌≤◌, ◌<◌, OnOk, Some, length, map, pos};
+ghost use Rattle.std.specs.Int.RustNames.{unsigned_abs};
 ghost use Rattle.events.specs.declared.event.Event.TheVariants as event;
 ghost use Rattle.totals.specs.Bids.{bids_on};
 ghost use Rattle.totals.specs.LookBack.{cheapest_of, with_event};
@@ -13,7 +14,7 @@ use crate::par_of_bo::par_set_by;
 use arrayvec::ArrayVec;
 use history::{Bid, Event, GameView, History};
 use std::alloc::AllocError;
-use tables::{Amount, Company, Money, PLAYERS_MOST, PRESIDENT_SHARES, Private, Seat, amount_of};
+use tables::{Amount, Company, Money, PLAYERS_MOST, PRESIDENT_SHARES, Private, Seat};
 
 /// Sells a private that is unsold to a seat that has its price, with what comes with the sale.
 pub(crate) fn sell(
@@ -186,7 +187,16 @@ fn sell_by_auction(history: &mut History, private: Private, bids: &[Bid]) -> Res
 {
     let bidders = bidders_of(&history.now(), private, bids);
     let won = auction(bidders.as_slice());
-    sell(history, private, won.0, amount_of(won.1))
+    sell(history, private, won.0, price_paid(won))
+}
+
+/// Returns what the winner of an auction pays, in dollars, at most 99,999.
+fn price_paid(won: (Seat, Money)) -> Amount
+    requires sum { pos (unsigned_abs won.1) ≡ won.1 }
+    requires small { unsigned_abs won.1 ≤ 99999 }
+    ensures { result ≡ unsigned_abs won.1 }
+{
+    won.1 as Amount
 }
 
 /// Returns those who bid on a private, each with a bid and a limit.

@@ -24,8 +24,8 @@ auction-won-requires-clause-limits c =
     c.bidders_of-bidders.ensures c.as_slice.ensures.value in
     subst LimitsHold (sym made) (limits_hold game.seats game.events c.args.private c.args.bids.now)
 
-pub amount_of-requires-clause-whole : goal.amount_of-requires-clause-whole
-amount_of-requires-clause-whole c =
+pub price_paid-requires-clause-sum : goal.price_paid-requires-clause-sum
+price_paid-requires-clause-sum c =
     let game = c.args.history.now in
     let made = same_bidders game c.args.private c.args.bids.now c.now.result.seats c.now.result.events.now
     c.bidders_of-bidders.result.items c.as_slice.result.now c.now.ensures.seats c.now.ensures.events
@@ -34,16 +34,15 @@ amount_of-requires-clause-whole c =
     c.auction-won.ensures c.requires.bids c.requires.two c.requires.cheapest c.requires.underway in
     pays.is_price
 
-pub amount_of-requires-clause-small : goal.amount_of-requires-clause-small
-amount_of-requires-clause-small c =
+pub price_paid-requires-clause-small : goal.price_paid-requires-clause-small
+price_paid-requires-clause-small c =
     let game = c.args.history.now in
     let made = same_bidders game c.args.private c.args.bids.now c.now.result.seats c.now.result.events.now
     c.bidders_of-bidders.result.items c.as_slice.result.now c.now.ensures.seats c.now.ensures.events
     c.bidders_of-bidders.ensures c.as_slice.ensures.value in
     let pays = payable game c.args.private c.args.bids.now c.as_slice.result.now c.auction-won.result made
     c.auction-won.ensures c.requires.bids c.requires.two c.requires.cheapest c.requires.underway in
-    let small = pays.small in
-    omega arith
+    pays.small
 
 pub sell-requires-clause-small : goal.sell-requires-clause-small
 sell-requires-clause-small c =
@@ -54,7 +53,7 @@ sell-requires-clause-small c =
     let pays = payable game c.args.private c.args.bids.now c.as_slice.result.now c.auction-won.result made
     c.auction-won.ensures c.requires.bids c.requires.two c.requires.cheapest c.requires.underway in
     let small = pays.small in
-    let price = c.amount_of.ensures in
+    let price = c.price_paid.ensures in
     omega arith
 
 pub sell-requires-clause-at_table : goal.sell-requires-clause-at_table
@@ -76,7 +75,7 @@ sell-requires-clause-may c =
     let pays = payable game c.args.private c.args.bids.now c.as_slice.result.now c.auction-won.result made
     c.auction-won.ensures c.requires.bids c.requires.two c.requires.cheapest c.requires.underway in
     subst (λ (price : ℕ). MayPay game.seats game.events c.auction-won.result.0 c.args.private price)
-    (sym c.amount_of.ensures) pays.may
+    (sym c.price_paid.ensures) pays.may
 
 pub returns-clause-events : goal.returns-clause-events
 returns-clause-events c =
@@ -86,4 +85,4 @@ returns-clause-events c =
     c.bidders_of-bidders.ensures c.as_slice.ensures.value in
     subst (λ (events : List Event). OnOk c.sell.result (c.sell.new.history.events ≡ events))
     (auction_settles game c.args.private c.args.bids.now c.as_slice.result.now c.auction-won.result
-    c.amount_of.result made c.auction-won.ensures c.amount_of.ensures c.requires.two) c.sell.ensures.events
+    c.price_paid.result made c.auction-won.ensures c.price_paid.ensures c.requires.two) c.sell.ensures.events
