@@ -10,7 +10,7 @@ use history::History;
 use rounds::{End, Game, Play, Step};
 use sheets::Sheets;
 use std::alloc::{AllocError, Global};
-use tables::{Round, Seat};
+use tables::Round;
 
 /// A moment between two rounds of a game.
 #[derive(Clone, Copy)]
@@ -118,12 +118,7 @@ fn comes_next(play: &Play, asked: Round) -> bool {
                 end: End::Awaiting(round),
                 ..
             },
-        ) => round == asked && are_all_there(play.sheets(), &asked),
+        ) => round == asked && play.sheets().are_all_posted(&asked),
         _ => false,
     }
-}
-
-/// Returns whether each player has a sheet for a round.
-fn are_all_there(sheets: &Sheets, round: &Round) -> bool {
-    (0..sheets.seats()).all(|seat| sheets.sheet(Seat::at(seat), round).is_some())
 }

@@ -129,13 +129,11 @@ fn conclude(alloc: Global, history: &mut History, by: Operator) -> Result<(), Al
     ensures sound { OnOk result (IsSound history.new) }
 {
     if falls_short(history, by) {
-        history.record_event(Event::Bankrupt(by.president))?;
-        return Ok(());
+        return history.record_event(Event::Bankrupt(by.president));
     }
     let purchase = cheapest(&history.now());
     aid(history, by)?;
-    buy_train(alloc, history, by.company, purchase)?;
-    Ok(())
+    buy_train(alloc, history, by.company, purchase)
 }
 
 /// Pays what the company lacks with the president's money, if it lacks anything.

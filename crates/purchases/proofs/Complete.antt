@@ -1,7 +1,7 @@
 -- The trains of a kind that are with the bank, the pool and the companies are as many as there were
 -- at first until they rust, and none after.
 use Rattle.std.proofs.Common.{◌≡◌, ℕ, ◌<◌, Bool, true, false, ◌&&◌, List, [], ◌∷◌, ◌++◌, Option, None, unwrap_or, pos}
-use Rattle.std.proofs.Common.{◌-ℤ◌, refl, sym, ap, subst, ◌∙◌, arith}
+use Rattle.std.proofs.Common.{◌-ℤ◌, ℤ, refl, sym, ap, subst, ◌∙◌, arith}
 use Rattle.std.proofs.lemmas.Int.{ints}
 use Rattle.events.specs.Event.{phase_set, train_owner_place, train_moved}
 use Rattle.events.specs.declared.event.Event.{Event}
@@ -23,6 +23,13 @@ use Rattle.tables.specs.declared.rolling_stock.Kind.TheVariants.{Two, Three, Fou
 pub there_is : (events : List Event) (kind : Kind) (number : ℕ)
     → trains_there events kind number ≡ pos number -ℤ trains_at events place.OutOfPlay kind
 there_is events kind number = omega (arith, ints, trains_stay events kind)
+
+-- as many are there where as many have left play
+pub as_many : (before after : List Event) (kind : Kind) (number : ℕ)
+    → trains_at after place.OutOfPlay kind ≡ trains_at before place.OutOfPlay kind
+    → trains_there after kind number ≡ trains_there before kind number
+as_many before after kind number out =
+    there_is after kind number ∙ ap (λ (left : ℤ). pos number -ℤ left) out ∙ sym (there_is before kind number)
 
 -- between a game and a later one the bank sells none of a kind, and none of it leaves play
 pub record Alike (kind : Kind) (before after : Game) : Type 0 where
@@ -116,25 +123,14 @@ sold_same events event kind none =
 pub others_keep_all : OthersKeepAll
 others_keep_all events event none no_phase all =
     let phase = phase_kept events event no_phase in
+    let still : (kind : Kind) (number : ℕ) → trains_there (events ++ event ∷ []) kind number
+    ≡ trains_there events kind number = λ kind number. as_many events (events ++ event ∷ []) kind number
+    (trains_at_before events event place.OutOfPlay kind none) in
     record {
-      until = λ kind number there stays. let was = all.until kind number there
-          (ap (λ p. has_come p (rusting_of kind)) (sym phase) ∙ stays) in omega (
-            arith,
-            ints,
-            there_is events kind number,
-            there_is (events ++ event ∷ []) kind number,
-            trains_at_before
-                events event place.OutOfPlay kind none,
-          );
-      after = λ kind number there gone. let was = all.after kind number there
-          (ap (λ p. has_come p (rusting_of kind)) (sym phase) ∙ gone) in omega (
-            arith,
-            ints,
-            there_is events kind number,
-            there_is (events ++ event ∷ []) kind number,
-            trains_at_before
-                events event place.OutOfPlay kind none,
-          );
+      until = λ kind number there stays. still kind number
+          ∙ all.until kind number there (ap (λ p. has_come p (rusting_of kind)) (sym phase) ∙ stays);
+      after = λ kind number there gone. still kind number
+          ∙ all.after kind number there (ap (λ p. has_come p (rusting_of kind)) (sym phase) ∙ gone);
       begun = λ later. subst (λ p. 0 < trains_sold (events ++ event ∷ []) p) (sym phase)
           (let was = all.begun (subst (λ p. 0 < index_of_kind p) phase later) in omega
           (arith, sold_same events event (phase_of events) none));

@@ -19,7 +19,7 @@ use Rattle.totals.specs.Trains.{IsThere, TrainsAreHeld, one_if, phase_of, train_
 use Rattle.totals.specs.Trains.{trains_sold}
 use Rattle.purchases.proofs.TrainLemmas.{may_buy, so}
 use Rattle.purchases.proofs.Complete.{Alike, alike_closed, alike_discarded, alike_on, alike_phase, alike_rusted}
-use Rattle.purchases.proofs.Complete.{there_is}
+use Rattle.purchases.proofs.Complete.{as_many, there_is}
 use Rattle.purchases.proofs.Held.{bought_held, purchase_held}
 use Rattle.purchases.proofs.Rust.{none_in_play}
 use Rattle.purchases.proofs.Sales.{between_sold, earlier_sold, is_bought, one_sold, sold_or_not}
@@ -28,7 +28,7 @@ use Rattle.purchases.proofs.TrainSteps.{of_phase, of_privates, of_train_owner, p
 use Rattle.purchases.specs.Phases.{rusts_at, with_kind_rusted, with_kind_rusted_at, with_limits_kept, with_phase}
 use Rattle.purchases.specs.Phases.{with_privates_closed, with_rusted}
 use Rattle.purchases.specs.Train.{begins_phase, bought, is_on_sale, train_judgement, train_purchase_rules}
-use Rattle.purchases.specs.TrainLaws.{PurchasesKeepAll, TrainsAreAll, has_come}
+use Rattle.purchases.specs.TrainLaws.{PurchasesKeepAll, TrainsAreAll, has_come, trains_there}
 use Rattle.purchases.specs.declared.train.TrainPurchase.{TrainPurchase}
 use Rattle.tables.proofs.Rules.{not_broken}
 use Rattle.tables.specs.Train.{kinds, index_of_kind, rusting_of, same_kind, trains_of}
@@ -245,6 +245,12 @@ latest_then game buyer purchase begins fair kind sold =
           ]
     ]
 
+-- a purchase takes none out of play
+there_as_before : (game : Game) (buyer : Company) (purchase : TrainPurchase) (kind : Kind) (number : ℕ)
+    → trains_there (bought game buyer purchase).events kind number ≡ trains_there game.events kind number
+there_as_before game buyer purchase kind number =
+    as_many game.events (bought game buyer purchase).events kind number (is_bought game buyer purchase kind).out
+
 -- where no phase begins
 no_phase : (game : Game) (buyer : Company) (purchase : TrainPurchase)
     → begins_phase game.events purchase.from purchase.kind ≡ false → IsFair game buyer purchase
@@ -252,23 +258,12 @@ no_phase : (game : Game) (buyer : Company) (purchase : TrainPurchase)
 no_phase game buyer purchase begins fair =
     let after = bought game buyer purchase in
     let phase = phase_bought game buyer purchase in
+    let still = there_as_before game buyer purchase in
     record {
-      until = λ kind number there stays. let was = fair.all.until kind number there
-          (ap (λ (p : Kind). has_come p (rusting_of kind)) (sym phase) ∙ stays) in omega (
-            arith,
-            ints,
-            there_is game.events kind number,
-            there_is after.events kind number,
-            (is_bought game buyer purchase kind).out,
-          );
-      after = λ kind number there gone. let was = fair.all.after kind number there
-          (ap (λ (p : Kind). has_come p (rusting_of kind)) (sym phase) ∙ gone) in omega (
-            arith,
-            ints,
-            there_is game.events kind number,
-            there_is after.events kind number,
-            (is_bought game buyer purchase kind).out,
-          );
+      until = λ kind number there stays. still kind number
+          ∙ fair.all.until kind number there (ap (λ (p : Kind). has_come p (rusting_of kind)) (sym phase) ∙ stays);
+      after = λ kind number there gone. still kind number
+          ∙ fair.all.after kind number there (ap (λ (p : Kind). has_come p (rusting_of kind)) (sym phase) ∙ gone);
       begun = λ later. let was = fair.all.begun (subst (λ (p : Kind). 0 < index_of_kind p) phase later) in subst
           (λ (p : Kind). 0 < trains_sold after.events p) (sym phase)
           (omega (arith, (is_bought game buyer purchase (phase_of game.events)).sold));
@@ -333,17 +328,10 @@ new_phase game buyer purchase begins fair =
       until = λ one number has stays.
           let stays_now : has_come kind (rusting_of one) ≡ false =
           ap (λ (p : Kind). has_come p (rusting_of one)) (sym phase) ∙ stays in
-          let was = fair.all.until one number has (never_come (phase_of game.events) kind (rusting_of one)
-          (omega arith) stays_now) in
-          omega (
-            arith,
-            ints,
-            there_is game.events one number,
-            there_is after.events one number,
-            (is_bought game buyer purchase one).out,
-            (phase_alike there kind one
-                (not_now kind (rusting_of one) stays_now)).out,
-          );
+          let alike = phase_alike there kind one (not_now kind (rusting_of one) stays_now) in
+          as_many there.events after.events one number alike.out ∙ there_as_before game buyer purchase one number
+          ∙ fair.all.until one number has (never_come (phase_of game.events) kind (rusting_of one) (omega arith)
+          stays_now);
       after = λ one number has gone.
           let gone_now : has_come kind (rusting_of one) ≡ true =
           ap (λ (p : Kind). has_come p (rusting_of one)) (sym phase) ∙ gone in
@@ -358,16 +346,10 @@ new_phase game buyer purchase begins fair =
                 let some = between_sold game kind (at_bank game buyer purchase kind fair bank refl) fair.held fair.all
                 before.0 before.1.1 in
                 let come = fair.all.latest before.0 some in
-                let was = fair.all.after one number has (ap (has_come (phase_of game.events)) before.1.0
-                ∙ grind (arith, nat_tests, come)) in
-                omega (
-                  arith,
-                  ints,
-                  there_is game.events one number,
-                  there_is after.events one number,
-                  (is_bought game buyer purchase one).out,
-                  (phase_alike there kind one stays).out,
-                )
+                as_many there.events after.events one number (phase_alike there kind one stays).out
+                ∙ there_as_before game buyer purchase one number
+                ∙ fair.all.after one number has (ap (has_come (phase_of game.events)) before.1.0
+                ∙ grind (arith, nat_tests, come))
           ];
       begun = λ some. subst (λ (p : Kind). 0 < trains_sold after.events p) (sym phase)
           (omega (

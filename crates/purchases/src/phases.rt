@@ -29,8 +29,7 @@ pub(crate) fn begin_phase(
     history.record_event(Event::Phase(phase))?;
     rust_kinds(history, phase)?;
     close_privates(history, phase)?;
-    keep_limits(alloc, history)?;
-    Ok(())
+    keep_limits(alloc, history)
 }
 
 /// Rusts the trains that the first train of a kind rusts.

@@ -5,6 +5,7 @@ use Rattle.std.proofs.Common.{◌≡◌, ℕ, zero, suc, List, [], ◌∷◌, So
 use Rattle.std.proofs.Common.{sym, ap, subst, ◌∙◌, inl, inr, ◌<◌, ◌≤◌, Bool, true, false, length}
 use Rattle.std.proofs.Common.{arith}
 use Rattle.totals.specs.LookBack.{Game, broken_in}
+use Rattle.market.specs.OperatingOrder.{next_company}
 use Rattle.operating.proofs.Calls.{broken_off, joined, no_more, once_more, silent}
 use Rattle.operating.proofs.TurnCalled.{turn_leads}
 use Rattle.operating.proofs.TurnLemmas.{seats_stay}
@@ -17,7 +18,7 @@ use Rattle.rounds.specs.GameCalls.{IsFinished, IsOpened, NextCalls, OperatingCal
 use Rattle.rounds.specs.GameCalls.{RoundCalls, SomeCalls, Stops, TurnsCall, between_after}
 use Rattle.rounds.specs.GameCalls.{ArePrefix, OneListOfCalls, RefusedCallsAreAPrefix}
 use Rattle.rounds.specs.OperatingRound.{IsOperatingRound, TakeTurns, TakesTurn, TurnsLead, finished}
-use Rattle.rounds.specs.OperatingRound.{next_company, opened}
+use Rattle.rounds.specs.OperatingRound.{opened}
 use Rattle.rounds.specs.Play.{AreRounds, Between, IsPlayed, IsRound, IsTheGame, IsToPlay, Played}
 use Rattle.rounds.specs.Play.{SomeGame, before_play, coming, end_of, in_set_before, goes_on}
 use Rattle.rounds.specs.declared.fault.PlayFault.{PlayFault}

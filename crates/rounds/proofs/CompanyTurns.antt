@@ -10,8 +10,8 @@ use Rattle.events.specs.declared.event.Event.{Event}
 use Rattle.totals.proofs.Choices.{same_company_is}
 use Rattle.totals.specs.LookBack.{bankrupt_in, Game, in_round, with_event}
 use Rattle.totals.specs.Operating.{has_operated, turn_said, rulings_in_round}
-use Rattle.market.specs.OperatingOrder.{IsOperatingOrder, operates, operating_order_of, times}
-use Rattle.rounds.specs.OperatingRound.{first_idle, next_company, CompaniesOperateOnce, EndsSoon}
+use Rattle.market.specs.OperatingOrder.{IsOperatingOrder, first_idle, next_company, operates, operating_order_of, times}
+use Rattle.rounds.specs.OperatingRound.{CompaniesOperateOnce, EndsSoon}
 use Rattle.rounds.specs.OperatingRound.{OneOperatingRound, TakeTurns, TakesTurn, TurnsLead}
 use Rattle.rounds.specs.OperatingRound.{finished, opened, IsOperatingRound, left_events, lines_left}
 use Rattle.tables.specs.Roster.{companies, same_company}

@@ -11,12 +11,12 @@ use Rattle.privates.specs.Turn.{all_sold}
 use Rattle.rounds.proofs.Coming.{OfNext, after_operating, follows, of_coming}
 use Rattle.rounds.proofs.InSet.{IsInSet, IsNextInSet, in_any_set}
 use Rattle.rounds.specs.Gifts.{GiftsWait}
-use Rattle.rounds.specs.Play.{Between, IsRound, all_posted}
+use Rattle.rounds.specs.Play.{Between, IsRound}
 use Rattle.rounds.specs.Sequence.{SequenceGoesForward, following, places_left, places_to_come}
 use Rattle.rounds.specs.Sequence.{turn_in_set}
 use Rattle.rounds.specs.declared.following.Next.{Next}
 use Rattle.rounds.specs.declared.following.Next.TheVariants as next
-use Rattle.sheets.specs.File.{players_of, sheet_of}
+use Rattle.sheets.specs.File.{all_posted, players_of, sheet_of}
 use Rattle.sheets.specs.Laws.{SheetsAreNumbered, number_of}
 use Rattle.tables.specs.Round.{number_most, operating_most, rank_of, stock_rank}
 use Rattle.tables.specs.declared.round.Round.{Round}

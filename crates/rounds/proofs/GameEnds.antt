@@ -21,12 +21,12 @@ use Rattle.tables.specs.declared.round.Round.TheVariants.{Opening, Stock, Operat
 use Rattle.std.proofs.lemmas.List.Folds.{list_any-append}
 use Rattle.events.specs.Event.{says_broken}
 use Rattle.events.specs.declared.event.Event.TheVariants as event
+use Rattle.market.specs.OperatingOrder.{first_idle}
 use Rattle.operating.specs.Laws.{TurnOnlyAdds}
 use Rattle.rounds.proofs.InOrder.{round_goes_on}
 use Rattle.rounds.proofs.OneGame.{stopped_stays}
 use Rattle.rounds.specs.Ends.{BankruptcyEndsGames, BrokenBankEndsSets, GamesEndOnce}
 use Rattle.rounds.specs.Ends.{NoSetAfterBroken, NoTurnAfterBankruptcy, NothingElseEndsGames}
-use Rattle.rounds.specs.OperatingRound.{first_idle}
 use Rattle.rounds.specs.declared.game.End.TheVariants.{Bank, Bankrupt}
 use Rattle.tables.specs.declared.roster.Company.{Company}
 use Rattle.std.proofs.lemmas.Bool.Decides.{nat_tests}

@@ -8,7 +8,7 @@ use Rattle.privates.specs.Opening.{IsOpeningRound}
 use Rattle.rounds.proofs.Coming.{comes_once}
 use Rattle.rounds.specs.OperatingRound.{OneOperatingRound}
 use Rattle.rounds.specs.Play.{AreRounds, Between, IsPlayed, IsRound, IsToPlay, OneGame, before_play}
-use Rattle.rounds.specs.Play.{coming, goes_on, in_set_before, Plays, SomeGame, all_posted}
+use Rattle.rounds.specs.Play.{coming, goes_on, in_set_before, Plays, SomeGame}
 use Rattle.rounds.specs.declared.following.Next.{Next}
 use Rattle.stock_round.specs.StockRound.{IsStockRound}
 use Rattle.tables.specs.declared.round.Round.{Round}
@@ -19,7 +19,7 @@ use Rattle.rounds.proofs.InSet.{IsNextInSet, first_is_in_set, round_in_set}
 use Rattle.rounds.specs.OperatingRound as operating
 use Rattle.rounds.specs.Sequence.{places_to_come}
 use Rattle.rounds.specs.declared.following.Next.TheVariants as next
-use Rattle.sheets.specs.File.{players_of}
+use Rattle.sheets.specs.File.{all_posted, players_of}
 use Rattle.sheets.specs.Laws.{SheetsAreNumbered, ThreeToSixPlay}
 use Rattle.stock_round.specs.StockRound as stock
 

@@ -18,14 +18,14 @@ use Rattle.operating.specs.Turn.{CompanyOrdersEnd, CompanyOrdersLead, begun}
 use Rattle.operating.specs.TurnEnd.{EndLeads}
 use Rattle.privates.specs.Turn.{opening_rules, all_sold}
 use Rattle.rounds.specs.OperatingRound as operating
-use Rattle.rounds.specs.Play.{Between, IsPlayed, IsRound, all_posted, before_play, goes_on}
+use Rattle.rounds.specs.Play.{Between, IsPlayed, IsRound, before_play, goes_on}
 use Rattle.rounds.specs.Play.{rounds_of_new_set, AreRounds}
 use Rattle.rounds.specs.ReadAlike.{ReadAlikeFor, AreReadAlike, SamePartsSameGame}
 use Rattle.rounds.specs.ReadAlike.{SameSheetsAreReadAlike}
 use Rattle.rounds.specs.declared.following.Next.{Next}
 use Rattle.rounds.specs.declared.following.Next.TheVariants as next
 use Rattle.sheets.specs.CompanyOrders.{company_orders_in}
-use Rattle.sheets.specs.File.{players_of}
+use Rattle.sheets.specs.File.{all_posted, players_of}
 use Rattle.sheets.specs.Part.{Numbered, Parts, written_turns_of, lines_in, parts_of}
 use Rattle.sheets.specs.Taken.{after_all_before, after_each, after_lines_before}
 use Rattle.stock_round.specs.Turn.{stock_rules}

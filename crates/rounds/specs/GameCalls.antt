@@ -3,10 +3,11 @@
 -- fails, play is broken off.
 use Rattle.std.specs.Prelude.{◌≡◌, ℕ, false, List, Some, None, Result, Ok, Err}
 use Rattle.totals.specs.LookBack.{Game}
+use Rattle.market.specs.OperatingOrder.{next_company}
 use Rattle.operating.specs.Calls.{Call, Course, IsPrefix, Named, SomeTimesThen, Then, Unasked}
 use Rattle.operating.specs.TurnCalls.{TurnCalls}
 use Rattle.rounds.specs.Faults.{fault_in_turn}
-use Rattle.rounds.specs.OperatingRound.{finished, next_company, opened}
+use Rattle.rounds.specs.OperatingRound.{finished, opened}
 use Rattle.rounds.specs.Play.{Between, IsPlayed, IsTheGame, IsToPlay, Played, before_play, coming, end_of, goes_on}
 use Rattle.rounds.specs.Play.{in_set_before}
 use Rattle.rounds.specs.declared.fault.PlayFault.{PlayFault}

@@ -3,15 +3,14 @@
 -- it says how many lines of each sheet were not taken up. The next company is the first in
 -- operating order, as that is at the time, of those that have not operated in the round. The round
 -- is over once there is none, or a president is bankrupt.
-use Rattle.std.specs.Prelude.{◌≡◌, ℕ, ◌-◌, ◌≤◌, not, true, false, if◌then◌else◌, List, [], ◌∷◌, ◌++◌, length, find}
-use Rattle.std.specs.Prelude.{Option, Some, None}
+use Rattle.std.specs.Prelude.{◌≡◌, ℕ, ◌-◌, ◌≤◌, true, false, List, [], ◌∷◌, ◌++◌, length, Some, None}
 use Rattle.std.specs.List.{range_with_len}
 use Rattle.events.specs.declared.event.Event.{Event}
 use Rattle.events.specs.declared.event.Event.TheVariants as event
 use Rattle.totals.specs.LookBack.{Game, bankrupt_in}
-use Rattle.totals.specs.Operating.{has_operated, rulings_in_round}
+use Rattle.totals.specs.Operating.{rulings_in_round}
 use Rattle.history.specs.Record.{revenues_recorded, with_left}
-use Rattle.market.specs.OperatingOrder.{operates, operating_order_of, times}
+use Rattle.market.specs.OperatingOrder.{next_company, operates, times}
 use Rattle.purchases.specs.Standing.{after_standing}
 use Rattle.operating.specs.Turn.{IsCompanyTurn}
 use Rattle.sheets.specs.Part.{lines_in, parts_for}
@@ -28,14 +27,6 @@ opened file round old =
       events =
           after_standing old.seats file round (old.events ++ event.Round round ∷ []);
     })
-
--- the first company in operating order that has not operated in the round
-abbrev pub first_idle : List Event → Option Company
-first_idle events = find (λ company. not (has_operated events company)) (operating_order_of events)
-
--- the company whose turn it is: that one; none once a president is bankrupt
-abbrev pub next_company : List Event → Option Company
-next_company events = if bankrupt_in events then None else first_idle events
 
 -- a company takes its turn as the next
 pub record TakesTurn (file : List ℕ) (round : Round) (company : Company) (old new : Game) : Type 0 where

@@ -1,8 +1,7 @@
 -- The one game of a file: whole rounds in their sequence, each with a sheet of every seat. It goes
 -- on until a seat has none for the next round, the sequence has ended since the bank is broken, or
 -- a president is bankrupt.
-use Rattle.std.specs.Prelude.{◌≡◌, ℕ, zero, suc, Bool, true, false, if◌then◌else◌, List, [], length, is_some}
-use Rattle.std.specs.List.{list_all, range_with_len}
+use Rattle.std.specs.Prelude.{◌≡◌, ℕ, zero, suc, Bool, true, false, if◌then◌else◌, List, [], length}
 use Rattle.events.specs.declared.event.Event.{Event}
 use Rattle.totals.specs.LookBack.{Game, bankrupt_in, broken_in}
 use Rattle.totals.specs.Trains.{phase_of}
@@ -14,7 +13,7 @@ use Rattle.rounds.specs.declared.following.Next.{Next}
 use Rattle.rounds.specs.declared.following.Next.TheVariants as next
 use Rattle.rounds.specs.declared.game.End.{End}
 use Rattle.rounds.specs.declared.game.End.TheVariants.{Awaiting, Bank, Bankrupt}
-use Rattle.sheets.specs.File.{IsAccepted, sheet_of, players_of}
+use Rattle.sheets.specs.File.{IsAccepted, all_posted, players_of}
 use Rattle.stock_round.specs.StockRound.{IsStockRound}
 use Rattle.tables.specs.Train.{rounds_in_set_of}
 use Rattle.tables.specs.declared.round.Round.{Round}
@@ -50,11 +49,6 @@ before_play file =
       in_set = rounds_of_new_set [];
       next = next.Round (Opening 1);
     }
-
--- every seat has a sheet for the round
-abbrev pub all_posted : List ℕ → Round → Bool
-all_posted file round = list_all (λ seat. is_some (sheet_of file seat round))
-    (range_with_len 0 (length (players_of file)))
 
 -- a round comes next, and every seat has a sheet for it
 abbrev pub goes_on : List ℕ → Next → Bool

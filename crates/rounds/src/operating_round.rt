@@ -1,6 +1,4 @@
-ghost use Rattle.std.specs.Prelude.{◌≡◌, ◌++◌, ◌≤◌, [], IfErr, IfOk, OnOk, length, true};
-ghost use Rattle.events.specs.declared.event.Event.TheVariants as event;
-ghost use Rattle.totals.specs.LookBack.{with_event};
+ghost use Rattle.std.specs.Prelude.{◌≡◌, ◌++◌, [], IfErr, IfOk, OnOk, length, true};
 ghost use Rattle.totals.specs.Shares.{is_floated};
 ghost use Rattle.history.specs.Sound.{IsSound};
 ghost use Rattle.history.specs.Record.{with_left};
@@ -9,14 +7,13 @@ ghost use Rattle.operating.specs.GameAndBoard.{IsLaidOut, game_on};
 ghost use Rattle.operating.specs.Turn.{IsCompanyTurn};
 ghost use Rattle.rounds.specs.Faults.{IsRefused};
 ghost use Rattle.rounds.specs.GameCalls.{CompanyCalls, OperatingCalls, TurnsCall};
-ghost use Rattle.rounds.specs.OperatingRound.{IsOperatingRound, TurnsLead, finished, first_idle, lines_left};
-ghost use Rattle.rounds.specs.OperatingRound.{next_company};
+ghost use Rattle.rounds.specs.OperatingRound.{IsOperatingRound, TurnsLead, finished, lines_left, opened};
 ghost use Rattle.sheets.specs.File.{players_of};
 
 use crate::fault::PlayFault;
 use history::{Event, History};
 use legal_runs::Runner;
-use market::operating_order;
+use market::next_company;
 use operating::{GameAndBoard, play_on};
 use purchases::rule_standing_lines;
 use sheets::Sheets;
@@ -44,22 +41,22 @@ pub(crate) fn play_operating<R: Runner>(
     ensures refuses { IfErr result (λ fault. IsRefused fault → R.may_refuse ≡ true) }
 {
     let mut history = history;
-    begin(&mut history, round)?;
-    rule_standing_lines(&mut history, sheets, round)?;
-    history.record_revenues()?;
+    open(&mut history, sheets, round)?;
     let mut history = take_turns(alloc, history, sheets, round, runner)?;
     record_all_left(&mut history, sheets, round)?;
     Ok(history)
 }
 
-/// Records that the round begins.
-fn begin(history: &mut History, round: Round) -> Result<(), AllocError>
-    requires { IsSound history.old }
-    ensures event { OnOk result (history.new ≡ with_event history.old (event.Round round)) }
+/// Opens the round: the standing lines are ruled, and the privates pay their revenues.
+fn open(history: &mut History, sheets: &Sheets, round: Round) -> Result<(), AllocError>
+    requires sound { IsSound history.old }
+    requires seats { history.old.seats ≡ length (players_of sheets.now) }
+    ensures opened { OnOk result (history.new ≡ opened sheets.now round history.old) }
     ensures sound { OnOk result (IsSound history.new) }
 {
     history.record_event(Event::Round(round))?;
-    Ok(())
+    rule_standing_lines(history, sheets, round)?;
+    history.record_revenues()
 }
 
 /// Plays the turns of companies, until each that operates has had one, or a president is bankrupt.
@@ -116,28 +113,6 @@ fn take_turn<R: Runner>(
     }
 }
 
-/// Returns the company whose turn it is: the first in operating order that has not operated in the
-/// round; `None` once a president is bankrupt.
-fn next_company(history: &History) -> Option<Company>
-    ensures { result ≡ next_company history.now.events }
-{
-    if history.now().bankrupt() {
-        return None;
-    }
-    first_idle(history)
-}
-
-/// Returns the first company in operating order that has not operated in the round.
-fn first_idle(history: &History) -> Option<Company>
-    ensures { result ≡ first_idle history.now.events }
-{
-    operating_order(history)
-        .as_slice()
-        .iter()
-        .copied()
-        .find(|company| !history.now().has_operated(*company))
-}
-
 /// Records how many lines of each sheet were not taken up; heads of companies' orders do not count.
 fn record_all_left(history: &mut History, sheets: &Sheets, round: Round) -> Result<(), AllocError>
     requires { IsSound history.old }
@@ -169,6 +144,5 @@ fn record_left(
 {
     let lines = sheets.parts(seat, round).count() as usize;
     let left = lines.saturating_sub(history.now().rulings_in_round(seat));
-    history.record_left(seat, left as u32)?;
-    Ok(())
+    history.record_left(seat, left as u32)
 }

@@ -5,7 +5,7 @@ ghost use Rattle.operating.specs.Calls.{Makes};
 ghost use Rattle.rounds.specs.Faults.{IsRefused};
 ghost use Rattle.rounds.specs.GameCalls.{PlayedCalls};
 ghost use Rattle.rounds.specs.Gifts.{GiftsWait};
-ghost use Rattle.rounds.specs.Play.{IsPlayed, IsToPlay, all_posted, coming, end_of, goes_on, in_set_before};
+ghost use Rattle.rounds.specs.Play.{IsPlayed, IsToPlay, coming, end_of, goes_on, in_set_before};
 ghost use Rattle.rounds.specs.Play.{rounds_of_new_set};
 ghost use Rattle.rounds.specs.Sequence.{turn_in_set};
 ghost use Rattle.rounds.specs.Steps.{ComesNearer, ComesNext, IsOver, IsUnbroken, StepCalls, StepLeads, game_so_far};
@@ -27,7 +27,7 @@ use std::alloc::{AllocError, Global};
 use std::marker::Model;
 use std::mem;
 use stock_round::play_stock;
-use tables::{Round, Seat, rounds_in_set};
+use tables::{Round, rounds_in_set};
 
 /// What became of a step of play.
 #[derive(Clone, Copy, Debug, PartialEq, Eq)]
@@ -204,7 +204,7 @@ fn round_to_play(sheets: &Sheets, upcoming: Next) -> Option<Round>
         (λ round. IsToPlay sheets.now upcoming round) }
 {
     match upcoming {
-        Next::Round(round) if are_all_posted(sheets, round) => Some(round),
+        Next::Round(round) if sheets.are_all_posted(&round) => Some(round),
         _ => None,
     }
 }
@@ -279,11 +279,4 @@ fn in_set_before(history: &History, upcoming: Next, in_set: u8) -> u8
         Next::Round(Round::Stock(_)) => rounds_of_new_set(history),
         Next::Round(Round::Opening(_) | Round::Operating { .. }) | Next::Ended => in_set,
     }
-}
-
-/// Returns whether every seat has a sheet for a round.
-fn are_all_posted(sheets: &Sheets, round: Round) -> bool
-    ensures { result ≡ all_posted sheets.now round }
-{
-    (0..sheets.seats()).all(|seat| sheets.sheet(Seat(seat as u8), &round).is_some())
 }

@@ -4,7 +4,7 @@ use Rattle.std.specs.Prelude.{◌≡◌, ℕ, ◌==◌, ◌+◌, Bool, true, fal
 use Rattle.std.specs.Prelude.{◌∷◌, ◌++◌, length, codes, Option, Some, None, Result, Ok, Err, IsOk, take_while, is_some}
 use Rattle.std.specs.Prelude.{unwrap_or}
 use Rattle.std.specs.Option.{option_or}
-use Rattle.std.specs.List.{list_any}
+use Rattle.std.specs.List.{list_all, list_any, range_with_len}
 use Rattle.order_grammar.specs.Line.{reading_of}
 use Rattle.order_grammar.specs.Version.{reading_in}
 use Rattle.order_grammar.specs.Words.{words_of, first_of_words, same_word}
@@ -222,6 +222,11 @@ body_of file = body_in (content_of file)
 -- what the player of a seat last sent for a round: its lines
 unfoldable pub sheet_of : List ℕ → ℕ → Round → Option (List (List ℕ))
 sheet_of file seat round = sheet_in (players_of file) (body_of file) (sheet_key_at seat round)
+
+-- every seat has a sheet for the round
+abbrev pub all_posted : List ℕ → Round → Bool
+all_posted file round = list_all (λ seat. is_some (sheet_of file seat round))
+    (range_with_len 0 (length (players_of file)))
 
 -- the codes of the unread lines, in order
 unfoldable pub unread_of : List ℕ → List Fault

@@ -2,7 +2,8 @@ ghost use Rattle.std.specs.Prelude.{◌≡◌, ℕ, ◌≤◌, List, length, Mat
 ghost use Rattle.std.specs.Prelude.{slice_get, is_none, is_some, Err};
 ghost use Rattle.order_grammar.specs.Line.{reading_of};
 ghost use Rattle.sheets.specs.CompanyOrders.{company_orders_for};
-ghost use Rattle.sheets.specs.File.{Fails, IsAccepted, body_content, content_of, header_version, lines_content};
+ghost use Rattle.sheets.specs.File.{Fails, IsAccepted, all_posted, body_content, content_of, header_version};
+ghost use Rattle.sheets.specs.File.{lines_content};
 ghost use Rattle.sheets.specs.File.{players_content, players_of, seat_from, sheet_of, unread_of, version_in};
 ghost use Rattle.sheets.specs.File.{version_numbered, version_of};
 ghost use Rattle.sheets.specs.Part.{parts_for};
@@ -75,6 +76,13 @@ impl<'a> Sheets<'a> {
             round: *round,
         };
         self.sheets.get(&sheet_key)
+    }
+
+    /// Returns whether every seat has a sheet for a round.
+    pub fn are_all_posted(&self, round: &Round) -> bool
+        ensures { result ≡ all_posted self.now round.now }
+    {
+        (0..self.seats()).all(|seat| self.sheet(Seat::at(seat), round).is_some())
     }
 
     /// Returns the parts of the sheet of this seat for this round; there are none without a sheet.

@@ -40,14 +40,32 @@ pub fn play_round<T: TurnRules>(
     ensures round { IfOk result (λ new. IsRoundOfTurns T.rules sheets.now round history new) }
     ensures underway { IfOk result T.holds }
 {
-    let first = history.now().priority();
-    begin(rules, &mut history, round)?;
-    let mut unruled = rule_all_standing(rules, &mut history, sheets, round)?;
-    let unruled = unruled.as_mut_slice();
-    take_turns(rules, &mut history, first.index(), unruled)?;
-    rules.close(&mut history)?;
-    record_all_left(rules, &mut history, unruled)?;
+    play_whole(rules, &mut history, sheets, round)?;
     Ok(history)
+}
+
+/// Plays a round of turns in place.
+fn play_whole<T: TurnRules>(
+    rules: &T,
+    history: &mut History,
+    sheets: &Sheets,
+    round: Round,
+) -> Result<(), AllocError>
+    requires sound { IsSound history.old }
+    requires seats { history.old.seats ≡ length (players_of sheets.now) }
+    requires may_begin { T.may_begin history.old.events }
+    ensures round { OnOk result
+        (IsRoundOfTurns T.rules sheets.now round history.old history.new) }
+    ensures underway { OnOk result (T.holds history.new) }
+{
+    let first = history.now().priority();
+    begin(rules, history, round)?;
+    let mut unruled = rule_all_standing(rules, history, sheets, round)?;
+    let unruled = unruled.as_mut_slice();
+    take_turns(rules, history, first.index(), unruled)?;
+    rules.close(history)?;
+    record_all_left(rules, history, unruled)?;
+    Ok(())
 }
 
 /// Records that the round begins.

@@ -1,5 +1,6 @@
 -- The company buys, once its president has paid what it lacks, or the president is bankrupt.
 use Rattle.std.proofs.Common.{◌≡◌, None, ap, sym, subst, ◌∙◌}
+use Rattle.std.proofs.lemmas.Result.{on_ok_weaker}
 use Rattle.totals.specs.LookBack.{Game}
 use Rattle.forced_purchase.proofs.Cheapest.{forced_allowed}
 use Rattle.forced_purchase.proofs.Steps.{bankrupt_then, bought_then}
@@ -20,12 +21,12 @@ buy_train-requires-clause-may c =
 
 pub returns-then-falls_short-clause-after : goal.returns-then-falls_short-clause-after
 returns-then-falls_short-clause-after c =
-    bankrupt_then c.args.by c.args.history.now c.record_event.new.self
-    (sym c.falls_short.ensures ∙ c.if-falls_short.true) c.in_ok-record_event.ensures.ok
+    on_ok_weaker c.record_event.result (bankrupt_then c.args.by c.args.history.now c.record_event.new.self
+    (sym c.falls_short.ensures ∙ c.if-falls_short.true)) c.record_event.ensures.ok
 
 pub returns-clause-after : goal.returns-clause-after
 returns-clause-after c =
-    bought_then c.args.by c.args.history.now c.aid.new.history c.buy_train.new.history c.cheapest-purchase.result
-    (sym c.falls_short.ensures ∙ c.if-falls_short.false)
-    (c.cheapest-purchase.ensures.purchase ∙ ap cheapest c.now.ensures.events) c.in_ok-aid.ensures.after
-    c.in_ok-buy_train.ensures.after
+    on_ok_weaker c.buy_train.result (bought_then c.args.by c.args.history.now c.aid.new.history c.buy_train.new.history
+    c.cheapest-purchase.result (sym c.falls_short.ensures ∙ c.if-falls_short.false)
+    (c.cheapest-purchase.ensures.purchase ∙ ap cheapest c.now.ensures.events) c.in_ok-aid.ensures.after)
+    c.buy_train.ensures.after

@@ -4,32 +4,32 @@ use Rattle.sheets.specs.Part.{Parts, written_turns_of}
 use Rattle.tables.specs.declared.seat.Seat.{Seat}
 use Rattle.turns.proofs.Turns.{priority_within}
 use Rattle.turns.proofs.WholeRound.{whole_round}
-use Rattle.turns.proofs.playing.play_round.Goals as goal
+use Rattle.turns.proofs.playing.play_whole.Goals as goal
 
 pub take_turns-requires-clause-first : goal.take_turns-requires-clause-first
 take_turns-requires-clause-first g c =
-    let first : c.index.result ≡ (priority_of c.args.history.seats c.args.history.events).0 =
+    let first : c.index.result ≡ (priority_of c.args.history.now.seats c.args.history.now.events).0 =
     c.index.ensures.value ∙ ap (λ (s : Seat). s.0) (c.priority-first.ensures
     ∙ ap (λ (seats : ℕ). priority_of seats c.now.result.events.now) c.now.ensures.seats
-    ∙ ap (priority_of c.args.history.seats) c.now.ensures.events)
+    ∙ ap (priority_of c.args.history.now.seats) c.now.ensures.events)
     in
-    let each : length c.as_mut_slice-unruled.result.now ≡ c.args.history.seats =
+    let each : length c.as_mut_slice-unruled.result.now ≡ c.args.history.now.seats =
     ap (λ (unruled : List Parts). length unruled) c.as_mut_slice-unruled.ensures.value ∙ c.in_ok-unruled.ensures.each
     ∙ sym c.requires.seats
     in
-    let some : 0 < c.args.history.seats = let has = c.in_ok-unruled.ensures.some in let count =
+    let some : 0 < c.args.history.now.seats = let has = c.in_ok-unruled.ensures.some in let count =
     c.in_ok-unruled.ensures.each in let players = c.requires.seats in omega arith in
-    let within = priority_within c.args.history.seats c.args.history.events some in
+    let within = priority_within c.args.history.now.seats c.args.history.now.events some in
     omega arith
 
 pub returns-clause-round : goal.returns-clause-round
 returns-clause-round g c =
-    let first : c.index.result ≡ (priority_of c.args.history.seats c.args.history.events).0 =
+    let first : c.index.result ≡ (priority_of c.args.history.now.seats c.args.history.now.events).0 =
     c.index.ensures.value ∙ ap (λ (s : Seat). s.0) (c.priority-first.ensures
     ∙ ap (λ (seats : ℕ). priority_of seats c.now.result.events.now) c.now.ensures.seats
-    ∙ ap (priority_of c.args.history.seats) c.now.ensures.events)
+    ∙ ap (priority_of c.args.history.now.seats) c.now.ensures.events)
     in
-    whole_round g.T.TurnRules.rules c.args.sheets.now c.args.round c.args.history c.begin.new.history
+    whole_round g.T.TurnRules.rules c.args.sheets.now c.args.round c.args.history.now c.begin.new.history
     c.rule_all_standing.new.history c.take_turns.new.history c.close.new.history c.record_all_left.new.history
     c.index.result (map written_turns_of c.as_mut_slice-unruled.result.now) (map written_turns_of c.take_turns.new.unruled)
     c.requires.seats c.in_ok-begin.ensures.event c.in_ok-unruled.ensures.seats c.in_ok-unruled.ensures.events
