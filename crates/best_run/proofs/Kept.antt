@@ -17,6 +17,7 @@ use Rattle.best_run.specs.Moves.{state_by, total_after}
 use Rattle.best_run.specs.MovePath.{marks_in}
 use Rattle.best_run.proofs.Eased.{Eased, ease, freer_length}
 use Rattle.best_run.proofs.Freed.{Freed, Frees, HasLeft, free, freed}
+use Rattle.search_task.proofs.Chained.{set_at}
 use Rattle.search_task.proofs.Marks.{unused_most}
 use Rattle.best_run.proofs.Traced.{traced_both, traced_none}
 
@@ -158,6 +159,16 @@ pub set_held : (entries : List SearchState) (n : ℕ) (search_state : SearchStat
 set_held [] n search_state low = absurd (omega (arith, low))
 set_held (one ∷ entries) zero search_state low = refl
 set_held (one ∷ entries) (suc n) search_state low = set_held entries n search_state (omega (arith, low))
+
+-- once a state is put at a place, each place has what it had, or that state
+pub put_only : (search_state put : SearchState) (old : Found) (at place : ℕ) (entry : SearchState)
+    → put ≡ search_state → slice_get (set old.memo.items at put) place ≡ Some entry
+    → IsHeld old entry ⊎ (search_state ≡ entry)
+put_only search_state put old at place entry is there =
+    elim (set_at old.memo.items at place put entry there) [
+      | inl new ↦ inr (sym is ∙ new.1)
+      | inr before ↦ inl (place, before.1)
+    ]
 
 -- one that is held is held once more
 pub kept_twin : (search_state twin : SearchState) (old now new : Found) (place : ℕ) → IsKept search_state old now
