@@ -1,10 +1,12 @@
-use Rattle.std.proofs.Common.{◌≡◌, ◌≤◌, ◌+◌, ◌-◌, ℕ, ◌∷◌, drop, drop-cons, add-one, suc, pos, ap, refl, arith, Bool, List, sym, ◌∙◌, subst}
-use Rattle.legal_runs.specs.Fault.{named_steps}
-use Rattle.legal_runs.specs.Legal.{earned}
-use Rattle.legal_runs.specs.declared.claim.ClaimedRun.{ClaimedRun}
+-- Each run that is legal and earns no more than what is left takes one step of what is legal in turn.
+use Rattle.std.proofs.Common.{◌≡◌, ℕ, suc, ◌+◌, ◌-◌, ◌≤◌, Bool, List, ◌∷◌, drop, drop-cons, add-one, refl, sym, ap, subst}
+use Rattle.std.proofs.Common.{◌∙◌, arith}
 use Rattle.std.proofs.lemmas.Int.{to_z-of_z}
 use mir.Syntax.{w128}
+use Rattle.legal_runs.specs.Fault.{named_steps}
 use Rattle.legal_runs.specs.InTurn.{AreLegalInTurn}
+use Rattle.legal_runs.specs.Legal.{earned}
+use Rattle.legal_runs.specs.declared.claim.ClaimedRun.{ClaimedRun}
 use Rattle.legal_runs.proofs.in_turn.are_legal_in_turn.Goals as goal
 
 pub loop-run-init : goal.loop-run-init
@@ -24,10 +26,13 @@ loop-run-preserved g c =
     let steps = named_steps position c.run-item.result.run in
     let earns = earned position steps in
     let Legal : List Bool → ℕ → List ClaimedRun → Type 0 = AreLegalInTurn position c.args.company in
-    let is_next : drop c.loop-run.run-index c.args.claimed.now ≡ c.run-item.result ∷ later = drop-cons c.args.claimed.now c.loop-run.run-index c.run-item.result c.loop-run-test.true
+    let is_next : drop c.loop-run.run-index c.args.claimed.now ≡ c.run-item.result ∷ later =
+    drop-cons c.args.claimed.now c.loop-run.run-index c.run-item.result c.loop-run-test.true
     ∙ ap (λ (run : ClaimedRun). run ∷ drop (suc c.loop-run.run-index) c.args.claimed.now) (sym c.run-item.is)
     ∙ ap (λ (n : ℕ). c.run-item.result ∷ drop n c.args.claimed.now) (sym (add-one c.loop-run.run-index)) in
-    let left = kept.1 in let is = c.in-Ok.ensures.earns in let low = c.if-earns-left.true in
+    let left = kept.1 in
+    let is = c.in-Ok.ensures.earns in
+    let low = c.if-earns-left.true in
     let enough : earns ≤ kept.0 = grind arith in (
       kept.0 - earns,
       grind arith,
