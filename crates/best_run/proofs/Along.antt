@@ -26,7 +26,7 @@ use Rattle.best_run.proofs.Chunks.{over}
 use Rattle.search_task.proofs.Described.{among_place, place_among}
 use Rattle.search_task.specs.Marks.{Freer}
 use Rattle.best_run.proofs.Eased.{freer_none}
-use Rattle.search_task.proofs.Numbers.{crossed_fit, crossed_marks, crossed_misses, crossed_some}
+use Rattle.search_task.proofs.MarkedNumbers.{crossed_fit, crossed_marks, crossed_misses, crossed_some}
 use Rattle.search_task.proofs.Places.{below_next}
 use Rattle.best_run.proofs.Traced.{Leads, TakesFrom, traced_both, traced_none}
 use Rattle.search_task.proofs.Booleans.{both_are, both_first, both_second}

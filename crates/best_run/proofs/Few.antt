@@ -10,7 +10,7 @@ use Rattle.tables.specs.Train.{stops_of}
 use Rattle.tables.specs.declared.rolling_stock.Kind.{Kind}
 use Rattle.legal_runs.specs.Legal.{AreAtMost, AreDistinct, crossed, visited}
 use Rattle.legal_runs.proofs.Earning.{few_visited}
-use Rattle.legal_runs.proofs.Kept.{crossed_low}
+use Rattle.legal_runs.proofs.TallyOfWalk.{crossed_low}
 use Rattle.search_task.specs.Described.{most_of}
 use Rattle.search_task.specs.Fit.{BordersFit, unused}
 use Rattle.search_task.specs.Marks.{IsMarked}

@@ -22,7 +22,7 @@ use Rattle.best_run.specs.MovePath.{CanBeClaimed, marks_in, runs_of_marks, writt
 use Rattle.best_run.proofs.Complete.{CanFinish}
 use Rattle.search_task.proofs.Marked.{length_replicate}
 use Rattle.best_run.proofs.Branches.{Used}
-use Rattle.best_run.proofs.Runs.{finish_set}
+use Rattle.best_run.proofs.RunsOfSet.{finish_set}
 use Rattle.best_run.proofs.Sets.{Avoids, IsWithin}
 use Rattle.best_run.proofs.Sound.{RunsEarn, sound_from, two_at_least}
 

@@ -15,7 +15,7 @@ use Rattle.best_run.specs.declared.state.PartialRun.{PartialRun}
 use Rattle.best_run.specs.Ahead.{EndsAtMost, IsClosed, IsGoneOverFrom, LiesAhead, beyond, ends_by, goes_back, goes_on}
 use Rattle.best_run.specs.Ahead.{if_ending, if_passed, most_ahead, one_end, two_ends}
 use Rattle.search_task.specs.Fit.{IsFit, SegmentFits}
-use Rattle.best_run.specs.Last.{Counts, EndsThere}
+use Rattle.best_run.specs.EndStops.{Counts, EndsThere}
 use Rattle.best_run.specs.Moves.{Completes, Move, along, begin, between, can_take, go, left_after, marked_if}
 use Rattle.best_run.specs.Moves.{may_come, partial, pass, finish, total_after, turn, turned_back, using}
 use Rattle.best_run.specs.Moves.{with_run_finished}

@@ -13,7 +13,7 @@ use Rattle.best_run.specs.declared.value_ahead.Worth.{Worth}
 use Rattle.best_run.specs.Ahead.{HasPassed, HasRanked, HasTakenBack, IsLeast, IsWorth, beyond, goes_back, goes_on}
 use Rattle.best_run.specs.Ahead.{if_ending, if_passed, one_end, two_ends}
 use Rattle.search_task.specs.Fit.{BordersFit, IsFit}
-use Rattle.best_run.specs.Last.{Counts, CountsAsPassed, EarnsAhead, EndsThere, HasWorth, IsLast}
+use Rattle.best_run.specs.EndStops.{Counts, CountsAsPassed, EarnsAhead, EndsThere, HasWorth, IsLast}
 use Rattle.search_task.specs.Spots.{ends_in, node_at, value_in}
 use Rattle.search_task.specs.Crossed.{marked_all, misses}
 use Rattle.search_task.specs.Legs.{legs_at}

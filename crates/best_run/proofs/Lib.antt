@@ -3,7 +3,7 @@ pub mod Tried
 pub mod Places
 pub mod Ahead
 pub mod Eased
-pub mod Kept
+pub mod KeptStates
 pub mod Equal
 pub mod Beyond
 pub mod Hopeless
@@ -20,7 +20,7 @@ pub mod Split
 pub mod Branches
 pub mod Chunks
 pub mod Sets
-pub mod Runs
+pub mod RunsOfSet
 pub mod ReadPath
 pub mod Sound
 pub mod Greatest

@@ -49,7 +49,7 @@ use Rattle.best_run.proofs.Prefix.{Holds, onto}
 use Rattle.best_run.proofs.Branches.{AreOne, Used, begun_tells, one_turned}
 use Rattle.best_run.proofs.Backwards.{Turned, walk_turned}
 use Rattle.best_run.proofs.Split.{such_canonical, such_later}
-use Rattle.best_run.proofs.Runs.{drop_first, drop_none}
+use Rattle.best_run.proofs.RunsOfSet.{drop_first, drop_none}
 use Rattle.best_run.proofs.Sets.{Avoids, IsSetFor}
 use Rattle.search_task.proofs.Booleans.{both_first, both_second}
 

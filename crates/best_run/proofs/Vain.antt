@@ -10,7 +10,7 @@ use Rattle.best_run.specs.declared.state.PartialRun.{PartialRun}
 use Rattle.best_run.specs.declared.value_ahead.Worth.{Worth}
 use Rattle.best_run.specs.declared.ways_on.WaysOn.{WaysOn}
 use Rattle.best_run.specs.Ahead.{EndsAtMost, IsClosed, LiesAhead, WidensAt, leads_on}
-use Rattle.best_run.specs.Last.{HasWorth}
+use Rattle.best_run.specs.EndStops.{HasWorth}
 use Rattle.best_run.specs.declared.memo.Found.{Found}
 use Rattle.best_run.specs.Moves.{Any, IsTurn, Tries, begin, can_take, finish, go, partial, pass}
 use Rattle.best_run.specs.Moves.{turn, turned_back}

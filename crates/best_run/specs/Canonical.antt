@@ -11,7 +11,7 @@ use Rattle.search_task.specs.declared.task.Leg.{Leg}
 use Rattle.best_run.specs.declared.canonical.InReach.{InReach}
 use Rattle.best_run.specs.Ahead.{LiesAhead, Widens, beyond, two_ends}
 use Rattle.search_task.specs.Marks.{Freer}
-use Rattle.best_run.specs.Kept.{IsBarred}
+use Rattle.best_run.specs.Memo.{IsBarred}
 use Rattle.search_task.specs.Spots.{ends_in, node_at, own_in, stop_in}
 use Rattle.search_task.specs.Crossed.{misses}
 use Rattle.search_task.specs.Legs.{IsListed, IsStop, legs_at}

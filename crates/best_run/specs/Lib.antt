@@ -2,11 +2,11 @@ pub mod MovePath
 pub mod Moves
 pub mod Suffix
 pub mod Ahead
-pub mod Kept
+pub mod Memo
 pub mod Canonical
 pub mod Kinds
-pub mod Last
-pub mod Answer
+pub mod EndStops
+pub mod Revenue
 pub mod Keeping
 pub mod Room
 pub mod Extend

@@ -8,7 +8,7 @@ use Rattle.best_run.specs.declared.state.Assigned.{Assigned}
 use Rattle.best_run.specs.declared.state.PartialRun.{PartialRun}
 use Rattle.best_run.specs.declared.ways_on.WaysOn.{WaysOn}
 use Rattle.best_run.specs.Ahead.{EndsAtMost, LiesAhead, most_ahead}
-use Rattle.best_run.specs.Last.{Counts}
+use Rattle.best_run.specs.EndStops.{Counts}
 use Rattle.best_run.specs.Moves.{along, can_take, turned_back, using}
 use Rattle.best_run.specs.Suffix.{ArePrunedByCap, EarnAtMost}
 use Rattle.search_task.specs.Legs.{legs_at}

@@ -3,7 +3,7 @@
 ghost use Rattle.std.specs.Prelude.{◌≡◌, ℕ, ◌<◌, ◌≤◌, IsTrue, Some, false, get_or, length, set, true};
 ghost use Rattle.best_run.specs.Ahead.{IsWorth};
 ghost use Rattle.search_task.specs.Fit.{IsFit};
-ghost use Rattle.best_run.specs.Last.{CountsAsPassed, CrossIt, HasWorth, IsLast};
+ghost use Rattle.best_run.specs.EndStops.{CountsAsPassed, CrossIt, HasWorth, IsLast};
 ghost use Rattle.search_task.specs.Spots.{ends_in, node_at};
 ghost use Rattle.search_task.specs.Legs.{AreReady, legs_at};
 

@@ -2,7 +2,7 @@ ghost use Rattle.std.specs.Prelude.{◌≡◌, ◌<◌, ◌≤◌, List, true, f
 ghost use Rattle.search_task.specs.declared.task.Node.{Node};
 ghost use Rattle.best_run.specs.Ahead.{IsWorth, WidensAt, WidensBack, WidensBy, WidensFrom, leads_on};
 ghost use Rattle.search_task.specs.Fit.{IsFit};
-ghost use Rattle.best_run.specs.Last.{HasWorth};
+ghost use Rattle.best_run.specs.EndStops.{HasWorth};
 ghost use Rattle.search_task.specs.Spots.{node_at, stop_in};
 ghost use Rattle.search_task.specs.Legs.{AreReady};
 

@@ -1,7 +1,7 @@
 //! What has been found, and which states have been explored. A state is not explored again if no
 //! more can be earned from it than from one of these.
 ghost use Rattle.std.specs.Prelude.{◌≡◌, ◌<◌, [], ◌∷◌, IsOk, IsTrue, None, length};
-ghost use Rattle.best_run.specs.Kept.{IsDominated, IsHeld, IsKept, IsNothing, unless_refused};
+ghost use Rattle.best_run.specs.Memo.{IsDominated, IsHeld, IsKept, IsNothing, unless_refused};
 ghost use Rattle.best_run.specs.Moves.{Traces};
 ghost use Rattle.best_run.specs.MovePath.{go_along};
 

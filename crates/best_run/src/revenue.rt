@@ -1,7 +1,7 @@
 ghost use Rattle.std.specs.Prelude.{◌≡◌, ◌-◌, ◌<◌, ◌≤◌, IfOk, length};
-ghost use Rattle.best_run.specs.Answer.{IsBest};
+ghost use Rattle.best_run.specs.Revenue.{IsBest};
 ghost use Rattle.search_task.specs.Fit.{IsFit};
-ghost use Rattle.best_run.specs.Kept.{IsNothing};
+ghost use Rattle.best_run.specs.Memo.{IsNothing};
 ghost use Rattle.best_run.specs.Moves.{Explores, between};
 ghost use Rattle.search_task.specs.Legs.{AreReady};
 ghost use Rattle.best_run.specs.Suffix.{AreBounds, IsSolved, IsTop, nothing_before};

@@ -1,6 +1,6 @@
 //! How far the search has come: states, as they are kept once they have been explored.
 ghost use Rattle.std.specs.Prelude.{◌≡◌, IsTrue};
-ghost use Rattle.best_run.specs.Kept.{DominatesAny, DominatesStage};
+ghost use Rattle.best_run.specs.Memo.{DominatesAny, DominatesStage};
 
 use crate::state::{Assigned, PartialRun};
 use search_task::mixed_with;

@@ -1,6 +1,6 @@
 ghost use Rattle.std.specs.Prelude.{◌≡◌, ◌+◌, ◌-◌, ◌*◌, ◌^◌, ◌<◌, ◌≤◌, IsTrue, false, length, true};
 ghost use Rattle.search_task.specs.Fit.{BordersFit, IsFit};
-ghost use Rattle.best_run.specs.Kept.{Dominates, DominatesRun, IsBarred, TurnsAs};
+ghost use Rattle.best_run.specs.Memo.{Dominates, DominatesRun, IsBarred, TurnsAs};
 ghost use Rattle.search_task.specs.Marks.{Freer};
 ghost use Rattle.best_run.specs.Moves.{along, begun, begun_by, can_take, left_after, may_come, may_earn, may_finish};
 ghost use Rattle.best_run.specs.Moves.{own_before, passed, with_run_finished, turned_back, using};

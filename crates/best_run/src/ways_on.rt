@@ -3,7 +3,7 @@
 ghost use Rattle.std.specs.Prelude.{◌≡◌, ℕ, ◌+◌, ◌<◌, ◌≤◌, IsTrue, List, false, length, replicate, true};
 ghost use Rattle.search_task.specs.declared.task.Node.{Node};
 ghost use Rattle.best_run.specs.Ahead.{EndsAtMost, IsClosed, IsWorth, goes_back, goes_on};
-ghost use Rattle.best_run.specs.Last.{EarnsAhead, HasWorth};
+ghost use Rattle.best_run.specs.EndStops.{EarnsAhead, HasWorth};
 ghost use Rattle.best_run.specs.Suffix.{AreBounds};
 ghost use Rattle.best_run.specs.WaysOn.{AreFound, AreWaysOn, IsLow, IsWayAdded, TurnsInVain};
 ghost use Rattle.search_task.specs.Fit.{IsFit};

@@ -1,5 +1,5 @@
 pub mod Index
-pub mod Kept
+pub mod KeptLinks
 pub mod Turn
 pub mod Powers
 pub mod LayRules

@@ -28,7 +28,7 @@ pub struct Board {
 impl Model for Board {
     ghost use Rattle.board_state.specs.MapState.{MapState};
     ghost use Rattle.board.specs.Index.{IsIndex};
-    ghost use Rattle.board.specs.Kept.{held};
+    ghost use Rattle.board.specs.KeptLinks.{held};
     ghost use Rattle.std.specs.Prelude.{map};
 
     ghost Value = { MapState };

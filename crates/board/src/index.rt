@@ -1,6 +1,6 @@
 ghost use Rattle.std.specs.Prelude.{◌≡◌, ◌+◌, ◌^◌, ◌<◌, [], Some, None, false, map, slice_index_or, slice_set};
 ghost use Rattle.board.specs.Index.{IsIndex, counting, holding, holder_order};
-ghost use Rattle.board.specs.Kept.{held};
+ghost use Rattle.board.specs.KeptLinks.{held};
 ghost use Rattle.map_tables.specs.Hex.{index_of};
 ghost use Rattle.map_tables.specs.Lay.{laid_links_of};
 ghost use Rattle.map_tables.specs.Place.{stop_of};

@@ -1,6 +1,6 @@
 //! The links of a hex, kept as a value that is copied.
 ghost use Rattle.std.specs.Prelude.{◌≡◌, ◌+◌, ◌++◌, ◌∷◌, ◌<◌, []};
-ghost use Rattle.board.specs.Kept.{held};
+ghost use Rattle.board.specs.KeptLinks.{held};
 
 use map_tables::{LINKS_MOST, Link, Links};
 

@@ -14,7 +14,7 @@ use Rattle.certificate.specs.Walked.{capped}
 use Rattle.certificate.specs.Walking.{AreCrossed, AreVisited, earned_from, is_none_left, still_left}
 use Rattle.certificate.specs.declared.tree.Group.{Group}
 use Rattle.reach.proofs.Collected.{none_marked}
-use Rattle.legal_runs.proofs.Kept.{mark_more}
+use Rattle.legal_runs.proofs.TallyOfWalk.{mark_more}
 
 -- a step that is entered at a border may reach a stop
 abbrev pub end_rank : TrackEnd → ℕ

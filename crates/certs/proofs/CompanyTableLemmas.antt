@@ -3,7 +3,7 @@ use Rattle.std.proofs.Common.{◌≡◌, ℕ, zero, suc, ◌+◌, ◌<◌, List,
 use Rattle.std.proofs.lemmas.Int.{ints}
 use Rattle.certs.proofs.RowLemmas.{bounded_of}
 use Rattle.certs.specs.CompanyTables.{AreSharesOf, IsRowOf}
-use Rattle.certs.specs.Rows.{IsBounded}
+use Rattle.certs.specs.ShareRow.{IsBounded}
 use Rattle.events.specs.declared.event.Event.{Event}
 use Rattle.events.specs.declared.event.Shareholder.TheVariants.{InitialOffering, BankPool, Seat as OfSeat}
 use Rattle.totals.specs.LookBack.{IsModerate}

@@ -4,7 +4,7 @@ use Rattle.std.proofs.Math.Seq.{drop-cons}
 use Rattle.std.proofs.lemmas.Int.{ints}
 use lib.IntN.{neg_ℤ}
 use Rattle.certs.specs.Counted.{certificates_in}
-use Rattle.certs.specs.Rows.{IsFew, IsSmall}
+use Rattle.certs.specs.ShareRow.{IsFew, IsSmall}
 use Rattle.tables.specs.Roster.{companies}
 use Rattle.tables.specs.declared.roster.Company.{Company}
 use Rattle.tables.specs.declared.roster.Company.TheVariants.{Pennsylvania}

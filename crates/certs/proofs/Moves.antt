@@ -5,7 +5,7 @@ use Rattle.std.proofs.lemmas.Bool.Decides.{nat_tests}
 use Rattle.std.proofs.lemmas.Int.{ints}
 use Rattle.std.proofs.lemmas.List.{get_or_past}
 use Rattle.certs.proofs.RowLemmas.{bounded_less, bounded_moved, entry_moved, entry_small, entry_taken, small_between}
-use Rattle.certs.specs.Rows.{IsBounded}
+use Rattle.certs.specs.ShareRow.{IsBounded}
 use mir.Syntax.{w128}
 use mir.Val.{SFits, of_z, to_z}
 

@@ -7,7 +7,7 @@ use Rattle.std.proofs.lemmas.Bool.Decides.{nat_tests}
 use Rattle.std.proofs.lemmas.Int.{ints}
 use Rattle.std.proofs.lemmas.List.{get_or-set_other, get_or-set_same, length-set}
 use Rattle.tables.proofs.Filled.{entry_changed}
-use Rattle.certs.specs.Rows.{IsBounded, IsSmall, total}
+use Rattle.certs.specs.ShareRow.{IsBounded, IsSmall, total}
 use Rattle.totals.specs.LookBack.{IsModerate}
 
 -- the sum of moderate entries

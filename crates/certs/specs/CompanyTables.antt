@@ -1,7 +1,7 @@
 -- What the events of a game say of its companies, in tables by the places of the companies. They
 -- have the shares at each place, the president as it was last said, and the square of the token.
 use Rattle.std.specs.Prelude.{◌≡◌, List, [], ℤ, pos, slice_index_or}
-use Rattle.certs.specs.Rows.{AreBounded, HasPlace, index_of}
+use Rattle.certs.specs.ShareRow.{AreBounded, HasPlace, index_of}
 use Rattle.certs.specs.declared.company_tables.CompanyTables.{CompanyTables}
 use Rattle.events.specs.declared.event.Event.{Event}
 use Rattle.events.specs.declared.event.Shareholder.{Shareholder}

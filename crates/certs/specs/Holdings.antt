@@ -1,7 +1,7 @@
 -- The holdings of a game: the shares of each company at each place, its president as it was last
 -- said, its square, and the owners of the privates. A transfer moves shares and nothing else.
 use Rattle.std.specs.Prelude.{◌≡◌, [], Option, Some, None, ℤ, pos, ◌+ℤ◌, ◌-ℤ◌, slice_index_or}
-use Rattle.certs.specs.Rows.{HasPlace, index_of}
+use Rattle.certs.specs.ShareRow.{HasPlace, index_of}
 use Rattle.certs.specs.declared.holdings.Holdings.{Holdings}
 use Rattle.events.specs.declared.event.Shareholder.{Shareholder}
 use Rattle.events.specs.declared.event.Transfer.{Transfer}

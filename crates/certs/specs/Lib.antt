@@ -1,4 +1,4 @@
-pub mod Rows
+pub mod ShareRow
 pub mod CompanyTables
 pub mod Holdings
 pub mod President

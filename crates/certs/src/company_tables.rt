@@ -1,6 +1,6 @@
 //! Tables of what a game says of its companies, as the totals of the game have it.
 ghost use Rattle.certs.specs.CompanyTables.{AreCompanyTablesOf, AreSharesOf, IsRowOf};
-ghost use Rattle.certs.specs.Rows.{AreBounded, IsBounded};
+ghost use Rattle.certs.specs.ShareRow.{AreBounded, IsBounded};
 
 use crate::share_places::Row;
 use history::{GameView, Shareholder};

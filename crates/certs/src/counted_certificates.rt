@@ -2,7 +2,7 @@
 ghost use Rattle.std.specs.Prelude.{◌≡◌, ◌≤◌, ◌+ℤ◌, ℤ, pos};
 ghost use Rattle.certs.specs.Counted.{certificates_by, certificates_in, certificates_now, certificates_of, counted_in};
 ghost use Rattle.certs.specs.Counted.{counted_of, counts_on, one_owned, presides, privates_owned};
-ghost use Rattle.certs.specs.Rows.{IsFew, IsSmall};
+ghost use Rattle.certs.specs.ShareRow.{IsFew, IsSmall};
 ghost use Rattle.totals.specs.LookBack.{owner_in};
 ghost use Rattle.tables.specs.Roster.{companies};
 ghost use Rattle.tables.specs.declared.roster.Company.{Company};

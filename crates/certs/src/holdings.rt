@@ -1,5 +1,5 @@
 ghost use Rattle.std.specs.Prelude.{◌≡◌, ◌≤ℤ◌, pos};
-ghost use Rattle.certs.specs.Rows.{AreBounded};
+ghost use Rattle.certs.specs.ShareRow.{AreBounded};
 ghost use Rattle.tables.specs.declared.roster.Company.{Company};
 
 use crate::company_tables::{CompanyTables, company_tables_of};

@@ -1,5 +1,5 @@
 ghost use Rattle.std.specs.Prelude.{◌≡◌, ◌<◌, ◌≤ℤ◌, pos, slice_index_or};
-ghost use Rattle.certs.specs.Rows.{IsBounded, IsMoved, IsTaken, index_of};
+ghost use Rattle.certs.specs.ShareRow.{IsBounded, IsMoved, IsTaken, index_of};
 ghost use Rattle.events.specs.declared.event.Shareholder.{Shareholder};
 
 use history::{ShareCount, Shareholder};

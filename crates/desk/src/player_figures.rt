@@ -4,7 +4,7 @@ ghost use Rattle.certs.specs.Counted.{counted_of};
 ghost use Rattle.events.specs.Event.{party_at};
 ghost use Rattle.totals.specs.Bids.{free_cash_of};
 ghost use Rattle.totals.specs.LookBack.{cash_of};
-ghost use Rattle.report.specs.Worth.{worth_of};
+ghost use Rattle.report.specs.EndWorth.{worth_of};
 
 use certs::Holdings;
 use history::{History, Party, ShareCount};

@@ -27,7 +27,7 @@ use Rattle.legal_runs.specs.Set.{RunsLegally, TrainRun}
 use Rattle.legal_runs.specs.declared.claim.ClaimedRun.{ClaimedRun}
 use Rattle.legal_runs.specs.declared.leg.Leg.{Leg}
 use Rattle.legal_runs.proofs.Counting.{no_more}
-use Rattle.legal_runs.proofs.Kept.{crossed_low}
+use Rattle.legal_runs.proofs.TallyOfWalk.{crossed_low}
 
 -- a border is crossed to enter a step at a side
 over_border : TrackEnd → ℕ

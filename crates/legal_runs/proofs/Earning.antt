@@ -15,7 +15,7 @@ use Rattle.reach.specs.declared.walk.WalkStep.{WalkStep}
 use Rattle.tables.specs.declared.rolling_stock.Kind.{Kind}
 use Rattle.tables.specs.declared.roster.Company.{Company}
 use Rattle.legal_runs.proofs.Joined.{distinct_borders, neither}
-use Rattle.legal_runs.proofs.Kept.{crossed_low, length_marked, marked_is}
+use Rattle.legal_runs.proofs.TallyOfWalk.{crossed_low, length_marked, marked_is}
 use Rattle.legal_runs.proofs.Lawful.{legal_where_unbroken}
 use Rattle.legal_runs.proofs.Written.{ordered, stop_to_stop}
 use Rattle.legal_runs.specs.Fault.{has_border_twice, is_taken, named_steps, steps_of}

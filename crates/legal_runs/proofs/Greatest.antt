@@ -14,7 +14,7 @@ use Rattle.legal_runs.proofs.Choosing.{choices, set_decided, set_there}
 use Rattle.legal_runs.proofs.Counting.{no_more}
 use Rattle.legal_runs.proofs.Earning.{few_visited, worth_low}
 use Rattle.legal_runs.proofs.Finite.{IsTop, top_of}
-use Rattle.legal_runs.proofs.Kept.{crossed_low}
+use Rattle.legal_runs.proofs.TallyOfWalk.{crossed_low}
 use Rattle.legal_runs.proofs.Marks.{among_both}
 
 -- the borders that the walks of some runs cross

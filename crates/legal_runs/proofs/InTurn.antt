@@ -23,7 +23,7 @@ use Rattle.legal_runs.specs.Set.{revenue_of, trains_that_run}
 use Rattle.legal_runs.specs.TwoTrain.{none_used}
 use Rattle.legal_runs.specs.declared.claim.Claim.{Claim}
 use Rattle.legal_runs.specs.declared.claim.ClaimedRun.{ClaimedRun}
-use Rattle.legal_runs.proofs.Kept.{crossed_used}
+use Rattle.legal_runs.proofs.TallyOfWalk.{crossed_used}
 use Rattle.legal_runs.proofs.Marks.{among_both}
 use Rattle.legal_runs.proofs.Sharing.{legal_by_marks, legal_over}
 

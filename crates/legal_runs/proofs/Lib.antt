@@ -1,7 +1,7 @@
 pub mod Tests
 pub mod Marks
 pub mod Along
-pub mod Kept
+pub mod TallyOfWalk
 pub mod Ruled
 pub mod Named
 pub mod Joined

@@ -17,7 +17,7 @@ use Rattle.map_tables.specs.declared.rules.RunRule.TheVariants.{NoTrack, WrongNu
 use Rattle.map_tables.specs.declared.rules.RunRule.TheVariants.{PassesFull, NoToken, RedInside}
 use Rattle.legal_runs.specs.declared.tally.Tally.{Tally}
 use Rattle.legal_runs.proofs.Along.{made_alike}
-use Rattle.legal_runs.proofs.Kept.{tally_keeps}
+use Rattle.legal_runs.proofs.TallyOfWalk.{tally_keeps}
 
 abbrev ruling : RunRule → Bool → Rule RunRule
 ruling code broken = record { code = code; broken = broken }

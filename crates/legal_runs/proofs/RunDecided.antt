@@ -25,7 +25,7 @@ use Rattle.reach.specs.declared.walk.WalkStep.{WalkStep}
 use Rattle.reach.proofs.Decided.{Decided}
 use Rattle.tables.specs.declared.roster.Company.{Company}
 use Rattle.legal_runs.proofs.Fewer.{fewer_free}
-use Rattle.legal_runs.proofs.Kept.{border_low}
+use Rattle.legal_runs.proofs.TallyOfWalk.{border_low}
 use Rattle.legal_runs.proofs.Named.{same_end}
 use Rattle.legal_runs.proofs.Tests.{has_token_is}
 use Rattle.legal_runs.proofs.TwoTrain.{leads_nowhere, leads_over, leads_over_none, leads_to_stop, over_leads}

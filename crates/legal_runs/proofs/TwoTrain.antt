@@ -32,7 +32,7 @@ use Rattle.legal_runs.specs.Marks.{marked}
 use Rattle.legal_runs.specs.TwoTrain.{CanRun, Continues, IsFree, LeadsOn, LeavesToken, crossing, crossing_end}
 use Rattle.legal_runs.specs.TwoTrain.{none_used, over_border}
 use Rattle.legal_runs.proofs.Borders.{faced}
-use Rattle.legal_runs.proofs.Kept.{crossed_low, length_marked}
+use Rattle.legal_runs.proofs.TallyOfWalk.{crossed_low, length_marked}
 use Rattle.legal_runs.proofs.RunReached.{flipped, flip_enters, flip_leaves, no_stop_across}
 
 -- a border is marked where it was crossed, and nowhere else

@@ -40,7 +40,7 @@ use Rattle.legal_runs.specs.Law.{AreItsPlaces, EachLegalRunIsNamed}
 use Rattle.legal_runs.specs.Written.{place_at, place_over, places_of, places_over}
 use Rattle.legal_runs.specs.declared.leg.Leg.{Leg}
 use Rattle.legal_runs.proofs.Counting.{no_more}
-use Rattle.legal_runs.proofs.Kept.{crossed_low}
+use Rattle.legal_runs.proofs.TallyOfWalk.{crossed_low}
 use Rattle.legal_runs.proofs.Named.{hex_found}
 
 -- what is found in a row and a column is there

@@ -9,7 +9,7 @@ use Rattle.std.proofs.lemmas.Int.{ints}
 use Rattle.std.specs.Int.Signed.{le_z}
 use Rattle.std.specs.List.{AllByRecursion, fold}
 use Rattle.board_state.specs.MapState.{position_of}
-use Rattle.legal_runs.proofs.Kept.{crossed_used}
+use Rattle.legal_runs.proofs.TallyOfWalk.{crossed_used}
 use Rattle.legal_runs.proofs.Marks.{among_both, eqb_not}
 use Rattle.legal_runs.proofs.Relabelled.{kind_is}
 use Rattle.legal_runs.proofs.Sharing.{legal_by_marks, legal_over}
@@ -36,7 +36,7 @@ use Rattle.operating.specs.CompanyOrders.{AskedLeads, LineLeads, LinesLead, Read
 use Rattle.operating.specs.MapState.{position_now, steps_now}
 use Rattle.operating.specs.Run.{judged_run, run_ruled}
 use Rattle.operating.specs.RunBest.{BestRuled, trains_now, with_those_held}
-use Rattle.operating.specs.Runs.{has_run, no_runs}
+use Rattle.operating.specs.CompletedRuns.{has_run, no_runs}
 use Rattle.operating.specs.TurnState.{TurnState, line_recorded}
 use Rattle.forced_purchase.specs.declared.operator.Operator.{Operator}
 use Rattle.operating.specs.declared.completed_runs.CompletedRun.{CompletedRun}

@@ -2,7 +2,7 @@
 -- none at first, a run that is obeyed adds its own, and no other order touches them.
 use Rattle.std.proofs.Common.{◌≡◌, ℕ, Bool, true, false, List, [], ◌∷◌, ◌++◌, Option, Some, None, Result, Ok, Err}
 use Rattle.std.proofs.Common.{length, replicate, zero, suc, refl, sym, subst, ap}
-use Rattle.legal_runs.proofs.Kept.{crossed_used}
+use Rattle.legal_runs.proofs.TallyOfWalk.{crossed_used}
 use Rattle.legal_runs.proofs.Sharing.{legal_by_marks}
 use Rattle.legal_runs.specs.Legal.{all_crossed, crossed}
 use Rattle.legal_runs.specs.Marks.{IsUsed, MarksAre}
@@ -15,7 +15,7 @@ use Rattle.operating.specs.LegalRuns.{LinesRun, ObeyedRunsAreLegal, walk_asked, 
 use Rattle.operating.specs.MapState.{steps_now}
 use Rattle.operating.specs.Run.{judged_run, run_ruled}
 use Rattle.operating.specs.RunBest.{BestRuled, best_judgement}
-use Rattle.operating.specs.Runs.{no_runs}
+use Rattle.operating.specs.CompletedRuns.{no_runs}
 use Rattle.operating.specs.Turn.{begun}
 use Rattle.operating.specs.TurnState.{TurnState}
 use Rattle.forced_purchase.specs.declared.operator.Operator.{Operator}

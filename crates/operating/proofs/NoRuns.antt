@@ -20,7 +20,7 @@ use Rattle.purchases.specs.Train.{has_trains}
 use Rattle.operating.specs.CompanyOrders.{AskedLeads, LinesLead, OrderLeads, ReadingLeads, is_held}
 use Rattle.operating.specs.Progress.{has_any_run}
 use Rattle.operating.specs.Run.{judged_run, run_ruled}
-use Rattle.operating.specs.Runs.{has_run, no_runs, with_ran}
+use Rattle.operating.specs.CompletedRuns.{has_run, no_runs, with_ran}
 use Rattle.operating.specs.Turn.{begun}
 use Rattle.operating.specs.TurnState.{TurnState}
 use Rattle.forced_purchase.specs.declared.operator.Operator.{Operator}

@@ -8,7 +8,7 @@ use Rattle.std.specs.Int.Signed.{le_z}
 use Rattle.std.specs.Option.{option_or}
 use mir.Syntax.{w128}
 use mir.Val.{of_z, to_z}
-use Rattle.legal_runs.proofs.Kept.{length_marked}
+use Rattle.legal_runs.proofs.TallyOfWalk.{length_marked}
 use Rattle.legal_runs.proofs.Lawful.{legal_where_unbroken}
 use Rattle.legal_runs.specs.Fault.{named_steps, run_fault, steps_of}
 use Rattle.legal_runs.specs.Law.{NameLegalRun, RunsEarnByBorders, unused}
@@ -20,7 +20,7 @@ use Rattle.map_tables.specs.declared.rules.RunRule.{RunRule}
 use Rattle.map_tables.specs.declared.rules.RunRule.TheVariants as run_rule
 use Rattle.operating.specs.MapState.{position_now, steps_now}
 use Rattle.operating.specs.Run.{broken_by, judged_run, ran_by, ran_unless, rules_of_turn, run_judgement}
-use Rattle.operating.specs.Runs.{IsBounded, IsCounted, RunsOfTurn, has_run, runs_most}
+use Rattle.operating.specs.CompletedRuns.{IsBounded, IsCounted, RunsOfTurn, has_run, runs_most}
 use Rattle.operating.specs.TurnState.{TurnState}
 use Rattle.operating.specs.declared.completed_runs.CompletedRun.{CompletedRun}
 use Rattle.reach.specs.Lawful.{IsLawful}

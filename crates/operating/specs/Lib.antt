@@ -1,6 +1,6 @@
 pub mod MapState
 pub mod GameAndBoard
-pub mod Runs
+pub mod CompletedRuns
 pub mod Progress
 pub mod TurnState
 pub mod CompanyTurn

@@ -8,7 +8,7 @@ use Rattle.board.specs.Turn.{place_of_step}
 use Rattle.board.specs.declared.turn.Asker.{Asker}
 use Rattle.board.specs.declared.turn.TurnStep.TheVariants as step
 use Rattle.map_tables.specs.declared.lay.Lay.{Lay}
-use Rattle.operating.specs.Runs.{no_runs, with_ran}
+use Rattle.operating.specs.CompletedRuns.{no_runs, with_ran}
 use Rattle.operating.specs.declared.progress.Progress.{Progress}
 use Rattle.operating.specs.declared.completed_runs.CompletedRun.{CompletedRun}
 

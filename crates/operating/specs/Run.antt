@@ -19,7 +19,7 @@ use Rattle.map_tables.specs.declared.rules.RunRule.{RunRule}
 use Rattle.map_tables.specs.declared.rules.RunRule.TheVariants as run_rule
 use Rattle.operating.specs.MapState.{position_now}
 use Rattle.operating.specs.Progress.{is_past_runs, run_done}
-use Rattle.operating.specs.Runs.{has_run}
+use Rattle.operating.specs.CompletedRuns.{has_run}
 use Rattle.operating.specs.TurnState.{TurnState, turn_state, line_recorded}
 use Rattle.operating.specs.declared.progress.Progress.{Progress}
 use Rattle.operating.specs.declared.completed_runs.CompletedRun.{CompletedRun}

@@ -30,7 +30,7 @@ pub(crate) struct Runs {
 
 /// In a contract it is the record of its fields.
 impl Model for Runs {
-    ghost use Rattle.operating.specs.Runs.{RunsOfTurn, IsBounded};
+    ghost use Rattle.operating.specs.CompletedRuns.{RunsOfTurn, IsBounded};
 
     ghost Value = { RunsOfTurn };
 
@@ -50,7 +50,7 @@ impl Model for Runs {
 }
 
 impl Runs {
-    ghost use Rattle.operating.specs.Runs.{IsCounted, has_run, no_runs, with_ran};
+    ghost use Rattle.operating.specs.CompletedRuns.{IsCounted, has_run, no_runs, with_ran};
     ghost use Rattle.std.specs.List.{list_any};
     ghost use Rattle.std.specs.Prelude.{◌≤◌, pos};
     ghost use lib.Signed.{lt_z};

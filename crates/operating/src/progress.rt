@@ -2,7 +2,7 @@ ghost use Rattle.std.specs.Prelude.{◌≡◌, ◌≤◌};
 ghost use Rattle.operating.specs.Progress.{at_start, best_done, has_any_run, is_past_pay};
 ghost use Rattle.operating.specs.Progress.{is_past_runs, is_unpaid, lay_done, pay_done, run_done};
 ghost use Rattle.operating.specs.Progress.{token_done};
-ghost use Rattle.operating.specs.Runs.{IsCounted};
+ghost use Rattle.operating.specs.CompletedRuns.{IsCounted};
 
 use crate::completed_runs::{CompletedRun, Runs};
 use board::{Asker, Board, TurnStep, is_dh_lay};

@@ -10,7 +10,7 @@ ghost use Rattle.history.specs.Sound.{IsSound};
 ghost use Rattle.operating.specs.CompanyTurn.{GoesOn, IsInOrder, state};
 ghost use Rattle.operating.specs.Run.{after_run, have_all_run, judged_run, ran_unless_fault};
 ghost use Rattle.operating.specs.Run.{rules_of_turn, run_ruled};
-ghost use Rattle.operating.specs.Runs.{IsCounted, has_run, runs_most};
+ghost use Rattle.operating.specs.CompletedRuns.{IsCounted, has_run, runs_most};
 ghost use Rattle.sheets.specs.Part.{line_with};
 ghost use Rattle.tables.specs.Rules.{first_broken};
 

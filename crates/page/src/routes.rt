@@ -1,6 +1,6 @@
 //! What the trains of each company ran in the last operating round that was played.
 ghost use Rattle.std.specs.Prelude.{◌≡◌, ◌++◌, [], ◌∷◌, IfOk, OnOk, map};
-ghost use Rattle.page.specs.Shown.{AddsBest, all_shown, claimed_by, place_of};
+ghost use Rattle.page.specs.ShownRuns.{AddsBest, all_shown, claimed_by, place_of};
 
 use crate::scene::look_at;
 use board::Board;

@@ -1,6 +1,6 @@
 //! What lies in the slots of cities, and the privates of hexes.
 ghost use Rattle.std.specs.Prelude.{◌≡◌, ◌<◌, ◌≤◌, ◌+◌, ◌++◌, length};
-ghost use Rattle.page.specs.Shown.{token_there, tokens_there};
+ghost use Rattle.page.specs.ShownRuns.{token_there, tokens_there};
 
 use arrayvec::ArrayVec;
 use board_state::{same_hex, same_stop};

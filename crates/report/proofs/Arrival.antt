@@ -23,7 +23,7 @@ use Rattle.report.specs.Report.{IsReport, IsReportOf, end_text, game_line, heade
 use Rattle.report.specs.Report.{report_text, rounds_in, rounds_text, texts_of_rounds, unread_lines}
 use Rattle.report.specs.Statement.{company_line, company_lines, line_on_square, player_line, player_lines}
 use Rattle.report.specs.Statement.{president_name, started_line, statement}
-use Rattle.report.specs.Worth.{worth_lines}
+use Rattle.report.specs.EndWorth.{worth_lines}
 use Rattle.rounds.specs.Play.{Between, end_of}
 use Rattle.rounds.specs.ReadAlike.{ReadAlikeFor, AreReadAlike, SamePartsSameGame, SameSheetsAreReadAlike}
 use Rattle.rounds.specs.declared.game.End.{End}

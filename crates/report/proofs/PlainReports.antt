@@ -11,7 +11,7 @@ use Rattle.order_grammar.specs.declared.condition.Version.{Version}
 use Rattle.order_grammar.specs.declared.condition.Version.TheVariants.{One}
 use Rattle.report.specs.Laws.{PlainReports, NamesNoCondition}
 use Rattle.report.specs.Report.{game_line, header, players_line}
-use Rattle.rounds.specs.Plain.{VersionOneIsRuledPlainly, is_plain}
+use Rattle.rounds.specs.PlainLines.{VersionOneIsRuledPlainly, is_plain}
 use Rattle.rounds.specs.Play.{IsTheGame, Played}
 use Rattle.sheets.specs.File.{players_of, version_of}
 

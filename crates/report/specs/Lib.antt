@@ -2,7 +2,7 @@
 pub mod Column
 pub mod Line
 pub mod Statement
-pub mod Worth
+pub mod EndWorth
 pub mod Report
 pub mod Parts
 pub mod Laws

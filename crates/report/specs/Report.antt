@@ -12,7 +12,7 @@ use Rattle.order_grammar.specs.declared.condition.Version.TheVariants.{One, Two}
 use Rattle.order_grammar.specs.declared.fault.Fault.{Fault}
 use Rattle.report.specs.Line.{event_line, line_of, name_of}
 use Rattle.report.specs.Statement.{statement}
-use Rattle.report.specs.Worth.{worth_lines}
+use Rattle.report.specs.EndWorth.{worth_lines}
 use Rattle.rounds.specs.Play.{Between, Played, Plays, end_of}
 use Rattle.rounds.specs.declared.game.End.{End}
 use Rattle.rounds.specs.declared.game.End.TheVariants.{Awaiting, Bank, Bankrupt}

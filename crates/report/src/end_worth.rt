@@ -2,8 +2,8 @@
 ghost use Rattle.std.specs.Prelude.{◌≡◌, ◌≤◌, ◌^◌, OnOk, length};
 ghost use Rattle.report.specs.Column.{Adds};
 ghost use Rattle.report.specs.Statement.{AreOwnersIn};
-ghost use Rattle.report.specs.Worth.{worth_line_at, worth_lines_at, worth_of, worth_of_all_shares, worth_of_private};
-ghost use Rattle.report.specs.Worth.{worth_of_privates, worth_of_shares};
+ghost use Rattle.report.specs.EndWorth.{worth_line_at, worth_lines_at, worth_of, worth_of_all_shares, worth_of_private};
+ghost use Rattle.report.specs.EndWorth.{worth_of_privates, worth_of_shares};
 ghost use Rattle.sheets.specs.File.{players_of};
 
 use crate::line::push_name;
@@ -16,7 +16,7 @@ use std::alloc::AllocError;
 use tables::{Amount, Company, Money, Private, Seat, face};
 
 /// Adds the line of what each player is worth.
-#[tactic(auto, unfolding(crate::specs::Worth::worth_lines))]
+#[tactic(auto, unfolding(crate::specs::EndWorth::worth_lines))]
 pub(crate) fn push_worths(
     out: &mut Vec<u8>,
     sheets: &Sheets,

@@ -19,7 +19,7 @@ use Rattle.totals.specs.LookBack.{owner_of}
 use Rattle.history.specs.Record.{after_revenues, breaks, paid_to_owner, with_broken}
 use Rattle.purchases.specs.PrivateLaws.{names_owner}
 use Rattle.purchases.specs.SaleLaws.{sells_to_company}
-use Rattle.rounds.specs.Plain.{is_plain}
+use Rattle.rounds.specs.PlainLines.{is_plain}
 use Rattle.tables.specs.Roster.{revenue_of}
 use Rattle.tables.specs.Steps.{iterate}
 use Rattle.tables.specs.declared.roster.Private.{Private}

@@ -14,7 +14,7 @@ use Rattle.rounds.proofs.Growing.{still_and_plain_is_aside}
 use Rattle.rounds.proofs.OpeningSteps.{AnyPrivate, AnySeat, OfOpening, of_act, of_close, of_opening}
 use Rattle.rounds.proofs.PlainRounds.{of_mapped, recorded_plain, ruled_plain, ruling_plain}
 use Rattle.rounds.proofs.PlainRounds.{AddsPlain}
-use Rattle.rounds.specs.Plain.{is_plain}
+use Rattle.rounds.specs.PlainLines.{is_plain}
 use Rattle.tables.specs.declared.roster.Private.{Private}
 use Rattle.tables.specs.declared.round.Round.{Round}
 use Rattle.tables.specs.declared.seat.Seat.{Seat}

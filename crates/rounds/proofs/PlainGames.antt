@@ -66,7 +66,7 @@ use Rattle.rounds.proofs.PlainRounds.{ArePlain, GrowsPlain, IsOfFamily, IsPlain,
 use Rattle.rounds.proofs.PlainRounds.{company_orders_plain, not_held, of_mapped, refused_plain}
 use Rattle.rounds.proofs.PlainRounds.{sheets_plain, by_round}
 use Rattle.rounds.proofs.StockGrows.{sale_grows, token_grows, stock_adds}
-use Rattle.rounds.specs.Plain.{is_plain, is_ruled_plainly, VersionOneIsRuledPlainly}
+use Rattle.rounds.specs.PlainLines.{is_plain, is_ruled_plainly, VersionOneIsRuledPlainly}
 use Rattle.sheets.specs.CompanyOrders.{company_orders_for}
 use Rattle.sheets.specs.Part.{Numbered}
 use Rattle.tables.specs.Seat.{all_seats}

@@ -18,7 +18,7 @@ use Rattle.order_grammar.specs.declared.fault.Fault.TheVariants.{OutOfPlace}
 use Rattle.order_grammar.specs.declared.order.Order.{Order}
 use Rattle.rounds.proofs.Growing.{◌⨾◌, GrowsBy, by_one_event, stays, in_either}
 use Rattle.operating.specs.CompanyOrders.{is_ruled_there}
-use Rattle.rounds.specs.Plain.{FamilyAloneJudges, is_plain, is_ruled_plainly}
+use Rattle.rounds.specs.PlainLines.{FamilyAloneJudges, is_plain, is_ruled_plainly}
 use Rattle.sheets.specs.CompanyOrders.{company_orders_for, company_orders_in, opens_orders_of}
 use Rattle.sheets.specs.File.{sheet_of, version_of}
 use Rattle.sheets.specs.Laws.{VersionOneIsPlain, plain, plain_parts}

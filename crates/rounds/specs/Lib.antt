@@ -12,7 +12,7 @@ pub mod Sets
 pub mod Trains
 pub mod Tiles
 pub mod Privates
-pub mod Plain
+pub mod PlainLines
 pub mod Ends
 pub mod GameCalls
 pub mod Steps

@@ -10,7 +10,7 @@ ghost use Rattle.rounds.specs.Example.{first_end, first_file, second_end, second
 ghost use Rattle.rounds.specs.GameCalls.{CallsAreOfTheGame, EachGameCalls, OneListOfCalls, RefusedCallsAreAPrefix};
 ghost use Rattle.rounds.specs.GameCalls.{SomeCalls};
 ghost use Rattle.rounds.specs.OperatingRound.{CompaniesOperateOnce, EndsSoon, OneOperatingRound};
-ghost use Rattle.rounds.specs.Plain.{FamilyAloneJudges, VersionOneIsRuledPlainly};
+ghost use Rattle.rounds.specs.PlainLines.{FamilyAloneJudges, VersionOneIsRuledPlainly};
 ghost use Rattle.rounds.specs.Play.{OneGame, Plays, SomeGame};
 ghost use Rattle.rounds.specs.Privates.{BidsRiseInEachGame, ClosedForGood, SellersAgreeInEachGame};
 ghost use Rattle.rounds.specs.ReadAlike.{SamePartsSameGame, SameSheetsAreReadAlike};

@@ -6,7 +6,7 @@ use Rattle.search_task.specs.Crossed.{IsShared, cleared_all, marked_all, misses,
 use Rattle.search_task.specs.Marks.{AreApart, AreBoth, AreOnly, Freer, IsMarked, IsOneOf}
 use Rattle.search_task.proofs.Marked.{cleared_fewer, cleared_here, free_misses, freer_marked, marks_more, misses_free}
 use Rattle.search_task.proofs.Marks.{length_marked}
-use Rattle.search_task.proofs.Numbers.{in_set, numbers_fit}
+use Rattle.search_task.proofs.MarkedNumbers.{in_set, numbers_fit}
 use Rattle.search_task.proofs.Words.{same_marks}
 use Rattle.search_task.proofs.Booleans.{not_both, same_bool}
 

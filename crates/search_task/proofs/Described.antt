@@ -21,7 +21,7 @@ use Rattle.tables.specs.declared.roster.Company.{Company}
 use Rattle.legal_runs.specs.Legal.{border_at}
 use Rattle.legal_runs.proofs.Written.{ordered, stop_to_stop}
 use Rattle.reach.proofs.Hexes.{index_low, side_low, stop_index_low}
-use Rattle.legal_runs.proofs.Kept.{border_low}
+use Rattle.legal_runs.proofs.TallyOfWalk.{border_low}
 use Rattle.search_task.specs.declared.task.Node.{Node}
 use Rattle.search_task.specs.declared.task.Segment.{Segment}
 use Rattle.search_task.specs.declared.task.Task.{Task}

@@ -3,7 +3,7 @@ pub mod Marks
 pub mod Places
 pub mod Words
 pub mod Crossings
-pub mod Numbers
+pub mod MarkedNumbers
 pub mod Departing
 pub mod Copied
 pub mod Chained

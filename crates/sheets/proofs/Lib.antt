@@ -3,7 +3,7 @@ pub mod PlayerLemmas
 pub mod BodyLemmas
 pub mod ReachLemmas
 pub mod PostLemmas
-pub mod Kept
+pub mod KeptSheets
 pub mod ContentLemmas
 pub mod LawLemmas
 pub mod AcceptedLemmas

@@ -12,7 +12,7 @@ use Rattle.umpire.proofs.VerifyLemmas.{judgement_answers}
 use Rattle.umpire.specs.Certified.{AreCertified, Certifies, CertifyGame}
 use Rattle.umpire.specs.Groups.{groups_of}
 use Rattle.umpire.specs.Laws.{ArePartedAgain}
-use Rattle.umpire.specs.Parting.{certificates_most, certificates_of, order_file_of}
+use Rattle.umpire.specs.InputSplit.{certificates_most, certificates_of, order_file_of}
 use Rattle.umpire.specs.ReadAgain.{AcceptsWhatWasWritten, AreReadAgain, CanBeWritten, CertifyingCanBeWritten}
 use Rattle.umpire.specs.ReadAgain.{IsReadAgain}
 use Rattle.umpire.specs.Verify.{AnswersGame, AnswersInput, HasAllGroups, HasGroup, HaveGroups}

@@ -7,7 +7,7 @@ use Rattle.std.specs.Prelude.{Bool, Some, None}
 use Rattle.std.specs.List.{AllByRecursion}
 use Rattle.sheets.specs.Text.{lines_from, lines_of, rest_of, without_return}
 use Rattle.umpire.specs.Laws.{BeginsAlone, PartsWhatWasJoined}
-use Rattle.umpire.specs.Parting.{certificates_of, from_divider, is_divider, order_file_of, without_newline}
+use Rattle.umpire.specs.InputSplit.{certificates_of, from_divider, is_divider, order_file_of, without_newline}
 use Rattle.umpire.proofs.PartingLemmas.{at_line, without_newline-last}
 
 -- the lines of a text are a line, and those of what follows it

@@ -11,7 +11,7 @@ use Rattle.tables.specs.declared.roster.Company.{Company}
 use Rattle.tables.specs.declared.round.Round.{Round}
 use Rattle.umpire.specs.Groups.{groups_of}
 use Rattle.umpire.specs.OneAnswer.{OneAnswer}
-use Rattle.umpire.specs.Parting.{certificates_of, order_file_of}
+use Rattle.umpire.specs.InputSplit.{certificates_of, order_file_of}
 use Rattle.umpire.specs.Verify.{AnswersContent, AnswersGame, HasAllGroups, HaveGroups, IsRefusal, LacksGroup}
 use Rattle.umpire.specs.Verify.{content_of_input, uncertified_line}
 use Rattle.umpire.specs.declared.fault.Fault.{Fault}

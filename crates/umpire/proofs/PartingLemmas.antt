@@ -11,7 +11,7 @@ use Rattle.order_grammar.specs.declared.fault.Fault.{Fault}
 use Rattle.order_grammar.specs.declared.order.Order.{Order}
 use Rattle.order_grammar.specs.declared.order.Order.TheVariants.{Certs}
 use Rattle.sheets.specs.Text.{lines_of, rest_of}
-use Rattle.umpire.specs.Parting.{is_divider, begin_with_divider, from_divider, says_certs, without_newline}
+use Rattle.umpire.specs.InputSplit.{is_divider, begin_with_divider, from_divider, says_certs, without_newline}
 
 -- a line of a certificate's text is read as an order exactly if it spells that
 abbrev CertLinesAreReadWhereSpelt : Type 0

@@ -32,7 +32,7 @@ use Rattle.order_grammar.proofs.SpellsLemmas.{read_spells}
 use Rattle.sheets.specs.Text.{lines_of}
 use Rattle.umpire.specs.Groups.{begins_group, group_begun, groups_in, groups_of, with_line, with_lines, with_reading}
 use Rattle.umpire.specs.Laws.{BeginsAlone}
-use Rattle.umpire.specs.Parting.{is_divider, says_certs}
+use Rattle.umpire.specs.InputSplit.{is_divider, says_certs}
 use Rattle.umpire.specs.ReadAgain.{AreReadAgain, CanBeWritten, IsReadAgain, ReadsBack}
 use Rattle.umpire.specs.Written.{certificates_text, claim_line, group_text, marks_lines, marks_lines_within, order_line}
 use Rattle.umpire.proofs.GroupLemmas.{raised_digits}

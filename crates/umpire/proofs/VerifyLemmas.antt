@@ -19,8 +19,8 @@ use Rattle.umpire.proofs.PartingLemmas.{found_within}
 use Rattle.umpire.proofs.Stopping.{stops_refused, stops_unread, stops_whole}
 use Rattle.umpire.specs.Failure.{AppendsPrefix}
 use Rattle.umpire.specs.Groups.{groups_of}
-use Rattle.umpire.specs.Parting.{certificates_most, certificates_of, file_before, from_divider, order_file_of}
-use Rattle.umpire.specs.Parting.{without_newline}
+use Rattle.umpire.specs.InputSplit.{certificates_most, certificates_of, file_before, from_divider, order_file_of}
+use Rattle.umpire.specs.InputSplit.{without_newline}
 use Rattle.umpire.specs.Rounds.{IsTextOfRounds, WritesAllRounds, WritesPrefixOfRounds}
 use Rattle.umpire.specs.Run.{IsCutShort, IsFileOf, IsReadFault, IsReported, IsWriteFault, Refuses}
 use Rattle.umpire.specs.Verify.{AnswersContent, AnswersGame, AnswersInput, HasAllGroups, IsAnswerCut, IsAnswered}

@@ -2,7 +2,7 @@
 use Rattle.std.specs.Prelude.{◌≡◌, false, true, List, ℕ, ◌∷◌, ◌++◌}
 use Rattle.std.specs.List.{AllByRecursion}
 use Rattle.sheets.specs.Text.{lines_of}
-use Rattle.umpire.specs.Parting.{certificates_of, is_divider, order_file_of}
+use Rattle.umpire.specs.InputSplit.{certificates_of, is_divider, order_file_of}
 
 -- a text in which only the first line divides
 pub record BeginsAlone (text : List ℕ) : Type 0 where

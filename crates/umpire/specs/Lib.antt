@@ -2,7 +2,7 @@ pub mod Watched
 pub mod Fault
 pub mod Failure
 pub mod Run
-pub mod Parting
+pub mod InputSplit
 pub mod Groups
 pub mod Verifier
 pub mod Written

@@ -8,7 +8,7 @@ use Rattle.order_grammar.specs.declared.order.Order.TheVariants.{Cert, Claim}
 use Rattle.sheets.specs.File.{IsAccepted}
 use Rattle.umpire.specs.Certified.{CertifyGame}
 use Rattle.umpire.specs.Groups.{groups_of}
-use Rattle.umpire.specs.Parting.{certificates_most}
+use Rattle.umpire.specs.InputSplit.{certificates_most}
 use Rattle.umpire.specs.Verify.{AnswersInput}
 use Rattle.umpire.specs.Written.{certificates_text}
 

@@ -22,7 +22,7 @@ use Rattle.tables.specs.declared.roster.Company.{Company}
 use Rattle.tables.specs.declared.round.Round.{Round}
 use Rattle.umpire.specs.Failure.{AppendsPrefix}
 use Rattle.umpire.specs.Groups.{groups_of}
-use Rattle.umpire.specs.Parting.{certificates_most, certificates_of, order_file_of}
+use Rattle.umpire.specs.InputSplit.{certificates_most, certificates_of, order_file_of}
 use Rattle.umpire.specs.Run.{IsFileOf, StopsBy}
 use Rattle.umpire.specs.declared.fault.Fault.{Fault}
 use Rattle.umpire.specs.declared.fault.Fault.TheVariants.{Read, Write, Memory, File, Certificate}

@@ -1,5 +1,5 @@
 ghost use Rattle.std.specs.Prelude.{◌≡◌, true, None, Some, MatchOption};
-ghost use Rattle.umpire.specs.Parting.{certificates_of, from_divider, is_divider, order_file_of, without_newline};
+ghost use Rattle.umpire.specs.InputSplit.{certificates_of, from_divider, is_divider, order_file_of, without_newline};
 
 use order_grammar::{Line, Order, begins_with_word, read_cert_line};
 use sheets::first_line;
@@ -53,7 +53,7 @@ fn from_divider(text: &[u8]) -> Option<&[u8]>
 
 /// Returns whether a line is `CERTS 1`, of at most 2,048 bytes. For most lines the first word
 /// decides, and they are not read further.
-#[tactic(auto, unfolding(crate::specs::Parting::is_divider))]
+#[tactic(auto, unfolding(crate::specs::InputSplit::is_divider))]
 fn is_divider(line: &[u8]) -> bool
     ensures { result ≡ is_divider line.now }
 {

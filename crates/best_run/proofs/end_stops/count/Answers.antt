@@ -1,6 +1,6 @@
 -- The run ends at the stop, or may pass it.
 use Rattle.std.proofs.Common.{◌≡◌, Bool, Some, List, sym, ap, subst, ◌∙◌, arith}
-use Rattle.best_run.specs.Last.{CountsAsPassed, HasWorth}
+use Rattle.best_run.specs.EndStops.{CountsAsPassed, HasWorth}
 use Rattle.search_task.specs.Spots.{ends_in, node_at}
 use Rattle.best_run.proofs.Beyond.{worth_low}
 use Rattle.best_run.proofs.Lasting.{has_ended, has_most, has_passing}

@@ -1,5 +1,5 @@
 -- The legs before the next one cross it.
-use Rattle.best_run.specs.Last.{CrossItBelow}
+use Rattle.best_run.specs.EndStops.{CrossItBelow}
 use Rattle.best_run.proofs.end_stops.cross_it.Given as goal
 
 abbrev pub invariant-loop-index : goal.invariant-loop-index

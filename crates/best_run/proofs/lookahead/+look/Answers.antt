@@ -6,7 +6,7 @@ use Rattle.best_run.specs.declared.lookahead.Outlook.{Outlook}
 use Rattle.search_task.specs.declared.task.Leg.{Leg}
 use Rattle.best_run.specs.Ahead.{WidensAt, WidensBelow, WidensFrom}
 use Rattle.search_task.specs.Fit.{unused}
-use Rattle.best_run.specs.Last.{CountsAsPassed, HasWorth}
+use Rattle.best_run.specs.EndStops.{CountsAsPassed, HasWorth}
 use Rattle.search_task.specs.Spots.{ends_in, node_at, stop_in}
 use Rattle.search_task.specs.Legs.{AreLegsOf, legs_at, legs_in}
 use Rattle.best_run.proofs.Ahead.{along_not, along_at, below_more, below_none, from_all, from_end, leads_free, at_from}

@@ -2,7 +2,7 @@
 use Rattle.std.proofs.Common.{◌≡◌, ◌+◌, ◌*◌, false}
 use Rattle.best_run.specs.Ahead.{WidensBelow}
 use Rattle.search_task.specs.Fit.{unused}
-use Rattle.best_run.specs.Last.{HasWorth}
+use Rattle.best_run.specs.EndStops.{HasWorth}
 use Rattle.best_run.proofs.lookahead.+look.Given as goal
 
 abbrev pub decreases-look_at : goal.decreases-look_at

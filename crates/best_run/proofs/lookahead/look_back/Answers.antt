@@ -4,7 +4,7 @@ use Rattle.std.proofs.lemmas.Option.{slice_get_read}
 use Rattle.best_run.specs.declared.lookahead.Outlook.{Outlook}
 use Rattle.search_task.specs.declared.task.Leg.{Leg}
 use Rattle.best_run.specs.Ahead.{WidensBackBelow}
-use Rattle.best_run.specs.Last.{HasWorth}
+use Rattle.best_run.specs.EndStops.{HasWorth}
 use Rattle.search_task.specs.Spots.{ends_in}
 use Rattle.search_task.specs.Legs.{AreLegsOf, legs_at, legs_in}
 use Rattle.best_run.proofs.Ahead.{back_all, back_end, back_more, back_none, back_skip}

@@ -1,6 +1,6 @@
 -- The legs before the next one are gone over, as far as the run may turn back by them.
 use Rattle.best_run.specs.Ahead.{WidensBackBelow}
-use Rattle.best_run.specs.Last.{HasWorth}
+use Rattle.best_run.specs.EndStops.{HasWorth}
 use Rattle.best_run.proofs.lookahead.look_back.Given as goal
 
 abbrev pub invariant-loop-index : goal.invariant-loop-index

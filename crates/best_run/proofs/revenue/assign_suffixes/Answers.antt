@@ -2,7 +2,7 @@
 use Rattle.std.proofs.Common.{sym, subst, arith}
 use Rattle.best_run.specs.Suffix.{AreBounds}
 use Rattle.best_run.proofs.Eased.{solved_more, solved_none}
-use Rattle.best_run.proofs.Kept.{empty_memo}
+use Rattle.best_run.proofs.KeptStates.{empty_memo}
 use Rattle.best_run.proofs.revenue.assign_suffixes.Goals as goal
 
 pub loop-count-init : goal.loop-count-init

@@ -10,7 +10,7 @@ use Rattle.legal_runs.specs.declared.claim.Claim.{Claim}
 use Rattle.legal_runs.specs.declared.claim.ClaimedRun.{ClaimedRun}
 use Rattle.legal_runs.proofs.Greatest.{order_of_trains}
 use Rattle.certificate.proofs.Leaves.{same_number}
-use Rattle.best_run.specs.Answer.{IsBest}
+use Rattle.best_run.specs.Revenue.{IsBest}
 use Rattle.best_run.specs.MovePath.{CanBeRead, runs_in, written}
 use Rattle.best_run.specs.declared.memo.Found.{Found}
 use Rattle.best_run.proofs.revenue.best.Goals as goal

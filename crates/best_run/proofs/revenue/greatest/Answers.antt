@@ -3,7 +3,7 @@ use Rattle.std.proofs.Common.{◌≡◌, None, sym, subst, arith}
 use Rattle.best_run.specs.declared.memo.Found.{Found}
 use Rattle.best_run.specs.Suffix.{AreBounds, IsTop}
 use Rattle.best_run.proofs.Eased.{solved_all}
-use Rattle.best_run.proofs.Kept.{granted}
+use Rattle.best_run.proofs.KeptStates.{granted}
 use Rattle.best_run.proofs.revenue.greatest.Goals as goal
 
 pub assign_last-requires-clause-bounds : goal.assign_last-requires-clause-bounds

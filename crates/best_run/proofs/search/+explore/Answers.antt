@@ -23,7 +23,7 @@ use Rattle.search_task.proofs.Described.{among_place}
 use Rattle.best_run.proofs.Eased.{is_pruned_by_suffix}
 use Rattle.best_run.proofs.Equal.{explores_capped}
 use Rattle.best_run.proofs.Homes.{TriesHomes, home_before, home_first, home_last, home_more}
-use Rattle.best_run.proofs.Kept.{explores_dominated, explores_kept}
+use Rattle.best_run.proofs.KeptStates.{explores_dominated, explores_kept}
 use Rattle.best_run.proofs.Places.{less_by, one_at_side, one_low, one_of, room_by, take_free}
 use Rattle.search_task.proofs.Places.{node_is, value_low}
 use Rattle.best_run.proofs.Sooner.{begin_in_vain}

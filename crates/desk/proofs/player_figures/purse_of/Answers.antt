@@ -1,7 +1,7 @@
 use Rattle.std.proofs.Common.{◌≡◌, ap, ◌∙◌, rules}
 use Rattle.certs.specs.Counted.{counted_of}
 use Rattle.events.specs.Event.{party_at}
-use Rattle.report.specs.Worth.{worth_of}
+use Rattle.report.specs.EndWorth.{worth_of}
 use Rattle.totals.specs.Bids.{free_cash_of}
 use Rattle.totals.specs.LookBack.{cash_of}
 use Rattle.desk.proofs.player_figures.purse_of.Goals as goal

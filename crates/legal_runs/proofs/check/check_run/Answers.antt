@@ -4,7 +4,7 @@ use Rattle.std.proofs.lemmas.Int.{to_z-of_z}
 use Rattle.legal_runs.specs.Fault.{named_steps}
 use Rattle.legal_runs.specs.Legal.{crossed}
 use Rattle.legal_runs.specs.Marks.{AreAdded, borders_used}
-use Rattle.legal_runs.proofs.Kept.{crossed_added}
+use Rattle.legal_runs.proofs.TallyOfWalk.{crossed_added}
 use Rattle.legal_runs.proofs.Lawful.{legal_where_unbroken, none_where_broken}
 use Rattle.legal_runs.proofs.Ruled.{no_track, ruled, value_kept, crossed_kept}
 use Rattle.legal_runs.proofs.check.check_run.Goals as goal

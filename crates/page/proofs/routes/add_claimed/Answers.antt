@@ -1,5 +1,5 @@
 use Rattle.page.proofs.Steps.{shown_step}
-use Rattle.page.specs.Shown.{claimed_by}
+use Rattle.page.specs.ShownRuns.{claimed_by}
 use Rattle.page.proofs.routes.add_claimed.Goals as goal
 
 pub loop-claimed-preserved : goal.loop-claimed-preserved

@@ -1,5 +1,5 @@
 use Rattle.std.proofs.Common.{◌≡◌, ◌++◌, map, take}
-use Rattle.page.specs.Shown.{all_shown, claimed_by}
+use Rattle.page.specs.ShownRuns.{all_shown, claimed_by}
 use Rattle.page.proofs.routes.add_claimed.Given as goal
 
 -- the runs so far are added

@@ -1,5 +1,5 @@
 use Rattle.std.proofs.Common.{◌≡◌, map, take}
-use Rattle.page.specs.Shown.{place_of}
+use Rattle.page.specs.ShownRuns.{place_of}
 use Rattle.page.proofs.routes.visits_of.Given as goal
 
 -- the visits so far have the places so far

@@ -1,6 +1,6 @@
 use Rattle.std.proofs.Common.{[], arith}
 use Rattle.desk.proofs.Orders.{companies_step}
-use Rattle.page.specs.Shown.{token_there}
+use Rattle.page.specs.ShownRuns.{token_there}
 use Rattle.tables.specs.Roster.{companies}
 use Rattle.page.proofs.tokens.tokens_at.Goals as goal
 

@@ -1,6 +1,6 @@
 use Rattle.std.proofs.Common.{◌≡◌, ◌≤◌, length, take}
 use Rattle.std.specs.List.{flat_map}
-use Rattle.page.specs.Shown.{token_there}
+use Rattle.page.specs.ShownRuns.{token_there}
 use Rattle.tables.specs.Roster.{companies}
 use Rattle.page.proofs.tokens.tokens_at.Given as goal
 

@@ -5,7 +5,7 @@ use mir.Val.{of_z, to_z}
 use Rattle.events.specs.Event.{party_at}
 use Rattle.totals.specs.LookBack.{cash_of}
 use Rattle.report.proofs.Worths.{wealth_fits}
-use Rattle.report.specs.Worth.{worth_of_all_shares}
+use Rattle.report.specs.EndWorth.{worth_of_all_shares}
 use Rattle.report.proofs.end_worth.player_worth.Goals as goal
 
 pub returns : goal.returns

@@ -1,5 +1,5 @@
 use Rattle.std.proofs.Common.{◌≡◌, ◌*◌, ◌≤◌, take, sum_by}
-use Rattle.report.specs.Worth.{worth_of_private}
+use Rattle.report.specs.EndWorth.{worth_of_private}
 use Rattle.tables.specs.Roster.{privates}
 use Rattle.report.proofs.end_worth.privates_worth.Given as goal
 

@@ -1,6 +1,6 @@
 use Rattle.std.proofs.Common.{◌≡◌, ◌++◌, ap, ◌∙◌, arith}
 use Rattle.std.specs.List.{flat_map, range_with_len}
-use Rattle.report.specs.Worth.{worth_line, worth_lines}
+use Rattle.report.specs.EndWorth.{worth_line, worth_lines}
 use Rattle.report.proofs.Seats.{seats_step}
 use Rattle.report.proofs.end_worth.push_worths.Goals as goal
 

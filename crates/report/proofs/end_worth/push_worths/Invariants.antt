@@ -1,6 +1,6 @@
 use Rattle.std.proofs.Common.{◌≡◌, ◌++◌}
 use Rattle.std.specs.List.{flat_map, range_with_len}
-use Rattle.report.specs.Worth.{worth_line}
+use Rattle.report.specs.EndWorth.{worth_line}
 use Rattle.report.proofs.end_worth.push_worths.Given as goal
 
 -- the players so far

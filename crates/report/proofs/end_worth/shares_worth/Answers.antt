@@ -1,6 +1,6 @@
 use Rattle.std.proofs.Common.{refl, arith}
 use Rattle.report.proofs.Worths.{sum_step}
-use Rattle.report.specs.Worth.{worth_of_shares}
+use Rattle.report.specs.EndWorth.{worth_of_shares}
 use Rattle.tables.specs.Roster.{companies}
 use Rattle.report.proofs.end_worth.shares_worth.Goals as goal
 

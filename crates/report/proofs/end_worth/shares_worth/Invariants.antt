@@ -1,5 +1,5 @@
 use Rattle.std.proofs.Common.{◌≡◌, ◌*◌, ◌^◌, ◌≤◌, take, sum_by}
-use Rattle.report.specs.Worth.{worth_of_shares}
+use Rattle.report.specs.EndWorth.{worth_of_shares}
 use Rattle.tables.specs.Roster.{companies}
 use Rattle.report.proofs.end_worth.shares_worth.Given as goal
 

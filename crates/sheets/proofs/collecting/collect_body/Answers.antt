@@ -4,7 +4,7 @@ use Rattle.std.proofs.lemmas.Result.{err_from_is_err_and}
 use Rattle.sheets.specs.Collecting.{lines_kept}
 use Rattle.sheets.specs.File.{same_sheet_key, sheet_in}
 use Rattle.sheets.specs.Text.{written_lines}
-use Rattle.sheets.proofs.Kept.{kept_exactly}
+use Rattle.sheets.proofs.KeptSheets.{kept_exactly}
 use Rattle.sheets.proofs.ReachLemmas.{sheets_at_end}
 use Rattle.sheets.proofs.collecting.collect_body.Goals as goal
 

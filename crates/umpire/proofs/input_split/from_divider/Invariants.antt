@@ -1,7 +1,7 @@
 use Rattle.std.proofs.Common.{length, true, ◌≡◌}
 use Rattle.std.specs.Prelude.{option_map}
 use Rattle.std.specs.Option.{option_or}
-use Rattle.umpire.specs.Parting.{from_divider}
+use Rattle.umpire.specs.InputSplit.{from_divider}
 use Rattle.umpire.proofs.input_split.from_divider.Given as goal
 
 -- what divides ahead, or the last that was found

@@ -1,5 +1,5 @@
 use Rattle.std.proofs.Common.{refl}
-use Rattle.umpire.specs.Parting.{certificates_of, order_file_of}
+use Rattle.umpire.specs.InputSplit.{certificates_of, order_file_of}
 use Rattle.umpire.proofs.PartingLemmas.{found_within}
 use Rattle.umpire.proofs.input_split.part.Goals as goal
 

@@ -5,7 +5,7 @@ use Rattle.std.proofs.lemmas.Result.{IfErr-weaker, on_ok_weaker}
 use Rattle.std.specs.Prelude.{Err, Ok}
 use Rattle.sheets.specs.File.{IsAccepted, content_of}
 use Rattle.umpire.proofs.VerifyLemmas.{game_answers, game_stops, over_limit, refusal_stops, within_limit}
-use Rattle.umpire.specs.Parting.{certificates_most, certificates_of}
+use Rattle.umpire.specs.InputSplit.{certificates_most, certificates_of}
 use Rattle.umpire.proofs.verification.write_answer.Goals as goal
 
 pub returns-then-certificates-gt-CERTIFICATES_MOST-clause-err :

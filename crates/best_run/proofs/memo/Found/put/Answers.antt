@@ -1,7 +1,7 @@
 -- The state is where it was put.
 use Rattle.std.proofs.Common.{◌≡◌, ◌%◌, Some, slice_get, set, refl, subst, arith}
 use Rattle.best_run.specs.declared.search_state.SearchState.{SearchState}
-use Rattle.best_run.proofs.Kept.{put_only, set_held}
+use Rattle.best_run.proofs.KeptStates.{put_only, set_held}
 use Rattle.best_run.proofs.memo.Found.put.Goals as goal
 
 pub returns-then-places-gt0-clause-kept : goal.returns-then-places-gt0-clause-kept

@@ -2,7 +2,7 @@
 use Rattle.std.proofs.Common.{◌≡◌, Some, length, slice_get, refl, sym, subst, arith}
 use Rattle.std.proofs.lemmas.Option.{slice_get_read}
 use Rattle.best_run.specs.declared.search_state.SearchState.{SearchState}
-use Rattle.best_run.proofs.Kept.{kept_twin}
+use Rattle.best_run.proofs.KeptStates.{kept_twin}
 use Rattle.best_run.proofs.memo.Found.widen.Goals as goal
 
 pub loop-place-preserved : goal.loop-place-preserved

@@ -3,7 +3,7 @@ use Rattle.std.proofs.Common.{arith, map}
 use Rattle.std.proofs.lemmas.List.{length-map}
 use Rattle.board.proofs.Indexed.{index_with_lay}
 use Rattle.reach.proofs.Hexes.{index_low}
-use Rattle.board.specs.Kept.{held}
+use Rattle.board.specs.KeptLinks.{held}
 use Rattle.board.proofs.board.Board.put_lay.Goals as goal
 
 pub invariant_of-self-2 : goal.invariant_of-self-2

@@ -1,7 +1,7 @@
 -- The index goes on to have the map state.
 use Rattle.std.proofs.Common.{◌∙◌, [], ◌∷◌, length, arith, ap, length-append, map}
 use Rattle.board.proofs.Indexed.{counts_low, index_with_token}
-use Rattle.board.specs.Kept.{held}
+use Rattle.board.specs.KeptLinks.{held}
 use Rattle.board.proofs.board.Board.put_token.Goals as goal
 
 pub invariant_of-self-2 : goal.invariant_of-self-2

@@ -2,7 +2,7 @@
 use Rattle.std.proofs.Common.{◌∙◌, ap, map, set}
 use Rattle.std.proofs.lemmas.List.{map-set}
 use Rattle.map_tables.specs.Hex.{index_of}
-use Rattle.board.specs.Kept.{held}
+use Rattle.board.specs.KeptLinks.{held}
 use Rattle.board.proofs.index.Index.add_lay.Goals as goal
 
 pub returns-clause-links : goal.returns-clause-links

@@ -1,7 +1,7 @@
 -- Nothing lies by tables that have nothing.
 use Rattle.std.proofs.Common.{refl, []}
 use Rattle.board.proofs.Indexed.{all_mapped, index_of_none}
-use Rattle.board.specs.Kept.{held}
+use Rattle.board.specs.KeptLinks.{held}
 use Rattle.board.proofs.index.Index.none.Goals as goal
 
 pub returns : goal.returns

@@ -1,6 +1,6 @@
 -- The links so far are kept.
 use Rattle.std.proofs.Common.{◌≡◌, ◌≤◌, length, take}
-use Rattle.board.specs.Kept.{held}
+use Rattle.board.specs.KeptLinks.{held}
 use Rattle.board.proofs.kept_links.KeptLinks.of.Given as goal
 
 abbrev pub invariant-loop-link : goal.invariant-loop-link

@@ -1,6 +1,6 @@
 use Rattle.certs.proofs.Counts.{small_kept}
 use Rattle.certs.proofs.RowLemmas.{small_in}
-use Rattle.certs.specs.Rows.{index_of}
+use Rattle.certs.specs.ShareRow.{index_of}
 use Rattle.events.specs.declared.event.Shareholder.TheVariants.{Seat as OfSeat}
 use Rattle.tables.specs.Roster.{index_of_company}
 use Rattle.certs.proofs.counted_certificates.HoldingsCertificates.certificates_of.Goals as goal

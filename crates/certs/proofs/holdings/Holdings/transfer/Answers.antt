@@ -2,7 +2,7 @@ use Rattle.std.proofs.Common.{◌≡◌, ◌<◌, ◌+ℤ◌, ◌-ℤ◌, ◌==�
 use Rattle.std.proofs.Common.{rules}
 use Rattle.certs.proofs.RowLemmas.{bounded_set}
 use Rattle.certs.proofs.Transfers.{rows_after}
-use Rattle.certs.specs.Rows.{index_of}
+use Rattle.certs.specs.ShareRow.{index_of}
 use Rattle.certs.proofs.holdings.Holdings.transfer.Goals as goal
 
 pub invariant_of-self : goal.invariant_of-self

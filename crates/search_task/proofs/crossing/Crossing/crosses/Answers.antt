@@ -1,6 +1,6 @@
 -- The set has it.
 use Rattle.std.proofs.Common.{sym, ◌∙◌}
-use Rattle.search_task.proofs.Numbers.{in_set}
+use Rattle.search_task.proofs.MarkedNumbers.{in_set}
 use Rattle.search_task.proofs.crossing.Crossing.crosses.Goals as goal
 
 pub returns : goal.returns

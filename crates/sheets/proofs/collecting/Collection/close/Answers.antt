@@ -2,7 +2,7 @@ use Rattle.std.proofs.Common.{cond, Some, refl, ap, ◌∙◌}
 use Rattle.std.specs.HashMap.{get}
 use Rattle.sheets.specs.File.{same_sheet_key}
 use Rattle.sheets.specs.Sheet.{Unruled}
-use Rattle.sheets.proofs.Kept.{lines_after, versions_after}
+use Rattle.sheets.proofs.KeptSheets.{lines_after, versions_after}
 use Rattle.sheets.proofs.PostLemmas.{found_after_insert}
 use Rattle.sheets.proofs.collecting.Collection.close.Goals as goal
 

@@ -1,7 +1,7 @@
 use Rattle.std.proofs.Common.{ap, ◌∙◌}
 use Rattle.sheets.specs.File.{sheet_of, version_of}
 use Rattle.sheets.specs.Part.{parts_left}
-use Rattle.sheets.proofs.Kept.{parts_absent, parts_there}
+use Rattle.sheets.proofs.KeptSheets.{parts_absent, parts_there}
 use Rattle.sheets.proofs.file.Sheets.parts.Goals as goal
 
 pub returns-in-Some : goal.returns-in-Some

@@ -1,6 +1,6 @@
 use Rattle.std.proofs.Common.{◌∙◌}
 use Rattle.sheets.specs.File.{sheet_key_at, sheet_of, version_of}
-use Rattle.sheets.proofs.Kept.{copied_missing, copied_there, missing_alike, there_alike}
+use Rattle.sheets.proofs.KeptSheets.{copied_missing, copied_there, missing_alike, there_alike}
 use Rattle.sheets.proofs.PostLemmas.{found_by_sheet_key}
 use Rattle.sheets.proofs.file.Sheets.sheet.Goals as goal
 

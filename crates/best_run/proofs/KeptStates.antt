@@ -10,8 +10,8 @@ use Rattle.best_run.specs.declared.state.PartialRun.{PartialRun}
 use Rattle.search_task.specs.declared.task.Task.{Task}
 use Rattle.best_run.specs.declared.move_path.MovePath.{MovePath}
 use Rattle.search_task.specs.Fit.{IsFit}
-use Rattle.best_run.specs.Kept.{Dominates, DominatesAny, DominatesRun, DominatesStage, IsDominated, IsHeld, IsKept}
-use Rattle.best_run.specs.Kept.{IsNothing, found_or, unless_refused}
+use Rattle.best_run.specs.Memo.{Dominates, DominatesAny, DominatesRun, DominatesStage, IsDominated, IsHeld, IsKept}
+use Rattle.best_run.specs.Memo.{IsNothing, found_or, unless_refused}
 use Rattle.best_run.specs.Moves.{AreInMemo, Completes, Explores, LeadsToAtMost, State, between, partial, state_at}
 use Rattle.best_run.specs.Moves.{state_by, total_after}
 use Rattle.best_run.specs.MovePath.{marks_in}
