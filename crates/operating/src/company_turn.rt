@@ -11,19 +11,19 @@ use tables::Round;
 
 /// The turn of a company that has a president. The runner is no part of it: only RUN BEST calls it.
 #[derive(Drop)]
-pub(crate) struct CompanyTurn {
+pub struct CompanyTurn {
     pub(crate) alloc: Global,
     /// The company, and the seat that gives its orders.
-    pub(crate) by: Operator,
+    pub by: Operator,
     /// The operating round.
-    pub(crate) round: Round,
+    pub round: Round,
     /// The game so far.
-    pub(crate) history: History,
+    pub history: History,
     /// How far the turn has come.
-    pub(crate) progress: Progress,
+    pub progress: Progress,
     /// The tiles and tokens that lie on the map, or the first of them: in a box, so that the turn
     /// is passed on in few bytes.
-    pub(crate) board: Box<Board>,
+    pub board: Box<Board>,
 }
 
 impl CompanyTurn {

@@ -18,7 +18,7 @@ pub(crate) struct CompletedRun {
 
 /// What the trains of a company have done in its turn.
 #[derive(Clone, Copy, Debug)]
-pub(crate) struct Runs {
+pub struct Runs {
     /// How many of each kind have run, by the place of the kind.
     trains: PerKind<TrainCount>,
     /// The borders that they have crossed.

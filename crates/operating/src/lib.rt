@@ -17,8 +17,8 @@
 //! methods), `game_and_board` (the game and its board between turns), `map_state` (the tiles and
 //! tokens on the map), `board_asker` (the company as the rules of the board see it), `home_token`;
 //! a file for each order: `lay` and `token` with `amount`, `run`, `run_best`, `pay`, `train`,
-//! `private`; `company_orders` (line by line), `turn_end` (what it must buy), `turn`, `laws` (what
-//! holds of every turn), `train_laws`, `tile_laws`, `private_laws`, `sale_laws`, `forced_laws`,
+//! `private`; `company_orders` (line by line), `turn_end` (what it must buy), `turn`, `turn_ahead`
+//! (its parts, for those who look ahead), `laws` (what holds of every turn), `train_laws`, `tile_laws`, `private_laws`, `sale_laws`, `forced_laws`,
 //! `best_laws`.
 #![tactic(auto)]
 
@@ -45,9 +45,13 @@ mod token;
 mod train;
 mod train_laws;
 mod turn;
+mod turn_ahead;
 mod turn_end;
 
 pub use board_asker::asker_now;
+pub use company_turn::CompanyTurn;
 pub use game_and_board::GameAndBoard;
 pub use home_token::has_home_token;
+pub use progress::Progress;
 pub use turn::{play_company, play_on};
+pub use turn_ahead::{begin_turn, pass_turn};

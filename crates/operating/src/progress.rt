@@ -11,7 +11,7 @@ use tables::Amount;
 
 /// How far a company's turn has come.
 #[derive(Clone, Copy, Debug)]
-pub(crate) struct Progress {
+pub struct Progress {
     /// The first step that the turn may still take.
     pub(crate) pointer: TurnStep,
     /// Whether the company has used its lay.

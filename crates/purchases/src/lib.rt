@@ -26,7 +26,7 @@ mod train;
 
 pub use discard::{has_train, is_president};
 pub use private::{buy_private, is_too_dear, judge_private};
-pub use standing::rule_standing_lines;
+pub use standing::{rule_standing_lines, rule_standing_lines_of};
 pub use train::{
     NUMBERED, TrainPurchase, buy_train, has_trains, is_not_sellers, judge_purchase, may_be_traded,
     purchase_of, sells,

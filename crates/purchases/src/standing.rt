@@ -5,7 +5,7 @@ ghost use Rattle.std.specs.Prelude.{◌≡◌, OnOk, length};
 ghost use Rattle.history.specs.Sound.{IsSound};
 ghost use Rattle.purchases.specs.Standing.{after_standing, after_standing_line, has_place_before, standing_judgement};
 ghost use Rattle.sheets.specs.File.{players_of};
-ghost use Rattle.sheets.specs.Taken.{after_each};
+ghost use Rattle.sheets.specs.Taken.{after_each, after_lines_before};
 
 use crate::discard::judge_discard;
 use crate::offer::judge_offer;
@@ -34,6 +34,23 @@ pub fn rule_standing_lines(
         rule_standing(history, seat, &mut sheets.parts(seat, round))?;
     }
     Ok(())
+}
+
+/// Rules the standing lines of a seat's sheet for an operating round. The list of events must be
+/// sound. Fails only if allocation fails.
+pub fn rule_standing_lines_of(
+    history: &mut History,
+    sheets: &Sheets,
+    round: Round,
+    seat: Seat,
+) -> Result<(), AllocError>
+    requires { IsSound history.old }
+    ensures seats { OnOk result (history.new.seats ≡ history.old.seats) }
+    ensures events { OnOk result (history.new.events
+        ≡ after_lines_before after_standing_line sheets.now round history.old.events seat.0) }
+    ensures sound { OnOk result (IsSound history.new) }
+{
+    rule_standing(history, seat, &mut sheets.parts(seat, round))
 }
 
 /// Rules the standing lines of a seat's sheet, those before its first head.

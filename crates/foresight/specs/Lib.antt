@@ -1,0 +1,4 @@
+-- A game at the head of a turn of the round that comes.
+pub mod Draft
+pub mod Orders
+pub mod Turn

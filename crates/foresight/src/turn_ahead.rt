@@ -1,0 +1,26 @@
+ghost use Rattle.std.specs.Prelude.{◌≡◌, ◌≤◌, ◌<◌, IfOk};
+ghost use Rattle.foresight.specs.Turn.{IsAtTurn};
+ghost use Rattle.history.specs.Sound.{IsSound};
+
+use history::{Event, History};
+use std::alloc::AllocError;
+use tables::{Round, Seat};
+
+/// Returns a game at the head of a seat's first turn, in the opening or the stock round that comes:
+/// each seat before it has passed. The list of events must be sound, and the seat at the table.
+/// Fails only if allocation fails.
+pub fn at_turn(history: History, round: Round, seat: Seat) -> Result<History, AllocError>
+    requires sound { IsSound history }
+    requires few { history.seats ≤ 6 }
+    requires at_table { seat.0 < history.seats }
+    ensures { IfOk result (λ new. IsAtTurn round seat history new) }
+{
+    let mut history = history;
+    let mut next = history.now().priority();
+    history.record_event(Event::Round(round))?;
+    while next != seat {
+        history.record_event(Event::Passes(next))?;
+        next = next.left(history.seats());
+    }
+    Ok(history)
+}
