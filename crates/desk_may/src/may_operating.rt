@@ -7,7 +7,7 @@ use history::{History, Holder, Party, Refusal, TrainSeller};
 use market::operating_order;
 use moves::{Priced, least_price, owned_privates, trains};
 use order_grammar::{Order, TrainSource};
-use purchases::{TrainPurchase, judge_private, judge_purchase, sells};
+use purchases::{Consents, TrainPurchase, judge_private, judge_purchase, sells};
 use report::name;
 use sheets::Sheets;
 use std::alloc::{AllocError, Global};
@@ -154,7 +154,8 @@ impl Buyer<'_> {
             if !sells(&self.history.now(), *kind) || listed.iter().any(|one| one.what == purchase) {
                 continue;
             }
-            if let Some(rule) = judge_purchase(self.history, self.company, purchase) {
+            let broken = judge_purchase(self.history, self.company, purchase, Consents::OfGame);
+            if let Some(rule) = broken {
                 let order = order_of_train(purchase);
                 push_may_not(self.alloc, out, &order, Refusal::Train(rule))?;
             }
@@ -174,7 +175,14 @@ impl Buyer<'_> {
                 continue;
             }
             let price = least_price(*private);
-            if let Some(rule) = judge_private(self.history, self.company, *private, price) {
+            let broken = judge_private(
+                self.history,
+                self.company,
+                *private,
+                price,
+                Consents::OfGame,
+            );
+            if let Some(rule) = broken {
                 let order = Order::BuyOwnedPrivate {
                     private: *private,
                     price,

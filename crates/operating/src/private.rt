@@ -9,7 +9,7 @@ ghost use Rattle.sheets.specs.Part.{line_with};
 use crate::company_turn::CompanyTurn;
 use history::Refusal;
 use order_grammar::Order;
-use purchases::{buy_private, judge_private};
+use purchases::{Consents, buy_private, judge_private};
 use sheets::ReadLine;
 use std::alloc::AllocError;
 use tables::{Amount, Private};
@@ -33,7 +33,8 @@ impl CompanyTurn {
         ensures order { OnOk result (GoesOn self.old self.new) }
     {
         let by = self.by;
-        let broken = judge_private(&self.history, by.company, private, price).map(Refusal::Private);
+        let rule = judge_private(&self.history, by.company, private, price, Consents::OfGame);
+        let broken = rule.map(Refusal::Private);
         if record(&mut self.history, by.president, line, order, broken)? {
             buy_private(&mut self.history, by.company, private, price)?;
         }

@@ -12,7 +12,7 @@ ghost use Rattle.operating.specs.Train.{after_buying};
 use crate::company_turn::CompanyTurn;
 use history::Refusal;
 use order_grammar::{Order, TrainSource};
-use purchases::{buy_train, judge_purchase, purchase_of};
+use purchases::{Consents, buy_train, judge_purchase, purchase_of};
 use sheets::ReadLine;
 use std::alloc::AllocError;
 use tables::Kind;
@@ -39,7 +39,8 @@ impl CompanyTurn {
     {
         let by = self.by;
         let purchase = purchase_of(kind, from);
-        let broken = judge_purchase(&self.history, by.company, purchase).map(Refusal::Train);
+        let rule = judge_purchase(&self.history, by.company, purchase, Consents::OfGame);
+        let broken = rule.map(Refusal::Train);
         if record(&mut self.history, by.president, line, order, broken)? {
             buy_train(self.alloc, &mut self.history, by.company, purchase)?;
         }

@@ -11,7 +11,7 @@ use Rattle.totals.specs.Shares.{president_of}
 use Rattle.purchases.proofs.TrainLemmas.{neither, so}
 use Rattle.purchases.specs.ConsentLaws.{CompaniesAgree, CompanyAgrees, OwnerAgrees, OwnersAgree}
 use Rattle.purchases.specs.Discard.{has_train}
-use Rattle.purchases.specs.Private.{is_given, is_given_by, private_rules}
+use Rattle.purchases.specs.Private.{is_given, owner_agrees, private_rules}
 use Rattle.purchases.specs.Train.{presidents_agree, purchase_of, train_purchase_rules}
 use Rattle.order_grammar.specs.declared.order.Offer.{Offer}
 use Rattle.order_grammar.specs.declared.order.Offer.TheVariants as offer
@@ -65,7 +65,7 @@ companies_agree game buyer seller kind price none =
 given_by : (game : Game) (buyer : Company) (private : Private) (price : ℕ) (owner : Option Holder)
     (taker : Option Seat) →
     owner_of game.events private ≡ owner → president_of game.events buyer ≡ taker →
-    is_given_by game.events owner taker (offer.Private private buyer price) ≡ true
+    owner_agrees game.events owner taker (offer.Private private buyer price) ≡ true
     → OwnerAgrees game buyer private price
 given_by game buyer private price (Some (holder.Seat giver)) (Some taker) owns leads agrees =
     record { giver = giver; taker = taker; owns = owns; leads = leads; agrees = agrees }

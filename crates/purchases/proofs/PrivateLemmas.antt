@@ -20,7 +20,7 @@ use Rattle.totals.specs.LookBack.{Game, cash_of, in_round, owner_of, owner_said,
 use Rattle.totals.specs.Shares.{president_of}
 use Rattle.totals.specs.Trains.{phase_of}
 use Rattle.purchases.proofs.TrainLemmas.{not_less}
-use Rattle.purchases.specs.Private.{is_given, is_given_by, private_judgement, private_rules}
+use Rattle.purchases.specs.Private.{is_given, owner_agrees, private_judgement, private_rules}
 use Rattle.order_grammar.specs.declared.order.Offer.{Offer}
 use Rattle.order_grammar.specs.declared.order.Offer.TheVariants as offer
 use Rattle.order_grammar.specs.declared.order.Order.TheVariants.{BuyOwnedPrivate}
@@ -84,7 +84,7 @@ module _ (events : List Event) (seat : Seat) (line : Numbered) (private : Privat
 
   -- so the same consent
   same_given : (owner : Option Holder) (taker : Option Seat) (sale : Offer) →
-      is_given_by (events ++ obeyed ∷ []) owner taker sale ≡ is_given_by events owner taker sale
+      owner_agrees (events ++ obeyed ∷ []) owner taker sale ≡ owner_agrees events owner taker sale
   same_given (Some (holder.Seat giver)) (Some taker) sale =
       ap (λ (said : Option (Option Offer)). giver.0 == taker.0 || is_some (option_flatten said))
       (last_said_before (in_round (λ its. said_by giver (offered_in sale) (obeyed_of its))) (events ++ obeyed ∷ [])
@@ -106,8 +106,8 @@ module _ (events : List Event) (seat : Seat) (line : Numbered) (private : Privat
       let sale : Offer = offer.Private private company price in
       let after = events ++ obeyed ∷ [] in
       same_given (owner_of after private) (president_of after company) sale
-      ∙ ap (λ (owner : Option Holder). is_given_by events owner (president_of after company) sale) same_owner
-      ∙ ap (λ (taker : Option Seat). is_given_by events (owner_of events private) taker sale)
+      ∙ ap (λ (owner : Option Holder). owner_agrees events owner (president_of after company) sale) same_owner
+      ∙ ap (λ (taker : Option Seat). owner_agrees events (owner_of events private) taker sale)
       (president_of_before events obeyed company refl)
 
   -- the phase is the same

@@ -1,3 +1,4 @@
+pub mod Consents
 pub mod Discard
 pub mod Phases
 pub mod Train

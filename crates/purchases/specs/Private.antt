@@ -17,9 +17,11 @@ use Rattle.events.specs.declared.ruling.PrivateRule.{PrivateRule}
 use Rattle.events.specs.declared.ruling.PrivateRule.TheVariants.{TooEarly, WrongPrice, NoConsent, NeverSold}
 use Rattle.events.specs.declared.ruling.PrivateRule.TheVariants.{CashTooSmall}
 use Rattle.totals.specs.LookBack.{Game, cash_of, owner_of, with_event}
-use Rattle.totals.specs.Offers.{has_consent}
 use Rattle.totals.specs.Shares.{president_of}
 use Rattle.totals.specs.Trains.{phase_of}
+use Rattle.purchases.specs.Consents.{agrees_by}
+use Rattle.purchases.specs.declared.consents.Consents.{Consents}
+use Rattle.purchases.specs.declared.consents.Consents.TheVariants.{OfGame}
 use Rattle.order_grammar.specs.declared.order.Offer.{Offer}
 use Rattle.order_grammar.specs.declared.order.Offer.TheVariants as offer
 use Rattle.tables.specs.Roster.{face_of, same_private}
@@ -40,33 +42,52 @@ abbrev pub is_wrong_price : Private → ℕ → Bool
 is_wrong_price private price =
     nat_lt (price + price) (face_of private) || nat_lt (face_of private + face_of private) price
 
--- a player owns the private, and consents to the sale to this seat
-abbrev pub is_given_by : List Event → Option Holder → Option Seat → Offer → Bool
-is_given_by events (Some (holder.Seat giver)) (Some taker) sale = has_consent events giver taker sale
-is_given_by events owner taker sale = false
+-- by these consents this owner is a player who consents to the sale to this seat
+abbrev pub owner_agrees_by : Consents → List Event → Option Holder → Option Seat → Offer → Bool
+owner_agrees_by consents events (Some (holder.Seat giver)) (Some taker) sale =
+    agrees_by consents events giver taker sale
+owner_agrees_by consents events owner taker sale = false
+
+-- this owner is a player who consents to the sale to this seat in the game
+abbrev pub owner_agrees : List Event → Option Holder → Option Seat → Offer → Bool
+owner_agrees events owner taker sale = owner_agrees_by OfGame events owner taker sale
+
+-- by these consents a player owns the private, and consents to the sale
+abbrev pub is_given_by : Consents → List Event → Company → Private → ℕ → Bool
+is_given_by consents events company private price =
+    owner_agrees_by consents events (owner_of events private) (president_of events company)
+    (offer.Private private company price)
 
 -- the private has an owner who consents to the sale
 abbrev pub is_given : List Event → Company → Private → ℕ → Bool
-is_given events company private price =
-    is_given_by events (owner_of events private) (president_of events company) (offer.Private private company price)
+is_given events company private price = is_given_by OfGame events company private price
 
 -- the company has less than the price
 abbrev pub is_too_dear : Game → Company → ℕ → Bool
 is_too_dear game company price = lt_z (cash_of game.seats game.events (party_of_company company)) (pos price)
 
--- the rules of the purchase of a private by a company
-abbrev pub private_rules : Game → Company → Private → ℕ → List (Rule PrivateRule)
-private_rules game company private price =
+-- the rules of the purchase of a private by a company, by these consents
+abbrev pub private_rules_by : Consents → Game → Company → Private → ℕ → List (Rule PrivateRule)
+private_rules_by consents game company private price =
     record { code = TooEarly; broken = is_too_early game.events }
     ∷ record { code = WrongPrice; broken = is_wrong_price private price }
-    ∷ record { code = NoConsent; broken = not (is_given game.events company private price) }
+    ∷ record { code = NoConsent; broken = not (is_given_by consents game.events company private price) }
     ∷ record { code = NeverSold; broken = same_private private BaltimoreOhio }
     ∷ record { code = CashTooSmall; broken = is_too_dear game company price }
     ∷ []
 
+-- the rules of the purchase of a private by a company
+abbrev pub private_rules : Game → Company → Private → ℕ → List (Rule PrivateRule)
+private_rules game company private price = private_rules_by OfGame game company private price
+
+-- the first rule that it breaks, by these consents
+abbrev pub private_judgement_by : Consents → Game → Company → Private → ℕ → Option PrivateRule
+private_judgement_by consents game company private price =
+    first_broken (private_rules_by consents game company private price)
+
 -- the first rule that it breaks
 abbrev pub private_judgement : Game → Company → Private → ℕ → Option PrivateRule
-private_judgement game company private price = first_broken (private_rules game company private price)
+private_judgement game company private price = private_judgement_by OfGame game company private price
 
 -- after this owner has sold a private to a company; only a player sells one
 abbrev pub sold_by : Game → Company → Private → ℕ → Option Holder → Game

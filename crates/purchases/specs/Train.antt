@@ -18,11 +18,13 @@ use Rattle.events.specs.declared.ruling.TrainRule.{TrainRule}
 use Rattle.events.specs.declared.ruling.TrainRule.TheVariants.{NotOnSale, TrainLimit, CashTooSmall, NoConsent}
 use Rattle.events.specs.declared.ruling.TrainRule.TheVariants.{NotSellers, NoTradeIn}
 use Rattle.totals.specs.LookBack.{Game, cash_of, with_event}
-use Rattle.totals.specs.Offers.{has_consent}
 use Rattle.totals.specs.Shares.{president_of}
 use Rattle.totals.specs.Trains.{phase_of, train_count, trains_held, trains_sold}
+use Rattle.purchases.specs.Consents.{agrees_by}
 use Rattle.purchases.specs.Discard.{has_train}
 use Rattle.purchases.specs.Phases.{with_closed, with_phase}
+use Rattle.purchases.specs.declared.consents.Consents.{Consents}
+use Rattle.purchases.specs.declared.consents.Consents.TheVariants.{OfGame}
 use Rattle.purchases.specs.declared.train.TrainPurchase.{TrainPurchase}
 use Rattle.order_grammar.specs.declared.order.Offer.{Offer}
 use Rattle.order_grammar.specs.declared.order.Offer.TheVariants as offer
@@ -141,23 +143,35 @@ abbrev pub is_no_trade_in : List Event → Company → Kind → Option Kind → 
 is_no_trade_in events company kind None = false
 is_no_trade_in events company kind (Some trade_in) = not (may_trade events company kind trade_in)
 
--- one president consents to a sale to the other, if there are both
-abbrev pub presidents_agree : List Event → Option Seat → Option Seat → Offer → Bool
-presidents_agree events (Some giver) (Some taker) sale = has_consent events giver taker sale
-presidents_agree events giver taker sale = false
+-- one president consents to a sale to the other by these consents, if there are both
+abbrev pub presidents_agree_by : Consents → List Event → Option Seat → Option Seat → Offer → Bool
+presidents_agree_by consents events (Some giver) (Some taker) sale = agrees_by consents events giver taker sale
+presidents_agree_by consents events giver taker sale = false
 
--- a company that is to sell a train has not consented, or the price is 0
-abbrev pub is_not_given : List Event → Company → TrainPurchase → TrainSeller → Bool
-is_not_given events buyer purchase seller.Bank = false
-is_not_given events buyer purchase seller.BankPool = false
-is_not_given events buyer purchase (seller.Company company) =
+-- one president consents to a sale to the other in the game, if there are both
+abbrev pub presidents_agree : List Event → Option Seat → Option Seat → Offer → Bool
+presidents_agree events giver taker sale = presidents_agree_by OfGame events giver taker sale
+
+-- by these consents a company that is to sell a train has not consented, or the price is 0
+abbrev pub is_not_given_by : Consents → List Event → Company → TrainPurchase → TrainSeller → Bool
+is_not_given_by consents events buyer purchase seller.Bank = false
+is_not_given_by consents events buyer purchase seller.BankPool = false
+is_not_given_by consents events buyer purchase (seller.Company company) =
     cost_of purchase == 0
-    || not (presidents_agree events (president_of events company) (president_of events buyer)
+    || not (presidents_agree_by consents events (president_of events company) (president_of events buyer)
     (offer.Train purchase.kind company buyer (cost_of purchase)))
+
+-- a company that is to sell a train has not consented in the game, or the price is 0
+abbrev pub is_not_given : List Event → Company → TrainPurchase → TrainSeller → Bool
+is_not_given events buyer purchase from = is_not_given_by OfGame events buyer purchase from
+
+-- by these consents the company that sells the train has not consented to exactly this sale
+abbrev pub lacks_consent_by : Consents → List Event → Company → TrainPurchase → Bool
+lacks_consent_by consents events buyer purchase = is_not_given_by consents events buyer purchase purchase.from
 
 -- the company that sells the train has not consented to exactly this sale
 abbrev pub lacks_consent : List Event → Company → TrainPurchase → Bool
-lacks_consent events buyer purchase = is_not_given events buyer purchase purchase.from
+lacks_consent events buyer purchase = lacks_consent_by OfGame events buyer purchase
 
 -- a company that is to sell a train has none of the kind, or is the buyer
 abbrev pub is_not_sellers : List Event → Company → Kind → TrainSeller → Bool
@@ -166,20 +180,29 @@ is_not_sellers events buyer kind seller.BankPool = false
 is_not_sellers events buyer kind (seller.Company company) =
     not (has_train events company kind) || same_company buyer company
 
--- the rules of a purchase by a company
-abbrev pub train_purchase_rules : Game → Company → TrainPurchase → List (Rule TrainRule)
-train_purchase_rules game company purchase =
+-- the rules of a purchase by a company, by these consents
+abbrev pub train_purchase_rules_by : Consents → Game → Company → TrainPurchase → List (Rule TrainRule)
+train_purchase_rules_by consents game company purchase =
     record { code = NotOnSale; broken = not (is_on_sale game.events purchase.from purchase.kind) }
     ∷ record { code = TrainLimit; broken = is_at_train_limit game.events company purchase.trade_in }
     ∷ record { code = CashTooSmall; broken = is_too_dear game company purchase }
-    ∷ record { code = NoConsent; broken = lacks_consent game.events company purchase }
+    ∷ record { code = NoConsent; broken = lacks_consent_by consents game.events company purchase }
     ∷ record { code = NotSellers; broken = is_not_sellers game.events company purchase.kind purchase.from }
     ∷ record { code = NoTradeIn; broken = is_no_trade_in game.events company purchase.kind purchase.trade_in }
     ∷ []
 
+-- the rules of a purchase by a company
+abbrev pub train_purchase_rules : Game → Company → TrainPurchase → List (Rule TrainRule)
+train_purchase_rules game company purchase = train_purchase_rules_by OfGame game company purchase
+
+-- the first rule that a purchase by a company breaks, by these consents
+abbrev pub train_judgement_by : Consents → Game → Company → TrainPurchase → Option TrainRule
+train_judgement_by consents game company purchase =
+    first_broken (train_purchase_rules_by consents game company purchase)
+
 -- the first rule that a purchase by a company breaks
 abbrev pub train_judgement : Game → Company → TrainPurchase → Option TrainRule
-train_judgement game company purchase = first_broken (train_purchase_rules game company purchase)
+train_judgement game company purchase = train_judgement_by OfGame game company purchase
 
 -- the company has a train
 abbrev pub has_trains : List Event → Company → Bool

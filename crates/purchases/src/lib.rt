@@ -12,10 +12,11 @@
 //! An order is a file: what it is, its rules as rows, its judgement and its act. So is its file of
 //! definitions in `specs/`.
 //!
-//! Reading order: `train`, `phases` (what the first train of a later kind brings), `discard`,
+//! Reading order: `consents`, `train`, `phases` (what the first train of a later kind brings), `discard`,
 //! `private`, `offer`, `standing` (the lines before the first company's orders), `laws`.
 #![tactic(auto)]
 
+mod consents;
 mod discard;
 pub mod laws;
 mod offer;
@@ -24,10 +25,11 @@ mod private;
 mod standing;
 mod train;
 
+pub use consents::Consents;
 pub use discard::{has_train, is_president};
-pub use private::{buy_private, is_too_dear, judge_private};
+pub use private::{buy_private, judge_private};
 pub use standing::{rule_standing_lines, rule_standing_lines_of};
 pub use train::{
-    NUMBERED, TrainPurchase, buy_train, has_trains, is_not_sellers, judge_purchase, may_be_traded,
-    purchase_of, sells,
+    NUMBERED, TrainPurchase, buy_train, has_trains, judge_purchase, may_be_traded, purchase_of,
+    sells,
 };

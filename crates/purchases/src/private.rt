@@ -5,25 +5,28 @@
 ghost use Rattle.std.specs.Prelude.{◌≡◌, OnOk, None, Some};
 ghost use Rattle.totals.specs.LookBack.{owner_of};
 ghost use Rattle.history.specs.Sound.{IsSound};
-ghost use Rattle.purchases.specs.Private.{is_given, is_given_by, is_too_dear, is_too_early, is_wrong_price};
-ghost use Rattle.purchases.specs.Private.{private_bought, private_judgement, sold_by};
+ghost use Rattle.purchases.specs.Private.{is_given_by, is_too_dear, is_too_early, is_wrong_price};
+ghost use Rattle.purchases.specs.Private.{owner_agrees_by, private_bought, private_judgement, private_judgement_by};
+ghost use Rattle.purchases.specs.Private.{sold_by};
 
+use crate::consents::Consents;
 use history::{Event, GameView, History, Holder, Party, PrivateRule};
 use order_grammar::Offer;
 use std::alloc::AllocError;
 use tables::{Amount, Company, Kind, Money, Private, Seat, face};
 
-/// Returns the first rule that the purchase of a private by a company breaks; `None` if it breaks
-/// none.
+/// Returns the first rule that the purchase of a private by a company breaks, by these consents;
+/// `None` if it breaks none.
 pub fn judge_private(
     history: &History,
     company: Company,
     private: Private,
     price: Amount,
+    consents: Consents,
 ) -> Option<PrivateRule>
-    ensures { result ≡ private_judgement history.now company private price }
+    ensures { result ≡ private_judgement_by consents history.now company private price }
 {
-    broken_by(&history.now(), company, private, price)
+    broken_by(&history.now(), company, private, price, consents)
 }
 
 /// Returns the first rule that the purchase of a private breaks.
@@ -32,21 +35,22 @@ fn broken_by(
     company: Company,
     private: Private,
     price: Amount,
+    consents: Consents,
 ) -> Option<PrivateRule>
-    ensures { result ≡ private_judgement
+    ensures { result ≡ private_judgement_by consents
         (record { seats = view.now.seats; events = view.now.events.now }) company private price }
 {
     tables::rules! { PrivateRule
         TooEarly: is_too_early(view),
         WrongPrice: is_wrong_price(private, price),
-        NoConsent: !is_given(view, company, private, price),
+        NoConsent: !is_given(view, company, private, price, consents),
         NeverSold: private == Private::BaltimoreOhio,
         CashTooSmall: is_too_dear(view, company, price),
     }
 }
 
 /// Returns whether a company has less than a price.
-pub fn is_too_dear(view: &GameView, company: Company, price: Amount) -> bool
+fn is_too_dear(view: &GameView, company: Company, price: Amount) -> bool
     ensures { result ≡ is_too_dear
         (record { seats = view.now.seats; events = view.now.events.now }) company price }
 {
@@ -68,24 +72,43 @@ fn is_wrong_price(private: Private, price: Amount) -> bool
     price + price < face || face + face < price
 }
 
-/// Returns whether a player owns a private, and consents to its sale to a company at a price.
-fn is_given(view: &GameView, buyer: Company, private: Private, price: Amount) -> bool
-    ensures { result ≡ is_given view.now.events.now buyer private price }
+/// Returns whether a player owns a private, and consents to its sale to a company at a price, by
+/// these consents.
+fn is_given(
+    view: &GameView,
+    buyer: Company,
+    private: Private,
+    price: Amount,
+    consents: Consents,
+) -> bool
+    ensures { result ≡ is_given_by consents view.now.events.now buyer private price }
 {
     let sale = Offer::Private {
         private,
         buyer,
         price,
     };
-    is_given_by(view, view.owner(private), view.president(buyer), sale)
+    owner_agrees(
+        view,
+        view.owner(private),
+        view.president(buyer),
+        sale,
+        consents,
+    )
 }
 
-/// Returns whether this owner is a player who consents to a sale to this seat.
-fn is_given_by(view: &GameView, owner: Option<Holder>, taker: Option<Seat>, sale: Offer) -> bool
-    ensures { result ≡ is_given_by view.now.events.now owner taker sale }
+/// Returns whether this owner is a player who consents to a sale to this seat, by these consents.
+fn owner_agrees(
+    view: &GameView,
+    owner: Option<Holder>,
+    taker: Option<Seat>,
+    sale: Offer,
+    consents: Consents,
+) -> bool
+    ensures { result ≡ owner_agrees_by consents view.now.events.now owner taker sale }
 {
     match (owner, taker) {
-        (Some(Holder::Seat(giver)), Some(taker)) => view.has_consent(giver, taker, sale),
+        (Some(Holder::Seat(giver)), Some(taker)) => consents.agrees(view, giver, taker, sale),
         _ => false,
     }
 }

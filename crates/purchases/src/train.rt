@@ -12,13 +12,14 @@ ghost use Rattle.std.specs.Prelude.{◌≡◌, ◌≤◌, OnOk, None, pos};
 ghost use Rattle.history.specs.Sound.{IsSound};
 ghost use Rattle.purchases.specs.Train.{IsSmallPurchase, after_train, begins_phase, bought, cost_of, first_left};
 ghost use Rattle.purchases.specs.Train.{first_left_of, has_trains, is_at_train_limit, is_left, is_no_trade_in};
-ghost use Rattle.purchases.specs.Train.{is_not_sellers, is_on_sale, is_too_dear, lacks_consent, may_be_traded};
-ghost use Rattle.purchases.specs.Train.{may_trade, presidents_agree, price_for_trade, price_of_train, purchase_of};
-ghost use Rattle.purchases.specs.Train.{sells, sells_diesels, traded_count, train_judgement, with_bop_closed};
-ghost use Rattle.purchases.specs.Train.{with_trade};
+ghost use Rattle.purchases.specs.Train.{is_not_sellers, is_on_sale, is_too_dear, lacks_consent_by, may_be_traded};
+ghost use Rattle.purchases.specs.Train.{may_trade, presidents_agree_by, price_for_trade, price_of_train, purchase_of};
+ghost use Rattle.purchases.specs.Train.{sells, sells_diesels, traded_count, train_judgement, train_judgement_by};
+ghost use Rattle.purchases.specs.Train.{with_bop_closed, with_trade};
 ghost use Rattle.order_grammar.specs.declared.order.Order.TheVariants.{BuyTrain};
 ghost use Rattle.turns.specs.Small.{IsSmallOrder};
 
+use crate::consents::Consents;
 use crate::discard::has_train;
 use crate::phases::{begin_phase, close};
 use history::{Event, GameView, History, Party, TrainRule, TrainSeller};
@@ -73,22 +74,29 @@ pub fn purchase_of(kind: Kind, from: TrainSource) -> TrainPurchase
     }
 }
 
-/// Returns the first rule that a purchase by a company breaks; `None` if it breaks none.
+/// Returns the first rule that a purchase by a company breaks, by these consents; `None` if it
+/// breaks none.
 pub fn judge_purchase(
     history: &History,
     company: Company,
     purchase: TrainPurchase,
+    consents: Consents,
 ) -> Option<TrainRule>
     requires { IsSmallPurchase purchase }
-    ensures { result ≡ train_judgement history.now company purchase }
+    ensures { result ≡ train_judgement_by consents history.now company purchase }
 {
-    broken_by(&history.now(), company, purchase)
+    broken_by(&history.now(), company, purchase, consents)
 }
 
 /// Returns the first rule that a purchase breaks.
-fn broken_by(view: &GameView, company: Company, purchase: TrainPurchase) -> Option<TrainRule>
+fn broken_by(
+    view: &GameView,
+    company: Company,
+    purchase: TrainPurchase,
+    consents: Consents,
+) -> Option<TrainRule>
     requires { IsSmallPurchase purchase }
-    ensures { result ≡ train_judgement
+    ensures { result ≡ train_judgement_by consents
         (record { seats = view.now.seats; events = view.now.events.now }) company purchase }
 {
     let (kind, from, trade_in) = (purchase.kind, purchase.from, purchase.trade_in);
@@ -96,7 +104,7 @@ fn broken_by(view: &GameView, company: Company, purchase: TrainPurchase) -> Opti
         NotOnSale: !is_on_sale(view, from, kind),
         TrainLimit: is_full(view, company, trade_in),
         CashTooSmall: is_too_dear(view, company, purchase),
-        NoConsent: lacks_consent(view, company, purchase),
+        NoConsent: lacks_consent(view, company, purchase, consents),
         NotSellers: is_not_sellers(view, company, kind, from),
         NoTradeIn: is_no_trade_in(view, company, kind, trade_in),
     }
@@ -210,10 +218,16 @@ fn price_for_trade(kind: Kind) -> Amount
     }
 }
 
-/// Returns whether a company that is to sell a train has not consented, or the price is 0.
-fn lacks_consent(view: &GameView, buyer: Company, purchase: TrainPurchase) -> bool
+/// Returns whether by these consents a company that is to sell a train has not consented, or the
+/// price is 0.
+fn lacks_consent(
+    view: &GameView,
+    buyer: Company,
+    purchase: TrainPurchase,
+    consents: Consents,
+) -> bool
     requires { IsSmallPurchase purchase }
-    ensures { result ≡ lacks_consent view.now.events.now buyer purchase }
+    ensures { result ≡ lacks_consent_by consents view.now.events.now buyer purchase }
 {
     let TrainSeller::Company(seller) = purchase.from else {
         return false;
@@ -225,21 +239,29 @@ fn lacks_consent(view: &GameView, buyer: Company, purchase: TrainPurchase) -> bo
         buyer,
         price,
     };
-    price == 0 || !presidents_agree(view, view.president(seller), view.president(buyer), sale)
+    let (giver, taker) = (view.president(seller), view.president(buyer));
+    price == 0 || !presidents_agree(view, giver, taker, sale, consents)
 }
 
-/// Returns whether one president consents to a sale to the other; `false` if there are not both.
-fn presidents_agree(view: &GameView, giver: Option<Seat>, taker: Option<Seat>, sale: Offer) -> bool
-    ensures { result ≡ presidents_agree view.now.events.now giver taker sale }
+/// Returns whether one president consents to a sale to the other by these consents; `false` if
+/// there are not both.
+fn presidents_agree(
+    view: &GameView,
+    giver: Option<Seat>,
+    taker: Option<Seat>,
+    sale: Offer,
+    consents: Consents,
+) -> bool
+    ensures { result ≡ presidents_agree_by consents view.now.events.now giver taker sale }
 {
     match (giver, taker) {
-        (Some(giver), Some(taker)) => view.has_consent(giver, taker, sale),
+        (Some(giver), Some(taker)) => consents.agrees(view, giver, taker, sale),
         _ => false,
     }
 }
 
 /// Returns whether a company that is to sell a train has none of the kind, or is the buyer.
-pub fn is_not_sellers(view: &GameView, buyer: Company, kind: Kind, from: TrainSeller) -> bool
+fn is_not_sellers(view: &GameView, buyer: Company, kind: Kind, from: TrainSeller) -> bool
     ensures { result ≡ is_not_sellers view.now.events.now buyer kind from }
 {
     match from {
