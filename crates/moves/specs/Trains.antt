@@ -1,17 +1,15 @@
 -- Which trains a company may buy: of the bank, also with each kind of train traded in; of the pool;
--- of each company, at the least price there is. It is what the rules of a purchase say, but for the
--- consent of the company that sells: where that is the rule which is broken first, those behind it
--- say so.
+-- of each company, at the least price there is. It is what the rules of a purchase say if each
+-- president who is asked for a train consents.
 use Rattle.std.specs.Prelude.{◌≡◌, ◌++◌, List, [], ◌∷◌, map, Option, Some, None, Result, ℤ}
 use Rattle.std.specs.List.{flat_map}
 use Rattle.board.specs.LayRules.{cost_or}
 use Rattle.events.specs.declared.event.TrainSeller.TheVariants as seller
 use Rattle.events.specs.declared.ruling.TrainRule.{TrainRule}
-use Rattle.events.specs.declared.ruling.TrainRule.TheVariants.{NoConsent, NotSellers}
-use Rattle.purchases.specs.Train.{cost_of, is_not_sellers, train_judgement}
+use Rattle.purchases.specs.Train.{cost_of, train_judgement_by}
+use Rattle.purchases.specs.declared.consents.Consents.TheVariants.{All}
 use Rattle.purchases.specs.declared.train.TrainPurchase.{TrainPurchase}
 use Rattle.tables.specs.Roster.{companies}
-use Rattle.tables.specs.Rules.{first_broken}
 use Rattle.tables.specs.Train.{kinds}
 use Rattle.tables.specs.declared.rolling_stock.Kind.{Kind}
 use Rattle.tables.specs.declared.roster.Company.{Company}
@@ -49,22 +47,7 @@ trains_of_kind kind = trains_of_bank kind ++ trains_of_others kind
 abbrev pub all_trains : List TrainPurchase
 all_trains = flat_map trains_of_kind kinds
 
--- the first rule that is broken of those behind the consent, where another company sells
-abbrev pub broken_behind_consent : Game → Company → TrainPurchase → Option TrainRule
-broken_behind_consent game company purchase =
-    first_broken (record { code = NotSellers; broken = is_not_sellers game.events company purchase.kind purchase.from }
-    ∷ [])
-
--- the first rule that is broken, where whoever sells consents
-abbrev pub but_consent : Game → Company → TrainPurchase → Option TrainRule → Option TrainRule
-but_consent game company purchase (Some NoConsent) = broken_behind_consent game company purchase
-but_consent game company purchase other = other
-
-abbrev pub judgement_with_consent : Game → Company → TrainPurchase → Option TrainRule
-judgement_with_consent game company purchase =
-    but_consent game company purchase (train_judgement game company purchase)
-
--- the verdict on a purchase: its cost, or the first rule that it breaks
+-- the verdict on a purchase where whoever sells consents: its cost, or the first rule that it breaks
 abbrev pub IsTrainAnswer : Game → Company → TrainPurchase → Result ℤ TrainRule → Type 0
 IsTrainAnswer game company purchase answer =
-    answer ≡ cost_or (cost_of purchase) (judgement_with_consent game company purchase)
+    answer ≡ cost_or (cost_of purchase) (train_judgement_by All game company purchase)

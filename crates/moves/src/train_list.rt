@@ -1,15 +1,14 @@
 //! Which trains a company may buy.
 ghost use Rattle.std.specs.Prelude.{◌≡◌, ◌∷◌, [], IfOk, OnOk};
 ghost use Rattle.moves.specs.Listed.{AreListed, Lists};
-ghost use Rattle.moves.specs.Trains.{IsTrainAnswer, all_trains, broken_behind_consent};
-ghost use Rattle.moves.specs.Trains.{judgement_with_consent, trains_of_bank, trains_of_companies};
+ghost use Rattle.moves.specs.Trains.{IsTrainAnswer, all_trains, trains_of_bank, trains_of_companies};
 ghost use Rattle.moves.specs.Trains.{trains_of_kind, trains_of_others};
 ghost use Rattle.purchases.specs.Train.{IsSmallPurchase};
 ghost use Rattle.purchases.specs.declared.train.TrainPurchase.{TrainPurchase};
 
 use crate::priced::{Priced, push_priced};
-use history::{History, TrainRule, TrainSeller};
-use purchases::{TrainPurchase, is_not_sellers, judge_purchase};
+use history::{History, TrainSeller};
+use purchases::{Consents, TrainPurchase, judge_purchase};
 use std::alloc::{AllocError, Global};
 use tables::{Company, Kind, Money};
 
@@ -135,38 +134,8 @@ fn push_train(
     ensures { OnOk result (Lists (IsTrainAnswer history.now company) (purchase ∷ [])
         trains.old.items trains.new.items) }
 {
-    match judge_with_consent(history, company, purchase) {
+    match judge_purchase(history, company, purchase, Consents::All) {
         None => push_priced(trains, purchase, Money::from(purchase.price())),
         Some(_) => Ok(()),
     }
-}
-
-/// Returns the first rule that a purchase breaks, but for the consent of whoever sells.
-fn judge_with_consent(
-    history: &History,
-    company: Company,
-    purchase: TrainPurchase,
-) -> Option<TrainRule>
-    requires { IsSmallPurchase purchase }
-    ensures { result ≡ judgement_with_consent history.now company purchase }
-{
-    match judge_purchase(history, company, purchase) {
-        Some(TrainRule::NoConsent) => broken_behind_consent(history, company, purchase),
-        other => other,
-    }
-}
-
-/// Returns the first rule that a purchase of another company's train breaks, of those behind its
-/// consent.
-fn broken_behind_consent(
-    history: &History,
-    company: Company,
-    purchase: TrainPurchase,
-) -> Option<TrainRule>
-    ensures { result ≡ broken_behind_consent history.now company purchase }
-{
-    if is_not_sellers(&history.now(), company, purchase.kind, purchase.from) {
-        return Some(TrainRule::NotSellers);
-    }
-    None
 }
