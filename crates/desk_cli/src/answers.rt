@@ -5,7 +5,7 @@ use crate::task::{Job, Task};
 use desk::state;
 use desk_base::{DeskFault, Moment, Reason, all_reasons_text, explain, list_text, reason_text};
 use desk_check::{Extent, check};
-use desk_moves::{LayForm, MovesFault, Progress, Question, answer, trial};
+use desk_moves::{LayForm, MayForm, MovesFault, Progress, Question, answer, trial};
 use desk_round::{bulletin, round, round_with_rules, runs};
 use page::{page, tile_sheet};
 use report::refusal_text;
@@ -157,6 +157,7 @@ fn moves_told_of<P: Progress>(
             form: LayForm {
                 best: task.best,
                 lines: task.lines,
+                drafted: task.drafted,
             },
         },
         (Job::Best, Some(company), _) => Question::Best {
@@ -166,7 +167,13 @@ fn moves_told_of<P: Progress>(
         (Job::Hex, _, Some(hex)) => Question::Hex(hex),
         (Job::May, _, _) => {
             let name = task.names.as_slice().first();
-            Question::May(name.map_or(&[], |name| name.as_bytes()))
+            Question::May {
+                name: name.map_or(&[], |name| name.as_bytes()),
+                form: MayForm {
+                    lines: task.lines,
+                    drafted: task.drafted,
+                },
+            }
         }
         _ => return trial_told_of(alloc, file, task),
     };

@@ -57,6 +57,8 @@ pub(crate) struct Task<'a> {
     pub(crate) lines: bool,
     /// Whether to tell what the best runs would earn.
     pub(crate) best: bool,
+    /// Whether to ask behind the orders of one's own sheet.
+    pub(crate) drafted: bool,
     /// Whether to write the page of all tiles.
     pub(crate) tiles: bool,
     /// The company that is named, if one is.
@@ -114,6 +116,8 @@ enum Operand {
     Lines,
     /// `--best`.
     Best,
+    /// `--drafted`.
+    Drafted,
     /// `--tiles`.
     Tiles,
     /// `--after ROUND`.
@@ -183,6 +187,7 @@ static WORDS: [Word; 12] = [
             Operand::Company,
             Operand::Best,
             Operand::Lines,
+            Operand::Drafted,
             Operand::After,
         ],
     },
@@ -191,7 +196,12 @@ static WORDS: [Word; 12] = [
         about: "Writes what a player may buy, bid and sell, and what not",
         example: "Example: desk may ANN < our-game.orders",
         job: Job::May,
-        operands: &[Operand::Player, Operand::After],
+        operands: &[
+            Operand::Player,
+            Operand::Lines,
+            Operand::Drafted,
+            Operand::After,
+        ],
     },
     Word {
         name: "best",
@@ -290,13 +300,16 @@ fn argument_of<'a>(alloc: Global, operand: Operand) -> Arg<'a> {
         Operand::Best => {
             flag(alloc, "best").help("Tell what the company's best runs would earn after each")
         }
+        Operand::Drafted => {
+            flag(alloc, "drafted").help("As it stands behind the orders of the own sheet in the file")
+        }
         Operand::Tiles => {
             flag(alloc, "tiles").help("Write all tiles in their six rotations, without a game")
         }
         Operand::After => Arg::new(alloc, "after")
             .long("after")
             .value_name("ROUND")
-            .help("As it stood after this round, as OR2.1"),
+            .help("In the round that came after this one, as OR2.1"),
         Operand::Company => {
             Arg::new(alloc, "COMPANY")
                 .required(true)
@@ -349,6 +362,7 @@ fn task_of<'a>(
         from: 1,
         lines: false,
         best: false,
+        drafted: false,
         tiles: false,
         company: None,
         hex: None,
@@ -406,6 +420,7 @@ fn take_operand(task: &mut Task, given: &ArgMatches, operand: Operand) -> Option
         Operand::All => task.all = given.get_flag("all"),
         Operand::Lines => task.lines = given.get_flag("lines"),
         Operand::Best => task.best = given.get_flag("best"),
+        Operand::Drafted => task.drafted = given.get_flag("drafted"),
         Operand::Tiles => task.tiles = given.get_flag("tiles"),
         Operand::Round => return take_round(task, given.get_str("ROUND")?),
         Operand::After => return take_round(task, given.get_str("after")?),

@@ -1,6 +1,6 @@
 //! A line of what a player may do, or may not.
 
-use desk_base::Piece::{Column, Right, Words};
+use desk_base::Piece::{Column, Number, Right, Words};
 use desk_base::{Reason, fill, push, push_wrapped};
 use history::Refusal;
 use order_grammar::{Order, print_order};
@@ -34,12 +34,33 @@ pub(crate) fn push_may_not(
     fill(out, "NOT ", &[])?;
     print_order(out, order)?;
     push_note_column(out)?;
-    let reason = Reason::Order(rule);
     let mut why = Vec::new(alloc);
-    fill(
-        &mut why,
-        "%: %",
-        &[Words(reason.code()), Words(reason.sentence())],
-    )?;
+    push_rule(&mut why, rule)?;
     push_wrapped(out, NOTE, why.as_slice())
+}
+
+/// Adds an order that may not be given, with its price and what is held, and the first rule that it
+/// breaks.
+pub(crate) fn push_may_not_at(
+    alloc: Global,
+    out: &mut Vec<u8>,
+    order: &Order,
+    rule: Refusal,
+    price: Money,
+    held: Money,
+) -> Result<(), AllocError> {
+    fill(out, "NOT ", &[])?;
+    push_may(out, order, price)?;
+    push_note_column(out)?;
+    let mut why = Vec::new(alloc);
+    push_rule(&mut why, rule)?;
+    fill(&mut why, "; you hold %", &[Number(held)])?;
+    push_wrapped(out, NOTE, why.as_slice())
+}
+
+/// Adds a rule: its code and its words.
+fn push_rule(out: &mut Vec<u8>, rule: Refusal) -> Result<(), AllocError> {
+    let reason = Reason::Order(rule);
+    let pieces = [Words(reason.code()), Words(reason.sentence())];
+    fill(out, "%: %", &pieces)
 }

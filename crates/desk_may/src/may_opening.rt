@@ -1,7 +1,7 @@
 //! What a player may buy and bid in an opening.
 
 use crate::may_line::{push_may, push_may_not};
-use desk_base::{Stood, fill};
+use desk_base::fill;
 use history::{History, Refusal};
 use moves::{OpeningMoves, Priced, bids, least_bid};
 use order_grammar::Order;
@@ -9,21 +9,21 @@ use privates::judge;
 use std::alloc::{AllocError, Global};
 use tables::{Amount, PLAYERS_MOST, Private, Seat};
 
-/// Adds the privates that a player may buy, and the least bid on each on which they may bid; and of
-/// the other unsold ones why they may not.
+/// Adds the privates that a player may buy at the head of their turn, and the least bid on each on
+/// which they may bid; and of the other unsold ones why they may not.
 pub fn push_of_opening(
     alloc: Global,
     out: &mut Vec<u8>,
-    stood: &Stood,
+    history: &History,
     seat: Seat,
 ) -> Result<(), AllocError> {
-    if stood.history.seats() > PLAYERS_MOST {
+    if history.seats() > PLAYERS_MOST {
         return Ok(());
     }
-    let moves = bids(alloc, stood.history, seat)?;
+    let moves = bids(alloc, history, seat)?;
     fill(out, "\n", &[])?;
     push_bids(out, &moves)?;
-    push_others(alloc, out, stood.history, seat, &moves)
+    push_others(alloc, out, history, seat, &moves)
 }
 
 /// Adds what may be bought, and bid.

@@ -1,71 +1,108 @@
-//! What a player's companies may buy in an operating round.
+//! What a player's companies may buy in an operating round that comes, each at the head of its
+//! orders, or behind those that the player has drafted.
 
 use crate::may_line::{push_may, push_may_not, push_note_column};
+use crate::must_buy::push_end_of_turn;
+use crate::until_then::push_until_then;
 use desk_base::Piece::{Bytes, Column, Count, Number, Words};
-use desk_base::{Stood, fill};
+use desk_base::fill;
+use foresight::{Draft, open_ahead, take_turn_ahead};
+use forced_purchase::Operator;
 use history::{History, Holder, Party, Refusal, TrainSeller};
-use market::operating_order;
+use market::next_company;
 use moves::{Priced, least_price, owned_privates, trains};
+use operating::{GameAndBoard, begin_turn};
 use order_grammar::{Order, TrainSource};
 use purchases::{Consents, TrainPurchase, judge_private, judge_purchase, sells};
 use report::name;
 use sheets::Sheets;
 use std::alloc::{AllocError, Global};
-use tables::{Company, Kind, Money, Private, Seat, face, limit};
+use tables::{COMPANIES, Company, Kind, Money, Private, Round, Seat, face, limit};
 
-/// A company of a player's, in a game as it stood.
+/// A company of a player's, in a game at the head of its orders, or behind some of them.
 #[derive(Clone, Copy)]
 struct Buyer<'a> {
     alloc: Global,
     sheets: &'a Sheets<'a>,
     history: &'a History,
-    seat: Seat,
-    company: Company,
+    by: Operator,
 }
 
-/// Adds what each company of a player's may buy with the cash of now, and what it might be expected
-/// to buy and may not: companies that operate first, in their order, and then those that are not
-/// floated.
+/// Adds what each company of a player's may buy in an operating round that comes, and what it might
+/// be expected to buy and may not: companies that operate, in their order, and then those that are
+/// not floated. If the player's own sheet is looked at, each is told of behind its orders there.
 pub fn push_of_operating(
     alloc: Global,
     out: &mut Vec<u8>,
-    stood: &Stood,
+    history: History,
+    draft: Draft,
+    round: Round,
     seat: Seat,
 ) -> Result<(), AllocError> {
-    for company in operating_order(stood.history).as_slice() {
-        if stood.history.now().president(*company) == Some(seat) {
-            let buyer = Buyer {
-                alloc,
-                sheets: stood.sheets,
-                history: stood.history,
-                seat,
-                company: *company,
+    let from = history.events().len();
+    let mut game = open_ahead(alloc, history, draft, round)?;
+    for _ in 0..COMPANIES {
+        let Some(company) = next_company(&game.history) else {
+            break;
+        };
+        game = if game.history.now().president(company) == Some(seat) {
+            let by = Operator {
+                company,
+                president: seat,
             };
-            buyer.push_all(out)?;
-        }
+            push_turn(alloc, out, game, draft, round, by, from)?
+        } else {
+            take_turn_ahead(alloc, game, draft, round, company)?
+        };
     }
+    push_not_floated(out, &game.history, seat)
+}
+
+/// Adds the companies of a player's that are not floated.
+fn push_not_floated(out: &mut Vec<u8>, history: &History, seat: Seat) -> Result<(), AllocError> {
     for company in &Company::ALL {
-        let is_his = stood.history.now().president(*company) == Some(seat);
-        if is_his && !stood.history.floated(*company) {
-            fill(
-                out,
-                "\nCOMPANY %%not floated\n",
-                &[Words(company.code()), Column(18)],
-            )?;
+        let is_theirs = history.now().president(*company) == Some(seat);
+        if is_theirs && !history.floated(*company) {
+            let code = Words(company.code());
+            fill(out, "\nCOMPANY %%not floated\n", &[code, Column(18)])?;
         }
     }
     Ok(())
 }
 
+/// Adds what a company may buy at the head of its orders, or behind those that are drafted, and
+/// the train that it must buy if its turn ends there. Returns the game after its turn.
+fn push_turn(
+    alloc: Global,
+    out: &mut Vec<u8>,
+    game: GameAndBoard,
+    draft: Draft,
+    round: Round,
+    by: Operator,
+    from: usize,
+) -> Result<GameAndBoard, AllocError> {
+    let mut turn = begin_turn(alloc, game, round, by)?;
+    let raises = draft.rule_orders(alloc, &mut turn)?;
+    let buyer = Buyer {
+        alloc,
+        sheets: draft.sheets,
+        history: &turn.history,
+        by,
+    };
+    buyer.push_heading(out)?;
+    push_until_then(alloc, out, draft.sheets, &turn.history, from)?;
+    buyer.push_all(out)?;
+    push_end_of_turn(alloc, out, draft.sheets, turn, raises)
+}
+
 impl Buyer<'_> {
-    /// Adds the company with its cash and trains, and what it may buy and may not.
+    /// Adds what the company may buy and may not.
     fn push_all(self, out: &mut Vec<u8>) -> Result<(), AllocError> {
-        self.push_heading(out)?;
-        let trains = trains(self.alloc, self.history, self.company)?;
+        let trains = trains(self.alloc, self.history, self.by.company)?;
         for train in &trains {
             self.push_train(out, *train)?;
         }
-        let privates = owned_privates(self.alloc, self.history, self.company)?;
+        let privates = owned_privates(self.alloc, self.history, self.by.company)?;
         for private in &privates {
             self.push_private(out, *private)?;
         }
@@ -76,11 +113,11 @@ impl Buyer<'_> {
     /// Adds the company's code, its cash, and its trains of how many.
     fn push_heading(self, out: &mut Vec<u8>) -> Result<(), AllocError> {
         let cash = Number(self.cash());
-        let code = Words(self.company.code());
+        let code = Words(self.by.company.code());
         fill(out, "\nCOMPANY %%cash %, trains", &[code, Column(18), cash])?;
         let mut none = " none";
         for kind in &Kind::ALL {
-            for _ in 0..self.history.trains(Some(self.company), *kind) {
+            for _ in 0..self.history.trains(Some(self.by.company), *kind) {
                 fill(out, " %", &[Words(kind.code())])?;
                 none = "";
             }
@@ -91,7 +128,7 @@ impl Buyer<'_> {
 
     /// Returns what the company has, in dollars.
     fn cash(self) -> Money {
-        self.history.cash(Party::of_company(self.company))
+        self.history.cash(Party::of_company(self.by.company))
     }
 
     /// Adds a train that the company may buy, with who must consent, and up to which price.
@@ -131,7 +168,7 @@ impl Buyer<'_> {
         push_note_column(out)?;
         fill(out, "up to %", &[Number(most)])?;
         match giver {
-            Some(giver) if giver != self.seat => {
+            Some(giver) if giver != self.by.president => {
                 fill(out, ", if % offers it", &[Bytes(name(self.sheets, giver))])
             }
             _ => Ok(()),
@@ -154,7 +191,7 @@ impl Buyer<'_> {
             if !sells(&self.history.now(), *kind) || listed.iter().any(|one| one.what == purchase) {
                 continue;
             }
-            let broken = judge_purchase(self.history, self.company, purchase, Consents::OfGame);
+            let broken = judge_purchase(self.history, self.by.company, purchase, Consents::All);
             if let Some(rule) = broken {
                 let order = order_of_train(purchase);
                 push_may_not(self.alloc, out, &order, Refusal::Train(rule))?;
@@ -175,13 +212,8 @@ impl Buyer<'_> {
                 continue;
             }
             let price = least_price(*private);
-            let broken = judge_private(
-                self.history,
-                self.company,
-                *private,
-                price,
-                Consents::OfGame,
-            );
+            let company = self.by.company;
+            let broken = judge_private(self.history, company, *private, price, Consents::All);
             if let Some(rule) = broken {
                 let order = Order::BuyOwnedPrivate {
                     private: *private,

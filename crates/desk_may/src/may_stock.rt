@@ -1,15 +1,17 @@
 //! What a player may buy, sell and exchange in a stock round.
 
-use crate::may_line::{push_may, push_may_not, push_note_column};
-use certs::{Purchase, Sale, may_buy, may_sell};
+use crate::may_line::{push_may, push_may_not, push_may_not_at, push_note_column};
+use certs::{Holdings, Purchase, Sale, may_buy, may_sell, purchase_cost};
 use desk_base::Piece::{Bytes, Number, Words};
-use desk_base::{Piece, Stood, fill, push};
-use history::{History, Holder, Refusal, Shareholder, StockRule};
+use desk_base::{Piece, fill, push};
+use history::{History, Holder, Refusal, ShareCount, Shareholder, StockRule, Transfer};
 use market::fall;
 use moves::{Priced, StockMoves, deals};
 use order_grammar::{Order, ShareSource};
+use report::name;
+use sheets::Sheets;
 use std::alloc::{AllocError, Global};
-use tables::{Company, Money, PAR_VALUES, Private, Seat, Square, price};
+use tables::{Company, Money, PAR_VALUES, Private, Seat, Square, Zone, price, zone};
 
 /// Where a share may be bought.
 const SOURCES: [ShareSource; 2] = [ShareSource::InitialOffering, ShareSource::BankPool];
@@ -19,17 +21,17 @@ const SOURCES: [ShareSource; 2] = [ShareSource::InitialOffering, ShareSource::Ba
 pub fn push_of_stock(
     alloc: Global,
     out: &mut Vec<u8>,
-    stood: &Stood,
+    sheets: &Sheets,
+    history: &History,
     seat: Seat,
 ) -> Result<(), AllocError> {
-    let history = stood.history;
     if seat.index() >= history.seats() || history.seats() > 6 {
         return Ok(());
     }
     let moves = deals(alloc, history, seat)?;
     fill(out, "\n", &[])?;
-    push_purchases(out, &moves)?;
-    push_sales(out, history, &moves)?;
+    push_purchases(out, history, &moves)?;
+    push_sales(out, sheets, history, seat, &moves)?;
     push_exchange(alloc, out, history, seat, &moves)?;
     for company in &Company::ALL {
         push_not_bought(alloc, out, history, seat, *company)?;
@@ -39,7 +41,11 @@ pub fn push_of_stock(
 }
 
 /// Adds what may be bought: each share, and each company that may be started, with the par values.
-fn push_purchases(out: &mut Vec<u8>, moves: &StockMoves) -> Result<(), AllocError> {
+fn push_purchases(
+    out: &mut Vec<u8>,
+    history: &History,
+    moves: &StockMoves,
+) -> Result<(), AllocError> {
     let mut last = None;
     for (at, purchase) in moves.purchases.iter().enumerate() {
         let company = purchase.what.company();
@@ -52,9 +58,22 @@ fn push_purchases(out: &mut Vec<u8>, moves: &StockMoves) -> Result<(), AllocErro
             let others = moves.purchases.get(at.saturating_add(1)..).unwrap_or(&[]);
             push_other_pars(out, others, company)?;
         }
+        if is_brown(history, company) {
+            push_note_column(out)?;
+            fill(out, "as many as you like in a turn: its price is brown", &[])?;
+        }
         fill(out, "\n", &[])?;
     }
     Ok(())
+}
+
+/// Returns whether the price of a company is brown, so that several of its shares may be bought in a
+/// turn.
+fn is_brown(history: &History, company: Company) -> bool {
+    match history.square(company) {
+        Some(square) => zone(square) == Zone::Brown,
+        None => false,
+    }
 }
 
 /// Adds the par values of a company in a list of purchases.
@@ -90,7 +109,13 @@ fn order_of(purchase: Purchase) -> Order {
 }
 
 /// Adds the greatest sale of each company, with the square of its token before and after.
-fn push_sales(out: &mut Vec<u8>, history: &History, moves: &StockMoves) -> Result<(), AllocError> {
+fn push_sales(
+    out: &mut Vec<u8>,
+    sheets: &Sheets,
+    history: &History,
+    seat: Seat,
+    moves: &StockMoves,
+) -> Result<(), AllocError> {
     for (at, sale) in moves.sales.iter().enumerate() {
         let next = moves.sales.get(at.saturating_add(1));
         if !is_greatest(*sale, next) {
@@ -105,9 +130,40 @@ fn push_sales(out: &mut Vec<u8>, history: &History, moves: &StockMoves) -> Resul
             let squares = u8::try_from(shares).unwrap_or(u8::MAX);
             push_square(out, fall(square, squares))?;
         }
+        push_successor(out, sheets, history, seat, sale.what)?;
         fill(out, "\n", &[])?;
     }
     Ok(())
+}
+
+/// Adds who presides over a company once a seat has sold shares of it, if that is another then.
+fn push_successor(
+    out: &mut Vec<u8>,
+    sheets: &Sheets,
+    history: &History,
+    seat: Seat,
+    sale: Sale,
+) -> Result<(), AllocError> {
+    let company = sale.company;
+    let shares = u8::try_from(sale.shares).unwrap_or(u8::MAX);
+    let mut holdings = Holdings::of(history);
+    let before = holdings.president(company);
+    let from = Shareholder::Seat(seat);
+    if holdings.shares(company, from) < ShareCount::from(shares) {
+        return Ok(());
+    }
+    holdings.transfer(Transfer {
+        company,
+        shares,
+        from,
+        to: Shareholder::BankPool,
+    });
+    match holdings.president(company) {
+        Some(after) if before != Some(after) => {
+            fill(out, ", % presides", &[Bytes(name(sheets, after))])
+        }
+        _ => Ok(()),
+    }
 }
 
 /// Returns whether a sale is the last of its company's, before the next in the list.
@@ -183,10 +239,13 @@ fn push_not_this(
     seat: Seat,
     purchase: Purchase,
 ) -> Result<(), AllocError> {
-    match may_buy(history, seat, purchase, None) {
-        Ok(()) => Ok(()),
-        Err(rule) => push_may_not(alloc, out, &order_of(purchase), Refusal::Stock(rule)),
-    }
+    let Err(rule) = may_buy(history, seat, purchase, None) else {
+        return Ok(());
+    };
+    let price = purchase_cost(&history.now(), purchase);
+    let held = history.shares(purchase.company(), Shareholder::Seat(seat));
+    let rule = Refusal::Stock(rule);
+    push_may_not_at(alloc, out, &order_of(purchase), rule, price, Money::from(held))
 }
 
 /// Adds that a player may sell no share of a company of which they have some, with why.

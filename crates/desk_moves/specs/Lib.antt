@@ -2,4 +2,3 @@
 pub mod Fault
 pub mod Lines
 pub mod Trial
-pub mod Start

@@ -1,17 +1,22 @@
--- The lays and tokens of a company as order lines: those that it may make as its turn begins, all of them and no others,
--- in their order, each with its price behind four spaces.
+-- The lays and tokens of a company as order lines: those that it may make where its turn has come to, all of them and no
+-- others, in their order, each with its price behind four spaces.
 use Rattle.std.specs.Prelude.{◌≡◌, ℕ, List, [], ◌∷◌, ◌++◌, codes, ℤ}
 use Rattle.std.specs.Fmt.{signed_decimal}
 use Rattle.std.specs.List.{flat_map}
+use Rattle.board.specs.LayRules.{IsLayAnswer}
+use Rattle.board.specs.TokenRules.{IsTokenAnswer}
 use Rattle.map_tables.specs.declared.lay.Lay.{Lay}
 use Rattle.map_tables.specs.declared.place.Place.{Place}
-use Rattle.moves.specs.TurnLaws.{AreLaysAtStart, AreTokensAtStart}
+use Rattle.moves.specs.Candidates.{all_lays, all_places}
+use Rattle.moves.specs.Listed.{AreListed}
 use Rattle.moves.specs.declared.priced.Priced.{Priced}
+use Rattle.operating.specs.BoardAsker.{asker_of}
+use Rattle.operating.specs.MapState.{map_state_now}
+use Rattle.operating.specs.TurnState.{TurnState}
 use Rattle.order_grammar.specs.Print.{spelling_of}
 use Rattle.order_grammar.specs.declared.order.Order.{Order}
 use Rattle.order_grammar.specs.declared.order.Order.TheVariants as order
 use Rattle.tables.specs.declared.roster.Company.{Company}
-use Rattle.totals.specs.LookBack.{Game}
 
 -- an order, four spaces, and its price in dollars
 abbrev pub priced_line : Order → ℤ → List ℕ
@@ -25,10 +30,21 @@ lay_line lay = priced_line (order.Lay lay.what) lay.price
 abbrev pub token_line : Priced Place → List ℕ
 token_line token = priced_line (order.Token token.what) token.price
 
--- these are the lines of the lays and tokens that a company may make as its turn begins in this game
-pub record AreLines (game : Game) (company : Company) (text : List ℕ) : Type 0 where
+-- these are the lays that a company may make where its turn has come to
+abbrev pub AreLaysIn : TurnState → Company → List (Priced Lay) → Type 0
+AreLaysIn turn company listed =
+    AreListed (IsLayAnswer (map_state_now turn.game.events) (asker_of turn.game company turn.progress)) all_lays listed
+
+-- and these are its tokens
+abbrev pub AreTokensIn : TurnState → Company → List (Priced Place) → Type 0
+AreTokensIn turn company listed =
+    AreListed (IsTokenAnswer (map_state_now turn.game.events) (asker_of turn.game company turn.progress)) all_places
+    listed
+
+-- these are the lines of the lays and tokens that a company may make in this turn
+pub record AreLines (turn : TurnState) (company : Company) (text : List ℕ) : Type 0 where
   pub lays : List (Priced Lay)
-  pub are_lays : AreLaysAtStart game company lays
+  pub are_lays : AreLaysIn turn company lays
   pub tokens : List (Priced Place)
-  pub are_tokens : AreTokensAtStart game company tokens
+  pub are_tokens : AreTokensIn turn company tokens
   pub is : text ≡ flat_map lay_line lays ++ flat_map token_line tokens

@@ -1,11 +1,11 @@
 //! What a company's trains would earn at their best: now, and after a lay or a token.
 ghost use Rattle.std.specs.Prelude.{IfOk};
 ghost use Rattle.board_state.specs.MapState.{position_of, with_lay, with_token};
-ghost use Rattle.desk_moves.specs.Start.{map_at_start};
 ghost use Rattle.legal_runs.specs.Set.{IsGreatestMoney};
+ghost use Rattle.operating.specs.MapState.{map_state_now};
 
 use crate::fault::MovesFault;
-use crate::turn_start::board_at_start;
+use crate::turn_start::board_now;
 use best_run::Search;
 use board::Board;
 use desk_base::DeskFault;
@@ -15,7 +15,7 @@ use map_tables::{Lay, Place};
 use std::alloc::Global;
 use tables::{Company, Kind, Money, Round};
 
-/// A company with its trains, as its turn begins.
+/// A company with its trains, in a game at the head of its orders or behind some of them.
 #[derive(Clone, Copy)]
 pub(crate) struct Trains<'a> {
     pub(crate) alloc: Global,
@@ -28,19 +28,19 @@ impl Trains<'_> {
     /// Returns the greatest revenue of the trains now, in dollars. The error is `Memory`.
     pub(crate) fn best_now(self) -> Result<Money, MovesFault>
         ensures { let its = self.entry in IfOk result (IsGreatestMoney
-            (position_of (map_at_start its.history.now its.company)) its.company its.kinds.now) }
+            (position_of (map_state_now its.history.now.events)) its.company its.kinds.now) }
     {
-        let board = board_at_start(self.alloc, self.history, self.company)?;
+        let board = board_now(self.alloc, self.history)?;
         self.best_on(&board)
     }
 
     /// Returns the greatest revenue of the trains after a lay, in dollars. The error is `Memory`.
     pub(crate) fn best_after_lay(self, lay: Lay) -> Result<Money, MovesFault>
         ensures { let its = self.entry in IfOk result (IsGreatestMoney
-            (position_of (with_lay (map_at_start its.history.now its.company) lay))
+            (position_of (with_lay (map_state_now its.history.now.events) lay))
             its.company its.kinds.now) }
     {
-        let mut board = board_at_start(self.alloc, self.history, self.company)?;
+        let mut board = board_now(self.alloc, self.history)?;
         board.put_lay(lay)?;
         self.best_on(&board)
     }
@@ -48,10 +48,10 @@ impl Trains<'_> {
     /// Returns the greatest revenue of the trains after a token, in dollars. The error is `Memory`.
     pub(crate) fn best_after_token(self, place: Place) -> Result<Money, MovesFault>
         ensures { let its = self.entry in IfOk result (IsGreatestMoney
-            (position_of (with_token (map_at_start its.history.now its.company) place its.company))
+            (position_of (with_token (map_state_now its.history.now.events) place its.company))
             its.company its.kinds.now) }
     {
-        let mut board = board_at_start(self.alloc, self.history, self.company)?;
+        let mut board = board_now(self.alloc, self.history)?;
         board.put_token(place, self.company)?;
         self.best_on(&board)
     }

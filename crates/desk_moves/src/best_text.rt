@@ -3,11 +3,9 @@ ghost use Rattle.std.specs.Prelude.{IfOk};
 ghost use Rattle.board_state.specs.MapState.{position_of};
 ghost use Rattle.legal_runs.specs.Claim.{ClaimHolds};
 ghost use Rattle.legal_runs.specs.Set.{IsGreatest};
-ghost use Rattle.operating.specs.HomeToken.{with_home};
-ghost use Rattle.operating.specs.MapState.{map_state_now};
 
 use crate::fault::{MovesFault, NoAnswer};
-use crate::turn_start::board_at_start;
+use crate::turn_start::board_now;
 use best_run::best;
 use board::Board;
 use desk_base::Piece::{Number, Words};
@@ -44,7 +42,7 @@ fn text_with(
     company: Company,
     trains: &[Kind],
 ) -> Result<Vec<u8>, MovesFault> {
-    let board = board_at_start(alloc, history, company)?;
+    let board = board_now(alloc, history)?;
     let claim = best_claim(alloc, &board, company, trains)?;
     let mut text = Vec::new(alloc);
     push_claim(&mut text, &board, company, &claim)?;

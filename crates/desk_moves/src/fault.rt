@@ -27,6 +27,13 @@ pub enum NoAnswer {
     NoPresident,
     /// Nobody who plays has that name.
     NoSuchPlayer,
+    /// The company does not operate in the operating round that comes, or the game ends before its
+    /// turn.
+    NoTurn,
+    /// No operating round comes next.
+    NoOperatingRound,
+    /// The player whose own sheet is to be looked at has none for the round that comes.
+    NoDraft,
     /// The company has no train, and none is named.
     NoTrains,
     /// A kind is named more often than there are such trains.
@@ -47,6 +54,13 @@ impl NoAnswer {
             NoAnswer::NotStarted => "that company is not started",
             NoAnswer::NoPresident => "that company has no president",
             NoAnswer::NoSuchPlayer => "nobody who plays has that name",
+            NoAnswer::NoTurn => {
+                "that company has no turn in the round that comes: it does not operate, or the game ends before"
+            }
+            NoAnswer::NoOperatingRound => {
+                "the round that comes is no operating round; ask again once it is played"
+            }
+            NoAnswer::NoDraft => "there is no sheet of theirs for the round that comes",
             NoAnswer::NoTrains => "that company has no train; name some, as in `best PRR 2 2`",
             NoAnswer::TooManyOfKind => "there are not so many trains of one kind",
             NoAnswer::Rusted => "trains of one of these kinds have rusted",

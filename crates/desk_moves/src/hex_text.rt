@@ -1,33 +1,72 @@
 //! A hex as it is: its colour and tile, its terrain, its stops, and what meets at its sides.
 
+use crate::coming::Coming;
 use crate::hex_sides::push_sides;
 use crate::turn_start::board_now;
 use board::Board;
 use board_state::OnMap;
 use desk_base::Piece::{Bytes, Column, Count, Number, Right, Words};
-use desk_base::{Stood, fill, push};
-use history::Holder;
+use desk_base::{fill, push};
+use foresight::{Draft, open_ahead};
+use forced_purchase::Operator;
+use history::{History, Holder};
 use map_tables::{
     Colour, Hex, HexKind, Stop, StopNumber, TileKind, hex_kind, joined_stop, printed_colour,
     printed_slots, printed_stops, private_hexes, terrain_cost, tile,
 };
+use market::next_company;
+use operating::begin_turn;
 use reach::Network;
 use report::name;
+use sheets::Sheets;
 use std::alloc::{AllocError, Global};
-use tables::{Company, Money, Private};
+use tables::{Company, Money, Private, Round};
 
 /// The column in front of the tokens of a stop.
 const TOKENS: usize = 21;
 
-/// Returns a hex as text. Fails only if allocation fails.
-pub(crate) fn hex_text(alloc: Global, stood: &Stood, hex: Hex) -> Result<Vec<u8>, AllocError> {
-    let board = board_now(alloc, stood.history)?;
+/// Returns a hex as text, at the head of the first turn of the round that comes. Fails only if
+/// allocation fails.
+pub(crate) fn hex_text(alloc: Global, coming: Coming, hex: Hex) -> Result<Vec<u8>, AllocError> {
+    let Coming {
+        sheets,
+        history,
+        round,
+    } = coming;
+    let history = opened(alloc, sheets, history, round)?;
+    let board = board_now(alloc, &history)?;
     let mut text = Vec::new(alloc);
     push_ground(&mut text, &board, hex)?;
-    push_blocked(&mut text, stood, hex)?;
+    push_blocked(&mut text, sheets, &history, hex)?;
     push_stops(&mut text, &board, hex)?;
     push_sides(&mut text, &board, hex)?;
     Ok(text)
+}
+
+/// Returns a game at the head of the first turn of a round that comes. Before an opening or a stock
+/// round the map is as it was.
+fn opened(
+    alloc: Global,
+    sheets: &Sheets,
+    history: History,
+    round: Round,
+) -> Result<History, AllocError> {
+    let Round::Operating { .. } = round else {
+        return Ok(history);
+    };
+    let draft = Draft {
+        sheets,
+        drafter: None,
+    };
+    let game = open_ahead(alloc, history, draft, round)?;
+    let Some(company) = next_company(&game.history) else {
+        return Ok(game.history);
+    };
+    let Some(president) = game.history.now().president(company) else {
+        return Ok(game.history);
+    };
+    let by = Operator { company, president };
+    Ok(begin_turn(alloc, game, round, by)?.history)
 }
 
 /// Adds the hex, its colour, the tile that lies there, what it takes, and the cost of its terrain.
@@ -94,14 +133,19 @@ fn name_of(colour: Colour) -> &'static str {
 }
 
 /// Adds that no tile may be laid, if a player owns the private of the hex.
-fn push_blocked(out: &mut Vec<u8>, stood: &Stood, hex: Hex) -> Result<(), AllocError> {
+fn push_blocked(
+    out: &mut Vec<u8>,
+    sheets: &Sheets,
+    history: &History,
+    hex: Hex,
+) -> Result<(), AllocError> {
     for private in &Private::ALL {
         let is_its = private_hexes(*private).iter().any(|its| *its == hex);
-        if let Some(Holder::Seat(seat)) = stood.history.owner(*private)
+        if let Some(Holder::Seat(seat)) = history.owner(*private)
             && is_its
         {
             let code = Words(private.code());
-            let owner = Bytes(name(stood.sheets, seat));
+            let owner = Bytes(name(sheets, seat));
             fill(out, "CLOSED            while % owns %\n", &[owner, code])?;
         }
     }

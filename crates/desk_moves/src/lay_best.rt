@@ -4,12 +4,13 @@ use crate::best_after::Trains;
 use crate::fault::MovesFault;
 use crate::lay_text::{has_same_track, push_rotations, push_tile, push_token};
 use crate::progress::Progress;
-use desk_base::Piece::{Column, Number, Right, Words};
+use desk_base::Piece::{Column, Count, Number, Right, Words};
 use desk_base::{fill, push};
 use map_tables::{Lay, Place};
 use moves::Priced;
 use order_grammar::{Order, print_order};
 use std::alloc::AllocError;
+use std::cmp::Reverse;
 use tables::Money;
 
 /// The column of the rotations.
@@ -27,6 +28,15 @@ pub(crate) struct Earning<'a, P> {
     pub(crate) progress: &'a mut P,
 }
 
+/// What the trains earn after a lay or a token.
+#[derive(Clone, Copy)]
+struct Earned {
+    /// The place of the lay or the token in its list.
+    place: usize,
+    /// The greatest revenue after it, in dollars.
+    best: Money,
+}
+
 impl<P: Progress> Earning<'_, P> {
     /// Adds order lines, each with its price and the revenue after it.
     pub(crate) fn push_lines(&mut self, out: &mut Vec<u8>) -> Result<(), MovesFault> {
@@ -41,7 +51,8 @@ impl<P: Progress> Earning<'_, P> {
         Ok(())
     }
 
-    /// Adds the revenue of now, a line for each track that may be laid, and one for each token.
+    /// Adds the revenue of now, a line for each track that may be laid and earns more, the greatest
+    /// revenue first, and the same of tokens. A line says how many others there are.
     pub(crate) fn push_table(&mut self, out: &mut Vec<u8>) -> Result<(), MovesFault> {
         let now = self.trains.best_now()?;
         fill(out, "BEST NOW          %\n", &[Number(now)])?;
@@ -51,39 +62,62 @@ impl<P: Progress> Earning<'_, P> {
 
     /// Adds the lays.
     fn push_lays(&mut self, out: &mut Vec<u8>, now: Money) -> Result<(), MovesFault> {
+        let earned = self.lays_earned()?;
         fill(
             out,
             "\nHEX  TILE  LEFT  PRICE   BEST   MORE  ROTATIONS\n",
             &[],
         )?;
-        for (at, lay) in self.lays.iter().enumerate() {
-            let before = self.lays.get(..at).unwrap_or(&[]);
+        let lays = self.lays;
+        for earning in earned.iter().take_while(|earning| now < earning.best) {
+            let from = lays.get(earning.place..).unwrap_or(&[]);
+            if let Some(lay) = from.first() {
+                push_tile(out, self.trains.history, *lay)?;
+                push_revenue(out, earning.best, now)?;
+                push(out, &[Column(ROTATIONS)])?;
+                push_rotations(out, from, lay.what)?;
+                fill(out, "\n", &[])?;
+            }
+        }
+        Ok(push_others(out, &earned, now, "lay", "lays")?)
+    }
+
+    /// Returns the first lay of each track, with what the trains earn after it, the greatest revenue
+    /// first.
+    fn lays_earned(&mut self) -> Result<Vec<Earned>, MovesFault> {
+        let mut earned = Vec::new(self.trains.alloc);
+        let lays = self.lays;
+        for (place, lay) in lays.iter().enumerate() {
+            let before = lays.get(..place).unwrap_or(&[]);
             if has_same_track(before, lay.what) {
                 self.done = self.done.saturating_add(1);
             } else {
                 let best = self.after_lay(lay.what)?;
-                push_tile(out, self.trains.history, *lay)?;
-                push_revenue(out, best, now)?;
-                push(out, &[Column(ROTATIONS)])?;
-                push_rotations(out, self.lays.get(at..).unwrap_or(&[]), lay.what)?;
-                fill(out, "\n", &[])?;
+                keep(&mut earned, Earned { place, best })?;
             }
         }
-        let end = if self.lays.is_empty() { "none\n" } else { "" };
-        Ok(push(out, &[Words(end)])?)
+        earned.sort_by_key(|earning| Reverse(earning.best))?;
+        Ok(earned)
     }
 
     /// Adds the tokens.
     fn push_tokens(&mut self, out: &mut Vec<u8>, now: Money) -> Result<(), MovesFault> {
-        fill(out, "\nTOKEN            PRICE   BEST   MORE\n", &[])?;
-        for token in self.tokens {
+        let mut earned = Vec::new(self.trains.alloc);
+        let tokens = self.tokens;
+        for (place, token) in tokens.iter().enumerate() {
             let best = self.after_token(token.what)?;
-            push_token(out, *token)?;
-            push_revenue(out, best, now)?;
-            fill(out, "\n", &[])?;
+            keep(&mut earned, Earned { place, best })?;
         }
-        let end = if self.tokens.is_empty() { "none\n" } else { "" };
-        Ok(push(out, &[Words(end)])?)
+        earned.sort_by_key(|earning| Reverse(earning.best))?;
+        fill(out, "\nTOKEN            PRICE   BEST   MORE\n", &[])?;
+        for earning in earned.iter().take_while(|earning| now < earning.best) {
+            if let Some(token) = tokens.get(earning.place) {
+                push_token(out, *token)?;
+                push_revenue(out, earning.best, now)?;
+                fill(out, "\n", &[])?;
+            }
+        }
+        Ok(push_others(out, &earned, now, "token", "tokens")?)
     }
 
     /// Returns the greatest revenue after a lay, in dollars, and tells that it is tried.
@@ -122,4 +156,29 @@ fn push_line(
 /// Adds a revenue, and by how much it is above that of now.
 fn push_revenue(out: &mut Vec<u8>, best: Money, now: Money) -> Result<(), AllocError> {
     push(out, &[Right(7, best), Right(7, best.saturating_sub(now))])
+}
+
+/// Keeps what the trains earn after a lay or a token.
+fn keep(list: &mut Vec<Earned>, earned: Earned) -> Result<(), AllocError> {
+    list.push(earned)?;
+    Ok(())
+}
+
+/// Adds how many earn nothing more than now.
+fn push_others(
+    out: &mut Vec<u8>,
+    earned: &Vec<Earned>,
+    now: Money,
+    one: &str,
+    many: &str,
+) -> Result<(), AllocError> {
+    if earned.is_empty() {
+        return fill(out, "none\n", &[]);
+    }
+    let others = earned.iter().filter(|earning| earning.best <= now).count();
+    match others {
+        0 => Ok(()),
+        1 => fill(out, "1 % earns nothing more\n", &[Words(one)]),
+        _ => fill(out, "% % earn nothing more\n", &[Count(others), Words(many)]),
+    }
 }

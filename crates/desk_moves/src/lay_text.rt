@@ -1,18 +1,22 @@
 //! A company's lays and tokens for a reader: for each hex and tile the rotations, with what is left
-//! of the tile and the price; where asked for, what the company's trains would earn after each.
+//! of the tile and the price; where asked for, what the company's trains would earn after each; and
+//! a train that the company must buy.
 
 use crate::best_after::Trains;
 use crate::fault::MovesFault;
 use crate::lay_best::Earning;
 use crate::progress::Progress;
 use crate::questions::LayForm;
-use crate::turn_order::push_before;
-use crate::turn_start::{asker_at_start, board_at_start};
+use crate::turn_start::board_now;
 use desk_base::Piece::{Bytes, Column, Count, Number, Right, Words};
-use desk_base::{Stood, fill, push, tiles_left, trains_of};
+use desk_base::{fill, push, tiles_left, trains_of};
+use desk_may::{push_end_of_turn, push_until_then};
+use forced_purchase::HeldRaise;
 use history::{History, Party};
 use map_tables::{Lay, Place, laid_links};
 use moves::{Priced, lays, tokens};
+use operating::CompanyTurn;
+use sheets::Sheets;
 use std::alloc::{AllocError, Global};
 use tables::{Company, Kind, Money};
 
@@ -22,23 +26,56 @@ const ROTATIONS: usize = 23;
 /// The column of the price of a token.
 const PRICE: usize = 15;
 
-/// Returns what a company may lay and where it may place its next token as its turn begins, as
-/// text. The error is `Memory`.
+/// A company's turn at the head of its orders, or behind those that are drafted.
+#[derive(Drop)]
+pub(crate) struct LaysAt<'a> {
+    /// The sheets of the game.
+    pub(crate) sheets: &'a Sheets<'a>,
+    /// The turn.
+    pub(crate) turn: CompanyTurn,
+    /// The RAISE lines of the orders that are drafted.
+    pub(crate) raises: Vec<HeldRaise>,
+    /// The place in the list of the event that begins the round.
+    pub(crate) from: usize,
+}
+
+/// Returns what a company may lay and where it may place its next token in a turn, as text. The
+/// error is `Memory`.
 pub(crate) fn lay_text<P: Progress>(
     alloc: Global,
-    stood: &Stood,
-    company: Company,
+    at: LaysAt,
     form: LayForm,
     progress: &mut P,
 ) -> Result<Vec<u8>, MovesFault> {
-    let kinds = trains_of(alloc, &stood.history.now(), company)?;
-    let board = board_at_start(alloc, stood.history, company)?;
-    let asker = asker_at_start(stood.history, company);
+    let mut text = Vec::new(alloc);
+    push_turn(alloc, &mut text, &at, form, progress)?;
+    if !form.lines {
+        let mut end = Vec::new(alloc);
+        let _game = push_end_of_turn(alloc, &mut end, at.sheets, at.turn, at.raises)?;
+        let gap = if end.is_empty() { "" } else { "\n" };
+        push(&mut text, &[Words(gap), Bytes(end.as_slice())])?;
+    }
+    Ok(text)
+}
+
+/// Adds what the company may lay and place, in the form that is asked for.
+fn push_turn<P: Progress>(
+    alloc: Global,
+    out: &mut Vec<u8>,
+    at: &LaysAt,
+    form: LayForm,
+    progress: &mut P,
+) -> Result<(), MovesFault> {
+    let (turn, history) = (&at.turn, &at.turn.history);
+    let company = turn.by.company;
+    let kinds = trains_of(alloc, &history.now(), company)?;
+    let board = board_now(alloc, history)?;
+    let asker = turn.asker();
     let lays = lays(alloc, &board, &asker)?;
     let tokens = tokens(alloc, &board, &asker)?;
     let trains = Trains {
         alloc,
-        history: stood.history,
+        history,
         company,
         kinds: kinds.as_slice(),
     };
@@ -49,28 +86,15 @@ pub(crate) fn lay_text<P: Progress>(
         done: 0,
         progress,
     };
-    let mut text = Vec::new(alloc);
-    push_all(&mut text, stood, form, &mut earning)?;
-    Ok(text)
-}
-
-/// Adds what the company may lay and place, in the form that is asked for.
-fn push_all<P: Progress>(
-    out: &mut Vec<u8>,
-    stood: &Stood,
-    form: LayForm,
-    earning: &mut Earning<P>,
-) -> Result<(), MovesFault> {
     if form.lines {
         return earning.push_lines(out);
     }
-    let company = earning.trains.company;
-    push_before(out, stood, company)?;
-    push_means(out, stood.history, company, earning.trains.kinds)?;
+    push_until_then(alloc, out, at.sheets, history, at.from)?;
+    push_means(out, history, company, kinds.as_slice())?;
     if form.best {
         return earning.push_table(out);
     }
-    push_lays(out, stood.history, earning.lays)?;
+    push_lays(out, history, earning.lays)?;
     Ok(push_tokens(out, earning.tokens)?)
 }
 

@@ -7,15 +7,16 @@
 //! returns text; no call reads or writes a stream.
 //!
 //! Reading order: `fault` (why there is no answer), `progress` (how far one is), `words`
-//! (companies, hexes and trains on a command line), `questions` (`answer`: the game that is asked),
-//! `turn_start` (a company as its turn begins), `line_text` (its lays and tokens as order lines),
-//! `lay_text` (the same for a reader), `best_after` and `lay_best` (with revenues), `turn_order`
-//! (who operates before it), `best_text` (its best runs), `may_text` (what a player may do, by
-//! `desk_may`), `hex_text` with `hex_sides`, `trials` (`trial`).
+//! (companies, hexes and trains on a command line), `questions` (`answer`: the turn that is asked),
+//! `coming` (the game before the round that comes), `turn_start` (its board), `line_text` (lays and
+//! tokens as order lines), `lay_text` (the same for a reader), `best_after` and `lay_best` (with
+//! revenues), `best_text` (best runs), `may_text` (what a player may do, by `desk_may`), `hex_text`
+//! with `hex_sides`, `trials` (`trial`).
 #![tactic(auto)]
 
 mod best_after;
 mod best_text;
+mod coming;
 mod fault;
 mod hex_sides;
 mod hex_text;
@@ -26,12 +27,11 @@ mod may_text;
 mod progress;
 mod questions;
 mod trials;
-mod turn_order;
 mod turn_start;
 mod words;
 
 pub use fault::{MovesFault, NoAnswer};
 pub use progress::Progress;
-pub use questions::{LayForm, Question, answer};
+pub use questions::{LayForm, MayForm, Question, answer};
 pub use trials::{TrialFile, trial};
 pub use words::{read_company, read_hex, read_kind};

@@ -3,32 +3,28 @@
 ghost use Rattle.std.specs.Prelude.{◌≡◌, ◌++◌, IfOk, OnOk};
 ghost use Rattle.std.specs.List.{flat_map};
 ghost use Rattle.desk_moves.specs.Lines.{AreLines, lay_line, priced_line, token_line};
-ghost use Rattle.operating.specs.HomeToken.{with_home};
+ghost use Rattle.operating.specs.CompanyTurn.{state};
 
-use crate::turn_start::{asker_at_start, board_at_start};
-use history::History;
+use crate::turn_start::board_now;
 use map_tables::{Lay, Place};
 use moves::{Priced, lays, tokens};
+use operating::CompanyTurn;
 use order_grammar::{Order, print_number, print_order};
 use std::alloc::{AllocError, Global};
-use tables::{Company, Money};
+use tables::Money;
 
 /// Between an order and its price.
 const GAP: &[u8; 4] = b"    ";
 
-/// Returns every lay and every token of a company as its turn begins, a line each: the order, four
-/// spaces, and its price in dollars. Lays come first, in the order of hex, tile, rotation and SWAP;
-/// then tokens, in that of hex and stop. Fails only if allocation fails.
-pub(crate) fn line_text(
-    alloc: Global,
-    history: &History,
-    company: Company,
-) -> Result<Vec<u8>, AllocError>
+/// Returns every lay and every token of a company where its turn has come to, a line each: the
+/// order, four spaces, and its price in dollars. Lays come first, in the order of hex, tile,
+/// rotation and SWAP; then tokens, in that of hex and stop. Fails only if allocation fails.
+pub(crate) fn line_text(alloc: Global, turn: &CompanyTurn) -> Result<Vec<u8>, AllocError>
     ensures { IfOk result (λ text.
-        AreLines (with_home history.now company) company text.items) }
+        AreLines (state turn.now) turn.now.by.company text.items) }
 {
-    let board = board_at_start(alloc, history, company)?;
-    let asker = asker_at_start(history, company);
+    let board = board_now(alloc, &turn.history)?;
+    let asker = turn.asker();
     let lays = lays(alloc, &board, &asker)?;
     let tokens = tokens(alloc, &board, &asker)?;
     let mut text = Vec::new(alloc);

@@ -1,34 +1,82 @@
-//! What a player may do in the round that comes next.
+//! What a player may do in the round that comes.
 
+use crate::coming::Coming;
 use crate::fault::{MovesFault, NoAnswer};
+use crate::questions::MayForm;
 use certs::Holdings;
 use desk_base::Piece::{Bytes, Count, Number};
-use desk_base::{Piece, Stood, fill};
-use desk_may::{push_of_opening, push_of_operating, push_of_stock};
-use history::Party;
+use desk_base::{Piece, fill};
+use desk_may::{push_of_opening, push_of_operating, push_of_stock, push_until_then};
+use foresight::{Draft, at_turn};
+use history::{History, Party};
 use report::name;
-use rounds::End;
 use sheets::Sheets;
 use std::alloc::{AllocError, Global};
 use tables::{Round, Seat, certificate_limit};
 
-/// Returns what the player of a name may do in the round that comes next, as their turn begins, if
-/// it began now. The error says that nobody has that name or that the game is over, or is `Memory`.
-pub(crate) fn may_text(alloc: Global, stood: &Stood, player: &[u8]) -> Result<Vec<u8>, MovesFault> {
-    let Some(seat) = seat_named(stood.sheets, player) else {
+/// Returns what the player of a name may do in the round that comes, at the head of their turn, or
+/// of their companies' orders. The error says that nobody has that name or that they have no sheet
+/// for the round, or is `Memory`.
+pub(crate) fn may_text(
+    alloc: Global,
+    coming: Coming,
+    player: &[u8],
+    form: MayForm,
+) -> Result<Vec<u8>, MovesFault> {
+    let Some(seat) = seat_named(coming.sheets, player) else {
         return Err(MovesFault::Asked(NoAnswer::NoSuchPlayer));
     };
-    let End::Awaiting(round) = stood.end else {
-        return Err(MovesFault::Asked(NoAnswer::GameOver));
+    let drafter = if form.drafted {
+        Some(coming.drafter(seat)?)
+    } else {
+        None
     };
     let mut text = Vec::new(alloc);
-    push_head(&mut text, stood, seat, round)?;
-    match round {
-        Round::Opening(_) => push_of_opening(alloc, &mut text, stood, seat)?,
-        Round::Stock(_) => push_of_stock(alloc, &mut text, stood, seat)?,
-        Round::Operating { .. } => push_of_operating(alloc, &mut text, stood, seat)?,
+    match coming.round {
+        Round::Operating { .. } => push_operating(alloc, &mut text, coming, seat, drafter)?,
+        Round::Opening(_) | Round::Stock(_) => push_turn(alloc, &mut text, coming, seat)?,
     }
     Ok(text)
+}
+
+/// Adds what a player may do at the head of their first turn of an opening or a stock round.
+fn push_turn(
+    alloc: Global,
+    out: &mut Vec<u8>,
+    coming: Coming,
+    seat: Seat,
+) -> Result<(), AllocError> {
+    let Coming {
+        sheets,
+        history,
+        round,
+    } = coming;
+    let from = history.events().len();
+    let history = at_turn(history, round, seat)?;
+    push_head(out, sheets, &history, seat, round)?;
+    push_until_then(alloc, out, sheets, &history, from)?;
+    match round {
+        Round::Opening(_) => push_of_opening(alloc, out, &history, seat),
+        _ => push_of_stock(alloc, out, sheets, &history, seat),
+    }
+}
+
+/// Adds what a player's companies may do in an operating round.
+fn push_operating(
+    alloc: Global,
+    out: &mut Vec<u8>,
+    coming: Coming,
+    seat: Seat,
+    drafter: Option<Seat>,
+) -> Result<(), AllocError> {
+    let Coming {
+        sheets,
+        history,
+        round,
+    } = coming;
+    push_head(out, sheets, &history, seat, round)?;
+    let draft = Draft { sheets, drafter };
+    push_of_operating(alloc, out, history, draft, round, seat)
 }
 
 /// Returns the seat of the player of a name, in either case; `None` if nobody who plays has it.
@@ -44,14 +92,19 @@ pub(crate) fn seat_named(sheets: &Sheets, player: &[u8]) -> Option<Seat> {
 
 /// Adds who is asked of, the round, and what the player has: cash, the cash that no bid ties, and
 /// certificates of how many.
-fn push_head(out: &mut Vec<u8>, stood: &Stood, seat: Seat, round: Round) -> Result<(), AllocError> {
-    let history = stood.history;
+fn push_head(
+    out: &mut Vec<u8>,
+    sheets: &Sheets,
+    history: &History,
+    seat: Seat,
+    round: Round,
+) -> Result<(), AllocError> {
     let cash = Number(history.cash(Party::of_seat(seat)));
     let free = Number(history.now().free_cash(seat));
     let held = Number(Holdings::of(history).counted(seat));
     let most = Count(certificate_limit(history.seats()));
     let pieces = [
-        Bytes(name(stood.sheets, seat)),
+        Bytes(name(sheets, seat)),
         Piece::Round(round),
         cash,
         free,

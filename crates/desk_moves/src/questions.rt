@@ -1,19 +1,20 @@
-//! What is asked, and the game that answers it: as its sheets leave it, or as it stood after a
-//! round.
+//! What is asked, and where: at the head of a turn of the round that comes, as its sheets leave the
+//! game, or after a round.
 
 use crate::best_text::best_text;
+use crate::coming::{Coming, coming_in};
 use crate::fault::{MovesFault, NoAnswer};
 use crate::hex_text::hex_text;
-use crate::lay_text::lay_text;
+use crate::lay_text::{LaysAt, lay_text};
 use crate::line_text::line_text;
 use crate::may_text::may_text;
 use crate::progress::Progress;
-use desk_base::{DeskFault, Stood, play_behind, stood_at_last, stood_now};
+use foresight::{Ahead, Draft, at_orders};
 use map_tables::Hex;
-use rounds::{End, play};
-use sheets::{Sheets, collect};
+use operating::CompanyTurn;
+use sheets::collect;
 use std::alloc::Global;
-use tables::{Company, Kind, Round};
+use tables::{Company, Kind, Round, Seat};
 
 /// What is asked.
 #[derive(Clone, Copy)]
@@ -23,8 +24,11 @@ pub enum Question<'a> {
         company: Company,
         form: LayForm,
     },
-    /// What the player of this name may do.
-    May(&'a [u8]),
+    /// What the player of a name may do.
+    May {
+        name: &'a [u8],
+        form: MayForm,
+    },
     /// The best runs of a company with these trains, or with those that it has if there are none.
     Best {
         company: Company,
@@ -41,11 +45,22 @@ pub struct LayForm {
     pub best: bool,
     /// Whether to write order lines alone.
     pub lines: bool,
+    /// Whether to ask behind the company's orders in its president's own sheet.
+    pub drafted: bool,
 }
 
-/// Returns the answer to a question as text, by the game of an order file: after a round, or as its
-/// sheets leave it if none is named. The error is the fault of the file, `Round` if the round is
-/// not played, why the game has no answer, or `Memory` if an allocation fails.
+/// How what a player may do is listed.
+#[derive(Clone, Copy)]
+pub struct MayForm {
+    /// Whether to write order lines alone.
+    pub lines: bool,
+    /// Whether to ask behind the lines of the player's own sheet.
+    pub drafted: bool,
+}
+
+/// Returns the answer to a question as text, in the round that comes after a round, or after the
+/// last that the sheets play if none is named. The error is the fault of the file, `Round` if the
+/// round is not played, why the game has no answer, or `Memory` if an allocation fails.
 pub fn answer<P: Progress>(
     alloc: Global,
     file: &[u8],
@@ -54,79 +69,66 @@ pub fn answer<P: Progress>(
     progress: &mut P,
 ) -> Result<Vec<u8>, MovesFault> {
     let sheets = collect(alloc, file)?;
-    match after {
-        Some(round) => answer_after(alloc, &sheets, round, question, progress),
-        None => answer_at_last(alloc, &sheets, question, progress),
-    }
-}
-
-/// Returns the answer by the game of some sheets as they leave it.
-fn answer_at_last<P: Progress>(
-    alloc: Global,
-    sheets: &Sheets,
-    question: Question,
-    progress: &mut P,
-) -> Result<Vec<u8>, MovesFault> {
-    let game = play(alloc, sheets)?;
-    answer_by(alloc, &stood_at_last(&game), question, progress)
-}
-
-/// Returns the answer by the game of some sheets as it stood after a round.
-fn answer_after<P: Progress>(
-    alloc: Global,
-    sheets: &Sheets,
-    round: Round,
-    question: Question,
-    progress: &mut P,
-) -> Result<Vec<u8>, MovesFault> {
-    let play = play_behind(alloc, sheets, round)?;
-    match stood_now(&play) {
-        Some(stood) => answer_by(alloc, &stood, question, progress),
-        None => Err(MovesFault::Desk(DeskFault::Round)),
-    }
-}
-
-/// Returns the answer by a game as it stood.
-fn answer_by<P: Progress>(
-    alloc: Global,
-    stood: &Stood,
-    question: Question,
-    progress: &mut P,
-) -> Result<Vec<u8>, MovesFault> {
+    let coming = coming_in(alloc, &sheets, after)?;
     match question {
-        Question::Lays { company, form } => {
-            must_go_on(stood)?;
-            must_have_president(stood, company)?;
-            if form.lines && !form.best {
-                return Ok(line_text(alloc, stood.history, company)?);
-            }
-            lay_text(alloc, stood, company, form, progress)
-        }
-        Question::May(name) => may_text(alloc, stood, name),
+        Question::Lays { company, form } => answer_lays(alloc, coming, company, form, progress),
+        Question::May { name, form } => may_text(alloc, coming, name, form),
         Question::Best { company, trains } => {
-            must_have_president(stood, company)?;
-            best_text(alloc, stood.history, company, trains)
+            let turn = turn_ahead(alloc, coming, company, None)?;
+            best_text(alloc, &turn.history, company, trains)
         }
-        Question::Hex(hex) => Ok(hex_text(alloc, stood, hex)?),
+        Question::Hex(hex) => Ok(hex_text(alloc, coming, hex)?),
     }
 }
 
-/// Fails with `GameOver` if no round comes next.
-fn must_go_on(stood: &Stood) -> Result<(), MovesFault> {
-    match stood.end {
-        End::Awaiting(_) => Ok(()),
-        End::Bank | End::Bankrupt => Err(MovesFault::Asked(NoAnswer::GameOver)),
+/// Returns what a company may lay and place at the head of its orders, or behind those that are
+/// drafted.
+fn answer_lays<P: Progress>(
+    alloc: Global,
+    coming: Coming,
+    company: Company,
+    form: LayForm,
+    progress: &mut P,
+) -> Result<Vec<u8>, MovesFault> {
+    let (sheets, from) = (coming.sheets, coming.history.events().len());
+    let drafter = if form.drafted {
+        Some(coming.drafter_for(company)?)
+    } else {
+        None
+    };
+    let mut turn = turn_ahead(alloc, coming, company, drafter)?;
+    let raises = Draft { sheets, drafter }.rule_orders(alloc, &mut turn)?;
+    if form.lines && !form.best {
+        return Ok(line_text(alloc, &turn)?);
     }
+    let at = LaysAt {
+        sheets,
+        turn,
+        raises,
+        from,
+    };
+    lay_text(alloc, at, form, progress)
 }
 
-/// Fails with `NotStarted` or `NoPresident` if a company has no president to order anything for it.
-fn must_have_president(stood: &Stood, company: Company) -> Result<(), MovesFault> {
-    let view = stood.history.now();
-    if !view.is_started(company) {
-        return Err(MovesFault::Asked(NoAnswer::NotStarted));
-    }
-    match view.president(company) {
-        Some(_) => Ok(()),
-        None => Err(MovesFault::Asked(NoAnswer::NoPresident)),
+/// Returns the turn of a company at the head of its orders in the round that comes. The error says
+/// why it has none there, or is `Memory`.
+fn turn_ahead(
+    alloc: Global,
+    coming: Coming,
+    company: Company,
+    drafter: Option<Seat>,
+) -> Result<CompanyTurn, MovesFault> {
+    coming.must_have_president(company)?;
+    let Round::Operating { .. } = coming.round else {
+        return Err(MovesFault::Asked(NoAnswer::NoOperatingRound));
+    };
+    let draft = Draft {
+        sheets: coming.sheets,
+        drafter,
+    };
+    match at_orders(alloc, coming.history, draft, coming.round, company)? {
+        Ahead::AtOrders(turn) => Ok(turn),
+        Ahead::NoPresident => Err(MovesFault::Asked(NoAnswer::NoPresident)),
+        Ahead::NoTurn => Err(MovesFault::Asked(NoAnswer::NoTurn)),
     }
 }

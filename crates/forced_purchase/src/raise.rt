@@ -110,7 +110,7 @@ fn needed_rule(
 
 /// Returns the first rule that a sale to raise money for the company breaks.
 #[tactic(auto, unfolding(crate::specs::Raise::sale_rule))]
-pub(crate) fn sale_rule(history: &History, by: Operator, sale: Sale) -> Option<StockRule>
+pub fn sale_rule(history: &History, by: Operator, sale: Sale) -> Option<StockRule>
     ensures { result ≡ sale_rule by history.now sale }
 {
     match may_sell(history, by.president, sale, Some(by.company)) {

@@ -10,7 +10,7 @@ use tables::{Company, Kind, Money};
 
 /// Returns whether the president has less cash free of standing bids than the company lacks.
 #[tactic(auto, unfolding(crate::specs::Shortfall::falls_short))]
-pub(crate) fn falls_short(history: &History, by: Operator) -> bool
+pub fn falls_short(history: &History, by: Operator) -> bool
     ensures { result ≡ falls_short by history.now }
 {
     history.now().free_cash(by.president) < lack(history, by.company)
@@ -19,7 +19,7 @@ pub(crate) fn falls_short(history: &History, by: Operator) -> bool
 /// Returns what a company lacks for the cheapest train that is for sale, in dollars; 0 or less if
 /// it has enough.
 #[tactic(auto, unfolding(crate::specs::Shortfall::lack_of))]
-pub(crate) fn lack(history: &History, company: Company) -> Money
+pub fn lack(history: &History, company: Company) -> Money
     ensures { result ≡ lack_of history.now company }
 {
     let cost = cheapest(&history.now()).price();
@@ -29,7 +29,7 @@ pub(crate) fn lack(history: &History, company: Company) -> Money
 /// Returns the purchase of the cheapest train that the bank or the pool sells, from the bank if
 /// both sell it.
 #[tactic(auto, unfolding(crate::specs::Shortfall::cheapest))]
-pub(crate) fn cheapest(view: &GameView) -> TrainPurchase
+pub fn cheapest(view: &GameView) -> TrainPurchase
     ensures purchase { result ≡ cheapest view.now.events.now }
     ensures small { IsSmallPurchase result }
 {

@@ -70,7 +70,7 @@ impl CompanyTurn {
     }
 
     /// Withholds what the company earned, by itself, if its turn is not past its pay.
-    pub(crate) fn withhold_if_unpaid(&mut self) -> Result<(), AllocError>
+    pub fn withhold_if_unpaid(&mut self) -> Result<(), AllocError>
         requires { IsInOrder self.old }
         ensures turn { OnOk result (state self.new
             ≡ withheld_if_unpaid self.old.by.company (state self.old)) }

@@ -1,7 +1,7 @@
 //! The end of a company's turn: it buys a train if it must.
-ghost use Rattle.std.specs.Prelude.{◌≤◌, ◌<◌, ◌↔◌, IfOk, IsTrue, OnOk};
+ghost use Rattle.std.specs.Prelude.{◌≡◌, ◌≤◌, ◌<◌, ◌↔◌, IfOk, IsTrue, OnOk};
 ghost use Rattle.history.specs.Sound.{IsSound};
-ghost use Rattle.operating.specs.CompanyTurn.{IsInOrder};
+ghost use Rattle.operating.specs.CompanyTurn.{IsInOrder, state};
 ghost use Rattle.operating.specs.MapState.{IsPrefix};
 ghost use Rattle.operating.specs.TurnEnd.{EndLeads, IsDue};
 
@@ -16,6 +16,18 @@ use std::alloc::AllocError;
 use tables::Company;
 
 impl CompanyTurn {
+    /// Returns whether the company must buy a train if its turn ends as it stands: it has none, and
+    /// could run one. Fails only if allocation fails.
+    pub fn must_buy(&mut self) -> Result<bool, AllocError>
+        requires { IsInOrder self.old }
+        ensures due { IfOk result (λ due. IsTrue due ↔ IsDue self.old.history self.old.by.company) }
+        ensures turn { OnOk result (state self.new ≡ state self.old) }
+        ensures by { OnOk result (self.new.by ≡ self.old.by) }
+        ensures order { OnOk result (IsInOrder self.new) }
+    {
+        is_due(&mut *self.board, &self.history, self.by.company)
+    }
+
     /// Ends the turn once the company has paid or withheld: it buys a train if it must, and the
     /// RAISE lines of its orders, those that were held, are ruled. Fails only if allocation fails.
     pub(crate) fn end(&mut self, raises: Vec<HeldRaise>) -> Result<(), AllocError>

@@ -59,6 +59,14 @@ impl<'a> Game<'a> {
         &self.history
     }
 
+    /// Returns its events, and lets the sheets go.
+    pub fn into_history(self) -> History
+        ensures events { result ≡ self.entry.game }
+        ensures seats { result.seats ≡ length (players_of self.entry.file) }
+    {
+        self.history
+    }
+
     /// Returns why play stopped.
     pub fn outcome(&self) -> End
         ensures { result ≡ self.now.end }

@@ -187,8 +187,8 @@ impl<'a> Play<'a> {
         self.outcome
     }
 
-    /// Returns the game so far; play must not have been broken off.
-    pub(crate) fn into_history(self) -> History
+    /// Returns the game so far, and lets the sheets go; play must not have been broken off.
+    pub fn into_history(self) -> History
         requires { IsUnbroken self }
         ensures game { game_so_far self.entry ≡ Some result }
         ensures seats { result.seats ≡ length (players_of self.entry.file) }

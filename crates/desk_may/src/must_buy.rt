@@ -1,0 +1,158 @@
+//! A train that a company must buy as its turn ends, as text: what it costs and who pays, what its
+//! president may sell for it, and what happens otherwise.
+
+use crate::may_line::push_may;
+use certs::{Sale, market_price};
+use desk_base::Piece::{Bytes, Column, Number, Words};
+use desk_base::{fill, push};
+use forced_purchase::{HeldRaise, Operator, cheapest, falls_short, lack, sale_rule};
+use history::{History, Party, Shareholder, TrainSeller};
+use operating::{CompanyTurn, GameAndBoard};
+use order_grammar::Order;
+use report::{name, push_event};
+use sheets::Sheets;
+use std::alloc::{AllocError, Global};
+use tables::{Amount, Company, Money};
+
+/// The column of what is said in a head.
+const SAID: usize = 18;
+
+/// Ends the turn of a company with the RAISE lines that its orders have had so far. If it must buy
+/// a train then, adds that, and what follows. Returns the game after the turn.
+pub fn push_end_of_turn(
+    alloc: Global,
+    out: &mut Vec<u8>,
+    sheets: &Sheets,
+    turn: CompanyTurn,
+    raises: Vec<HeldRaise>,
+) -> Result<GameAndBoard, AllocError> {
+    let mut turn = turn;
+    turn.withhold_if_unpaid()?;
+    if !turn.must_buy()? {
+        return turn.finish(raises);
+    }
+    push_purchase(out, sheets, &turn.history, turn.by)?;
+    let from = turn.history.events().len();
+    let game = turn.finish(raises)?;
+    push_what_follows(alloc, out, sheets, &game.history, from)?;
+    Ok(game)
+}
+
+/// Adds what a company must buy, and who pays for it.
+fn push_purchase(
+    out: &mut Vec<u8>,
+    sheets: &Sheets,
+    history: &History,
+    by: Operator,
+) -> Result<(), AllocError> {
+    let purchase = cheapest(&history.now());
+    let seller = match purchase.from {
+        TrainSeller::BankPool => "POOL",
+        TrainSeller::Bank | TrainSeller::Company(_) => "BANK",
+    };
+    let code = Words(by.company.code());
+    let price = Number(Money::from(purchase.price()));
+    let train = [
+        Words(purchase.kind.code()),
+        Words(seller),
+        price,
+        code,
+    ];
+    fill(
+        out,
+        "MUST BUY          TRAIN % % for %, if % ends its turn without a train\n",
+        &train,
+    )?;
+    let cash = Number(history.cash(Party::of_company(by.company)));
+    push(out, &[code, Words(" HAS"), Column(SAID), cash, Words("\n")])?;
+    push_president(out, sheets, history, by)?;
+    if falls_short(history, by) {
+        push_raises(out, history, by)?;
+    }
+    Ok(())
+}
+
+/// Adds what the president pays, has and can raise.
+fn push_president(
+    out: &mut Vec<u8>,
+    sheets: &Sheets,
+    history: &History,
+    by: Operator,
+) -> Result<(), AllocError> {
+    let lacking = lack(history, by.company);
+    if lacking <= 0 {
+        return Ok(());
+    }
+    let president = Bytes(name(sheets, by.president));
+    let adds = [president, Words(" ADDS"), Column(SAID), Number(lacking)];
+    push(out, &adds)?;
+    let free = Number(history.now().free_cash(by.president));
+    fill(out, ", has %, and can raise %\n", &[free, Number(raised_at_most(history, by))])
+}
+
+/// Returns what a president can raise at most by sales, in dollars: of each company the block that
+/// brings most.
+fn raised_at_most(history: &History, by: Operator) -> Money {
+    let mut sum: Money = 0;
+    for company in &Company::ALL {
+        let mut most = 0;
+        for shares in 1..=held(history, by, *company) {
+            if let Some(brought) = brought_by(history, by, *company, shares) {
+                most = brought.max(most);
+            }
+        }
+        sum = sum.saturating_add(most);
+    }
+    sum
+}
+
+/// Returns how many shares of a company a president has.
+fn held(history: &History, by: Operator, company: Company) -> Amount {
+    let shares = history.shares(company, Shareholder::Seat(by.president));
+    Amount::try_from(shares).unwrap_or(0)
+}
+
+/// Returns what a sale to pay for a train brings, in dollars; `None` if a rule refuses it.
+fn brought_by(history: &History, by: Operator, company: Company, shares: Amount) -> Option<Money> {
+    let sale = Sale { company, shares };
+    if sale_rule(history, by, sale).is_some() {
+        return None;
+    }
+    let price = Money::from(market_price(&history.now(), company));
+    Some(price.saturating_mul(Money::from(shares)))
+}
+
+/// Adds each RAISE that would be obeyed, with what it brings.
+fn push_raises(out: &mut Vec<u8>, history: &History, by: Operator) -> Result<(), AllocError> {
+    for company in &Company::ALL {
+        for shares in 1..=held(history, by, *company) {
+            if let Some(brought) = brought_by(history, by, *company, shares) {
+                let order = Order::Raise {
+                    company: *company,
+                    shares,
+                };
+                push_may(out, &order, brought)?;
+                fill(out, "\n", &[])?;
+            }
+        }
+    }
+    Ok(())
+}
+
+/// Adds what happens at the end of the turn without further orders, as the report has it.
+fn push_what_follows(
+    alloc: Global,
+    out: &mut Vec<u8>,
+    sheets: &Sheets,
+    history: &History,
+    from: usize,
+) -> Result<(), AllocError> {
+    let mut label = "OTHERWISE";
+    for event in history.events().get(from..).unwrap_or(&[]) {
+        let mut line = Vec::new(alloc);
+        push_event(&mut line, sheets, event)?;
+        push(out, &[Words(label), Column(SAID), Bytes(line.as_slice())])?;
+        label = "";
+    }
+    Ok(())
+}

@@ -1,0 +1,60 @@
+//! What comes before a turn, if nobody orders anything until then.
+
+use desk_base::Piece::{Bytes, Column, Words};
+use desk_base::{fill, push};
+use history::{Event, History};
+use report::{name, push_event};
+use sheets::Sheets;
+use std::alloc::{AllocError, Global};
+
+/// The column of what is said in a head.
+const SAID: usize = 18;
+
+/// Adds who has a turn before in a round that comes, and what happens until then. `from` is the
+/// place in the list of the event that begins the round.
+pub fn push_until_then(
+    alloc: Global,
+    out: &mut Vec<u8>,
+    sheets: &Sheets,
+    history: &History,
+    from: usize,
+) -> Result<(), AllocError> {
+    let events = history.events().get(from..).unwrap_or(&[]);
+    push_before(out, sheets, events)?;
+    let mut label = "UNTIL THEN";
+    for event in events {
+        if is_told(event) {
+            let mut line = Vec::new(alloc);
+            push_event(&mut line, sheets, event)?;
+            push(out, &[Words(label), Column(SAID), Bytes(line.as_slice())])?;
+            label = "";
+        }
+    }
+    Ok(())
+}
+
+/// Adds who has a turn before, by the events of the round so far.
+fn push_before(out: &mut Vec<u8>, sheets: &Sheets, events: &[Event]) -> Result<(), AllocError> {
+    fill(out, "BEFORE           ", &[])?;
+    let mut end = " nobody\n";
+    let mut last = None;
+    for event in events {
+        if let Event::Passes(seat) = event {
+            fill(out, " %", &[Bytes(name(sheets, *seat))])?;
+            end = "\n";
+        }
+        if let Some(company) = event.operated()
+            && last != Some(company)
+        {
+            fill(out, " %", &[Words(company.code())])?;
+            end = "\n";
+            last = Some(company);
+        }
+    }
+    push(out, &[Words(end)])
+}
+
+/// Returns whether an event is told: not that the round begins, nor that a seat passes.
+fn is_told(event: &Event) -> bool {
+    !matches!(event, Event::Round(_) | Event::Passes(_))
+}

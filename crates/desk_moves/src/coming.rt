@@ -1,0 +1,125 @@
+//! A game that has stopped before a round that comes.
+ghost use Rattle.std.specs.Prelude.{◌≡◌, IfOk, length};
+ghost use Rattle.history.specs.Sound.{IsSound};
+ghost use Rattle.sheets.specs.File.{players_of};
+
+use crate::fault::{MovesFault, NoAnswer};
+use desk_base::{DeskFault, owes, play_behind, stood_now};
+use history::History;
+use rounds::{End, play};
+use sheets::Sheets;
+use std::alloc::Global;
+use tables::{Company, Round, Seat};
+
+/// A game before a round that comes.
+#[derive(Drop)]
+pub(crate) struct Coming<'a> {
+    /// Its sheets.
+    pub(crate) sheets: &'a Sheets<'a>,
+    /// All that has happened.
+    pub(crate) history: History,
+    /// The round.
+    pub(crate) round: Round,
+}
+
+/// Returns the game of some sheets before the round that comes after a round, or after the last
+/// that they play. The error is that the round is not played, that the game is over, or `Memory`.
+pub(crate) fn coming_in<'a>(
+    alloc: Global,
+    sheets: &'a Sheets<'a>,
+    after: Option<Round>,
+) -> Result<Coming<'a>, MovesFault>
+    ensures sheets { IfOk result (λ coming. coming.sheets.now ≡ sheets.now) }
+    ensures sound { IfOk result (λ coming. IsSound coming.history) }
+    ensures seats { IfOk result (λ coming.
+        coming.history.seats ≡ length (players_of sheets.now)) }
+{
+    match after {
+        Some(round) => coming_after(alloc, sheets, round),
+        None => coming_at_last(alloc, sheets),
+    }
+}
+
+/// Returns the game after the last round that the sheets play.
+fn coming_at_last<'a>(
+    alloc: Global,
+    sheets: &'a Sheets<'a>,
+) -> Result<Coming<'a>, MovesFault>
+    ensures sheets { IfOk result (λ coming. coming.sheets.now ≡ sheets.now) }
+    ensures sound { IfOk result (λ coming. IsSound coming.history) }
+    ensures seats { IfOk result (λ coming.
+        coming.history.seats ≡ length (players_of sheets.now)) }
+{
+    let game = play(alloc, sheets)?;
+    let round = round_in(game.outcome())?;
+    Ok(Coming {
+        sheets,
+        history: game.into_history(),
+        round,
+    })
+}
+
+/// Returns the game after a round.
+fn coming_after<'a>(
+    alloc: Global,
+    sheets: &'a Sheets<'a>,
+    after: Round,
+) -> Result<Coming<'a>, MovesFault>
+    ensures sheets { IfOk result (λ coming. coming.sheets.now ≡ sheets.now) }
+    ensures sound { IfOk result (λ coming. IsSound coming.history) }
+    ensures seats { IfOk result (λ coming.
+        coming.history.seats ≡ length (players_of sheets.now)) }
+{
+    let play = play_behind(alloc, sheets, after)?;
+    let Some(stood) = stood_now(&play) else {
+        return Err(MovesFault::Desk(DeskFault::Round));
+    };
+    let round = round_in(stood.end)?;
+    Ok(Coming {
+        sheets,
+        history: play.into_history(),
+        round,
+    })
+}
+
+/// Returns the round that comes. Fails with `GameOver` if none does.
+fn round_in(end: End) -> Result<Round, MovesFault> {
+    match end {
+        End::Awaiting(round) => Ok(round),
+        End::Bank | End::Bankrupt => Err(MovesFault::Asked(NoAnswer::GameOver)),
+    }
+}
+
+impl Coming<'_> {
+    /// Fails with `NotStarted` or `NoPresident` if a company has no president to order anything for
+    /// it.
+    pub(crate) fn must_have_president(&self, company: Company) -> Result<(), MovesFault> {
+        let view = self.history.now();
+        if !view.is_started(company) {
+            return Err(MovesFault::Asked(NoAnswer::NotStarted));
+        }
+        match view.president(company) {
+            Some(_) => Ok(()),
+            None => Err(MovesFault::Asked(NoAnswer::NoPresident)),
+        }
+    }
+
+    /// Returns the president of a company, whose own sheet for the round is to be looked at. Fails
+    /// with `NotStarted` or `NoPresident` if there is none, and with `NoDraft` if they have none.
+    pub(crate) fn drafter_for(&self, company: Company) -> Result<Seat, MovesFault> {
+        self.must_have_president(company)?;
+        match self.history.now().president(company) {
+            Some(seat) => self.drafter(seat),
+            None => Err(MovesFault::Asked(NoAnswer::NoPresident)),
+        }
+    }
+
+    /// Returns a seat whose own sheet for the round is to be looked at. Fails with `NoDraft` if it
+    /// has none.
+    pub(crate) fn drafter(&self, seat: Seat) -> Result<Seat, MovesFault> {
+        if owes(self.sheets, seat, &self.round) {
+            return Err(MovesFault::Asked(NoAnswer::NoDraft));
+        }
+        Ok(seat)
+    }
+}
