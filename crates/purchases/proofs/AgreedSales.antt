@@ -3,7 +3,7 @@ use Rattle.std.proofs.Common.{◌≡◌, ℕ, Some, None}
 use Rattle.events.specs.declared.event.Event.TheVariants as event
 use Rattle.events.specs.declared.event.Holder.TheVariants as holder
 use Rattle.totals.specs.LookBack.{Game, owner_of}
-use Rattle.purchases.proofs.Consents.{companies_agree, owners_agree}
+use Rattle.purchases.proofs.ConsentLemmas.{companies_agree, owners_agree}
 use Rattle.purchases.specs.ConsentLaws.{CompanyAgrees, OwnerAgrees}
 use Rattle.purchases.specs.Train.{cost_of, purchase_of, train_judgement, with_trade}
 use Rattle.purchases.specs.Private.{private_judgement}

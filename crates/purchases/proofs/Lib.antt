@@ -12,6 +12,6 @@ pub mod Fleet
 pub mod Still
 pub mod PrivateLemmas
 pub mod ClosedPrivates
-pub mod Consents
+pub mod ConsentLemmas
 pub mod AgreedSales
 pub mod SaleLaws

@@ -12,8 +12,8 @@
 //! An order is a file: what it is, its rules as rows, its judgement and its act. So is its file of
 //! definitions in `specs/`.
 //!
-//! Reading order: `consents`, `train`, `phases` (what the first train of a later kind brings), `discard`,
-//! `private`, `offer`, `standing` (the lines before the first company's orders), `laws`.
+//! Reading order: `consents`, `train`, `phases` (what the first train of a later kind brings),
+//! `discard`, `private`, `offer`, `standing` (the lines before the first company's orders), `laws`.
 #![tactic(auto)]
 
 mod consents;
@@ -28,7 +28,7 @@ mod train;
 pub use consents::Consents;
 pub use discard::{has_train, is_president};
 pub use private::{buy_private, judge_private};
-pub use standing::{rule_standing_lines, rule_standing_lines_of};
+pub use standing::{judge_standing, rule_standing_lines, rule_standing_lines_of};
 pub use train::{
     NUMBERED, TrainPurchase, buy_train, has_trains, judge_purchase, may_be_traded, purchase_of,
     sells,

@@ -84,12 +84,20 @@ impl Family for StandingLines {
     }
 
     fn judge(&self, history: &History, seat: Seat, order: &Order) -> Option<Refusal> {
-        match order {
-            Order::Discard { company, kind } => {
-                judge_discard(history, seat, *company, *kind).map(Refusal::Train)
-            }
-            Order::Offer(sale) => judge_offer(history, seat, *sale),
-            _ => None,
+        judge_standing(history, seat, order)
+    }
+}
+
+/// Returns the rule that an order of a seat breaks as a standing line of an operating round; `None`
+/// if it breaks none. Only DISCARD and OFFER have rules there.
+pub fn judge_standing(history: &History, seat: Seat, order: &Order) -> Option<Refusal>
+    ensures { result ≡ standing_judgement history.now.events seat order.now }
+{
+    match order {
+        Order::Discard { company, kind } => {
+            judge_discard(history, seat, *company, *kind).map(Refusal::Train)
         }
+        Order::Offer(sale) => judge_offer(history, seat, *sale),
+        _ => None,
     }
 }

@@ -1,4 +1,4 @@
-use Rattle.purchases.proofs.Consents.{companies_agree, owners_agree}
+use Rattle.purchases.proofs.ConsentLemmas.{companies_agree, owners_agree}
 use Rattle.purchases.proofs.SaleLaws.{others_keep_agreed}
 use Rattle.purchases.proofs.laws.sellers_agree.Goals as goal
 

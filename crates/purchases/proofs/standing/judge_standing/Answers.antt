@@ -2,7 +2,7 @@ use Rattle.std.proofs.Common.{◌≡◌, option_map, rules, sym, ap, ◌∙◌}
 use Rattle.events.specs.declared.ruling.Refusal.TheVariants.{Train}
 use Rattle.purchases.specs.Discard.{discard_judgement}
 use Rattle.purchases.specs.Standing.{standing_judgement}
-use Rattle.purchases.proofs.standing.StandingLinesFamily.judge.Goals as goal
+use Rattle.purchases.proofs.standing.judge_standing.Goals as goal
 
 pub returns-in-Discard : goal.returns-in-Discard
 returns-in-Discard c =
