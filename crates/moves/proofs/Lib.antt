@@ -6,3 +6,4 @@ pub mod TrainLemmas
 pub mod OwnedLemmas
 pub mod ExactLemmas
 pub mod TurnLemmas
+pub mod RowLemmas

@@ -5,4 +5,9 @@ pub mod Deals
 pub mod Bids
 pub mod Trains
 pub mod Owned
+pub mod Rows
+pub mod OpeningRows
+pub mod StockRows
+pub mod CompanyRows
+pub mod StandingRows
 pub mod TurnLaws

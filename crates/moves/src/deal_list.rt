@@ -166,7 +166,7 @@ fn push_sale(
 }
 
 /// Returns what a sale brings, in dollars: the market price for each share.
-fn brought_by(view: &GameView, sale: Sale) -> Money
+pub(crate) fn brought_by(view: &GameView, sale: Sale) -> Money
     ensures { result ≡ pos (brought_by view.now.events.now sale) }
 {
     Money::from(sale.shares) * Money::from(market_price(view, sale.company))

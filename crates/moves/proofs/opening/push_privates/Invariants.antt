@@ -1,0 +1,10 @@
+-- The rows of the items so far.
+use Rattle.std.proofs.Common.{◌≡◌, ◌∷◌, [], ◌++◌, map, take, flat_map, ℕ}
+use Rattle.moves.specs.OpeningRows.{opening_row, orders_on}
+use Rattle.tables.specs.Roster.{privates}
+use Rattle.moves.proofs.opening.push_privates.Given as goal
+
+abbrev pub invariant-loop-private : goal.invariant-loop-private
+invariant-loop-private l =
+    l.rows.items ≡ l.fn.rows.items
+    ++ map (opening_row l.history.seats l.history.events l.seat) (flat_map (orders_on l.history.events) (take l.private-index l.private-items))

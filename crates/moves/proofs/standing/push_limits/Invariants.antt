@@ -1,0 +1,10 @@
+-- The rows of the items so far.
+use Rattle.std.proofs.Common.{◌≡◌, ◌∷◌, [], ◌++◌, map, take, flat_map, ℕ}
+use Rattle.moves.specs.StandingRows.{before_row, limit_on}
+use Rattle.tables.specs.Roster.{privates}
+use Rattle.moves.proofs.standing.push_limits.Given as goal
+
+abbrev pub invariant-loop-private : goal.invariant-loop-private
+invariant-loop-private l =
+    l.rows.items ≡ l.fn.rows.items
+    ++ map (before_row l.history.events) (flat_map (limit_on l.history.events l.seat) (take l.private-index l.private-items))

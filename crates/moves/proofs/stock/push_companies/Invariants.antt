@@ -1,0 +1,10 @@
+-- The rows of the items so far.
+use Rattle.std.proofs.Common.{◌≡◌, ◌∷◌, [], ◌++◌, map, take, flat_map, ℕ}
+use Rattle.moves.specs.StockRows.{orders_of, stock_row}
+use Rattle.tables.specs.Roster.{companies}
+use Rattle.moves.proofs.stock.push_companies.Given as goal
+
+abbrev pub invariant-loop-company : goal.invariant-loop-company
+invariant-loop-company l =
+    l.rows.items ≡ l.fn.rows.items
+    ++ map (stock_row l.history.seats l.history.events l.seat) (flat_map (orders_of l.history.events l.seat) (take l.company-index l.company-items))

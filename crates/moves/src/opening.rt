@@ -1,0 +1,95 @@
+//! The rows of an opening: of each private its purchase, the least bid on it, and a bid that is
+//! lower by one.
+ghost use Rattle.std.specs.Prelude.{◌≡◌, ◌++◌, ◌∷◌, [], IfOk, OnOk, map, pos};
+ghost use Rattle.moves.specs.OpeningRows.{opening_answer, opening_cost, opening_orders, opening_row, orders_on};
+
+use crate::bid_list::least_bid;
+use crate::row::{Answer, Row, answer_of, push_row};
+use history::{History, Refusal};
+use order_grammar::Order;
+use privates::{judge, price_of};
+use std::alloc::{AllocError, Global};
+use tables::{Money, Private, Seat};
+
+/// Returns what becomes of each order to buy a private, to make the least bid on it, and to bid a
+/// dollar less, as the first line of a seat's turn of an opening. Fails only if allocation fails.
+pub fn opening_rows(alloc: Global, history: &History, seat: Seat) -> Result<Vec<Row>, AllocError>
+    ensures { IfOk result (λ rows. rows.items
+        ≡ map (opening_row history.now.seats history.now.events seat)
+        (opening_orders history.now.events)) }
+{
+    let mut rows = Vec::new(alloc);
+    push_privates(&mut rows, history, seat)?;
+    Ok(rows)
+}
+
+/// Adds the rows of each private.
+fn push_privates(rows: &mut Vec<Row>, history: &History, seat: Seat) -> Result<(), AllocError>
+    ensures { OnOk result (rows.new.items ≡ rows.old.items
+        ++ map (opening_row history.now.seats history.now.events seat)
+        (opening_orders history.now.events)) }
+{
+    for private in &Private::ALL {
+        push_private(rows, history, seat, *private)?;
+    }
+    Ok(())
+}
+
+/// Adds the rows of a private.
+fn push_private(
+    rows: &mut Vec<Row>,
+    history: &History,
+    seat: Seat,
+    private: Private,
+) -> Result<(), AllocError>
+    ensures { OnOk result (rows.new.items ≡ rows.old.items
+        ++ map (opening_row history.now.seats history.now.events seat)
+        (orders_on history.now.events private)) }
+{
+    let least = least_bid(history, private);
+    push_order(rows, history, seat, Order::BuyPrivate(private))?;
+    let bid = Order::Bid {
+        private,
+        amount: least,
+    };
+    push_order(rows, history, seat, bid)?;
+    let lower = Order::Bid {
+        private,
+        amount: least.saturating_sub(1),
+    };
+    push_order(rows, history, seat, lower)?;
+    Ok(())
+}
+
+/// Adds the row of an order.
+fn push_order(
+    rows: &mut Vec<Row>,
+    history: &History,
+    seat: Seat,
+    order: Order,
+) -> Result<(), AllocError>
+    ensures { OnOk result (rows.new.items ≡ rows.old.items
+        ++ opening_row history.now.seats history.now.events seat order ∷ []) }
+{
+    let answer = answer_to(history, seat, &order);
+    push_row(rows, order, answer)
+}
+
+/// Returns what becomes of an order as the first line of a seat's turn.
+fn answer_to(history: &History, seat: Seat, order: &Order) -> Answer
+    ensures { result ≡ opening_answer history.now.seats history.now.events seat order.now }
+{
+    let broken = judge(history, seat, order, false).map(Refusal::Opening);
+    answer_of(cost(history, order), broken)
+}
+
+/// Returns what an order costs, in dollars: a private its price, a bid its sum.
+fn cost(history: &History, order: &Order) -> Money
+    ensures { result ≡ pos (opening_cost history.now.events order.now) }
+{
+    match order {
+        Order::BuyPrivate(private) => Money::from(price_of(&history.now(), *private)),
+        Order::Bid { amount, .. } => Money::from(*amount),
+        _ => 0,
+    }
+}

@@ -1,0 +1,218 @@
+//! The rows of a stock round: of each company the purchases and sales, and the exchange of MH.
+ghost use Rattle.std.specs.Prelude.{◌≡◌, ◌++◌, ◌∷◌, [], IfOk, None, OnOk, map, pos};
+ghost use Rattle.std.specs.List.{flat_map};
+ghost use Rattle.moves.specs.StockRows.{is_number_asked, orders_of, orders_of_sale, sales_of, shares_from};
+ghost use Rattle.moves.specs.StockRows.{starts_of, stock_answer, stock_cost, stock_orders, stock_row};
+ghost use Rattle.stock_round.specs.Exchange.{exchange_judgement};
+ghost use Rattle.stock_round.specs.Orders.{judgement_of};
+ghost use Rattle.tables.specs.Roster.{companies};
+
+use crate::deal_list::brought_by;
+use crate::row::{Answer, Row, answer_of, push_row};
+use certs::{Purchase, Sale, may_buy, may_sell, purchase_cost};
+use history::{History, Refusal, ShareCount, Shareholder, StockRule};
+use order_grammar::{Order, ShareSource};
+use std::alloc::{AllocError, Global};
+use stock_round::is_no_exchange;
+use tables::{Amount, Company, Money, PAR_VALUES, Seat};
+
+/// The numbers of shares of which a sale is shown: a company has ten, and one more is refused.
+const NUMBERS: [Amount; 11] = [1, 2, 3, 4, 5, 6, 7, 8, 9, 10, 11];
+
+/// Returns what becomes of each purchase of each company, of each sale of it up to one more share
+/// than the seat has, and of the exchange of MH, as the first line of a seat's turn of a stock
+/// round. Fails only if allocation fails.
+pub fn stock_rows(alloc: Global, history: &History, seat: Seat) -> Result<Vec<Row>, AllocError>
+    ensures { IfOk result (λ rows. rows.items
+        ≡ map (stock_row history.now.seats history.now.events seat)
+        (stock_orders history.now.events seat)) }
+{
+    let mut rows = Vec::new(alloc);
+    push_companies(&mut rows, history, seat)?;
+    push_order(&mut rows, history, seat, Order::ExchangeMohawk)?;
+    Ok(rows)
+}
+
+/// Adds the rows of each company.
+fn push_companies(rows: &mut Vec<Row>, history: &History, seat: Seat) -> Result<(), AllocError>
+    ensures { OnOk result (rows.new.items ≡ rows.old.items
+        ++ map (stock_row history.now.seats history.now.events seat)
+        (flat_map (orders_of history.now.events seat) companies)) }
+{
+    for company in &Company::ALL {
+        push_company(rows, history, seat, *company)?;
+    }
+    Ok(())
+}
+
+/// Adds the rows of a company.
+fn push_company(
+    rows: &mut Vec<Row>,
+    history: &History,
+    seat: Seat,
+    company: Company,
+) -> Result<(), AllocError>
+    ensures { OnOk result (rows.new.items ≡ rows.old.items
+        ++ map (stock_row history.now.seats history.now.events seat)
+        (orders_of history.now.events seat company)) }
+{
+    push_starts(rows, history, seat, company)?;
+    push_shares(rows, history, seat, company)?;
+    push_sales(rows, history, seat, company)?;
+    Ok(())
+}
+
+/// Adds the rows of the six par values of a company.
+fn push_starts(
+    rows: &mut Vec<Row>,
+    history: &History,
+    seat: Seat,
+    company: Company,
+) -> Result<(), AllocError>
+    ensures { OnOk result (rows.new.items ≡ rows.old.items
+        ++ map (stock_row history.now.seats history.now.events seat) (starts_of company)) }
+{
+    for price in &PAR_VALUES {
+        let price = *price;
+        push_order(rows, history, seat, Order::Par { company, price })?;
+    }
+    Ok(())
+}
+
+/// Adds the rows of a share of a company from each place.
+fn push_shares(
+    rows: &mut Vec<Row>,
+    history: &History,
+    seat: Seat,
+    company: Company,
+) -> Result<(), AllocError>
+    ensures { OnOk result (rows.new.items ≡ rows.old.items
+        ++ map (stock_row history.now.seats history.now.events seat) (shares_from company)) }
+{
+    for from in &[ShareSource::InitialOffering, ShareSource::BankPool] {
+        let from = *from;
+        push_order(rows, history, seat, Order::BuyShare { company, from })?;
+    }
+    Ok(())
+}
+
+/// Adds the rows of sales of a company.
+fn push_sales(
+    rows: &mut Vec<Row>,
+    history: &History,
+    seat: Seat,
+    company: Company,
+) -> Result<(), AllocError>
+    ensures { OnOk result (rows.new.items ≡ rows.old.items
+        ++ map (stock_row history.now.seats history.now.events seat)
+        (sales_of history.now.events seat company)) }
+{
+    for shares in &NUMBERS {
+        push_sale(rows, history, seat, company, *shares)?;
+    }
+    Ok(())
+}
+
+/// Adds the row of a sale of this many shares, if it is shown.
+fn push_sale(
+    rows: &mut Vec<Row>,
+    history: &History,
+    seat: Seat,
+    company: Company,
+    shares: Amount,
+) -> Result<(), AllocError>
+    ensures { OnOk result (rows.new.items ≡ rows.old.items
+        ++ map (stock_row history.now.seats history.now.events seat)
+        (orders_of_sale history.now.events seat company shares)) }
+{
+    if !is_number_asked(history, seat, company, shares) {
+        return Ok(());
+    }
+    push_order(rows, history, seat, Order::Sell { company, shares })
+}
+
+/// Returns whether a sale of this many shares is shown: of one, and of up to one more than the seat
+/// has.
+fn is_number_asked(history: &History, seat: Seat, company: Company, shares: Amount) -> bool
+    ensures { result ≡ is_number_asked history.now.events seat company shares }
+{
+    let held = history.now().shares(company, Shareholder::Seat(seat));
+    shares == 1 || ShareCount::from(shares) <= held + 1
+}
+
+/// Adds the row of an order.
+fn push_order(
+    rows: &mut Vec<Row>,
+    history: &History,
+    seat: Seat,
+    order: Order,
+) -> Result<(), AllocError>
+    ensures { OnOk result (rows.new.items ≡ rows.old.items
+        ++ stock_row history.now.seats history.now.events seat order ∷ []) }
+{
+    let answer = answer_to(history, seat, &order);
+    push_row(rows, order, answer)
+}
+
+/// Returns what becomes of an order as the first line of a seat's turn.
+fn answer_to(history: &History, seat: Seat, order: &Order) -> Answer
+    ensures { result ≡ stock_answer history.now.seats history.now.events seat order.now }
+{
+    let broken = judge(history, seat, order).map(Refusal::Stock);
+    answer_of(cost(history, order), broken)
+}
+
+/// Returns the first rule that an order of a seat breaks in a turn in which it has bought nothing;
+/// `None` if it breaks none.
+fn judge(history: &History, seat: Seat, order: &Order) -> Option<StockRule>
+    ensures { result ≡ judgement_of history.now.seats history.now.events seat None order.now }
+{
+    match order {
+        Order::Par { company, price } => {
+            let (company, price) = (*company, *price);
+            may_buy(history, seat, Purchase::Par { company, price }, None).err()
+        }
+        Order::BuyShare { company, from } => {
+            let (company, from) = (*company, *from);
+            may_buy(history, seat, Purchase::Share { company, from }, None).err()
+        }
+        Order::Sell { company, shares } => {
+            let (company, shares) = (*company, *shares);
+            may_sell(history, seat, Sale { company, shares }, None).err()
+        }
+        Order::ExchangeMohawk => judge_exchange(history, seat),
+        _ => Some(StockRule::NotOfStock),
+    }
+}
+
+/// Returns the rule that an exchange of MH breaks; `None` if it breaks none.
+fn judge_exchange(history: &History, seat: Seat) -> Option<StockRule>
+    ensures { result ≡ exchange_judgement history.now.events seat }
+{
+    if is_no_exchange(history, seat) {
+        return Some(StockRule::NoExchange);
+    }
+    None
+}
+
+/// Returns what an order costs, or what a sale brings, in dollars; 0 if no money moves.
+fn cost(history: &History, order: &Order) -> Money
+    ensures { result ≡ pos (stock_cost history.now.events order.now) }
+{
+    let now = history.now();
+    match order {
+        Order::Par { company, price } => {
+            let (company, price) = (*company, *price);
+            purchase_cost(&now, Purchase::Par { company, price })
+        }
+        Order::BuyShare { company, from } => {
+            let (company, from) = (*company, *from);
+            purchase_cost(&now, Purchase::Share { company, from })
+        }
+        Order::Sell { company, shares } => {
+            let (company, shares) = (*company, *shares);
+            brought_by(&now, Sale { company, shares })
+        }
+        _ => 0,
+    }
+}
