@@ -6,16 +6,20 @@
 //! of the player's turn or of their company's orders (`foresight`).
 //!
 //! Reading order: `may_line` (a line), `until_then` (what comes before), `may_opening`, `may_stock`,
-//! `may_operating` (the lines of each kind of round), `must_buy` (a train that a company must buy).
+//! `may_operating` (the lines of each kind of round), `must_buy` (a train that a company must buy),
+//! `row_lines` (rows as lines), `may_lines` (the same as the lines of a sheet).
 #![tactic(auto)]
 
 mod may_line;
+mod may_lines;
 mod may_opening;
 mod may_operating;
 mod may_stock;
 mod must_buy;
+mod row_lines;
 mod until_then;
 
+pub use may_lines::{push_lines_of_operating, push_lines_of_turn};
 pub use may_opening::push_of_opening;
 pub use may_operating::push_of_operating;
 pub use may_stock::push_of_stock;

@@ -6,7 +6,10 @@ use crate::questions::MayForm;
 use certs::Holdings;
 use desk_base::Piece::{Bytes, Count, Number};
 use desk_base::{Piece, fill};
-use desk_may::{push_of_opening, push_of_operating, push_of_stock, push_until_then};
+use desk_may::{
+    push_lines_of_operating, push_lines_of_turn, push_of_opening, push_of_operating, push_of_stock,
+    push_until_then,
+};
 use foresight::{Draft, at_turn};
 use history::{History, Party};
 use report::name;
@@ -33,8 +36,12 @@ pub(crate) fn may_text(
     };
     let mut text = Vec::new(alloc);
     match coming.round {
-        Round::Operating { .. } => push_operating(alloc, &mut text, coming, seat, drafter)?,
-        Round::Opening(_) | Round::Stock(_) => push_turn(alloc, &mut text, coming, seat)?,
+        Round::Operating { .. } => {
+            push_operating(alloc, &mut text, coming, seat, drafter, form.lines)?;
+        }
+        Round::Opening(_) | Round::Stock(_) => {
+            push_turn(alloc, &mut text, coming, seat, form.lines)?;
+        }
     }
     Ok(text)
 }
@@ -45,6 +52,7 @@ fn push_turn(
     out: &mut Vec<u8>,
     coming: Coming,
     seat: Seat,
+    lines: bool,
 ) -> Result<(), AllocError> {
     let Coming {
         sheets,
@@ -53,6 +61,9 @@ fn push_turn(
     } = coming;
     let from = history.events().len();
     let history = at_turn(history, round, seat)?;
+    if lines {
+        return push_lines_of_turn(alloc, out, sheets, &history, round, seat);
+    }
     push_head(out, sheets, &history, seat, round)?;
     push_until_then(alloc, out, sheets, &history, from)?;
     match round {
@@ -68,14 +79,18 @@ fn push_operating(
     coming: Coming,
     seat: Seat,
     drafter: Option<Seat>,
+    lines: bool,
 ) -> Result<(), AllocError> {
     let Coming {
         sheets,
         history,
         round,
     } = coming;
-    push_head(out, sheets, &history, seat, round)?;
     let draft = Draft { sheets, drafter };
+    if lines {
+        return push_lines_of_operating(alloc, out, history, draft, round, seat);
+    }
+    push_head(out, sheets, &history, seat, round)?;
     push_of_operating(alloc, out, history, draft, round, seat)
 }
 

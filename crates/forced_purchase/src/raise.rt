@@ -74,7 +74,7 @@ pub fn hold_if_raise(
 /// Returns the first rule that a RAISE under this condition breaks, given whether a purchase is
 /// due. One that is not needed is refused whatever its condition.
 #[tactic(auto, unfolding(crate::specs::Raise::raise_rule))]
-fn raise_rule(
+pub fn raise_rule(
     history: &History,
     by: Operator,
     condition: Option<&Condition>,

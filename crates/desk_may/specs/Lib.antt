@@ -1,0 +1,2 @@
+-- What the desk says that a player may do.
+pub mod RowLines
