@@ -90,7 +90,7 @@ fn push_turn(
         by,
     };
     buyer.push_heading(out)?;
-    push_until_then(alloc, out, draft.sheets, &turn.history, from)?;
+    push_until_then(alloc, out, draft.sheets, &turn.history, from, Some(by.company))?;
     buyer.push_all(out)?;
     push_end_of_turn(alloc, out, draft.sheets, turn, raises)
 }

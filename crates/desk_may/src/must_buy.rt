@@ -29,6 +29,7 @@ pub fn push_end_of_turn(
     let mut turn = turn;
     turn.withhold_if_unpaid()?;
     if !turn.must_buy()? {
+        push_if_sold(out, sheets, &mut turn)?;
         return turn.finish(raises);
     }
     push_purchase(out, sheets, &turn.history, turn.by)?;
@@ -38,6 +39,20 @@ pub fn push_end_of_turn(
     Ok(game)
 }
 
+/// Adds what a company must buy that has one train left, if that is sold.
+fn push_if_sold(
+    out: &mut Vec<u8>,
+    sheets: &Sheets,
+    turn: &mut CompanyTurn,
+) -> Result<(), AllocError> {
+    let company = turn.by.company;
+    if turn.history.now().train_count(Some(company)) != 1 || !turn.could_run()? {
+        return Ok(());
+    }
+    push_cost(out, &turn.history, turn.by, "IF IT SELLS IT", "")?;
+    push_president(out, sheets, &turn.history, turn.by)
+}
+
 /// Adds what a company must buy, and who pays for it.
 fn push_purchase(
     out: &mut Vec<u8>,
@@ -45,31 +60,39 @@ fn push_purchase(
     history: &History,
     by: Operator,
 ) -> Result<(), AllocError> {
+    push_cost(out, history, by, "MUST BUY", ", as its turn ends without a train")?;
+    push_president(out, sheets, history, by)?;
+    if falls_short(history, by) {
+        push_raises(out, history, by)?;
+    }
+    Ok(())
+}
+
+/// Adds which train a company must buy, with its price, and what the company has.
+fn push_cost(
+    out: &mut Vec<u8>,
+    history: &History,
+    by: Operator,
+    label: &str,
+    when: &str,
+) -> Result<(), AllocError> {
     let purchase = cheapest(&history.now());
     let seller = match purchase.from {
         TrainSeller::BankPool => "POOL",
         TrainSeller::Bank | TrainSeller::Company(_) => "BANK",
     };
     let code = Words(by.company.code());
-    let price = Number(Money::from(purchase.price()));
-    let train = [
+    let pieces = [
+        Words(label),
+        Column(SAID),
+        code,
         Words(purchase.kind.code()),
         Words(seller),
-        price,
-        code,
+        Number(Money::from(purchase.price())),
+        Words(when),
+        Number(history.cash(Party::of_company(by.company))),
     ];
-    fill(
-        out,
-        "MUST BUY          TRAIN % % for %, if % ends its turn without a train\n",
-        &train,
-    )?;
-    let cash = Number(history.cash(Party::of_company(by.company)));
-    push(out, &[code, Words(" HAS"), Column(SAID), cash, Words("\n")])?;
-    push_president(out, sheets, history, by)?;
-    if falls_short(history, by) {
-        push_raises(out, history, by)?;
-    }
-    Ok(())
+    fill(out, "%%% must buy TRAIN % % for %%; it has %\n", &pieces)
 }
 
 /// Adds what the president pays, has and can raise.

@@ -6,21 +6,24 @@ use history::{Event, History};
 use report::{name, push_event};
 use sheets::Sheets;
 use std::alloc::{AllocError, Global};
+use tables::Company;
 
 /// The column of what is said in a head.
 const SAID: usize = 18;
 
 /// Adds who has a turn before in a round that comes, and what happens until then. `from` is the
-/// place in the list of the event that begins the round.
+/// place in the list of the event that begins the round, and `company` the one whose turn it is in
+/// an operating round.
 pub fn push_until_then(
     alloc: Global,
     out: &mut Vec<u8>,
     sheets: &Sheets,
     history: &History,
     from: usize,
+    company: Option<Company>,
 ) -> Result<(), AllocError> {
     let events = history.events().get(from..).unwrap_or(&[]);
-    push_before(out, sheets, events)?;
+    push_before(out, sheets, events, company)?;
     let mut label = "UNTIL THEN";
     for event in events {
         if is_told(event) {
@@ -34,10 +37,15 @@ pub fn push_until_then(
 }
 
 /// Adds who has a turn before, by the events of the round so far.
-fn push_before(out: &mut Vec<u8>, sheets: &Sheets, events: &[Event]) -> Result<(), AllocError> {
+fn push_before(
+    out: &mut Vec<u8>,
+    sheets: &Sheets,
+    events: &[Event],
+    company: Option<Company>,
+) -> Result<(), AllocError> {
     fill(out, "BEFORE           ", &[])?;
     let mut end = " nobody\n";
-    let mut last = None;
+    let mut last = company;
     for event in events {
         if let Event::Passes(seat) = event {
             fill(out, " %", &[Bytes(name(sheets, *seat))])?;

@@ -89,7 +89,7 @@ fn push_turn<P: Progress>(
     if form.lines {
         return earning.push_lines(out);
     }
-    push_until_then(alloc, out, at.sheets, history, at.from)?;
+    push_until_then(alloc, out, at.sheets, history, at.from, Some(company))?;
     push_means(out, history, company, kinds.as_slice())?;
     if form.best {
         return earning.push_table(out);

@@ -65,7 +65,7 @@ fn push_turn(
         return push_lines_of_turn(alloc, out, sheets, &history, round, seat);
     }
     push_head(out, sheets, &history, seat, round)?;
-    push_until_then(alloc, out, sheets, &history, from)?;
+    push_until_then(alloc, out, sheets, &history, from, None)?;
     match round {
         Round::Opening(_) => push_of_opening(alloc, out, &history, seat),
         _ => push_of_stock(alloc, out, sheets, &history, seat),

@@ -1,8 +1,10 @@
 //! The end of a company's turn: it buys a train if it must.
 ghost use Rattle.std.specs.Prelude.{◌≡◌, ◌≤◌, ◌<◌, ◌↔◌, IfOk, IsTrue, OnOk};
+ghost use Rattle.board_state.specs.MapState.{position_of};
 ghost use Rattle.history.specs.Sound.{IsSound};
+ghost use Rattle.legal_runs.specs.TwoTrain.{CanRun};
 ghost use Rattle.operating.specs.CompanyTurn.{IsInOrder, state};
-ghost use Rattle.operating.specs.MapState.{IsPrefix};
+ghost use Rattle.operating.specs.MapState.{IsPrefix, map_state_now};
 ghost use Rattle.operating.specs.TurnEnd.{EndLeads, IsDue};
 
 use crate::company_turn::CompanyTurn;
@@ -26,6 +28,21 @@ impl CompanyTurn {
         ensures order { OnOk result (IsInOrder self.new) }
     {
         is_due(&mut *self.board, &self.history, self.by.company)
+    }
+
+    /// Returns whether the company could run a train of kind 2, if it had one. Fails only if
+    /// allocation fails.
+    pub fn could_run(&mut self) -> Result<bool, AllocError>
+        requires { IsInOrder self.old }
+        ensures could { IfOk result (λ could. IsTrue could
+            ↔ CanRun (position_of (map_state_now self.old.history.events)) self.old.by.company) }
+        ensures turn { OnOk result (state self.new ≡ state self.old) }
+        ensures by { OnOk result (self.new.by ≡ self.old.by) }
+        ensures order { OnOk result (IsInOrder self.new) }
+    {
+        let board = &mut *self.board;
+        update_map_state(board, &self.history)?;
+        Ok(can_run(&*board, self.by.company))
     }
 
     /// Ends the turn once the company has paid or withheld: it buys a train if it must, and the
