@@ -14,7 +14,7 @@ use Rattle.totals.specs.Bids.{free_cash_of}
 use Rattle.totals.specs.LookBack.{Game, cash_of, with_event}
 use Rattle.history.specs.Sound.{IsSound}
 use Rattle.totals.specs.Trains.{at_least_zero}
-use Rattle.forced_purchase.proofs.Cheapest.{cheapest_low, company_itself, less_is, not_less_is}
+use Rattle.forced_purchase.proofs.CheapestTrain.{cheapest_low, company_itself, less_is, not_less_is}
 use Rattle.forced_purchase.specs.Forced.{with_aid}
 use Rattle.forced_purchase.specs.Shortfall.{cheapest, falls_short, lack_of}
 use Rattle.forced_purchase.specs.ForcedLaws.{AidIsWhatLacks, NoAidWithoutLack}

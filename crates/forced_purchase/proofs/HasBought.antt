@@ -17,7 +17,7 @@ use Rattle.history.proofs.Rolling.{same_kind_is, same_train_place_is}
 use Rattle.totals.specs.LookBack.{Game, with_event}
 use Rattle.totals.specs.Trains.{TrainsAreHeld, one_if, phase_of, same_train_place, at_least_zero, train_count}
 use Rattle.totals.specs.Trains.{trains_at, trains_held}
-use Rattle.forced_purchase.proofs.Cheapest.{cheapest_plain, company_itself, limit_low}
+use Rattle.forced_purchase.proofs.CheapestTrain.{cheapest_plain, company_itself, limit_low}
 use Rattle.purchases.proofs.Rust.{all_go, by_train_owner, has}
 use Rattle.purchases.proofs.TrainSteps.{IsPassedOn, of_bop, of_fold, of_iterate, of_kind, of_privates}
 use Rattle.purchases.specs.Discard.{next_discard, with_discarded, with_next_discarded}

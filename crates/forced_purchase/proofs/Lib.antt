@@ -1,4 +1,4 @@
-pub mod Cheapest
+pub mod CheapestTrain
 pub mod TrainCounts
 pub mod Steps
 pub mod Aid

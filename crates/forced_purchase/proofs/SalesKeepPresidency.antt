@@ -23,7 +23,7 @@ use Rattle.totals.specs.Shares.{president_of, president_said, shares_of, square_
 use Rattle.history.specs.Record.{breaks}
 use Rattle.market.specs.Moves.{fallen}
 use Rattle.market.specs.Token.{moved_from, same_square}
-use Rattle.forced_purchase.proofs.Cheapest.{company_itself, not_less_is}
+use Rattle.forced_purchase.proofs.CheapestTrain.{company_itself, not_less_is}
 use Rattle.forced_purchase.specs.Raise.{sale_rule, with_sale}
 use Rattle.forced_purchase.specs.declared.operator.Operator.{Operator}
 use Rattle.tables.proofs.Rules.{not_broken}

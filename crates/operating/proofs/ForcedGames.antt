@@ -20,8 +20,8 @@ use Rattle.history.specs.Record.{breaks}
 use Rattle.totals.specs.Trains.{at_least_zero}
 use Rattle.market.specs.Moves.{fallen}
 use Rattle.market.specs.Token.{moved_from, same_square}
-use Rattle.forced_purchase.proofs.Cheapest.{IsPlain, forced_allowed}
-pub use Rattle.forced_purchase.proofs.Cheapest.{cheapest_plain}
+use Rattle.forced_purchase.proofs.CheapestTrain.{IsPlain, forced_allowed}
+pub use Rattle.forced_purchase.proofs.CheapestTrain.{cheapest_plain}
 use Rattle.forced_purchase.proofs.TrainCounts.{still_none}
 use Rattle.forced_purchase.proofs.Steps.{next_allowed, raise_obeyed, still_allowed}
 use Rattle.purchases.proofs.TrainSteps.{of_choice}

@@ -12,7 +12,7 @@ use Rattle.totals.specs.LookBack.{Game}
 use Rattle.map_tables.specs.RuleCodes.{code_of_run_rule}
 use Rattle.map_tables.specs.declared.rules.RunRule.{RunRule}
 use Rattle.map_tables.specs.declared.rules.RunRule.TheVariants as run_rule
-use Rattle.forced_purchase.proofs.Cheapest.{less_is}
+use Rattle.forced_purchase.proofs.CheapestTrain.{less_is}
 use Rattle.operating.proofs.OtherOrders.{after_other}
 use Rattle.operating.proofs.RunLemmas.{second_false}
 use Rattle.operating.specs.RunBest.{BestRuled, best_judgement, rules_of_best}

@@ -2,7 +2,7 @@
 use Rattle.std.proofs.Common.{◌≡◌, None, ap, sym, subst, ◌∙◌}
 use Rattle.std.proofs.lemmas.Result.{on_ok_weaker}
 use Rattle.totals.specs.LookBack.{Game}
-use Rattle.forced_purchase.proofs.Cheapest.{forced_allowed}
+use Rattle.forced_purchase.proofs.CheapestTrain.{forced_allowed}
 use Rattle.forced_purchase.proofs.Steps.{bankrupt_then, bought_then}
 use Rattle.forced_purchase.specs.Shortfall.{cheapest}
 use Rattle.purchases.specs.Train.{train_judgement}
