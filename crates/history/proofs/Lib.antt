@@ -15,5 +15,5 @@ pub mod Payments
 pub mod TrainActs
 pub mod PrivateActs
 pub mod ForcedActs
-pub mod CheapestTrain
+pub mod Cheapest
 pub mod Recording

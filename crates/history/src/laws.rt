@@ -226,7 +226,7 @@ pub fn arrivals_differ()
 
 /// States that in a sound game the private that `GameView::cheapest_unsold` returns is a cheapest
 /// unsold one, at the bank's prices.
-#[tactic(auto, using(crate::proofs::CheapestTrain::first_is_cheapest_law))]
+#[tactic(auto, using(crate::proofs::Cheapest::first_is_cheapest_law))]
 pub fn first_is_cheapest()
     ensures { FirstIsCheapest }
 {}
