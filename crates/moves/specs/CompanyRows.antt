@@ -9,6 +9,7 @@ use Rattle.std.specs.List.{flat_map}
 use Rattle.events.specs.declared.event.Event.{Event}
 use Rattle.events.specs.declared.event.Holder.{Holder}
 use Rattle.events.specs.declared.event.Holder.TheVariants as holder
+use Rattle.events.specs.declared.ruling.Refusal.{Refusal}
 use Rattle.events.specs.declared.ruling.Refusal.TheVariants as refusal
 use Rattle.moves.specs.Rows.{answer_if_given, only_if}
 use Rattle.moves.specs.declared.row.Answer.{Answer}
@@ -19,9 +20,10 @@ use Rattle.order_grammar.specs.declared.order.Order.TheVariants.{BuyOwnedPrivate
 use Rattle.order_grammar.specs.declared.order.TrainSource.{TrainSource}
 use Rattle.order_grammar.specs.declared.order.TrainSource.TheVariants as source
 use Rattle.purchases.specs.Discard.{has_train}
-use Rattle.purchases.specs.Private.{private_judgement, private_judgement_by}
-use Rattle.purchases.specs.Train.{cost_of, purchase_of, train_judgement, train_judgement_by}
-use Rattle.purchases.specs.declared.consents.Consents.TheVariants.{All}
+use Rattle.purchases.specs.Private.{private_judgement_by}
+use Rattle.purchases.specs.Train.{cost_of, purchase_of, train_judgement_by}
+use Rattle.purchases.specs.declared.consents.Consents.{Consents}
+use Rattle.purchases.specs.declared.consents.Consents.TheVariants.{All, OfGame}
 use Rattle.tables.specs.Roster.{companies, face_of, privates}
 use Rattle.tables.specs.Train.{kinds}
 use Rattle.tables.specs.declared.rolling_stock.Kind.{Kind}
@@ -70,7 +72,7 @@ abbrev pub trains_of_kind : List Event → Kind → List TrainOrder
 trains_of_kind events kind = trains_of_bank kind ++ trains_of_sellers events kind
 
 -- to buy a train
-abbrev pub train_orders : List Event → List TrainOrder
+unfoldable pub train_orders : List Event → List TrainOrder
 train_orders events = flat_map (trains_of_kind events) kinds
 
 -- who is asked for a train, and for what: the president of the company that sells it
@@ -79,13 +81,20 @@ asked_for_train events buyer kind (source.Company seller price) =
     option_map (λ giver. (giver, offer.Train kind seller buyer price)) (president_of events seller)
 asked_for_train events buyer kind other = None
 
+-- what a train costs
+abbrev pub train_cost : Kind → TrainSource → ℕ
+train_cost kind from = cost_of (purchase_of kind from)
+
+-- the first rule that the order to buy a train breaks, by these consents
+unfoldable pub train_refusal_by : Consents → Game → Company → Kind → TrainSource → Option Refusal
+train_refusal_by consents game company kind from =
+    option_map refusal.Train (train_judgement_by consents game company (purchase_of kind from))
+
 -- what becomes of the order to buy a train
 abbrev pub train_answer : Game → Company → Kind → TrainSource → Answer
 train_answer game company kind from =
-    answer_if_given (pos (cost_of (purchase_of kind from)))
-    (option_map refusal.Train (train_judgement game company (purchase_of kind from)))
-    (option_map refusal.Train (train_judgement_by All game company (purchase_of kind from)))
-    (asked_for_train game.events company kind from)
+    answer_if_given (pos (train_cost kind from)) (train_refusal_by OfGame game company kind from)
+    (train_refusal_by All game company kind from) (asked_for_train game.events company kind from)
 
 -- its row
 abbrev pub train_row : Game → Company → TrainOrder → Row
@@ -111,13 +120,16 @@ abbrev pub asked_for_private : List Event → Company → Private → ℕ → Op
 asked_for_private events buyer private price =
     asked_of_owner (owner_of events private) (offer.Private private buyer price)
 
+-- the first rule that the order to buy a private breaks, by these consents
+unfoldable pub private_refusal_by : Consents → Game → Company → Private → ℕ → Option Refusal
+private_refusal_by consents game company private price =
+    option_map refusal.Private (private_judgement_by consents game company private price)
+
 -- what becomes of the order to buy a private
 abbrev pub private_answer : Game → Company → Private → ℕ → Answer
 private_answer game company private price =
-    answer_if_given (pos price)
-    (option_map refusal.Private (private_judgement game company private price))
-    (option_map refusal.Private (private_judgement_by All game company private price))
-    (asked_for_private game.events company private price)
+    answer_if_given (pos price) (private_refusal_by OfGame game company private price)
+    (private_refusal_by All game company private price) (asked_for_private game.events company private price)
 
 -- its row
 abbrev pub private_row : Game → Company → PrivateOrder → Row
@@ -128,6 +140,6 @@ private_row game company its =
     }
 
 -- the rows of a company's turn: first the trains, then the privates
-abbrev pub company_rows : Game → Company → List Row
+unfoldable pub company_rows : Game → Company → List Row
 company_rows game company =
     map (train_row game company) (train_orders game.events) ++ map (private_row game company) private_orders

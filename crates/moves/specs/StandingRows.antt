@@ -71,7 +71,7 @@ abbrev pub discards_of : List Event → Seat → Company → List Order
 discards_of events seat company = flat_map (discard_of events seat company) kinds
 
 -- and of all companies
-abbrev pub discards : List Event → Seat → List Order
+unfoldable pub discards : List Event → Seat → List Order
 discards events seat = flat_map (discards_of events seat) companies
 
 -- a company is started and is not the seller
@@ -94,7 +94,7 @@ abbrev pub train_offers_of : List Event → Seat → Company → List Order
 train_offers_of events seat seller = flat_map (offers_of_kind events seat seller) kinds
 
 -- and of all companies
-abbrev pub train_offers : List Event → Seat → List Order
+unfoldable pub train_offers : List Event → Seat → List Order
 train_offers events seat = flat_map (train_offers_of events seat) companies
 
 -- OFFER of a private to a company at its face value, if the seat owns it and the company is started
@@ -108,11 +108,11 @@ abbrev pub private_offers_of : List Event → Seat → Private → List Order
 private_offers_of events seat private = flat_map (private_offer events seat private) companies
 
 -- and of all privates
-abbrev pub private_offers : List Event → Seat → List Order
+unfoldable pub private_offers : List Event → Seat → List Order
 private_offers events seat = flat_map (private_offers_of events seat) privates
 
 -- the standing lines of an operating round
-abbrev pub standing_orders : List Event → Seat → List Order
+unfoldable pub standing_orders : List Event → Seat → List Order
 standing_orders events seat = discards events seat ++ (train_offers events seat ++ private_offers events seat)
 
 -- what becomes of an order as a standing line of an operating round

@@ -57,9 +57,13 @@ purchases_of company = starts_of company ++ shares_from company
 abbrev pub orders_of : List Event → Seat → Company → List Order
 orders_of events seat company = purchases_of company ++ sales_of events seat company
 
+-- and of all companies
+unfoldable pub orders_of_companies : List Event → Seat → List Order
+orders_of_companies events seat = flat_map (orders_of events seat) companies
+
 -- those of all companies, and the exchange
 abbrev pub stock_orders : List Event → Seat → List Order
-stock_orders events seat = flat_map (orders_of events seat) companies ++ ExchangeMohawk ∷ []
+stock_orders events seat = orders_of_companies events seat ++ ExchangeMohawk ∷ []
 
 -- what an order costs, or what a sale brings
 abbrev pub stock_cost : List Event → Order → ℕ

@@ -1,7 +1,8 @@
 //! The rows of a company's turn: the trains and the privates that it could buy.
-ghost use Rattle.std.specs.Prelude.{◌≡◌, ◌++◌, ◌∷◌, [], IfOk, OnOk, map};
+ghost use Rattle.std.specs.Prelude.{◌≡◌, ◌++◌, ◌∷◌, [], IfOk, OnOk, map, pos};
 ghost use Rattle.moves.specs.CompanyRows.{asked_for_private, asked_for_train, company_rows, orders_of_private};
-ghost use Rattle.moves.specs.CompanyRows.{private_answer, private_order, private_orders, private_row, train_answer};
+ghost use Rattle.moves.specs.CompanyRows.{private_answer, private_order, private_orders, private_refusal_by};
+ghost use Rattle.moves.specs.CompanyRows.{private_row, train_answer, train_cost, train_refusal_by};
 ghost use Rattle.moves.specs.CompanyRows.{train_of, train_order, train_orders, train_row, trains_of_bank};
 ghost use Rattle.moves.specs.CompanyRows.{trains_of_kind, trains_of_sellers};
 ghost use Rattle.moves.specs.Rows.{answer_if_given};
@@ -38,9 +39,22 @@ pub fn company_rows(
     ensures { IfOk result (λ rows. rows.items ≡ company_rows history.now company) }
 {
     let mut rows = Vec::new(alloc);
-    push_trains(&mut rows, history, company)?;
-    push_privates(&mut rows, history, company)?;
+    push_purchases(&mut rows, history, company)?;
     Ok(rows)
+}
+
+/// Adds the rows of trains and of privates.
+fn push_purchases(
+    rows: &mut Vec<Row>,
+    history: &History,
+    company: Company,
+) -> Result<(), AllocError>
+    ensures { OnOk result (rows.new.items
+        ≡ rows.old.items ++ company_rows history.now company) }
+{
+    push_trains(rows, history, company)?;
+    push_privates(rows, history, company)?;
+    Ok(())
 }
 
 /// Adds the rows of trains.
@@ -146,15 +160,36 @@ fn answer_to_train(history: &History, company: Company, kind: Kind, from: TrainS
     requires { IsSmallOrder (BuyTrain kind from) }
     ensures { result ≡ train_answer history.now company kind from }
 {
-    let purchase = purchase_of(kind, from);
-    let broken = judge_purchase(history, company, purchase, Consents::OfGame);
-    let given = judge_purchase(history, company, purchase, Consents::All);
     answer_if_given(
-        Money::from(purchase.price()),
-        broken.map(Refusal::Train),
-        given.map(Refusal::Train),
+        train_cost(kind, from),
+        judge_train(history, company, kind, from, Consents::OfGame),
+        judge_train(history, company, kind, from, Consents::All),
         asked_for_train(history, company, kind, from),
     )
+}
+
+/// Returns what a train costs, in dollars.
+fn train_cost(kind: Kind, from: TrainSource) -> Money
+    requires { IsSmallOrder (BuyTrain kind from) }
+    ensures { result ≡ pos (train_cost kind from) }
+{
+    Money::from(purchase_of(kind, from).price())
+}
+
+/// Returns the first rule that the order to buy a train breaks, by these consents; `None` if it
+/// breaks none.
+#[tactic(auto, unfolding(crate::specs::CompanyRows::train_refusal_by))]
+fn judge_train(
+    history: &History,
+    company: Company,
+    kind: Kind,
+    from: TrainSource,
+    consents: Consents,
+) -> Option<Refusal>
+    requires { IsSmallOrder (BuyTrain kind from) }
+    ensures { result ≡ train_refusal_by consents history.now company kind from }
+{
+    judge_purchase(history, company, purchase_of(kind, from), consents).map(Refusal::Train)
 }
 
 /// Returns who is asked for a train, and for what: the president of the company that sells it.
@@ -224,14 +259,27 @@ fn push_private_at(
 fn answer_to_private(history: &History, company: Company, private: Private, price: Amount) -> Answer
     ensures { result ≡ private_answer history.now company private price }
 {
-    let broken = judge_private(history, company, private, price, Consents::OfGame);
-    let given = judge_private(history, company, private, price, Consents::All);
     answer_if_given(
         Money::from(price),
-        broken.map(Refusal::Private),
-        given.map(Refusal::Private),
+        judge_owned(history, company, private, price, Consents::OfGame),
+        judge_owned(history, company, private, price, Consents::All),
         asked_for_private(history, company, private, price),
     )
+}
+
+/// Returns the first rule that the order to buy a private breaks, by these consents; `None` if it
+/// breaks none.
+#[tactic(auto, unfolding(crate::specs::CompanyRows::private_refusal_by))]
+fn judge_owned(
+    history: &History,
+    company: Company,
+    private: Private,
+    price: Amount,
+    consents: Consents,
+) -> Option<Refusal>
+    ensures { result ≡ private_refusal_by consents history.now company private price }
+{
+    judge_private(history, company, private, price, consents).map(Refusal::Private)
 }
 
 /// Returns who is asked for a private, and for what: the player who owns it.

@@ -27,12 +27,25 @@ pub fn standing_rows(
     ensures { IfOk result (λ rows. rows.items ≡ standing_rows history.now.events seat round) }
 {
     let mut rows = Vec::new(alloc);
-    match round {
-        Round::Opening(_) => push_limits(&mut rows, history, seat)?,
-        Round::Stock(_) => {}
-        Round::Operating { .. } => push_standing(&mut rows, history, seat)?,
-    }
+    push_lines(&mut rows, history, seat, round)?;
     Ok(rows)
+}
+
+/// Adds the rows of standing lines for a round.
+fn push_lines(
+    rows: &mut Vec<Row>,
+    history: &History,
+    seat: Seat,
+    round: Round,
+) -> Result<(), AllocError>
+    ensures { OnOk result (rows.new.items
+        ≡ rows.old.items ++ standing_rows history.now.events seat round) }
+{
+    match round {
+        Round::Opening(_) => push_limits(rows, history, seat),
+        Round::Stock(_) => Ok(()),
+        Round::Operating { .. } => push_standing(rows, history, seat),
+    }
 }
 
 /// Adds the rows of LIMIT lines.

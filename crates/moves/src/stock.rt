@@ -1,11 +1,9 @@
 //! The rows of a stock round: of each company the purchases and sales, and the exchange of MH.
 ghost use Rattle.std.specs.Prelude.{◌≡◌, ◌++◌, ◌∷◌, [], IfOk, None, OnOk, map, pos};
-ghost use Rattle.std.specs.List.{flat_map};
-ghost use Rattle.moves.specs.StockRows.{is_number_asked, orders_of, orders_of_sale, sales_of, shares_from};
-ghost use Rattle.moves.specs.StockRows.{starts_of, stock_answer, stock_cost, stock_orders, stock_row};
+ghost use Rattle.moves.specs.StockRows.{is_number_asked, orders_of, orders_of_companies, orders_of_sale};
+ghost use Rattle.moves.specs.StockRows.{sales_of, shares_from, starts_of, stock_answer, stock_cost, stock_orders, stock_row};
 ghost use Rattle.stock_round.specs.Exchange.{exchange_judgement};
 ghost use Rattle.stock_round.specs.Orders.{judgement_of};
-ghost use Rattle.tables.specs.Roster.{companies};
 
 use crate::deal_list::brought_by;
 use crate::row::{Answer, Row, answer_of, push_row};
@@ -28,16 +26,26 @@ pub fn stock_rows(alloc: Global, history: &History, seat: Seat) -> Result<Vec<Ro
         (stock_orders history.now.events seat)) }
 {
     let mut rows = Vec::new(alloc);
-    push_companies(&mut rows, history, seat)?;
-    push_order(&mut rows, history, seat, Order::ExchangeMohawk)?;
+    push_orders(&mut rows, history, seat)?;
     Ok(rows)
+}
+
+/// Adds the rows of each company, and that of the exchange.
+fn push_orders(rows: &mut Vec<Row>, history: &History, seat: Seat) -> Result<(), AllocError>
+    ensures { OnOk result (rows.new.items ≡ rows.old.items
+        ++ map (stock_row history.now.seats history.now.events seat)
+        (stock_orders history.now.events seat)) }
+{
+    push_companies(rows, history, seat)?;
+    push_order(rows, history, seat, Order::ExchangeMohawk)?;
+    Ok(())
 }
 
 /// Adds the rows of each company.
 fn push_companies(rows: &mut Vec<Row>, history: &History, seat: Seat) -> Result<(), AllocError>
     ensures { OnOk result (rows.new.items ≡ rows.old.items
         ++ map (stock_row history.now.seats history.now.events seat)
-        (flat_map (orders_of history.now.events seat) companies)) }
+        (orders_of_companies history.now.events seat)) }
 {
     for company in &Company::ALL {
         push_company(rows, history, seat, *company)?;

@@ -1,6 +1,6 @@
 use Rattle.std.proofs.Common.{◌∷◌, [], ℕ}
 use Rattle.moves.proofs.RowLemmas.{rows_done, rows_next, rows_none}
-use Rattle.moves.specs.CompanyRows.{train_row, trains_of_kind}
+use Rattle.moves.specs.CompanyRows.{train_orders, train_row, trains_of_kind}
 use Rattle.tables.specs.Train.{kinds}
 use Rattle.moves.proofs.company.push_trains.Goals as goal
 
@@ -13,6 +13,7 @@ loop-kind-preserved c =
     c.loop-kind-test.true c.loop-kind.invariant c.in_ok-push_trains_of_kind.ensures
 
 pub returns : goal.returns
+unfolding train_orders
 returns c =
     rows_done (train_row c.args.history.now c.args.company) (trains_of_kind c.args.history.now.events) kinds
     c.loop-kind.kind-index _ _ c.loop-kind-test.false c.loop-kind.invariant

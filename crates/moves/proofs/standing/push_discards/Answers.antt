@@ -1,6 +1,6 @@
 use Rattle.std.proofs.Common.{◌∷◌, [], ℕ}
 use Rattle.moves.proofs.RowLemmas.{rows_done, rows_next, rows_none}
-use Rattle.moves.specs.StandingRows.{discards_of, standing_row}
+use Rattle.moves.specs.StandingRows.{discards, discards_of, standing_row}
 use Rattle.tables.specs.Roster.{companies}
 use Rattle.moves.proofs.standing.push_discards.Goals as goal
 
@@ -13,6 +13,7 @@ loop-company-preserved c =
     c.loop-company-test.true c.loop-company.invariant c.in_ok-push_discards_of.ensures
 
 pub returns : goal.returns
+unfolding discards
 returns c =
     rows_done (standing_row c.args.history.now.events c.args.seat) (discards_of c.args.history.now.events c.args.seat) companies
     c.loop-company.company-index _ _ c.loop-company-test.false c.loop-company.invariant

@@ -1,6 +1,6 @@
 use Rattle.std.proofs.Common.{◌∷◌, [], ℕ}
 use Rattle.moves.proofs.RowLemmas.{rows_done, rows_next, rows_none}
-use Rattle.moves.specs.StockRows.{orders_of, stock_row}
+use Rattle.moves.specs.StockRows.{orders_of, orders_of_companies, stock_row}
 use Rattle.tables.specs.Roster.{companies}
 use Rattle.moves.proofs.stock.push_companies.Goals as goal
 
@@ -13,6 +13,7 @@ loop-company-preserved c =
     c.loop-company-test.true c.loop-company.invariant c.in_ok-push_company.ensures
 
 pub returns : goal.returns
+unfolding orders_of_companies
 returns c =
     rows_done (stock_row c.args.history.now.seats c.args.history.now.events c.args.seat) (orders_of c.args.history.now.events c.args.seat) companies
     c.loop-company.company-index _ _ c.loop-company-test.false c.loop-company.invariant
