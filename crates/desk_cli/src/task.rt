@@ -301,7 +301,9 @@ fn argument_of<'a>(alloc: Global, operand: Operand) -> Arg<'a> {
             flag(alloc, "best").help("Tell what the company's best runs would earn after each")
         }
         Operand::Drafted => {
-            flag(alloc, "drafted").help("As it stands behind the orders of the own sheet in the file")
+            flag(alloc, "drafted").help(
+                "As it stands behind the orders of the own sheet in the file",
+            )
         }
         Operand::Tiles => {
             flag(alloc, "tiles").help("Write all tiles in their six rotations, without a game")

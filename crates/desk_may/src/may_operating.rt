@@ -6,8 +6,8 @@ use crate::must_buy::push_end_of_turn;
 use crate::until_then::push_until_then;
 use desk_base::Piece::{Bytes, Column, Count, Number, Words};
 use desk_base::fill;
-use foresight::{Draft, open_ahead, take_turn_ahead};
 use forced_purchase::Operator;
+use foresight::{Draft, open_ahead, take_turn_ahead};
 use history::{History, Holder, Party, Refusal, TrainSeller};
 use market::next_company;
 use moves::{Priced, least_price, owned_privates, trains};
@@ -90,7 +90,14 @@ fn push_turn(
         by,
     };
     buyer.push_heading(out)?;
-    push_until_then(alloc, out, draft.sheets, &turn.history, from, Some(by.company))?;
+    push_until_then(
+        alloc,
+        out,
+        draft.sheets,
+        &turn.history,
+        from,
+        Some(by.company),
+    )?;
     buyer.push_all(out)?;
     push_end_of_turn(alloc, out, draft.sheets, turn, raises)
 }

@@ -60,7 +60,11 @@ fn push_purchases(
         }
         if is_brown(history, company) {
             push_note_column(out)?;
-            fill(out, "as many as you like in a turn: its price is brown", &[])?;
+            fill(
+                out,
+                "as many as you like in a turn: its price is brown",
+                &[],
+            )?;
         }
         fill(out, "\n", &[])?;
     }
@@ -245,7 +249,14 @@ fn push_not_this(
     let price = purchase_cost(&history.now(), purchase);
     let held = history.shares(purchase.company(), Shareholder::Seat(seat));
     let rule = Refusal::Stock(rule);
-    push_may_not_at(alloc, out, &order_of(purchase), rule, price, Money::from(held))
+    push_may_not_at(
+        alloc,
+        out,
+        &order_of(purchase),
+        rule,
+        price,
+        Money::from(held),
+    )
 }
 
 /// Adds that a player may sell no share of a company of which they have some, with why.

@@ -60,7 +60,13 @@ fn push_purchase(
     history: &History,
     by: Operator,
 ) -> Result<(), AllocError> {
-    push_cost(out, history, by, "MUST BUY", ", as its turn ends without a train")?;
+    push_cost(
+        out,
+        history,
+        by,
+        "MUST BUY",
+        ", as its turn ends without a train",
+    )?;
     push_president(out, sheets, history, by)?;
     if falls_short(history, by) {
         push_raises(out, history, by)?;
@@ -110,7 +116,11 @@ fn push_president(
     let adds = [president, Words(" ADDS"), Column(SAID), Number(lacking)];
     push(out, &adds)?;
     let free = Number(history.now().free_cash(by.president));
-    fill(out, ", has %, and can raise %\n", &[free, Number(raised_at_most(history, by))])
+    fill(
+        out,
+        ", has %, and can raise %\n",
+        &[free, Number(raised_at_most(history, by))],
+    )
 }
 
 /// Returns what a president can raise at most by sales, in dollars: of each company the block that

@@ -9,11 +9,7 @@ use sheets::Sheets;
 use std::alloc::AllocError;
 
 /// Adds the lines of some rows. Fails only if allocation fails.
-pub(crate) fn push_rows(
-    out: &mut Vec<u8>,
-    sheets: &Sheets,
-    rows: &[Row],
-) -> Result<(), AllocError>
+pub(crate) fn push_rows(out: &mut Vec<u8>, sheets: &Sheets, rows: &[Row]) -> Result<(), AllocError>
     ensures { OnOk result (out.new.items ≡ out.old.items ++ row_lines sheets.now rows.now) }
 {
     for row in rows {

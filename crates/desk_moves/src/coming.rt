@@ -41,10 +41,7 @@ pub(crate) fn coming_in<'a>(
 }
 
 /// Returns the game after the last round that the sheets play.
-fn coming_at_last<'a>(
-    alloc: Global,
-    sheets: &'a Sheets<'a>,
-) -> Result<Coming<'a>, MovesFault>
+fn coming_at_last<'a>(alloc: Global, sheets: &'a Sheets<'a>) -> Result<Coming<'a>, MovesFault>
     ensures sheets { IfOk result (λ coming. coming.sheets.now ≡ sheets.now) }
     ensures sound { IfOk result (λ coming. IsSound coming.history) }
     ensures seats { IfOk result (λ coming.

@@ -7,8 +7,8 @@ use board::Board;
 use board_state::OnMap;
 use desk_base::Piece::{Bytes, Column, Count, Number, Right, Words};
 use desk_base::{fill, push};
-use foresight::{Draft, open_ahead};
 use forced_purchase::Operator;
+use foresight::{Draft, open_ahead};
 use history::{History, Holder};
 use map_tables::{
     Colour, Hex, HexKind, Stop, StopNumber, TileKind, hex_kind, joined_stop, printed_colour,

@@ -179,6 +179,10 @@ fn push_others(
     match others {
         0 => Ok(()),
         1 => fill(out, "1 % earns nothing more\n", &[Words(one)]),
-        _ => fill(out, "% % earn nothing more\n", &[Count(others), Words(many)]),
+        _ => fill(
+            out,
+            "% % earn nothing more\n",
+            &[Count(others), Words(many)],
+        ),
     }
 }

@@ -1,7 +1,6 @@
 -- A company at the head of its orders, in the operating round that comes: the privates have paid, each company before it
 -- has had its turn, and its home token lies. It is what play comes to if nobody has orders, or only one player has.
-use Rattle.std.specs.Prelude.{◌≡◌, ℕ, false, List, [], ◌∷◌, Option, Some, None, ⊥}
-use Rattle.std.specs.List.{list_any}
+use Rattle.std.specs.Prelude.{◌≡◌, ℕ, Bool, false, ◌||◌, List, [], ◌∷◌, Option, Some, None, ⊥}
 use Rattle.foresight.specs.Draft.{file_of, opened_ahead}
 use Rattle.market.specs.OperatingOrder.{next_company}
 use Rattle.foresight.specs.declared.round_ahead.Ahead.{Ahead}
@@ -27,11 +26,17 @@ TakeTurnsAhead file drafter round [] old new = old ≡ new
 TakeTurnsAhead file drafter round (company ∷ others) old new =
     (mid : Game) × TakesTurnAhead file drafter round company old mid × TakeTurnsAhead file drafter round others mid new
 
--- after these turns, one after another
-pub record HasTaken (file : List ℕ) (drafter : Option Seat) (round : Round) (company : Company) (old now : Game) : Type 0 where
+-- a company is one of these
+abbrev pub is_among : Company → List Company → Bool
+is_among company [] = false
+is_among company (other ∷ others) = same_company other company || is_among company others
+
+-- other companies have taken their turns, one after another
+pub record HasTaken (file : List ℕ) (drafter : Option Seat) (round : Round) (company : Company)
+    (old now : Game) : Type 0 where
   pub before : List Company
   pub turns : TakeTurnsAhead file drafter round before (opened_ahead file drafter round old) now
-  pub not_among : list_any (same_company company) before ≡ false
+  pub others : is_among company before ≡ false
 
 -- a company that comes next, by its president, if it has one: it is at the head of its orders, and its turn is in order
 abbrev pub IsLed : Company → Game → Ahead → Type 0

@@ -61,7 +61,9 @@ impl Draft<'_> {
         if !self.is_drafters(by.president) {
             return Ok(Vec::new(alloc));
         }
-        let orders = self.sheets.company_orders(by.president, &turn.round, by.company);
+        let orders = self
+            .sheets
+            .company_orders(by.president, &turn.round, by.company);
         let mut search = Search::new(alloc);
         match turn.rule_orders(&orders, &mut search) {
             Ok(raises) => Ok(raises),

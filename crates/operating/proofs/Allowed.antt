@@ -7,7 +7,7 @@ use Rattle.std.specs.Int.RustNames.{unsigned_abs}
 use Rattle.std.specs.Int.Signed.{lt_z}
 use mir.Syntax.{w128}
 use mir.Val.{of_z, to_z}
-use Rattle.board.proofs.RuleTables.{earlier, kept}
+use Rattle.board.proofs.RuleTables.{earlier}
 use Rattle.board.specs.LayRules.{cost_or}
 use Rattle.tables.specs.Rules.{Rule, first_broken}
 

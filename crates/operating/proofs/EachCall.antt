@@ -1,7 +1,7 @@
 -- What holds of each call that a company's turn can make, and that succeeds, holds of each call of
 -- its course if that leads on.
 use Rattle.std.proofs.Common.{◌≡◌, ℕ, zero, suc, Bool, true, false, List, [], ◌∷◌, ◌++◌, Some, None, Result, Ok, Err}
-use Rattle.std.proofs.Common.{refl, sym, subst, inl, inr}
+use Rattle.std.proofs.Common.{sym, subst, inl, inr}
 use Rattle.std.specs.List.{AllByRecursion}
 use Rattle.std.specs.Prelude.{Option, pos}
 use Rattle.legal_runs.specs.declared.runner.RunnerFault.TheVariants.{Memory}

@@ -1,6 +1,6 @@
 -- What lies on the map by a list still fits after a lay, a token or a home token of a company's
 -- turn. A home token keeps a list sound.
-use Rattle.std.proofs.Common.{◌≡◌, ℕ, ◌+◌, List, [], ◌∷◌, ◌++◌, ap, ◌∙◌, Option, None}
+use Rattle.std.proofs.Common.{◌≡◌, ℕ, List, [], ◌∷◌, ◌++◌, ap, ◌∙◌, Option, None}
 use Rattle.std.proofs.Common.{unwrap_or, refl, sym, subst, false}
 use Rattle.std.proofs.lemmas.List.{append-nil}
 use Rattle.board.proofs.FitLaws.{home_keeps_fit, lay_keeps_fit, token_keeps_fit}

@@ -28,6 +28,7 @@ pub mod Prefixes
 pub mod StaysInOrder
 pub mod PrefixStays
 pub mod TurnBegun
+pub mod NoSheet
 pub mod HomeToken
 pub mod Tiles
 pub mod Operated

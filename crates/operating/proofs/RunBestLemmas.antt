@@ -1,6 +1,6 @@
 -- The trains of a company, one for one, and what its best runs earn.
 use Rattle.std.proofs.Common.{◌≡◌, ◌≤◌, ◌||◌, Bool, true, false, not, [], ◌∷◌, refl, List, length, arith, ℕ}
-use Rattle.std.proofs.Common.{zero, suc, ◌++◌, replicate, ap, ◌+◌, ◌∙◌, ◌<◌, ℤ, pos, ◌≤ℤ◌, sym, subst}
+use Rattle.std.proofs.Common.{zero, suc, ◌++◌, replicate, ap, ◌∙◌, ◌<◌, ℤ, pos, ◌≤ℤ◌, sym, subst}
 use Rattle.std.proofs.lemmas.Int.{ints}
 use Rattle.std.specs.Int.RustNames.{unsigned_abs}
 use mir.Syntax.{w128}

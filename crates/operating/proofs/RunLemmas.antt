@@ -1,6 +1,6 @@
 -- What a run is that is obeyed: it breaks no rule of runs, so that it is legal, and a train may do
 -- it.
-use Rattle.std.proofs.Common.{◌≡◌, Option, Some, None, Ok, refl, List, sym, subst, ap, Bool, true, false, ◌||◌, [], ◌∷◌}
+use Rattle.std.proofs.Common.{◌≡◌, Option, Some, None, Ok, refl, List, sym, subst, ap, Bool, true, false, ◌||◌}
 use Rattle.std.proofs.Common.{ℕ, ◌≤◌, ℤ, pos, arith, ◌+◌, ◌*◌, ◌≤ℤ◌, ◌∙◌}
 use Rattle.std.proofs.lemmas.Int.{ints}
 use Rattle.std.specs.Int.RustNames.{unsigned_abs}

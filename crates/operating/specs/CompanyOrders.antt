@@ -11,7 +11,6 @@ use Rattle.events.specs.declared.ruling.Refusal.TheVariants as refusal
 use Rattle.events.specs.declared.ruling.Ruling.TheVariants.{Faulty, Refused}
 use Rattle.forced_purchase.specs.declared.operator.Operator.{Operator}
 use Rattle.history.specs.Conditions.{is_met}
-use Rattle.map_tables.specs.declared.lay.Lay.{Lay}
 use Rattle.operating.specs.Lay.{LayLeads}
 use Rattle.operating.specs.Pay.{after_pay, after_withhold, withheld_if_unpaid}
 use Rattle.operating.specs.Private.{after_private}

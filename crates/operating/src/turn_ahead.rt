@@ -61,29 +61,17 @@ pub fn pass_turn(
     ensures seats { IfOk result (λ next. next.history.seats ≡ game.history.seats) }
     ensures laid { IfOk result IsLaidOut }
 {
-    let president = game.history.now().president(company);
+    let GameAndBoard { mut history, board } = game;
+    let president = history.now().president(company);
+    place_home(&mut history, company)?;
     let Some(president) = president else {
-        return pass_without_president(game, company);
+        withhold(&mut history, company, 0)?;
+        return Ok(GameAndBoard { history, board });
     };
     let by = Operator { company, president };
-    let turn = begin_turn(alloc, game, round, by)?;
-    turn.finish(Vec::new(alloc))
-}
-
-/// Plays the turn of a company without a president: it withholds. Fails only if allocation fails.
-fn pass_without_president(
-    game: GameAndBoard,
-    company: Company,
-) -> Result<GameAndBoard, AllocError>
-    requires { IsLaidOut game }
-    ensures turn { IfOk result (λ next.
-        next.history ≡ (withheld_if_unpaid company (begun game.history company)).game) }
-    ensures laid { IfOk result IsLaidOut }
-{
-    let GameAndBoard { mut history, board } = game;
-    place_home(&mut history, company)?;
-    withhold(&mut history, company, 0)?;
-    Ok(GameAndBoard { history, board })
+    let turn = CompanyTurn::begin(alloc, by, round, history, board);
+    let next = turn.finish(Vec::new(alloc))?;
+    Ok(next)
 }
 
 impl CompanyTurn {
@@ -125,8 +113,8 @@ impl CompanyTurn {
         requires few { self.history.seats ≤ 6 }
         requires at_table { self.by.president.0 < self.history.seats }
         requires order { IsInOrder self }
-        ensures turn { let its = self.entry in IfOk result (λ next. EndLeads its.by raises.items
-            (withheld_if_unpaid its.by.company (state its)).game next.history) }
+        ensures turn { IfOk result (λ next. EndLeads self.by raises.items
+            (withheld_if_unpaid self.by.company (state self)).game next.history) }
         ensures laid { IfOk result IsLaidOut }
     {
         let mut turn = self;

@@ -21,11 +21,7 @@ use tables::{Amount, Company, Kind, Round, Seat, Square, price};
 const ROWS: &[u8] = b"ABCDEFGHIJK";
 
 /// Adds an event as its line: a row of fields, separated by single spaces, with its LF.
-pub fn push_event(
-    out: &mut Vec<u8>,
-    sheets: &Sheets,
-    event: &Event,
-) -> Result<(), AllocError>
+pub fn push_event(out: &mut Vec<u8>, sheets: &Sheets, event: &Event) -> Result<(), AllocError>
     ensures { OnOk result (Adds out.old out.new (event_line sheets.now event.now)) }
 {
     match event {

@@ -16,8 +16,8 @@ buy_private-requires-clause-may c =
     (recorded_obeyed c.args.self.now.history c.record.new.history c.args.self.now.by.president
     (line_with c.args.line (BuyOwnedPrivate c.args.private c.args.price))
     (BuyOwnedPrivate c.args.private c.args.price) c.map-broken.result (rw c.requires.is at c.in_ok-record.ensures.ruling) none)
-    ∙ sym c.judge_private.ensures
-    ∙ kept_all c.judge_private.result c.map-broken.result none c.map-broken.ensures.variant
+    ∙ sym c.judge_private-rule.ensures
+    ∙ kept_all c.judge_private-rule.result c.map-broken.result none c.map-broken.ensures.variant
 
 pub returns-in_ok-buy_private-clause-turn : goal.returns-in_ok-buy_private-clause-turn
 returns-in_ok-buy_private-clause-turn c =
@@ -25,7 +25,7 @@ returns-in_ok-buy_private-clause-turn c =
     sold_steps c.args.self.now.by (turn_state c.args.self.now.history c.args.self.now.progress)
     (line_with c.args.line (BuyOwnedPrivate c.args.private c.args.price)) c.args.private c.args.price
     (BuyOwnedPrivate c.args.private c.args.price) c.record.new.history c.buy_private.new.history refl
-    (sym c.judge_private.ensures ∙ kept_all c.judge_private.result c.map-broken.result none
+    (sym c.judge_private-rule.ensures ∙ kept_all c.judge_private-rule.result c.map-broken.result none
     c.map-broken.ensures.variant)
     (recorded_obeyed c.args.self.now.history c.record.new.history c.args.self.now.by.president
     (line_with c.args.line (BuyOwnedPrivate c.args.private c.args.price))

@@ -16,8 +16,8 @@ buy_train-requires-clause-may c =
     (recorded_obeyed c.args.self.now.history c.record.new.history c.args.self.now.by.president
     (line_with c.args.line (BuyTrain c.args.kind c.args.from)) (BuyTrain c.args.kind c.args.from)
     c.map-broken.result (rw c.requires.is at c.in_ok-record.ensures.ruling) none)
-    ∙ sym c.judge_purchase.ensures
-    ∙ kept_all c.judge_purchase.result c.map-broken.result none c.map-broken.ensures.variant
+    ∙ sym c.judge_purchase-rule.ensures
+    ∙ kept_all c.judge_purchase-rule.result c.map-broken.result none c.map-broken.ensures.variant
 
 pub returns-in_ok-buy_train-clause-turn : goal.returns-in_ok-buy_train-clause-turn
 returns-in_ok-buy_train-clause-turn c =
@@ -26,7 +26,7 @@ returns-in_ok-buy_train-clause-turn c =
     (line_with c.args.line (BuyTrain c.args.kind c.args.from)) c.args.kind c.args.from
     c.purchase_of-purchase.result (BuyTrain c.args.kind c.args.from) c.record.new.history c.buy_train.new.history
     c.purchase_of-purchase.ensures.purchase refl
-    (sym c.judge_purchase.ensures ∙ kept_all c.judge_purchase.result c.map-broken.result none
+    (sym c.judge_purchase-rule.ensures ∙ kept_all c.judge_purchase-rule.result c.map-broken.result none
     c.map-broken.ensures.variant)
     (recorded_obeyed c.args.self.now.history c.record.new.history c.args.self.now.by.president
     (line_with c.args.line (BuyTrain c.args.kind c.args.from)) (BuyTrain c.args.kind c.args.from)
