@@ -7,3 +7,4 @@ pub mod OwnedLemmas
 pub mod ExactLemmas
 pub mod TurnLemmas
 pub mod RowLemmas
+pub mod RowRulings

@@ -10,4 +10,5 @@ pub mod OpeningRows
 pub mod StockRows
 pub mod CompanyRows
 pub mod StandingRows
+pub mod RowLaws
 pub mod TurnLaws

@@ -1,6 +1,8 @@
 //! Laws of the definitions, each the contract of a function that does nothing.
 ghost use Rattle.moves.specs.Bids.{LeastBidIsLeast};
 ghost use Rattle.moves.specs.Exact.{LaysAreExact, TokensAreExact};
+ghost use Rattle.moves.specs.RowLaws.{OpeningRowsAreRuled, PrivateRowsAreRuled, RowsBeforeAreRuled};
+ghost use Rattle.moves.specs.RowLaws.{StandingRowsAreRuled, StockRowsAreRuled, TrainRowsAreRuled};
 ghost use Rattle.moves.specs.TurnLaws.{ListedLaysAreObeyed, ListedTokensAreObeyed, OtherLaysAreRefused};
 ghost use Rattle.moves.specs.TurnLaws.{OtherTokensAreRefused};
 
@@ -41,4 +43,20 @@ pub fn first_token_is_by_the_list()
 /// If a seat may bid some sum on a private, it may make the least bid on it, which is no more.
 pub fn least_bid_is_least()
     ensures { LeastBidIsLeast }
+{}
+
+/// What a row of an opening or a stock round tells becomes of its line, as the first of a seat's
+/// turn or as a standing line.
+pub fn rows_are_ruled()
+    ensures opening { OpeningRowsAreRuled }
+    ensures stock { StockRowsAreRuled }
+    ensures before { RowsBeforeAreRuled }
+    ensures standing { StandingRowsAreRuled }
+{}
+
+/// What a row of a private or of a train tells becomes of it in the first line of a company's
+/// orders.
+pub fn company_rows_are_ruled()
+    ensures privates { PrivateRowsAreRuled }
+    ensures trains { TrainRowsAreRuled }
 {}
