@@ -10,7 +10,9 @@ use forced_purchase::{HeldRaise, Operator, raise_rule};
 use foresight::{Draft, open_ahead, take_turn_ahead};
 use history::{History, Shareholder};
 use market::next_company;
-use moves::{Answer, Row, company_rows, opening_rows, standing_rows, stock_rows};
+use moves::{
+    Answer, Row, opening_rows, private_rows, standing_rows, stock_rows, train_rows,
+};
 use operating::{CompanyTurn, GameAndBoard, begin_turn};
 use order_grammar::Order;
 use sheets::Sheets;
@@ -79,13 +81,16 @@ fn push_orders(
     let mut turn = begin_turn(alloc, game, round, by)?;
     let raises = draft.rule_orders(alloc, &mut turn)?;
     fill(out, "COMPANY %\n", &[Words(by.company.code())])?;
-    let rows = company_rows(alloc, &turn.history, by.company)?;
-    push_rows(out, draft.sheets, rows.as_slice())?;
+    let privates = private_rows(alloc, &turn.history, by.company)?;
+    turn.withhold_if_unpaid()?;
+    let trains = train_rows(alloc, &turn.history, by.company)?;
+    push_rows(out, draft.sheets, trains.as_slice())?;
+    push_rows(out, draft.sheets, privates.as_slice())?;
     push_raises(alloc, out, draft.sheets, turn, raises)
 }
 
-/// Ends the turn of a company, and adds the RAISE lines of a train that it must buy then. Returns
-/// the game after the turn.
+/// Ends the turn of a company that has paid or withheld, and adds the RAISE lines of a train that it
+/// must buy then. Returns the game after the turn.
 fn push_raises(
     alloc: Global,
     out: &mut Vec<u8>,
@@ -94,7 +99,6 @@ fn push_raises(
     raises: Vec<HeldRaise>,
 ) -> Result<GameAndBoard, AllocError> {
     let mut turn = turn;
-    turn.withhold_if_unpaid()?;
     if turn.must_buy()? {
         let rows = raise_rows(alloc, &turn.history, turn.by)?;
         push_rows(out, sheets, rows.as_slice())?;

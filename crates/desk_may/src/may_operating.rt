@@ -5,7 +5,7 @@ use crate::may_line::{push_may, push_may_not, push_note_column};
 use crate::must_buy::push_end_of_turn;
 use crate::until_then::push_until_then;
 use desk_base::Piece::{Bytes, Column, Count, Number, Words};
-use desk_base::fill;
+use desk_base::{fill, push};
 use forced_purchase::Operator;
 use foresight::{Draft, open_ahead, take_turn_ahead};
 use history::{History, Holder, Party, Refusal, TrainSeller};
@@ -83,6 +83,7 @@ fn push_turn(
 ) -> Result<GameAndBoard, AllocError> {
     let mut turn = begin_turn(alloc, game, round, by)?;
     let raises = draft.rule_orders(alloc, &mut turn)?;
+    let mut privates = Vec::new(alloc);
     let buyer = Buyer {
         alloc,
         sheets: draft.sheets,
@@ -90,30 +91,37 @@ fn push_turn(
         by,
     };
     buyer.push_heading(out)?;
-    push_until_then(
+    push_until_then(alloc, out, draft.sheets, &turn.history, from, Some(by.company))?;
+    buyer.push_privates(&mut privates)?;
+    // A company withholds before it buys a train.
+    turn.withhold_if_unpaid()?;
+    let buyer = Buyer {
         alloc,
-        out,
-        draft.sheets,
-        &turn.history,
-        from,
-        Some(by.company),
-    )?;
-    buyer.push_all(out)?;
+        sheets: draft.sheets,
+        history: &turn.history,
+        by,
+    };
+    buyer.push_trains(out)?;
+    push(out, &[Bytes(privates.as_slice())])?;
     push_end_of_turn(alloc, out, draft.sheets, turn, raises)
 }
 
 impl Buyer<'_> {
-    /// Adds what the company may buy and may not.
-    fn push_all(self, out: &mut Vec<u8>) -> Result<(), AllocError> {
+    /// Adds the trains that the company may buy, and those that it may not.
+    fn push_trains(self, out: &mut Vec<u8>) -> Result<(), AllocError> {
         let trains = trains(self.alloc, self.history, self.by.company)?;
         for train in &trains {
             self.push_train(out, *train)?;
         }
+        self.push_trains_not_bought(out, trains.as_slice())
+    }
+
+    /// Adds the privates that the company may buy, and those that it may not.
+    fn push_privates(self, out: &mut Vec<u8>) -> Result<(), AllocError> {
         let privates = owned_privates(self.alloc, self.history, self.by.company)?;
         for private in &privates {
             self.push_private(out, *private)?;
         }
-        self.push_trains_not_bought(out, trains.as_slice())?;
         self.push_privates_not_bought(out, privates.as_slice())
     }
 

@@ -45,18 +45,20 @@ fn push_before(
 ) -> Result<(), AllocError> {
     fill(out, "BEFORE           ", &[])?;
     let mut end = " nobody\n";
-    let mut last = company;
+    let mut last = None;
     for event in events {
         if let Event::Passes(seat) = event {
             fill(out, " %", &[Bytes(name(sheets, *seat))])?;
             end = "\n";
         }
-        if let Some(company) = event.operated()
-            && last != Some(company)
+        let operated = event.operated();
+        if let Some(other) = operated
+            && operated != company
+            && operated != last
         {
-            fill(out, " %", &[Words(company.code())])?;
+            fill(out, " %", &[Words(other.code())])?;
             end = "\n";
-            last = Some(company);
+            last = operated;
         }
     }
     push(out, &[Words(end)])

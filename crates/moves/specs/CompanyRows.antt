@@ -4,7 +4,7 @@
 -- buy it for half of its face value, and for twice that. Each is judged by the rules of the
 -- purchase, in the game as it stands. If only a consent is lacking, the row says who is asked for
 -- it: the president of the company that sells the train, or the player who owns the private.
-use Rattle.std.specs.Prelude.{ℕ, ◌*◌, ◌/◌, ◌++◌, List, [], ◌∷◌, Option, Some, None, map, option_map, pos}
+use Rattle.std.specs.Prelude.{ℕ, ◌*◌, ◌/◌, ◌++◌, List, [], ◌∷◌, Option, Some, None, option_map, pos}
 use Rattle.std.specs.List.{flat_map}
 use Rattle.events.specs.declared.event.Event.{Event}
 use Rattle.events.specs.declared.event.Holder.{Holder}
@@ -138,8 +138,3 @@ private_row game company its =
       order = BuyOwnedPrivate its.private its.price;
       answer = private_answer game company its.private its.price;
     }
-
--- the rows of a company's turn: first the trains, then the privates
-unfoldable pub company_rows : Game → Company → List Row
-company_rows game company =
-    map (train_row game company) (train_orders game.events) ++ map (private_row game company) private_orders

@@ -1,6 +1,6 @@
 //! The rows of a company's turn: the trains and the privates that it could buy.
 ghost use Rattle.std.specs.Prelude.{◌≡◌, ◌++◌, ◌∷◌, [], IfOk, OnOk, map, pos};
-ghost use Rattle.moves.specs.CompanyRows.{asked_for_private, asked_for_train, company_rows, orders_of_private};
+ghost use Rattle.moves.specs.CompanyRows.{asked_for_private, asked_for_train, orders_of_private};
 ghost use Rattle.moves.specs.CompanyRows.{private_answer, private_order, private_orders, private_refusal_by};
 ghost use Rattle.moves.specs.CompanyRows.{private_row, train_answer, train_cost, train_refusal_by};
 ghost use Rattle.moves.specs.CompanyRows.{train_of, train_order, train_orders, train_row, trains_of_bank};
@@ -28,33 +28,35 @@ const SOURCES: [TrainSource; 5] = [
 /// The price of a train of another company: its president may ask for more.
 const LEAST: Amount = 1;
 
-/// Returns what becomes of each order of a company to buy a train, from the bank with and without a
-/// trade-in, from the pool, and from each company that has one, at 1 dollar; and to buy each
-/// private at half of its face value and at twice that. Fails only if allocation fails.
-pub fn company_rows(
+/// Returns what becomes of each order of a company to buy a train: from the bank with and without a
+/// trade-in, from the pool, and from each company that has one, at 1 dollar. A company withholds
+/// before it buys, so the game is that after it has. Fails only if allocation fails.
+pub fn train_rows(
     alloc: Global,
     history: &History,
     company: Company,
 ) -> Result<Vec<Row>, AllocError>
-    ensures { IfOk result (λ rows. rows.items ≡ company_rows history.now company) }
+    ensures { IfOk result (λ rows. rows.items
+        ≡ map (train_row history.now company) (train_orders history.now.events)) }
 {
     let mut rows = Vec::new(alloc);
-    push_purchases(&mut rows, history, company)?;
+    push_trains(&mut rows, history, company)?;
     Ok(rows)
 }
 
-/// Adds the rows of trains and of privates.
-fn push_purchases(
-    rows: &mut Vec<Row>,
+/// Returns what becomes of each order of a company to buy a private, at half of its face value and
+/// at twice that. Fails only if allocation fails.
+pub fn private_rows(
+    alloc: Global,
     history: &History,
     company: Company,
-) -> Result<(), AllocError>
-    ensures { OnOk result (rows.new.items
-        ≡ rows.old.items ++ company_rows history.now company) }
+) -> Result<Vec<Row>, AllocError>
+    ensures { IfOk result (λ rows. rows.items
+        ≡ map (private_row history.now company) private_orders) }
 {
-    push_trains(rows, history, company)?;
-    push_privates(rows, history, company)?;
-    Ok(())
+    let mut rows = Vec::new(alloc);
+    push_privates(&mut rows, history, company)?;
+    Ok(rows)
 }
 
 /// Adds the rows of trains.

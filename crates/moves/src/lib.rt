@@ -28,7 +28,7 @@ mod token_list;
 mod train_list;
 
 pub use bid_list::{OpeningMoves, bids, least_bid};
-pub use company::company_rows;
+pub use company::{private_rows, train_rows};
 pub use deal_list::{StockMoves, deals};
 pub use lay_list::{Lays, lays};
 pub use opening::opening_rows;
