@@ -1,25 +1,28 @@
 //! What a player may do as the lines of a sheet, in its order: standing lines, then TURN, or COMPANY
 //! for each of the player's companies in operating order, and below each head the orders. Each is
 //! judged alone, as the first line there.
+ghost use Rattle.std.specs.Prelude.{◌≡◌, ◌++◌, IfOk, OnOk, length};
+ghost use Rattle.desk_may.specs.SheetLines.{turn_lines, turn_rows};
+ghost use Rattle.history.specs.Sound.{IsSound};
+ghost use Rattle.sheets.specs.File.{players_of};
 
 use crate::row_lines::push_rows;
 use certs::{Sale, market_price};
 use desk_base::Piece::Words;
 use desk_base::fill;
-use forced_purchase::{HeldRaise, Operator, raise_rule};
-use foresight::{Draft, open_ahead, take_turn_ahead};
+use forced_purchase::{Operator, raise_rule};
+use foresight::{Draft, OrdersAhead, RoundAhead};
 use history::{History, Shareholder};
-use market::next_company;
 use moves::{
     Answer, Row, opening_rows, private_rows, standing_rows, stock_rows, train_rows,
 };
-use operating::{CompanyTurn, GameAndBoard, begin_turn};
 use order_grammar::Order;
 use sheets::Sheets;
 use std::alloc::{AllocError, Global};
 use tables::{Amount, COMPANIES, Company, Money, Round, Seat};
 
 /// Adds the lines of a player's first turn of an opening or a stock round, in a game at its head.
+/// Fails only if allocation fails.
 pub fn push_lines_of_turn(
     alloc: Global,
     out: &mut Vec<u8>,
@@ -27,15 +30,31 @@ pub fn push_lines_of_turn(
     history: &History,
     round: Round,
     seat: Seat,
-) -> Result<(), AllocError> {
+) -> Result<(), AllocError>
+    ensures { OnOk result (out.new.items
+        ≡ out.old.items ++ turn_lines sheets.now history.now round seat) }
+{
     let standing = standing_rows(alloc, history, seat, round)?;
     push_rows(out, sheets, standing.as_slice())?;
-    let rows = match round {
-        Round::Opening(_) => opening_rows(alloc, history, seat)?,
-        _ => stock_rows(alloc, history, seat)?,
-    };
-    fill(out, "TURN\n", &[])?;
-    push_rows(out, sheets, rows.as_slice())
+    out.extend_from_slice(b"TURN\n")?;
+    let rows = turn_rows(alloc, history, round, seat)?;
+    push_rows(out, sheets, rows.as_slice())?;
+    Ok(())
+}
+
+/// Returns the rows of a player's turn.
+fn turn_rows(
+    alloc: Global,
+    history: &History,
+    round: Round,
+    seat: Seat,
+) -> Result<Vec<Row>, AllocError>
+    ensures { IfOk result (λ rows. rows.items ≡ turn_rows history.now round seat) }
+{
+    match round {
+        Round::Opening(_) => opening_rows(alloc, history, seat),
+        Round::Stock(_) | Round::Operating { .. } => stock_rows(alloc, history, seat),
+    }
 }
 
 /// Adds the lines of an operating round that comes: the standing lines, and the orders of each of
@@ -47,63 +66,59 @@ pub fn push_lines_of_operating(
     draft: Draft,
     round: Round,
     seat: Seat,
-) -> Result<(), AllocError> {
+) -> Result<(), AllocError>
+    requires sound { IsSound history }
+    requires seats { history.seats ≡ length (players_of draft.sheets.now) }
+{
     let standing = standing_rows(alloc, &history, seat, round)?;
     push_rows(out, draft.sheets, standing.as_slice())?;
-    let mut game = open_ahead(alloc, history, draft, round)?;
+    let mut ahead = RoundAhead::open(alloc, history, draft, round)?;
     for _ in 0..COMPANIES {
-        let Some(company) = next_company(&game.history) else {
+        let Some(company) = ahead.next_company() else {
             break;
         };
-        game = if game.history.now().president(company) == Some(seat) {
-            let by = Operator {
-                company,
-                president: seat,
-            };
-            push_orders(alloc, out, game, draft, round, by)?
+        ahead = if ahead.is_led_by(company, seat) {
+            let president = seat;
+            let orders = ahead.turn_of(Operator { company, president })?;
+            push_orders(alloc, out, orders)?
         } else {
-            take_turn_ahead(alloc, game, draft, round, company)?
+            ahead.take_turn(company)?
         };
     }
     Ok(())
 }
 
 /// Adds the orders of a company at the head of its orders, or behind those that are drafted.
-/// Returns the game after its turn.
-fn push_orders(
+/// Returns the round after its turn.
+fn push_orders<'a>(
     alloc: Global,
     out: &mut Vec<u8>,
-    game: GameAndBoard,
-    draft: Draft,
-    round: Round,
-    by: Operator,
-) -> Result<GameAndBoard, AllocError> {
-    let mut turn = begin_turn(alloc, game, round, by)?;
-    let raises = draft.rule_orders(alloc, &mut turn)?;
-    fill(out, "COMPANY %\n", &[Words(by.company.code())])?;
-    let privates = private_rows(alloc, &turn.history, by.company)?;
-    turn.withhold_if_unpaid()?;
-    let trains = train_rows(alloc, &turn.history, by.company)?;
-    push_rows(out, draft.sheets, trains.as_slice())?;
-    push_rows(out, draft.sheets, privates.as_slice())?;
-    push_raises(alloc, out, draft.sheets, turn, raises)
+    orders: OrdersAhead<'a>,
+) -> Result<RoundAhead<'a>, AllocError> {
+    let mut orders = orders;
+    let company = orders.by().company;
+    fill(out, "COMPANY %\n", &[Words(company.code())])?;
+    let privates = private_rows(alloc, orders.history(), company)?;
+    // A company withholds before it buys a train.
+    orders.withhold_if_unpaid()?;
+    let trains = train_rows(alloc, orders.history(), company)?;
+    push_rows(out, orders.sheets(), trains.as_slice())?;
+    push_rows(out, orders.sheets(), privates.as_slice())?;
+    push_raises(alloc, out, &mut orders)?;
+    orders.finish()
 }
 
-/// Ends the turn of a company that has paid or withheld, and adds the RAISE lines of a train that it
-/// must buy then. Returns the game after the turn.
+/// Adds the RAISE lines of a train that a company must buy at the end of its turn.
 fn push_raises(
     alloc: Global,
     out: &mut Vec<u8>,
-    sheets: &Sheets,
-    turn: CompanyTurn,
-    raises: Vec<HeldRaise>,
-) -> Result<GameAndBoard, AllocError> {
-    let mut turn = turn;
-    if turn.must_buy()? {
-        let rows = raise_rows(alloc, &turn.history, turn.by)?;
-        push_rows(out, sheets, rows.as_slice())?;
+    orders: &mut OrdersAhead,
+) -> Result<(), AllocError> {
+    if !orders.must_buy()? {
+        return Ok(());
     }
-    turn.finish(raises)
+    let rows = raise_rows(alloc, orders.history(), orders.by())?;
+    push_rows(out, orders.sheets(), rows.as_slice())
 }
 
 /// Returns the RAISE lines of a president whose company must buy a train, of one share to all that

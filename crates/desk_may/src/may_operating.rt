@@ -1,5 +1,8 @@
 //! What a player's companies may buy in an operating round that comes, each at the head of its
 //! orders, or behind those that the player has drafted.
+ghost use Rattle.std.specs.Prelude.{◌≡◌, length};
+ghost use Rattle.history.specs.Sound.{IsSound};
+ghost use Rattle.sheets.specs.File.{players_of};
 
 use crate::may_line::{push_may, push_may_not, push_note_column};
 use crate::must_buy::push_end_of_turn;
@@ -7,11 +10,9 @@ use crate::until_then::push_until_then;
 use desk_base::Piece::{Bytes, Column, Count, Number, Words};
 use desk_base::{fill, push};
 use forced_purchase::Operator;
-use foresight::{Draft, open_ahead, take_turn_ahead};
+use foresight::{Draft, OrdersAhead, RoundAhead};
 use history::{History, Holder, Party, Refusal, TrainSeller};
-use market::next_company;
 use moves::{Priced, least_price, owned_privates, trains};
-use operating::{GameAndBoard, begin_turn};
 use order_grammar::{Order, TrainSource};
 use purchases::{Consents, TrainPurchase, judge_private, judge_purchase, sells};
 use report::name;
@@ -38,24 +39,25 @@ pub fn push_of_operating(
     draft: Draft,
     round: Round,
     seat: Seat,
-) -> Result<(), AllocError> {
+) -> Result<(), AllocError>
+    requires sound { IsSound history }
+    requires seats { history.seats ≡ length (players_of draft.sheets.now) }
+{
     let from = history.events().len();
-    let mut game = open_ahead(alloc, history, draft, round)?;
+    let mut ahead = RoundAhead::open(alloc, history, draft, round)?;
     for _ in 0..COMPANIES {
-        let Some(company) = next_company(&game.history) else {
+        let Some(company) = ahead.next_company() else {
             break;
         };
-        game = if game.history.now().president(company) == Some(seat) {
-            let by = Operator {
-                company,
-                president: seat,
-            };
-            push_turn(alloc, out, game, draft, round, by, from)?
+        ahead = if ahead.is_led_by(company, seat) {
+            let president = seat;
+            let orders = ahead.turn_of(Operator { company, president })?;
+            push_turn(alloc, out, orders, from)?
         } else {
-            take_turn_ahead(alloc, game, draft, round, company)?
+            ahead.take_turn(company)?
         };
     }
-    push_not_floated(out, &game.history, seat)
+    push_not_floated(out, ahead.history(), seat)
 }
 
 /// Adds the companies of a player's that are not floated.
@@ -71,39 +73,37 @@ fn push_not_floated(out: &mut Vec<u8>, history: &History, seat: Seat) -> Result<
 }
 
 /// Adds what a company may buy at the head of its orders, or behind those that are drafted, and
-/// the train that it must buy if its turn ends there. Returns the game after its turn.
-fn push_turn(
+/// the train that it must buy if its turn ends there. Returns the round after its turn.
+fn push_turn<'a>(
     alloc: Global,
     out: &mut Vec<u8>,
-    game: GameAndBoard,
-    draft: Draft,
-    round: Round,
-    by: Operator,
+    orders: OrdersAhead<'a>,
     from: usize,
-) -> Result<GameAndBoard, AllocError> {
-    let mut turn = begin_turn(alloc, game, round, by)?;
-    let raises = draft.rule_orders(alloc, &mut turn)?;
+) -> Result<RoundAhead<'a>, AllocError> {
+    let mut orders = orders;
     let mut privates = Vec::new(alloc);
-    let buyer = Buyer {
-        alloc,
-        sheets: draft.sheets,
-        history: &turn.history,
-        by,
-    };
+    let company = orders.by().company;
+    let buyer = Buyer::of(alloc, &orders);
     buyer.push_heading(out)?;
-    push_until_then(alloc, out, draft.sheets, &turn.history, from, Some(by.company))?;
+    push_until_then(alloc, out, buyer.sheets, buyer.history, from, Some(company))?;
     buyer.push_privates(&mut privates)?;
     // A company withholds before it buys a train.
-    turn.withhold_if_unpaid()?;
-    let buyer = Buyer {
-        alloc,
-        sheets: draft.sheets,
-        history: &turn.history,
-        by,
-    };
-    buyer.push_trains(out)?;
+    orders.withhold_if_unpaid()?;
+    Buyer::of(alloc, &orders).push_trains(out)?;
     push(out, &[Bytes(privates.as_slice())])?;
-    push_end_of_turn(alloc, out, draft.sheets, turn, raises)
+    push_end_of_turn(alloc, out, orders)
+}
+
+impl<'a> Buyer<'a> {
+    /// Returns the company whose turn this is.
+    fn of(alloc: Global, orders: &'a OrdersAhead) -> Buyer<'a> {
+        Buyer {
+            alloc,
+            sheets: orders.sheets(),
+            history: orders.history(),
+            by: orders.by(),
+        }
+    }
 }
 
 impl Buyer<'_> {

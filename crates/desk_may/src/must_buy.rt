@@ -5,9 +5,9 @@ use crate::may_line::push_may;
 use certs::{Sale, market_price};
 use desk_base::Piece::{Bytes, Column, Number, Words};
 use desk_base::{fill, push};
-use forced_purchase::{HeldRaise, Operator, cheapest, falls_short, lack, sale_rule};
+use foresight::{OrdersAhead, RoundAhead};
+use forced_purchase::{Operator, cheapest, falls_short, lack, sale_rule};
 use history::{History, Party, Shareholder, TrainSeller};
-use operating::{CompanyTurn, GameAndBoard};
 use order_grammar::Order;
 use report::{name, push_event};
 use sheets::Sheets;
@@ -17,40 +17,36 @@ use tables::{Amount, Company, Money};
 /// The column of what is said in a head.
 const SAID: usize = 18;
 
-/// Ends the turn of a company with the RAISE lines that its orders have had so far. If it must buy
-/// a train then, adds that, and what follows. Returns the game after the turn.
-pub fn push_end_of_turn(
+/// Ends the turn of a company. If it must buy a train then, adds that, and what follows. Returns the
+/// round after the turn. Fails only if allocation fails.
+pub fn push_end_of_turn<'a>(
     alloc: Global,
     out: &mut Vec<u8>,
-    sheets: &Sheets,
-    turn: CompanyTurn,
-    raises: Vec<HeldRaise>,
-) -> Result<GameAndBoard, AllocError> {
-    let mut turn = turn;
-    turn.withhold_if_unpaid()?;
-    if !turn.must_buy()? {
-        push_if_sold(out, sheets, &mut turn)?;
-        return turn.finish(raises);
+    orders: OrdersAhead<'a>,
+) -> Result<RoundAhead<'a>, AllocError> {
+    let mut orders = orders;
+    let sheets = orders.sheets();
+    orders.withhold_if_unpaid()?;
+    if !orders.must_buy()? {
+        push_if_sold(out, &mut orders)?;
+        return orders.finish();
     }
-    push_purchase(out, sheets, &turn.history, turn.by)?;
-    let from = turn.history.events().len();
-    let game = turn.finish(raises)?;
-    push_what_follows(alloc, out, sheets, &game.history, from)?;
-    Ok(game)
+    push_purchase(out, sheets, orders.history(), orders.by())?;
+    let from = orders.history().events().len();
+    let ahead = orders.finish()?;
+    push_what_follows(alloc, out, sheets, ahead.history(), from)?;
+    Ok(ahead)
 }
 
 /// Adds what a company must buy that has one train left, if that is sold.
-fn push_if_sold(
-    out: &mut Vec<u8>,
-    sheets: &Sheets,
-    turn: &mut CompanyTurn,
-) -> Result<(), AllocError> {
-    let company = turn.by.company;
-    if turn.history.now().train_count(Some(company)) != 1 || !turn.could_run()? {
+fn push_if_sold(out: &mut Vec<u8>, orders: &mut OrdersAhead) -> Result<(), AllocError> {
+    let by = orders.by();
+    let count = orders.history().now().train_count(Some(by.company));
+    if count != 1 || !orders.could_run()? {
         return Ok(());
     }
-    push_cost(out, &turn.history, turn.by, "IF IT SELLS IT", "")?;
-    push_president(out, sheets, &turn.history, turn.by)
+    push_cost(out, orders.history(), by, "IF IT SELLS IT", "")?;
+    push_president(out, orders.sheets(), orders.history(), by)
 }
 
 /// Adds what a company must buy, and who pays for it.

@@ -1,4 +1,4 @@
-//! A game that has stopped before a round that comes.
+//! A game that has stopped before a round that comes, or at its end.
 ghost use Rattle.std.specs.Prelude.{◌≡◌, IfOk, length};
 ghost use Rattle.history.specs.Sound.{IsSound};
 ghost use Rattle.sheets.specs.File.{players_of};
@@ -11,19 +11,19 @@ use sheets::Sheets;
 use std::alloc::Global;
 use tables::{Company, Round, Seat};
 
-/// A game before a round that comes.
+/// A game before a round that comes, or at its end.
 #[derive(Drop)]
 pub(crate) struct Coming<'a> {
     /// Its sheets.
     pub(crate) sheets: &'a Sheets<'a>,
     /// All that has happened.
     pub(crate) history: History,
-    /// The round.
-    pub(crate) round: Round,
+    /// The round, or how the game ended.
+    pub(crate) end: End,
 }
 
 /// Returns the game of some sheets before the round that comes after a round, or after the last
-/// that they play. The error is that the round is not played, that the game is over, or `Memory`.
+/// that they play. The error is that the round is not played, or `Memory`.
 pub(crate) fn coming_in<'a>(
     alloc: Global,
     sheets: &'a Sheets<'a>,
@@ -48,11 +48,11 @@ fn coming_at_last<'a>(alloc: Global, sheets: &'a Sheets<'a>) -> Result<Coming<'a
         coming.history.seats ≡ length (players_of sheets.now)) }
 {
     let game = play(alloc, sheets)?;
-    let round = round_in(game.outcome())?;
+    let end = game.outcome();
     Ok(Coming {
         sheets,
         history: game.into_history(),
-        round,
+        end,
     })
 }
 
@@ -71,23 +71,23 @@ fn coming_after<'a>(
     let Some(stood) = stood_now(&play) else {
         return Err(MovesFault::Desk(DeskFault::Round));
     };
-    let round = round_in(stood.end)?;
+    let end = stood.end;
     Ok(Coming {
         sheets,
         history: play.into_history(),
-        round,
+        end,
     })
 }
 
-/// Returns the round that comes. Fails with `GameOver` if none does.
-fn round_in(end: End) -> Result<Round, MovesFault> {
-    match end {
-        End::Awaiting(round) => Ok(round),
-        End::Bank | End::Bankrupt => Err(MovesFault::Asked(NoAnswer::GameOver)),
-    }
-}
-
 impl Coming<'_> {
+    /// Returns the round that comes. Fails with `GameOver` if none does.
+    pub(crate) fn round(&self) -> Result<Round, MovesFault> {
+        match self.end {
+            End::Awaiting(round) => Ok(round),
+            End::Bank | End::Bankrupt => Err(MovesFault::Asked(NoAnswer::GameOver)),
+        }
+    }
+
     /// Fails with `NotStarted` or `NoPresident` if a company has no president to order anything for
     /// it.
     pub(crate) fn must_have_president(&self, company: Company) -> Result<(), MovesFault> {
@@ -114,7 +114,7 @@ impl Coming<'_> {
     /// Returns a seat whose own sheet for the round is to be looked at. Fails with `NoDraft` if it
     /// has none.
     pub(crate) fn drafter(&self, seat: Seat) -> Result<Seat, MovesFault> {
-        if owes(self.sheets, seat, &self.round) {
+        if owes(self.sheets, seat, &self.round()?) {
             return Err(MovesFault::Asked(NoAnswer::NoDraft));
         }
         Ok(seat)

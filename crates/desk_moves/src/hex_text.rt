@@ -1,4 +1,7 @@
 //! A hex as it is: its colour and tile, its terrain, its stops, and what meets at its sides.
+ghost use Rattle.std.specs.Prelude.{◌≡◌, length};
+ghost use Rattle.history.specs.Sound.{IsSound};
+ghost use Rattle.sheets.specs.File.{players_of};
 
 use crate::coming::Coming;
 use crate::hex_sides::push_sides;
@@ -8,16 +11,15 @@ use board_state::OnMap;
 use desk_base::Piece::{Bytes, Column, Count, Number, Right, Words};
 use desk_base::{fill, push};
 use forced_purchase::Operator;
-use foresight::{Draft, open_ahead};
+use foresight::{Draft, RoundAhead};
 use history::{History, Holder};
 use map_tables::{
     Colour, Hex, HexKind, Stop, StopNumber, TileKind, hex_kind, joined_stop, printed_colour,
     printed_slots, printed_stops, private_hexes, terrain_cost, tile,
 };
-use market::next_company;
-use operating::begin_turn;
 use reach::Network;
 use report::name;
+use rounds::End;
 use sheets::Sheets;
 use std::alloc::{AllocError, Global};
 use tables::{Company, Money, Private, Round};
@@ -25,48 +27,51 @@ use tables::{Company, Money, Private, Round};
 /// The column in front of the tokens of a stop.
 const TOKENS: usize = 21;
 
-/// Returns a hex as text, at the head of the first turn of the round that comes. Fails only if
-/// allocation fails.
-pub(crate) fn hex_text(alloc: Global, coming: Coming, hex: Hex) -> Result<Vec<u8>, AllocError> {
+/// Returns a hex as text, at the head of the first turn of the round that comes, or at the end of
+/// the game. Fails only if allocation fails.
+pub(crate) fn hex_text(alloc: Global, coming: Coming, hex: Hex) -> Result<Vec<u8>, AllocError>
+    requires sound { IsSound coming.history }
+    requires seats { coming.history.seats ≡ length (players_of coming.sheets.now) }
+{
     let Coming {
         sheets,
         history,
-        round,
+        end,
     } = coming;
-    let history = opened(alloc, sheets, history, round)?;
-    let board = board_now(alloc, &history)?;
-    let mut text = Vec::new(alloc);
-    push_ground(&mut text, &board, hex)?;
-    push_blocked(&mut text, sheets, &history, hex)?;
-    push_stops(&mut text, &board, hex)?;
-    push_sides(&mut text, &board, hex)?;
-    Ok(text)
-}
-
-/// Returns a game at the head of the first turn of a round that comes. Before an opening or a stock
-/// round the map is as it was.
-fn opened(
-    alloc: Global,
-    sheets: &Sheets,
-    history: History,
-    round: Round,
-) -> Result<History, AllocError> {
-    let Round::Operating { .. } = round else {
-        return Ok(history);
+    let End::Awaiting(round @ Round::Operating { .. }) = end else {
+        return text_of(alloc, sheets, &history, hex);
     };
     let draft = Draft {
         sheets,
         drafter: None,
     };
-    let game = open_ahead(alloc, history, draft, round)?;
-    let Some(company) = next_company(&game.history) else {
-        return Ok(game.history);
+    let ahead = RoundAhead::open(alloc, history, draft, round)?;
+    let Some(company) = ahead.next_company() else {
+        return text_of(alloc, sheets, ahead.history(), hex);
     };
-    let Some(president) = game.history.now().president(company) else {
-        return Ok(game.history);
-    };
-    let by = Operator { company, president };
-    Ok(begin_turn(alloc, game, round, by)?.history)
+    match ahead.history().now().president(company) {
+        Some(president) if ahead.is_led_by(company, president) => {
+            let orders = ahead.turn_of(Operator { company, president })?;
+            text_of(alloc, sheets, orders.history(), hex)
+        }
+        _ => text_of(alloc, sheets, ahead.history(), hex),
+    }
+}
+
+/// Returns a hex of a game as text.
+fn text_of(
+    alloc: Global,
+    sheets: &Sheets,
+    history: &History,
+    hex: Hex,
+) -> Result<Vec<u8>, AllocError> {
+    let board = board_now(alloc, history)?;
+    let mut text = Vec::new(alloc);
+    push_ground(&mut text, &board, hex)?;
+    push_blocked(&mut text, sheets, history, hex)?;
+    push_stops(&mut text, &board, hex)?;
+    push_sides(&mut text, &board, hex)?;
+    Ok(text)
 }
 
 /// Adds the hex, its colour, the tile that lies there, what it takes, and the cost of its terrain.

@@ -11,12 +11,10 @@ use crate::turn_start::board_now;
 use desk_base::Piece::{Bytes, Column, Count, Number, Right, Words};
 use desk_base::{fill, push, tiles_left, trains_of};
 use desk_may::{push_end_of_turn, push_until_then};
-use forced_purchase::HeldRaise;
+use foresight::OrdersAhead;
 use history::{History, Party};
 use map_tables::{Lay, Place, laid_links};
 use moves::{Priced, lays, tokens};
-use operating::CompanyTurn;
-use sheets::Sheets;
 use std::alloc::{AllocError, Global};
 use tables::{Company, Kind, Money};
 
@@ -26,32 +24,21 @@ const ROTATIONS: usize = 23;
 /// The column of the price of a token.
 const PRICE: usize = 15;
 
-/// A company's turn at the head of its orders, or behind those that are drafted.
-#[derive(Drop)]
-pub(crate) struct LaysAt<'a> {
-    /// The sheets of the game.
-    pub(crate) sheets: &'a Sheets<'a>,
-    /// The turn.
-    pub(crate) turn: CompanyTurn,
-    /// The RAISE lines of the orders that are drafted.
-    pub(crate) raises: Vec<HeldRaise>,
-    /// The place in the list of the event that begins the round.
-    pub(crate) from: usize,
-}
-
-/// Returns what a company may lay and where it may place its next token in a turn, as text. The
-/// error is `Memory`.
+/// Returns what a company may lay and where it may place its next token, at the head of its orders
+/// or behind those that are drafted, as text. `from` is the place in the list of the event that
+/// begins the round. The error is `Memory`.
 pub(crate) fn lay_text<P: Progress>(
     alloc: Global,
-    at: LaysAt,
+    orders: OrdersAhead,
+    from: usize,
     form: LayForm,
     progress: &mut P,
 ) -> Result<Vec<u8>, MovesFault> {
     let mut text = Vec::new(alloc);
-    push_turn(alloc, &mut text, &at, form, progress)?;
+    push_turn(alloc, &mut text, &orders, from, form, progress)?;
     if !form.lines {
         let mut end = Vec::new(alloc);
-        let _game = push_end_of_turn(alloc, &mut end, at.sheets, at.turn, at.raises)?;
+        let _ahead = push_end_of_turn(alloc, &mut end, orders)?;
         let gap = if end.is_empty() { "" } else { "\n" };
         push(&mut text, &[Words(gap), Bytes(end.as_slice())])?;
     }
@@ -62,15 +49,16 @@ pub(crate) fn lay_text<P: Progress>(
 fn push_turn<P: Progress>(
     alloc: Global,
     out: &mut Vec<u8>,
-    at: &LaysAt,
+    orders: &OrdersAhead,
+    from: usize,
     form: LayForm,
     progress: &mut P,
 ) -> Result<(), MovesFault> {
-    let (turn, history) = (&at.turn, &at.turn.history);
-    let company = turn.by.company;
+    let history = orders.history();
+    let company = orders.by().company;
     let kinds = trains_of(alloc, &history.now(), company)?;
     let board = board_now(alloc, history)?;
-    let asker = turn.asker();
+    let asker = orders.asker();
     let lays = lays(alloc, &board, &asker)?;
     let tokens = tokens(alloc, &board, &asker)?;
     let trains = Trains {
@@ -89,7 +77,7 @@ fn push_turn<P: Progress>(
     if form.lines {
         return earning.push_lines(out);
     }
-    push_until_then(alloc, out, at.sheets, history, at.from, Some(company))?;
+    push_until_then(alloc, out, orders.sheets(), history, from, Some(company))?;
     push_means(out, history, company, kinds.as_slice())?;
     if form.best {
         return earning.push_table(out);

@@ -3,12 +3,11 @@
 ghost use Rattle.std.specs.Prelude.{◌≡◌, ◌++◌, IfOk, OnOk};
 ghost use Rattle.std.specs.List.{flat_map};
 ghost use Rattle.desk_moves.specs.Lines.{AreLines, lay_line, priced_line, token_line};
-ghost use Rattle.operating.specs.CompanyTurn.{state};
 
 use crate::turn_start::board_now;
+use foresight::OrdersAhead;
 use map_tables::{Lay, Place};
 use moves::{Priced, lays, tokens};
-use operating::CompanyTurn;
 use order_grammar::{Order, print_number, print_order};
 use std::alloc::{AllocError, Global};
 use tables::Money;
@@ -19,12 +18,12 @@ const GAP: &[u8; 4] = b"    ";
 /// Returns every lay and every token of a company where its turn has come to, a line each: the
 /// order, four spaces, and its price in dollars. Lays come first, in the order of hex, tile,
 /// rotation and SWAP; then tokens, in that of hex and stop. Fails only if allocation fails.
-pub(crate) fn line_text(alloc: Global, turn: &CompanyTurn) -> Result<Vec<u8>, AllocError>
+pub(crate) fn line_text(alloc: Global, orders: &OrdersAhead) -> Result<Vec<u8>, AllocError>
     ensures { IfOk result (λ text.
-        AreLines (state turn.now) turn.now.by.company text.items) }
+        AreLines orders.now.turn orders.now.by.company text.items) }
 {
-    let board = board_now(alloc, &turn.history)?;
-    let asker = turn.asker();
+    let board = board_now(alloc, orders.history())?;
+    let asker = orders.asker();
     let lays = lays(alloc, &board, &asker)?;
     let tokens = tokens(alloc, &board, &asker)?;
     let mut text = Vec::new(alloc);

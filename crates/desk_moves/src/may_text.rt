@@ -1,4 +1,7 @@
 //! What a player may do in the round that comes.
+ghost use Rattle.std.specs.Prelude.{◌≡◌, ◌<◌, IfSome, length};
+ghost use Rattle.history.specs.Sound.{IsSound};
+ghost use Rattle.sheets.specs.File.{players_of};
 
 use crate::coming::Coming;
 use crate::fault::{MovesFault, NoAnswer};
@@ -25,7 +28,10 @@ pub(crate) fn may_text(
     coming: Coming,
     player: &[u8],
     form: MayForm,
-) -> Result<Vec<u8>, MovesFault> {
+) -> Result<Vec<u8>, MovesFault>
+    requires sound { IsSound coming.history }
+    requires seats { coming.history.seats ≡ length (players_of coming.sheets.now) }
+{
     let Some(seat) = seat_named(coming.sheets, player) else {
         return Err(MovesFault::Asked(NoAnswer::NoSuchPlayer));
     };
@@ -34,13 +40,14 @@ pub(crate) fn may_text(
     } else {
         None
     };
+    let round = coming.round()?;
     let mut text = Vec::new(alloc);
-    match coming.round {
+    match round {
         Round::Operating { .. } => {
-            push_operating(alloc, &mut text, coming, seat, drafter, form.lines)?;
+            push_operating(alloc, &mut text, coming, round, seat, drafter, form.lines)?;
         }
         Round::Opening(_) | Round::Stock(_) => {
-            push_turn(alloc, &mut text, coming, seat, form.lines)?;
+            push_turn(alloc, &mut text, coming, round, seat, form.lines)?;
         }
     }
     Ok(text)
@@ -51,15 +58,20 @@ fn push_turn(
     alloc: Global,
     out: &mut Vec<u8>,
     coming: Coming,
+    round: Round,
     seat: Seat,
     lines: bool,
-) -> Result<(), AllocError> {
+) -> Result<(), AllocError>
+    requires sound { IsSound coming.history }
+    requires seats { coming.history.seats ≡ length (players_of coming.sheets.now) }
+    requires at_table { seat.0 < coming.history.seats }
+{
     let Coming {
-        sheets,
-        history,
-        round,
+        sheets, history, ..
     } = coming;
     let from = history.events().len();
+    // For the proof alone: the seats are at most six.
+    let _few = sheets.seats();
     let history = at_turn(history, round, seat)?;
     if lines {
         return push_lines_of_turn(alloc, out, sheets, &history, round, seat);
@@ -77,14 +89,16 @@ fn push_operating(
     alloc: Global,
     out: &mut Vec<u8>,
     coming: Coming,
+    round: Round,
     seat: Seat,
     drafter: Option<Seat>,
     lines: bool,
-) -> Result<(), AllocError> {
+) -> Result<(), AllocError>
+    requires sound { IsSound coming.history }
+    requires seats { coming.history.seats ≡ length (players_of coming.sheets.now) }
+{
     let Coming {
-        sheets,
-        history,
-        round,
+        sheets, history, ..
     } = coming;
     let draft = Draft { sheets, drafter };
     if lines {
@@ -95,7 +109,9 @@ fn push_operating(
 }
 
 /// Returns the seat of the player of a name, in either case; `None` if nobody who plays has it.
-pub(crate) fn seat_named(sheets: &Sheets, player: &[u8]) -> Option<Seat> {
+pub(crate) fn seat_named(sheets: &Sheets, player: &[u8]) -> Option<Seat>
+    ensures { IfSome result (λ seat. seat.0 < length (players_of sheets.now)) }
+{
     for seat in 0..sheets.seats() {
         let seat = Seat::at(seat);
         if name(sheets, seat).eq_ignore_ascii_case(player) {

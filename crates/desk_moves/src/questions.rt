@@ -1,17 +1,19 @@
 //! What is asked, and where: at the head of a turn of the round that comes, as its sheets leave the
 //! game, or after a round.
+ghost use Rattle.std.specs.Prelude.{◌≡◌, length};
+ghost use Rattle.history.specs.Sound.{IsSound};
+ghost use Rattle.sheets.specs.File.{players_of};
 
 use crate::best_text::best_text;
 use crate::coming::{Coming, coming_in};
 use crate::fault::{MovesFault, NoAnswer};
 use crate::hex_text::hex_text;
-use crate::lay_text::{LaysAt, lay_text};
+use crate::lay_text::lay_text;
 use crate::line_text::line_text;
 use crate::may_text::may_text;
 use crate::progress::Progress;
-use foresight::{Ahead, Draft, at_orders};
+use foresight::{Ahead, Draft, OrdersAhead, RoundAhead};
 use map_tables::Hex;
-use operating::CompanyTurn;
 use sheets::collect;
 use std::alloc::Global;
 use tables::{Company, Kind, Round, Seat};
@@ -74,8 +76,8 @@ pub fn answer<P: Progress>(
         Question::Lays { company, form } => answer_lays(alloc, coming, company, form, progress),
         Question::May { name, form } => may_text(alloc, coming, name, form),
         Question::Best { company, trains } => {
-            let turn = turn_ahead(alloc, coming, company, None)?;
-            best_text(alloc, &turn.history, company, trains)
+            let orders = orders_in(alloc, coming, company, None)?;
+            best_text(alloc, orders.history(), company, trains)
         }
         Question::Hex(hex) => Ok(hex_text(alloc, coming, hex)?),
     }
@@ -89,45 +91,46 @@ fn answer_lays<P: Progress>(
     company: Company,
     form: LayForm,
     progress: &mut P,
-) -> Result<Vec<u8>, MovesFault> {
-    let (sheets, from) = (coming.sheets, coming.history.events().len());
+) -> Result<Vec<u8>, MovesFault>
+    requires sound { IsSound coming.history }
+    requires seats { coming.history.seats ≡ length (players_of coming.sheets.now) }
+{
+    let from = coming.history.events().len();
     let drafter = if form.drafted {
         Some(coming.drafter_for(company)?)
     } else {
         None
     };
-    let mut turn = turn_ahead(alloc, coming, company, drafter)?;
-    let raises = Draft { sheets, drafter }.rule_orders(alloc, &mut turn)?;
+    let orders = orders_in(alloc, coming, company, drafter)?;
     if form.lines && !form.best {
-        return Ok(line_text(alloc, &turn)?);
+        return Ok(line_text(alloc, &orders)?);
     }
-    let at = LaysAt {
-        sheets,
-        turn,
-        raises,
-        from,
-    };
-    lay_text(alloc, at, form, progress)
+    lay_text(alloc, orders, from, form, progress)
 }
 
-/// Returns the turn of a company at the head of its orders in the round that comes. The error says
-/// why it has none there, or is `Memory`.
-fn turn_ahead(
+/// Returns the turn of a company at the head of its orders in the round that comes, or behind those
+/// of the sheet that is looked at. The error says why it has none there, or is `Memory`.
+fn orders_in<'a>(
     alloc: Global,
-    coming: Coming,
+    coming: Coming<'a>,
     company: Company,
     drafter: Option<Seat>,
-) -> Result<CompanyTurn, MovesFault> {
+) -> Result<OrdersAhead<'a>, MovesFault>
+    requires sound { IsSound coming.history }
+    requires seats { coming.history.seats ≡ length (players_of coming.sheets.now) }
+{
     coming.must_have_president(company)?;
-    let Round::Operating { .. } = coming.round else {
+    let round = coming.round()?;
+    let Round::Operating { .. } = round else {
         return Err(MovesFault::Asked(NoAnswer::NoOperatingRound));
     };
     let draft = Draft {
         sheets: coming.sheets,
         drafter,
     };
-    match at_orders(alloc, coming.history, draft, coming.round, company)? {
-        Ahead::AtOrders(turn) => Ok(turn),
+    let ahead = RoundAhead::open(alloc, coming.history, draft, round)?;
+    match ahead.orders_of(company)? {
+        Ahead::AtOrders(orders) => Ok(orders),
         Ahead::NoPresident => Err(MovesFault::Asked(NoAnswer::NoPresident)),
         Ahead::NoTurn => Err(MovesFault::Asked(NoAnswer::NoTurn)),
     }

@@ -1,1 +1,2 @@
 pub mod TurnsAhead
+pub mod Ended

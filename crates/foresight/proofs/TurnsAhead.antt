@@ -1,35 +1,48 @@
 -- The turns of companies before a company's own, in a round that comes.
-use Rattle.std.proofs.Common.{◌≡◌, ℕ, ◌<◌, Bool, true, false, ◌||◌, ◌&&◌, List, [], ◌∷◌, ◌++◌, Option, Some, refl, sym}
-use Rattle.std.proofs.Common.{subst, ◌∙◌, arith, is_some}
+use Rattle.std.proofs.Common.{◌≡◌, ℕ, ◌<◌, Bool, true, false, ◌||◌, ◌&&◌, List, [], ◌∷◌, ◌++◌, Some, refl, sym, subst}
+use Rattle.std.proofs.Common.{arith, is_some}
 use Rattle.events.specs.declared.event.Event.{Event}
+use Rattle.foresight.specs.Ahead.{AheadState, HasTurn}
 use Rattle.foresight.specs.Draft.{file_of}
-use Rattle.foresight.specs.Orders.{TakeTurnsAhead, TakesTurnAhead, is_among}
+use Rattle.foresight.specs.Orders.{HaveTurns, OthersHaveTurns, is_among}
 use Rattle.market.specs.OperatingOrder.{IsOperatingOrder, next_company, operating_order_of}
 use Rattle.operating.specs.Laws.{CompanyOperates}
 use Rattle.rounds.proofs.CompanyTurns.{idle_of, next_is_idle, turn_leaves_fewer}
 use Rattle.tables.specs.Roster.{same_company}
 use Rattle.tables.specs.declared.roster.Company.{Company}
-use Rattle.tables.specs.declared.round.Round.{Round}
-use Rattle.tables.specs.declared.seat.Seat.{Seat}
-use Rattle.totals.specs.LookBack.{Game}
 use Rattle.totals.specs.Shares.{is_floated, president_of, square_of}
 
 -- one more company takes its turn
-pub one_more_ahead : (file : List ℕ) (drafter : Option Seat) (round : Round) (companies : List Company)
-    (company : Company) (old mid new : Game) → TakeTurnsAhead file drafter round companies old mid
-    → TakesTurnAhead file drafter round company mid new
-    → TakeTurnsAhead file drafter round (companies ++ company ∷ []) old new
-one_more_ahead file drafter round [] company old mid new turns turn =
-    (new, subst (λ (game : Game). TakesTurnAhead file drafter round company game new) (sym turns) turn, refl)
-one_more_ahead file drafter round (first ∷ others) company old mid new turns turn =
-    (turns.0, turns.1, one_more_ahead file drafter round others company turns.0 mid new turns.2 turn)
+one_more_turn : (companies : List Company) (company : Company) (old mid new : AheadState)
+    → HaveTurns companies old mid → next_company mid.game.events ≡ Some company → HasTurn company mid new
+    → HaveTurns (companies ++ company ∷ []) old new
+one_more_turn [] company old mid new turns is_next turn =
+    (
+      new,
+      subst (λ (ahead : AheadState). next_company ahead.game.events ≡ Some company) (sym turns) is_next,
+      subst (λ (ahead : AheadState). HasTurn company ahead new) (sym turns) turn,
+      refl,
+    )
+one_more_turn (first ∷ others) company old mid new turns is_next turn =
+    (turns.0, turns.1, turns.2, one_more_turn others company turns.0 mid new turns.3 is_next turn)
 
 -- where another company takes it, a company is still not among them
-pub still_others : (company : Company) (before : List Company) (next : Company) → is_among company before ≡ false
+still_others : (company : Company) (before : List Company) (next : Company) → is_among company before ≡ false
     → same_company next company ≡ false → is_among company (before ++ next ∷ []) ≡ false
 still_others company [] next none other = grind (arith, other)
 still_others company (first ∷ others) next none other =
     grind (arith, still_others company others next, none, other)
+
+-- so others have had their turns then too
+pub others_too : (company next : Company) (old mid new : AheadState) → OthersHaveTurns company old mid
+    → next_company mid.game.events ≡ Some next → HasTurn next mid new → same_company next company ≡ false
+    → OthersHaveTurns company old new
+others_too company next old mid new taken is_next turn other =
+    record {
+      before = taken.before ++ next ∷ [];
+      turns = one_more_turn taken.before next old mid new taken.turns is_next turn;
+      others = still_others company taken.before next taken.others other;
+    }
 
 -- the first of two tests
 first_of : (a b : Bool) → (a && b) ≡ true → a ≡ true
@@ -46,8 +59,8 @@ next_has_floated ordered events company found =
 
 -- and its turn leaves fewer that have not operated
 pub leaves_fewer : CompanyOperates → ((events : List Event) → IsOperatingOrder events (operating_order_of events))
-    → (file : List ℕ) (drafter : Option Seat) (round : Round) (company : Company) (old new : Game)
-    → TakesTurnAhead file drafter round company old new → idle_of new.events < idle_of old.events
-leaves_fewer operates ordered file drafter round company old new turn =
-    turn_leaves_fewer operates ordered (file_of file (president_of old.events company) drafter) round company old new
-    (record { is_next = turn.is_next; turn = turn.turn })
+    → (company : Company) (old new : AheadState) → next_company old.game.events ≡ Some company
+    → HasTurn company old new → idle_of new.game.events < idle_of old.game.events
+leaves_fewer operates ordered company old new is_next turn =
+    turn_leaves_fewer operates ordered (file_of old.file (president_of old.game.events company) old.drafter) old.round
+    company old.game new.game (record { is_next = is_next; turn = turn.turn })

@@ -40,7 +40,7 @@ impl Draft<'_> {
     /// Rules the orders of a company in the sheet that is looked at, if its president sent that.
     /// Returns the RAISE lines among them, which are ruled at the end of the turn. Fails only if
     /// allocation fails.
-    pub fn rule_orders(
+    pub(crate) fn rule_orders(
         &self,
         alloc: Global,
         turn: &mut CompanyTurn,

@@ -5,14 +5,17 @@
 //! tokens are placed, and companies before one's own operate. So a call steps there. Nobody else's
 //! sheet for that round is looked at, and a player's own only if they ask for it.
 //!
-//! Reading order: `draft` (whose sheet is looked at), `round_ahead` (an operating round up to a
-//! company's orders), `turn_ahead` (an opening or a stock round up to a seat's first turn).
+//! Reading order: `draft` (whose sheet is looked at), `round_ahead` (an operating round that comes,
+//! turn by turn), `orders_ahead` (a company's turn in it, at the head of its orders or behind those
+//! that are drafted), `turn_ahead` (an opening or a stock round up to a seat's first turn).
 #![tactic(auto)]
 
 mod draft;
+mod orders_ahead;
 mod round_ahead;
 mod turn_ahead;
 
 pub use draft::Draft;
-pub use round_ahead::{Ahead, at_orders, open_ahead, take_turn_ahead};
+pub use orders_ahead::OrdersAhead;
+pub use round_ahead::{Ahead, RoundAhead};
 pub use turn_ahead::at_turn;

@@ -1,43 +1,193 @@
-ghost use Rattle.std.specs.Prelude.{◌≡◌, IfOk, length, true};
-ghost use Rattle.foresight.specs.Draft.{file_of, opened_ahead};
+ghost use Rattle.std.specs.Prelude.{◌≡◌, IfOk, Some, length, true};
+ghost use Rattle.foresight.specs.Ahead.{HasTurn, IsBehindDraft, opened_state};
 ghost use Rattle.foresight.specs.Orders.{IsAhead, IsLed};
 ghost use Rattle.history.specs.Sound.{IsSound};
+ghost use Rattle.market.specs.OperatingOrder.{next_company};
+ghost use Rattle.purchases.specs.Discard.{is_president};
+ghost use Rattle.sheets.specs.File.{players_of};
 ghost use Rattle.operating.specs.GameAndBoard.{IsLaidOut};
 ghost use Rattle.operating.specs.Turn.{IsCompanyTurn};
-ghost use Rattle.sheets.specs.File.{players_of};
 ghost use Rattle.totals.specs.Shares.{is_floated, president_of};
 
 use crate::draft::Draft;
+use crate::orders_ahead::OrdersAhead;
 use best_run::Search;
 use forced_purchase::Operator;
 use history::History;
 use legal_runs::RunnerFault;
 use market::next_company;
-use operating::{CompanyTurn, GameAndBoard, begin_turn, pass_turn, play_on};
+use operating::{GameAndBoard, begin_turn, pass_turn, play_on};
+use purchases::is_president;
 use std::alloc::{AllocError, Global};
-use tables::{Company, Round};
+use std::marker::Model;
+use tables::{Company, Round, Seat};
 
-/// Opens an operating round that comes: the standing lines of the sheet that is looked at are
-/// ruled, and the privates pay. The list of events must be sound. Fails only if allocation fails.
-pub fn open_ahead(
-    alloc: Global,
-    history: History,
-    draft: Draft,
-    round: Round,
-) -> Result<GameAndBoard, AllocError>
-    requires { IsSound history }
-    ensures opened { IfOk result (λ game. game.history
-        ≡ opened_ahead draft.sheets.now draft.drafter round history) }
-    ensures laid { IfOk result IsLaidOut }
-{
-    let mut history = history;
-    draft.open(&mut history, round)?;
-    GameAndBoard::lay_out(alloc, history)
+/// An operating round that comes, as far as it has been played.
+#[derive(Drop)]
+pub struct RoundAhead<'a> {
+    pub(crate) alloc: Global,
+    pub(crate) draft: Draft<'a>,
+    pub(crate) round: Round,
+    pub(crate) game: GameAndBoard,
 }
 
-/// Plays the turn of the next company, with the orders of the sheet that is looked at, if its
-/// president sent that. Fails only if allocation fails.
-pub fn take_turn_ahead(
+/// In a contract it is whose sheet is looked at, the round, and the game so far.
+impl<'a> Model for RoundAhead<'a> {
+    ghost use Rattle.std.specs.Prelude.{◌≡◌, ◌×◌, length};
+    ghost use Rattle.foresight.specs.Ahead.{AheadState};
+    ghost use Rattle.operating.specs.GameAndBoard.{IsLaidOut};
+    ghost use Rattle.sheets.specs.File.{players_of};
+
+    ghost Value = { AheadState };
+
+    ghost view = { λ ahead. record {
+      file = ahead.draft.sheets.now;
+      drafter = ahead.draft.drafter;
+      round = ahead.round;
+      game = ahead.game.history;
+    } };
+
+    ghost invariant = { λ ahead. IsLaidOut ahead.game
+        × (ahead.game.history.seats ≡ length (players_of ahead.draft.sheets.now)) };
+}
+
+impl<'a> RoundAhead<'a> {
+    /// Opens an operating round that comes: the standing lines of the sheet that is looked at are
+    /// ruled, and the privates pay. The list of events must be sound, and its seats those of the
+    /// sheets' players. Fails only if allocation fails.
+    pub fn open(
+        alloc: Global,
+        history: History,
+        draft: Draft<'a>,
+        round: Round,
+    ) -> Result<RoundAhead<'a>, AllocError>
+        requires sound { IsSound history }
+        requires seats { history.seats ≡ length (players_of draft.sheets.now) }
+        ensures { IfOk result (λ ahead. ahead
+            ≡ opened_state draft.sheets.now draft.drafter round history) }
+    {
+        let mut history = history;
+        draft.open(&mut history, round)?;
+        let game = GameAndBoard::lay_out(alloc, history)?;
+        Ok(RoundAhead {
+            alloc,
+            draft,
+            round,
+            game,
+        })
+    }
+
+    /// Returns the game so far.
+    pub fn history(&self) -> &History
+        ensures game { result.now ≡ self.now.game }
+        ensures sound { IsSound self.now.game }
+    {
+        &self.game.history
+    }
+
+    /// Returns the company whose turn is next; `None` once each has had one, or a president is
+    /// bankrupt.
+    pub fn next_company(&self) -> Option<Company>
+        ensures { result ≡ next_company self.now.game.events }
+    {
+        next_company(&self.game.history)
+    }
+
+    /// Returns whether a seat presides over a company.
+    pub fn is_led_by(&self, company: Company, seat: Seat) -> bool
+        ensures { result ≡ is_president (president_of self.now.game.events company) seat }
+    {
+        is_president(self.game.history.now().president(company), seat)
+    }
+
+    /// Plays the turn of the next company, with the orders of the sheet that is looked at, if its
+    /// president sent that. Fails only if allocation fails.
+    pub fn take_turn(self, company: Company) -> Result<RoundAhead<'a>, AllocError>
+        requires { next_company self.game.events ≡ Some company }
+        ensures { IfOk result (HasTurn company self.entry) }
+    {
+        // For the proof alone: by the first a company that comes next has floated; by the second
+        // the seats are at most six.
+        market::laws::floated_companies_in_order();
+        let _few = self.draft.sheets.seats();
+        let RoundAhead {
+            alloc,
+            draft,
+            round,
+            game,
+        } = self;
+        let game = if draft.has_orders(&game.history, company) {
+            played(alloc, game, draft, round, company)?
+        } else {
+            pass_turn(alloc, game, round, company)?
+        };
+        Ok(RoundAhead {
+            alloc,
+            draft,
+            round,
+            game,
+        })
+    }
+
+    /// Returns the turn of the next company behind the orders of the sheet that is looked at, or at
+    /// the head of its orders if its president did not send that. Fails only if allocation fails.
+    pub fn turn_of(self, by: Operator) -> Result<OrdersAhead<'a>, AllocError>
+        requires next { next_company self.game.events ≡ Some by.company }
+        requires led { is_president (president_of self.game.events by.company) by.president
+            ≡ true }
+        ensures { IfOk result (IsBehindDraft self.entry by) }
+    {
+        market::laws::floated_companies_in_order();
+        let _few = self.draft.sheets.seats();
+        let RoundAhead {
+            alloc,
+            draft,
+            round,
+            game,
+        } = self;
+        let mut turn = begin_turn(alloc, game, round, by)?;
+        let raises = draft.rule_orders(alloc, &mut turn)?;
+        Ok(OrdersAhead {
+            alloc,
+            draft,
+            turn,
+            raises,
+        })
+    }
+
+    /// Plays on to the orders of a company. Returns how it fares. Fails only if allocation fails.
+    pub fn orders_of(self, company: Company) -> Result<Ahead<'a>, AllocError>
+        ensures { IfOk result (IsAhead company self.entry) }
+    {
+        // Laws, which do nothing when they run: by them the loop reaches an end.
+        market::laws::floated_companies_in_order();
+        operating::laws::company_operates();
+        let mut ahead = self;
+        while let Some(next) = ahead.next_company() {
+            if next == company {
+                return ahead.led(company);
+            }
+            ahead = ahead.take_turn(next)?;
+        }
+        Ok(Ahead::NoTurn)
+    }
+
+    /// Returns how the next company fares.
+    fn led(self, company: Company) -> Result<Ahead<'a>, AllocError>
+        requires { next_company self.game.events ≡ Some company }
+        ensures { IfOk result (IsLed company self.entry) }
+    {
+        let Some(president) = self.game.history.now().president(company) else {
+            return Ok(Ahead::NoPresident);
+        };
+        let by = Operator { company, president };
+        Ok(Ahead::AtOrders(self.turn_of(by)?))
+    }
+}
+
+/// Plays the turn of a company with the orders of its president's sheet. Fails only if allocation
+/// fails.
+fn played(
     alloc: Global,
     game: GameAndBoard,
     draft: Draft,
@@ -47,17 +197,11 @@ pub fn take_turn_ahead(
     requires floated { is_floated game.history.events company ≡ true }
     requires laid { IsLaidOut game }
     requires seats { game.history.seats ≡ length (players_of draft.sheets.now) }
-    ensures turn { IfOk result (λ next. IsCompanyTurn
-        (file_of draft.sheets.now (president_of game.history.events company) draft.drafter)
-        round company game.history next.history) }
+    ensures turn { IfOk result (λ next.
+        IsCompanyTurn draft.sheets.now round company game.history next.history) }
     ensures seats { IfOk result (λ next. next.history.seats ≡ game.history.seats) }
     ensures laid { IfOk result IsLaidOut }
 {
-    if !draft.has_orders(&game.history, company) {
-        // For the proof alone: the number is at most six, and so is that of the seats of the game.
-        let _few = draft.sheets.seats();
-        return pass_turn(alloc, game, round, company);
-    }
     let mut search = Search::new(alloc);
     match play_on(alloc, game, draft.sheets, round, company, &mut search) {
         Ok(game) => Ok(game),
@@ -68,55 +212,11 @@ pub fn take_turn_ahead(
 
 /// How a company fares in an operating round that comes.
 #[derive(Drop)]
-pub enum Ahead {
-    /// It is at the head of its orders.
-    AtOrders(CompanyTurn),
+pub enum Ahead<'a> {
+    /// It is at the head of its orders, or behind those that are looked at.
+    AtOrders(OrdersAhead<'a>),
     /// It has a turn, and no president to give its orders.
     NoPresident,
     /// It has no turn: it does not operate, or the game ends before.
     NoTurn,
-}
-
-/// Returns how a company fares in an operating round that comes. The list of events must be sound,
-/// and its seats those of the sheets' players. Fails only if allocation fails.
-pub fn at_orders(
-    alloc: Global,
-    history: History,
-    draft: Draft,
-    round: Round,
-    company: Company,
-) -> Result<Ahead, AllocError>
-    requires sound { IsSound history }
-    requires seats { history.seats ≡ length (players_of draft.sheets.now) }
-    ensures { IfOk result (IsAhead draft.sheets.now draft.drafter round company history) }
-{
-    // Laws, which do nothing when they run: by them the next company has floated, and the loop
-    // reaches an end.
-    market::laws::floated_companies_in_order();
-    operating::laws::company_operates();
-    let mut game = open_ahead(alloc, history, draft, round)?;
-    while let Some(next) = next_company(&game.history) {
-        if next == company {
-            return led_turn(alloc, game, round, company);
-        }
-        game = take_turn_ahead(alloc, game, draft, round, next)?;
-    }
-    Ok(Ahead::NoTurn)
-}
-
-/// Returns the turn of the next company at the head of its orders, if it has a president.
-fn led_turn(
-    alloc: Global,
-    game: GameAndBoard,
-    round: Round,
-    company: Company,
-) -> Result<Ahead, AllocError>
-    requires { IsLaidOut game }
-    ensures { IfOk result (IsLed company game.history) }
-{
-    let Some(president) = game.history.now().president(company) else {
-        return Ok(Ahead::NoPresident);
-    };
-    let by = Operator { company, president };
-    Ok(Ahead::AtOrders(begin_turn(alloc, game, round, by)?))
 }

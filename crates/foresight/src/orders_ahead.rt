@@ -1,0 +1,137 @@
+ghost use Rattle.std.specs.Prelude.{◌≡◌, ◌↔◌, IfOk, IsTrue, OnOk};
+ghost use Rattle.board_state.specs.MapState.{position_of};
+ghost use Rattle.foresight.specs.Ahead.{HasEnded, withheld_in};
+ghost use Rattle.history.specs.Sound.{IsSound};
+ghost use Rattle.legal_runs.specs.TwoTrain.{CanRun};
+ghost use Rattle.operating.specs.BoardAsker.{asker_of};
+ghost use Rattle.operating.specs.MapState.{map_state_now};
+ghost use Rattle.operating.specs.TurnEnd.{IsDue};
+
+use crate::draft::Draft;
+use crate::round_ahead::RoundAhead;
+use board::Asker;
+use forced_purchase::{HeldRaise, Operator};
+use history::History;
+use operating::CompanyTurn;
+use sheets::Sheets;
+use std::alloc::{AllocError, Global};
+use std::marker::Model;
+
+/// A company's turn in an operating round that comes, at the head of its orders, or behind those
+/// that are looked at.
+#[derive(Drop)]
+pub struct OrdersAhead<'a> {
+    pub(crate) alloc: Global,
+    pub(crate) draft: Draft<'a>,
+    pub(crate) turn: CompanyTurn,
+    /// The RAISE lines of the orders so far, which are ruled at the end of the turn.
+    pub(crate) raises: Vec<HeldRaise>,
+}
+
+/// In a contract it is whose sheet is looked at, the round, the company with its president, its
+/// turn as far as it has come, and the RAISE lines so far.
+impl<'a> Model for OrdersAhead<'a> {
+    ghost use Rattle.std.specs.Prelude.{◌≡◌, ◌×◌, ◌<◌, length};
+    ghost use Rattle.foresight.specs.Ahead.{OrdersState};
+    ghost use Rattle.operating.specs.CompanyTurn.{IsInOrder, state};
+    ghost use Rattle.sheets.specs.File.{players_of};
+
+    ghost Value = { OrdersState };
+
+    ghost view = { λ orders. record {
+      file = orders.draft.sheets.now;
+      drafter = orders.draft.drafter;
+      round = orders.turn.round;
+      by = orders.turn.by;
+      turn = state orders.turn;
+      raises = orders.raises.items;
+    } };
+
+    ghost invariant = { λ orders. IsInOrder orders.turn
+        × (orders.turn.history.seats ≡ length (players_of orders.draft.sheets.now))
+        × (orders.turn.by.president.0 < orders.turn.history.seats) };
+}
+
+impl<'a> OrdersAhead<'a> {
+    /// Returns the sheets of the order file.
+    pub fn sheets(&self) -> &'a Sheets<'a>
+        ensures { result.now ≡ self.now.file }
+    {
+        self.draft.sheets
+    }
+
+    /// Returns the company with its president.
+    pub fn by(&self) -> Operator
+        ensures { result ≡ self.now.by }
+    {
+        self.turn.by
+    }
+
+    /// Returns the game so far.
+    pub fn history(&self) -> &History
+        ensures game { result.now ≡ self.now.turn.game }
+        ensures sound { IsSound self.now.turn.game }
+    {
+        &self.turn.history
+    }
+
+    /// Returns the company as the rules of the board see it, with its turn as far as it has come.
+    pub fn asker(&self) -> Asker
+        ensures { result
+            ≡ asker_of self.now.turn.game self.now.by.company self.now.turn.progress }
+    {
+        self.turn.asker()
+    }
+
+    /// Withholds what the company earned, if its turn is not past its pay: so it does before it buys
+    /// a train. Fails only if allocation fails.
+    pub fn withhold_if_unpaid(&mut self) -> Result<(), AllocError>
+        ensures { OnOk result (self.new ≡ withheld_in self.old) }
+    {
+        self.turn.withhold_if_unpaid()
+    }
+
+    /// Returns whether the company must buy a train if its turn ends as it stands: it has none, and
+    /// could run one. Fails only if allocation fails.
+    pub fn must_buy(&mut self) -> Result<bool, AllocError>
+        ensures due { IfOk result (λ due. IsTrue due
+            ↔ IsDue self.old.turn.game self.old.by.company) }
+        ensures same { OnOk result (self.new ≡ self.old) }
+    {
+        self.turn.must_buy()
+    }
+
+    /// Returns whether the company could run a train of kind 2, if it had one. Fails only if
+    /// allocation fails.
+    pub fn could_run(&mut self) -> Result<bool, AllocError>
+        ensures could { IfOk result (λ could. IsTrue could
+            ↔ CanRun (position_of (map_state_now self.old.turn.game.events))
+            self.old.by.company) }
+        ensures same { OnOk result (self.new ≡ self.old) }
+    {
+        self.turn.could_run()
+    }
+
+    /// Ends the turn: the company withholds if it has neither paid nor withheld, and buys a train if
+    /// it must. Fails only if allocation fails.
+    pub fn finish(self) -> Result<RoundAhead<'a>, AllocError>
+        ensures { IfOk result (HasEnded self.entry) }
+    {
+        // For the proof alone: the seats are at most six.
+        let _few = self.draft.sheets.seats();
+        let OrdersAhead {
+            alloc,
+            draft,
+            turn,
+            raises,
+        } = self;
+        let round = turn.round;
+        let game = turn.finish(raises)?;
+        Ok(RoundAhead {
+            alloc,
+            draft,
+            round,
+            game,
+        })
+    }
+}
