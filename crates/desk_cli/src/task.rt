@@ -145,7 +145,7 @@ static WORDS: [Word; 12] = [
     },
     Word {
         name: "check",
-        about: "Writes what a report does not tell: sheets that come late or early, mail, bad lines",
+        about: "Writes what to correct in sheets: late ones, mail, bad lines, orders that are refused",
         example: "Example: desk check --from 120 < our-game.orders",
         job: Job::Check,
         operands: &[Operand::All, Operand::From],
@@ -193,7 +193,7 @@ static WORDS: [Word; 12] = [
     },
     Word {
         name: "may",
-        about: "Writes what a player may buy, bid and sell, and what not",
+        about: "Writes what a player may buy, bid and sell, what not, and what a company must buy",
         example: "Example: desk may ANN < our-game.orders",
         job: Job::May,
         operands: &[
@@ -295,14 +295,16 @@ fn argument_of<'a>(alloc: Global, operand: Operand) -> Arg<'a> {
             .num_args(0..)
             .help("The codes, as G3; a list of them all if none is named"),
         Operand::Lines => {
-            flag(alloc, "lines").help("Write order lines, each with four spaces and its price")
+            flag(alloc, "lines").help(
+                "Write orders alone, each with its price or what becomes of it",
+            )
         }
         Operand::Best => {
             flag(alloc, "best").help("Tell what the company's best runs would earn after each")
         }
         Operand::Drafted => {
             flag(alloc, "drafted").help(
-                "As it stands behind the orders of the own sheet in the file",
+                "Answer behind the orders of the player's, or president's, own sheet",
             )
         }
         Operand::Tiles => {
@@ -311,7 +313,7 @@ fn argument_of<'a>(alloc: Global, operand: Operand) -> Arg<'a> {
         Operand::After => Arg::new(alloc, "after")
             .long("after")
             .value_name("ROUND")
-            .help("In the round that came after this one, as OR2.1"),
+            .help("Answer for the round that came after this one, as OR2.1"),
         Operand::Company => {
             Arg::new(alloc, "COMPANY")
                 .required(true)
