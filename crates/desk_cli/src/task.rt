@@ -304,7 +304,7 @@ fn argument_of<'a>(alloc: Global, operand: Operand) -> Arg<'a> {
         }
         Operand::Drafted => {
             flag(alloc, "drafted").help(
-                "Answer behind the orders of the player's, or president's, own sheet",
+                "Start after the orders in the player's own sheet, or in the president's",
             )
         }
         Operand::Tiles => {
