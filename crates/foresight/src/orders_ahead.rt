@@ -31,7 +31,7 @@ pub struct OrdersAhead<'a> {
 /// In a contract it is whose sheet is looked at, the round, the company with its president, its
 /// turn as far as it has come, and the RAISE lines so far.
 impl<'a> Model for OrdersAhead<'a> {
-    ghost use Rattle.std.specs.Prelude.{◌≡◌, ◌×◌, ◌<◌, length};
+    ghost use Rattle.std.specs.Prelude.{◌≡◌, ◌<◌, length};
     ghost use Rattle.foresight.specs.Ahead.{OrdersState};
     ghost use Rattle.operating.specs.CompanyTurn.{IsInOrder, state};
     ghost use Rattle.sheets.specs.File.{players_of};

@@ -33,7 +33,7 @@ pub struct RoundAhead<'a> {
 
 /// In a contract it is whose sheet is looked at, the round, and the game so far.
 impl<'a> Model for RoundAhead<'a> {
-    ghost use Rattle.std.specs.Prelude.{◌≡◌, ◌×◌, length};
+    ghost use Rattle.std.specs.Prelude.{◌≡◌, length};
     ghost use Rattle.foresight.specs.Ahead.{AheadState};
     ghost use Rattle.operating.specs.GameAndBoard.{IsLaidOut};
     ghost use Rattle.sheets.specs.File.{players_of};
