@@ -7,7 +7,7 @@ use Rattle.events.specs.RuleCodes.{code_of_opening_rule}
 use Rattle.events.specs.declared.event.Event.{Event}
 use Rattle.events.specs.declared.ruling.OpeningRule.{OpeningRule}
 use Rattle.events.specs.declared.ruling.OpeningRule.TheVariants.{BidTooLow, CashTooSmall}
-use Rattle.forced_purchase.proofs.Cheapest.{not_less_is}
+use Rattle.forced_purchase.proofs.CheapestTrain.{not_less_is}
 use Rattle.moves.specs.Bids.{LeastBidIsLeast, least_bid_of, least_over, step_over}
 use Rattle.privates.proofs.BidLemmas.{near_greatest}
 use Rattle.privates.specs.Bank.{is_short}

@@ -7,4 +7,5 @@ pub mod OwnedLemmas
 pub mod ExactLemmas
 pub mod TurnLemmas
 pub mod RowLemmas
+pub mod LimitLemmas
 pub mod RowRulings

@@ -11,4 +11,5 @@ pub mod StockRows
 pub mod CompanyRows
 pub mod StandingRows
 pub mod RowLaws
+pub mod Limits
 pub mod TurnLaws

@@ -1,6 +1,7 @@
 //! Laws of the definitions, each the contract of a function that does nothing.
 ghost use Rattle.moves.specs.Bids.{LeastBidIsLeast};
 ghost use Rattle.moves.specs.Exact.{LaysAreExact, TokensAreExact};
+ghost use Rattle.moves.specs.Limits.{PrivatesHaveTheirPrice, SalesAreOfWhatIsHeld, StartsAreAtParValues};
 ghost use Rattle.moves.specs.RowLaws.{OpeningRowsAreRuled, PrivateRowsAreRuled, RowsBeforeAreRuled};
 ghost use Rattle.moves.specs.RowLaws.{StandingRowsAreRuled, StockRowsAreRuled, TrainRowsAreRuled};
 ghost use Rattle.moves.specs.TurnLaws.{ListedLaysAreObeyed, ListedTokensAreObeyed, OtherLaysAreRefused};
@@ -59,4 +60,12 @@ pub fn rows_are_ruled()
 pub fn company_rows_are_ruled()
     ensures privates { PrivateRowsAreRuled }
     ensures trains { TrainRowsAreRuled }
+{}
+
+/// A sale of more shares than a seat has, a start of a company at another sum than a par value, and
+/// a price of a private under half of its face value or over twice that are refused.
+pub fn beyond_the_rows_is_refused()
+    ensures sales { SalesAreOfWhatIsHeld }
+    ensures starts { StartsAreAtParValues }
+    ensures privates { PrivatesHaveTheirPrice }
 {}
