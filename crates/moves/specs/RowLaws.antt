@@ -2,7 +2,7 @@
 -- condition holds, as the first line of a turn or as a standing line. If its row says that it is
 -- obeyed, it is obeyed, and if the row says that a rule refuses it, that rule refuses it. If the row
 -- names a consent, it is the rule of the consent that refuses it.
-use Rattle.std.specs.Prelude.{◌≡◌, ℕ, Bool, true, false, List, Option, Some, None, Result, Ok}
+use Rattle.std.specs.Prelude.{◌≡◌, ℕ, true, false, List, Option, Some, None, Ok}
 use Rattle.events.specs.declared.event.Event.{Event}
 use Rattle.events.specs.declared.ruling.PrivateRule.TheVariants as private_rule
 use Rattle.events.specs.declared.ruling.Refusal.{Refusal}

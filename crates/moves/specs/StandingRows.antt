@@ -7,7 +7,7 @@
 -- - OFFER of each private that it owns to each company that is started, at its face value.
 --
 -- Each is judged by the rules of standing lines of the round. No money moves by DISCARD and OFFER.
-use Rattle.std.specs.Prelude.{ℕ, ◌++◌, ◌&&◌, Bool, not, List, [], ◌∷◌, Option, Some, None, map, ℤ, pos}
+use Rattle.std.specs.Prelude.{ℕ, ◌++◌, ◌&&◌, Bool, not, List, [], ◌∷◌, Option, Some, None, map, pos}
 use Rattle.std.specs.List.{flat_map}
 use Rattle.events.specs.declared.event.Event.{Event}
 use Rattle.moves.specs.Rows.{answer_of, only_if}

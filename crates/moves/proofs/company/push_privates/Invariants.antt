@@ -1,7 +1,6 @@
 -- The rows of the items so far.
-use Rattle.std.proofs.Common.{◌≡◌, ◌∷◌, [], ◌++◌, map, take, flat_map, ℕ}
+use Rattle.std.proofs.Common.{◌≡◌, ◌++◌, map, take, flat_map}
 use Rattle.moves.specs.CompanyRows.{orders_of_private, private_row}
-use Rattle.tables.specs.Roster.{privates}
 use Rattle.moves.proofs.company.push_privates.Given as goal
 
 abbrev pub invariant-loop-private : goal.invariant-loop-private

@@ -1,4 +1,3 @@
-use Rattle.std.proofs.Common.{◌∷◌, [], ℕ}
 use Rattle.moves.proofs.RowLemmas.{rows_done, rows_next, rows_none}
 use Rattle.moves.specs.CompanyRows.{train_orders, train_row, trains_of_kind}
 use Rattle.tables.specs.Train.{kinds}

@@ -1,7 +1,6 @@
 -- The rows of the items so far.
-use Rattle.std.proofs.Common.{◌≡◌, ◌∷◌, [], ◌++◌, map, take, flat_map, ℕ}
+use Rattle.std.proofs.Common.{◌≡◌, ◌++◌, map, take, flat_map}
 use Rattle.moves.specs.CompanyRows.{train_row, trains_of_kind}
-use Rattle.tables.specs.Train.{kinds}
 use Rattle.moves.proofs.company.push_trains.Given as goal
 
 abbrev pub invariant-loop-kind : goal.invariant-loop-kind

@@ -1,4 +1,4 @@
-use Rattle.std.proofs.Common.{◌∷◌, [], ℕ}
+use Rattle.std.proofs.Common.{◌∷◌, []}
 use Rattle.moves.proofs.RowLemmas.{rows_done, rows_next, rows_none}
 use Rattle.moves.specs.CompanyRows.{sources_of_bank, train_order, train_row}
 use Rattle.order_grammar.specs.declared.order.TrainSource.{TrainSource}

@@ -1,6 +1,6 @@
 -- The rows of the items so far.
-use Rattle.std.proofs.Common.{◌≡◌, ◌∷◌, [], ◌++◌, map, take, flat_map, ℕ}
-use Rattle.moves.specs.CompanyRows.{sources_of_bank, train_order, train_row}
+use Rattle.std.proofs.Common.{◌≡◌, ◌∷◌, [], ◌++◌, map, take, flat_map}
+use Rattle.moves.specs.CompanyRows.{train_order, train_row}
 use Rattle.order_grammar.specs.declared.order.TrainSource.{TrainSource}
 use Rattle.moves.proofs.company.push_trains_of_bank.Given as goal
 

@@ -1,7 +1,6 @@
 -- The rows of the items so far.
-use Rattle.std.proofs.Common.{◌≡◌, ◌∷◌, [], ◌++◌, map, take, flat_map, ℕ}
+use Rattle.std.proofs.Common.{◌≡◌, ◌++◌, map, take, flat_map}
 use Rattle.moves.specs.CompanyRows.{train_of, train_row}
-use Rattle.tables.specs.Roster.{companies}
 use Rattle.moves.proofs.company.push_trains_of_sellers.Given as goal
 
 abbrev pub invariant-loop-seller : goal.invariant-loop-seller

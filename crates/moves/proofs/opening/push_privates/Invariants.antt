@@ -1,7 +1,6 @@
 -- The rows of the items so far.
-use Rattle.std.proofs.Common.{◌≡◌, ◌∷◌, [], ◌++◌, map, take, flat_map, ℕ}
+use Rattle.std.proofs.Common.{◌≡◌, ◌++◌, map, take, flat_map}
 use Rattle.moves.specs.OpeningRows.{opening_row, orders_on}
-use Rattle.tables.specs.Roster.{privates}
 use Rattle.moves.proofs.opening.push_privates.Given as goal
 
 abbrev pub invariant-loop-private : goal.invariant-loop-private

@@ -1,7 +1,6 @@
 -- The rows of the items so far.
-use Rattle.std.proofs.Common.{◌≡◌, ◌∷◌, [], ◌++◌, map, take, flat_map, ℕ}
+use Rattle.std.proofs.Common.{◌≡◌, ◌++◌, map, take, flat_map}
 use Rattle.moves.specs.StandingRows.{discard_of, standing_row}
-use Rattle.tables.specs.Train.{kinds}
 use Rattle.moves.proofs.standing.push_discards_of.Given as goal
 
 abbrev pub invariant-loop-kind : goal.invariant-loop-kind

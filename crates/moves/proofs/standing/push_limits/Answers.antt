@@ -1,4 +1,3 @@
-use Rattle.std.proofs.Common.{◌∷◌, [], ℕ}
 use Rattle.moves.proofs.RowLemmas.{rows_done, rows_next, rows_none}
 use Rattle.moves.specs.StandingRows.{before_row, limit_on}
 use Rattle.tables.specs.Roster.{privates}

@@ -1,7 +1,6 @@
 -- The rows of the items so far.
-use Rattle.std.proofs.Common.{◌≡◌, ◌∷◌, [], ◌++◌, map, take, flat_map, ℕ}
+use Rattle.std.proofs.Common.{◌≡◌, ◌++◌, map, take, flat_map}
 use Rattle.moves.specs.StandingRows.{before_row, limit_on}
-use Rattle.tables.specs.Roster.{privates}
 use Rattle.moves.proofs.standing.push_limits.Given as goal
 
 abbrev pub invariant-loop-private : goal.invariant-loop-private

@@ -1,7 +1,6 @@
 -- The rows of the items so far.
-use Rattle.std.proofs.Common.{◌≡◌, ◌∷◌, [], ◌++◌, map, take, flat_map, ℕ}
+use Rattle.std.proofs.Common.{◌≡◌, ◌++◌, map, take, flat_map}
 use Rattle.moves.specs.StandingRows.{standing_row, train_offer}
-use Rattle.tables.specs.Roster.{companies}
 use Rattle.moves.proofs.standing.push_offers_of_kind.Given as goal
 
 abbrev pub invariant-loop-buyer : goal.invariant-loop-buyer

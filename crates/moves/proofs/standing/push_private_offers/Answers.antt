@@ -1,4 +1,3 @@
-use Rattle.std.proofs.Common.{◌∷◌, [], ℕ}
 use Rattle.moves.proofs.RowLemmas.{rows_done, rows_next, rows_none}
 use Rattle.moves.specs.StandingRows.{private_offers, private_offers_of, standing_row}
 use Rattle.tables.specs.Roster.{privates}

@@ -1,7 +1,6 @@
 -- The rows of the items so far.
-use Rattle.std.proofs.Common.{◌≡◌, ◌∷◌, [], ◌++◌, map, take, flat_map, ℕ}
+use Rattle.std.proofs.Common.{◌≡◌, ◌++◌, map, take, flat_map}
 use Rattle.moves.specs.StandingRows.{private_offers_of, standing_row}
-use Rattle.tables.specs.Roster.{privates}
 use Rattle.moves.proofs.standing.push_private_offers.Given as goal
 
 abbrev pub invariant-loop-private : goal.invariant-loop-private

@@ -1,7 +1,6 @@
 -- The rows of the items so far.
-use Rattle.std.proofs.Common.{◌≡◌, ◌∷◌, [], ◌++◌, map, take, flat_map, ℕ}
+use Rattle.std.proofs.Common.{◌≡◌, ◌++◌, map, take, flat_map}
 use Rattle.moves.specs.StandingRows.{private_offer, standing_row}
-use Rattle.tables.specs.Roster.{companies}
 use Rattle.moves.proofs.standing.push_private_offers_of.Given as goal
 
 abbrev pub invariant-loop-buyer : goal.invariant-loop-buyer

@@ -1,7 +1,6 @@
 -- The rows of the items so far.
-use Rattle.std.proofs.Common.{◌≡◌, ◌∷◌, [], ◌++◌, map, take, flat_map, ℕ}
+use Rattle.std.proofs.Common.{◌≡◌, ◌++◌, map, take, flat_map}
 use Rattle.moves.specs.StandingRows.{standing_row, train_offers_of}
-use Rattle.tables.specs.Roster.{companies}
 use Rattle.moves.proofs.standing.push_train_offers.Given as goal
 
 abbrev pub invariant-loop-seller : goal.invariant-loop-seller

@@ -1,7 +1,6 @@
 -- The rows of the items so far.
-use Rattle.std.proofs.Common.{◌≡◌, ◌∷◌, [], ◌++◌, map, take, flat_map, ℕ}
+use Rattle.std.proofs.Common.{◌≡◌, ◌++◌, map, take, flat_map}
 use Rattle.moves.specs.StockRows.{orders_of, stock_row}
-use Rattle.tables.specs.Roster.{companies}
 use Rattle.moves.proofs.stock.push_companies.Given as goal
 
 abbrev pub invariant-loop-company : goal.invariant-loop-company

@@ -1,4 +1,3 @@
-use Rattle.std.proofs.Common.{◌∷◌, [], ℕ}
 use Rattle.moves.proofs.RowLemmas.{rows_done, rows_next, rows_none}
 use Rattle.moves.specs.StockRows.{numbers, orders_of_sale, stock_row}
 use Rattle.moves.proofs.stock.push_sales.Goals as goal

@@ -1,6 +1,6 @@
 -- The rows of the items so far.
-use Rattle.std.proofs.Common.{◌≡◌, ◌∷◌, [], ◌++◌, map, take, flat_map, ℕ}
-use Rattle.moves.specs.StockRows.{numbers, orders_of_sale, stock_row}
+use Rattle.std.proofs.Common.{◌≡◌, ◌++◌, map, take, flat_map}
+use Rattle.moves.specs.StockRows.{orders_of_sale, stock_row}
 use Rattle.moves.proofs.stock.push_sales.Given as goal
 
 abbrev pub invariant-loop-shares : goal.invariant-loop-shares

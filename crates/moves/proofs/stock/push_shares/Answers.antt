@@ -1,4 +1,4 @@
-use Rattle.std.proofs.Common.{◌∷◌, [], ℕ}
+use Rattle.std.proofs.Common.{◌∷◌, []}
 use Rattle.moves.proofs.RowLemmas.{rows_done, rows_next, rows_none}
 use Rattle.moves.specs.StockRows.{stock_row}
 use Rattle.moves.specs.Deals.{sources}

@@ -1,7 +1,6 @@
 -- The rows of the items so far.
-use Rattle.std.proofs.Common.{◌≡◌, ◌∷◌, [], ◌++◌, map, take, flat_map, ℕ}
+use Rattle.std.proofs.Common.{◌≡◌, ◌∷◌, [], ◌++◌, map, take, flat_map}
 use Rattle.moves.specs.StockRows.{stock_row}
-use Rattle.moves.specs.Deals.{sources}
 use Rattle.order_grammar.specs.declared.order.ShareSource.{ShareSource}
 use Rattle.order_grammar.specs.declared.order.Order.TheVariants.{BuyShare}
 use Rattle.moves.proofs.stock.push_shares.Given as goal

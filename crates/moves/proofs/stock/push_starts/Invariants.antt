@@ -2,7 +2,6 @@
 use Rattle.std.proofs.Common.{◌≡◌, ◌∷◌, [], ◌++◌, map, take, flat_map, ℕ}
 use Rattle.moves.specs.StockRows.{stock_row}
 use Rattle.order_grammar.specs.declared.order.Order.TheVariants.{Par}
-use Rattle.tables.specs.Chart.{par_values}
 use Rattle.moves.proofs.stock.push_starts.Given as goal
 
 abbrev pub invariant-loop-price : goal.invariant-loop-price
