@@ -1,9 +1,19 @@
 -- The turns of companies before a company's own, in a round that comes.
-use Rattle.std.proofs.Common.{◌≡◌, ℕ, ◌<◌, Bool, true, false, ◌||◌, ◌&&◌, List, [], ◌∷◌, ◌++◌, Some, refl, sym, subst}
-use Rattle.std.proofs.Common.{arith, is_some}
+use Rattle.std.proofs.Common.{◌≡◌, ℕ, ◌<◌, Bool, true, false, ◌||◌, ◌&&◌, List, [], ◌∷◌, ◌++◌, Option, Some, None}
+use Rattle.std.proofs.Common.{IfSome, refl, sym, ap, subst, ◌∙◌, arith, is_some}
+use Rattle.std.proofs.lemmas.Bool.Decides.{nat_tests}
 use Rattle.events.specs.declared.event.Event.{Event}
-use Rattle.foresight.specs.Ahead.{AheadState, HasTurn}
-use Rattle.foresight.specs.Draft.{file_of}
+use Rattle.foresight.specs.Ahead.{AheadState, HasTurn, drafted_in}
+use Rattle.foresight.specs.Draft.{file_of, orders_of}
+use Rattle.forced_purchase.specs.Raise.{raises_in}
+use Rattle.forced_purchase.specs.declared.operator.Operator.{Operator}
+use Rattle.operating.specs.CompanyOrders.{LinesLead}
+use Rattle.operating.specs.Turn.{begun}
+use Rattle.operating.specs.TurnState.{TurnState}
+use Rattle.purchases.specs.Discard.{is_president}
+use Rattle.sheets.specs.Part.{Numbered}
+use Rattle.tables.specs.declared.round.Round.{Round}
+use Rattle.tables.specs.declared.seat.Seat.{Seat}
 use Rattle.foresight.specs.Orders.{HaveTurns, OthersHaveTurns, is_among}
 use Rattle.market.specs.OperatingOrder.{IsOperatingOrder, next_company, operating_order_of}
 use Rattle.operating.specs.Laws.{CompanyOperates}
@@ -64,3 +74,28 @@ pub leaves_fewer : CompanyOperates → ((events : List Event) → IsOperatingOrd
 leaves_fewer operates ordered company old new is_next turn =
     turn_leaves_fewer operates ordered (file_of old.file (president_of old.game.events company) old.drafter) old.round
     company old.game new.game (record { is_next = is_next; turn = turn.turn })
+
+-- a seat that presides is at the table, if presidents are
+pub seat_leads : (president : Option Seat) (seat : Seat) (seats : ℕ) → is_president president seat ≡ true
+    → IfSome president (λ its. its.0 < seats) → seat.0 < seats
+seat_leads None seat seats leads there = absurd (cc)
+seat_leads (Some its) seat seats leads there = grind (arith, nat_tests, leads, there)
+
+-- what the orders that are looked at lead to, in the turn that has begun
+pub behind : (ahead : AheadState) (by old_by : Operator) (old_round : Round) (old new : TurnState) → old_by ≡ by
+    → old_round ≡ ahead.round → old ≡ begun ahead.game by.company
+    → LinesLead old_by old (orders_of ahead.file ahead.drafter old_round old_by) new
+    → LinesLead by (begun ahead.game by.company) (drafted_in ahead by) new
+behind ahead by old_by old_round old new its round there leads =
+    subst (λ (turn : TurnState). LinesLead by turn (drafted_in ahead by) new) there
+    (subst (λ (round : Round). LinesLead by old (orders_of ahead.file ahead.drafter round by) new) round
+    (subst (λ (by : Operator). LinesLead by old (orders_of ahead.file ahead.drafter old_round by) new) its leads))
+
+-- and the RAISE lines among them
+pub raised : (ahead : AheadState) (by old_by : Operator) (old_round : Round) (raises : List Numbered) → old_by ≡ by
+    → old_round ≡ ahead.round → raises ≡ raises_in (orders_of ahead.file ahead.drafter old_round old_by)
+    → raises ≡ raises_in (drafted_in ahead by)
+raised ahead by old_by old_round raises its round are =
+    are
+    ∙ ap (λ (by : Operator). raises_in (orders_of ahead.file ahead.drafter old_round by)) its
+    ∙ ap (λ (round : Round). raises_in (orders_of ahead.file ahead.drafter round by)) round

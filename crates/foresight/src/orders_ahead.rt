@@ -1,4 +1,4 @@
-ghost use Rattle.std.specs.Prelude.{◌≡◌, ◌↔◌, IfOk, IsTrue, OnOk};
+ghost use Rattle.std.specs.Prelude.{◌≡◌, ◌↔◌, IfOk, IsTrue};
 ghost use Rattle.board_state.specs.MapState.{position_of};
 ghost use Rattle.foresight.specs.Ahead.{HasEnded, withheld_in};
 ghost use Rattle.history.specs.Sound.{IsSound};
@@ -16,6 +16,7 @@ use operating::CompanyTurn;
 use sheets::Sheets;
 use std::alloc::{AllocError, Global};
 use std::marker::Model;
+use tables::Round;
 
 /// A company's turn in an operating round that comes, at the head of its orders, or behind those
 /// that are looked at.
@@ -23,6 +24,7 @@ use std::marker::Model;
 pub struct OrdersAhead<'a> {
     pub(crate) alloc: Global,
     pub(crate) draft: Draft<'a>,
+    pub(crate) round: Round,
     pub(crate) turn: CompanyTurn,
     /// The RAISE lines of the orders so far, which are ruled at the end of the turn.
     pub(crate) raises: Vec<HeldRaise>,
@@ -41,7 +43,7 @@ impl<'a> Model for OrdersAhead<'a> {
     ghost view = { λ orders. record {
       file = orders.draft.sheets.now;
       drafter = orders.draft.drafter;
-      round = orders.turn.round;
+      round = orders.round;
       by = orders.turn.by;
       turn = state orders.turn;
       raises = orders.raises.items;
@@ -83,33 +85,77 @@ impl<'a> OrdersAhead<'a> {
         self.turn.asker()
     }
 
-    /// Withholds what the company earned, if its turn is not past its pay: so it does before it buys
-    /// a train. Fails only if allocation fails.
-    pub fn withhold_if_unpaid(&mut self) -> Result<(), AllocError>
-        ensures { OnOk result (self.new ≡ withheld_in self.old) }
+    /// Returns the turn once the company has withheld what it earned, if the turn was not past its
+    /// pay: so it does before it buys a train. Fails only if allocation fails.
+    pub fn withheld(self) -> Result<OrdersAhead<'a>, AllocError>
+        ensures { IfOk result (λ orders. orders ≡ withheld_in self.entry) }
     {
-        self.turn.withhold_if_unpaid()
+        let OrdersAhead {
+            alloc,
+            draft,
+            round,
+            mut turn,
+            raises,
+        } = self;
+        turn.withhold_if_unpaid()?;
+        Ok(OrdersAhead {
+            alloc,
+            draft,
+            round,
+            turn,
+            raises,
+        })
     }
 
-    /// Returns whether the company must buy a train if its turn ends as it stands: it has none, and
-    /// could run one. Fails only if allocation fails.
-    pub fn must_buy(&mut self) -> Result<bool, AllocError>
-        ensures due { IfOk result (λ due. IsTrue due
-            ↔ IsDue self.old.turn.game self.old.by.company) }
-        ensures same { OnOk result (self.new ≡ self.old) }
+    /// Returns the turn, and whether the company must buy a train if it ends as it stands: the
+    /// company has none, and could run one. Fails only if allocation fails.
+    pub fn must_buy(self) -> Result<(OrdersAhead<'a>, bool), AllocError>
+        ensures due { IfOk result (λ found. IsTrue found.1
+            ↔ IsDue self.entry.turn.game self.entry.by.company) }
+        ensures same { IfOk result (λ found. found.0 ≡ self.entry) }
     {
-        self.turn.must_buy()
+        let OrdersAhead {
+            alloc,
+            draft,
+            round,
+            mut turn,
+            raises,
+        } = self;
+        let due = turn.must_buy()?;
+        let orders = OrdersAhead {
+            alloc,
+            draft,
+            round,
+            turn,
+            raises,
+        };
+        Ok((orders, due))
     }
 
-    /// Returns whether the company could run a train of kind 2, if it had one. Fails only if
-    /// allocation fails.
-    pub fn could_run(&mut self) -> Result<bool, AllocError>
-        ensures could { IfOk result (λ could. IsTrue could
-            ↔ CanRun (position_of (map_state_now self.old.turn.game.events))
-            self.old.by.company) }
-        ensures same { OnOk result (self.new ≡ self.old) }
+    /// Returns the turn, and whether the company could run a train of kind 2, if it had one. Fails
+    /// only if allocation fails.
+    pub fn could_run(self) -> Result<(OrdersAhead<'a>, bool), AllocError>
+        ensures could { IfOk result (λ found. IsTrue found.1
+            ↔ CanRun (position_of (map_state_now self.entry.turn.game.events))
+            self.entry.by.company) }
+        ensures same { IfOk result (λ found. found.0 ≡ self.entry) }
     {
-        self.turn.could_run()
+        let OrdersAhead {
+            alloc,
+            draft,
+            round,
+            mut turn,
+            raises,
+        } = self;
+        let could = turn.could_run()?;
+        let orders = OrdersAhead {
+            alloc,
+            draft,
+            round,
+            turn,
+            raises,
+        };
+        Ok((orders, could))
     }
 
     /// Ends the turn: the company withholds if it has neither paid nor withheld, and buys a train if
@@ -122,10 +168,10 @@ impl<'a> OrdersAhead<'a> {
         let OrdersAhead {
             alloc,
             draft,
+            round,
             turn,
             raises,
         } = self;
-        let round = turn.round;
         let game = turn.finish(raises)?;
         Ok(RoundAhead {
             alloc,

@@ -150,6 +150,7 @@ impl<'a> RoundAhead<'a> {
         Ok(OrdersAhead {
             alloc,
             draft,
+            round,
             turn,
             raises,
         })
