@@ -1,5 +1,5 @@
 -- The turns of companies before a company's own, in a round that comes.
-use Rattle.std.proofs.Common.{◌≡◌, ℕ, ◌<◌, Bool, true, false, ◌||◌, ◌&&◌, List, [], ◌∷◌, ◌++◌, Option, Some, None}
+use Rattle.std.proofs.Common.{◌≡◌, ℕ, ◌<◌, Bool, true, false, ◌&&◌, List, [], ◌∷◌, ◌++◌, Option, Some, None}
 use Rattle.std.proofs.Common.{IfSome, refl, sym, ap, subst, ◌∙◌, arith, is_some}
 use Rattle.std.proofs.lemmas.Bool.Decides.{nat_tests}
 use Rattle.events.specs.declared.event.Event.{Event}
@@ -17,7 +17,7 @@ use Rattle.tables.specs.declared.seat.Seat.{Seat}
 use Rattle.foresight.specs.Orders.{HaveTurns, OthersHaveTurns, is_among}
 use Rattle.market.specs.OperatingOrder.{IsOperatingOrder, next_company, operating_order_of}
 use Rattle.operating.specs.Laws.{CompanyOperates}
-use Rattle.rounds.proofs.CompanyTurns.{idle_of, next_is_idle, turn_leaves_fewer}
+use Rattle.foresight.proofs.Idle.{fewer_idle, idle_of, next_is_idle}
 use Rattle.tables.specs.Roster.{same_company}
 use Rattle.tables.specs.declared.roster.Company.{Company}
 use Rattle.totals.specs.Shares.{is_floated, president_of, square_of}
@@ -26,13 +26,12 @@ use Rattle.totals.specs.Shares.{is_floated, president_of, square_of}
 one_more_turn : (companies : List Company) (company : Company) (old mid new : AheadState)
     → HaveTurns companies old mid → next_company mid.game.events ≡ Some company → HasTurn company mid new
     → HaveTurns (companies ++ company ∷ []) old new
-one_more_turn [] company old mid new turns is_next turn =
-    (
-      new,
-      subst (λ (ahead : AheadState). next_company ahead.game.events ≡ Some company) (sym turns) is_next,
-      subst (λ (ahead : AheadState). HasTurn company ahead new) (sym turns) turn,
-      refl,
-    )
+one_more_turn [] company old mid new turns is_next turn = (
+  new,
+  subst (λ (ahead : AheadState). next_company ahead.game.events ≡ Some company) (sym turns) is_next,
+  subst (λ (ahead : AheadState). HasTurn company ahead new) (sym turns) turn,
+  refl,
+)
 one_more_turn (first ∷ others) company old mid new turns is_next turn =
     (turns.0, turns.1, turns.2, one_more_turn others company turns.0 mid new turns.3 is_next turn)
 
@@ -72,8 +71,10 @@ pub leaves_fewer : CompanyOperates → ((events : List Event) → IsOperatingOrd
     → (company : Company) (old new : AheadState) → next_company old.game.events ≡ Some company
     → HasTurn company old new → idle_of new.game.events < idle_of old.game.events
 leaves_fewer operates ordered company old new is_next turn =
-    turn_leaves_fewer operates ordered (file_of old.file (president_of old.game.events company) old.drafter) old.round
-    company old.game new.game (record { is_next = is_next; turn = turn.turn })
+    fewer_idle company old.game.events new.game.events
+    (operates (file_of old.file (president_of old.game.events company) old.drafter) old.round company old.game
+    new.game turn.turn)
+    (next_is_idle ordered old.game.events company is_next).1
 
 -- a seat that presides is at the table, if presidents are
 pub seat_leads : (president : Option Seat) (seat : Seat) (seats : ℕ) → is_president president seat ≡ true

@@ -4,7 +4,6 @@ use Rattle.std.specs.Prelude.{◌≡◌, ℕ, List, Option}
 use Rattle.forced_purchase.specs.Raise.{raises_in}
 use Rattle.forced_purchase.specs.declared.operator.Operator.{Operator}
 use Rattle.foresight.specs.Draft.{file_of, opened_ahead, orders_of}
-use Rattle.market.specs.OperatingOrder.{next_company}
 use Rattle.operating.specs.CompanyOrders.{LinesLead}
 use Rattle.operating.specs.Pay.{withheld_if_unpaid}
 use Rattle.operating.specs.Turn.{IsCompanyTurn, begun}

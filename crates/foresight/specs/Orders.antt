@@ -1,10 +1,9 @@
 -- A company at the head of its orders in an operating round that comes: the privates have paid, each company before it has
 -- had its turn, and its home token lies. It is what play comes to if nobody has orders, or only one player has.
-use Rattle.std.specs.Prelude.{◌≡◌, ℕ, Bool, false, ◌||◌, List, [], ◌∷◌, Option, Some, None, ⊥}
-use Rattle.foresight.specs.Ahead.{AheadState, HasTurn, IsBehindDraft, opened_state}
+use Rattle.std.specs.Prelude.{◌≡◌, Bool, false, ◌||◌, List, [], ◌∷◌, Some, None}
+use Rattle.foresight.specs.Ahead.{AheadState, HasTurn, IsBehindDraft}
 use Rattle.foresight.specs.declared.round_ahead.Ahead.{Ahead}
-use Rattle.foresight.specs.declared.round_ahead.Ahead.TheVariants as ahead
-use Rattle.forced_purchase.specs.declared.operator.Operator.{Operator}
+use Rattle.foresight.specs.declared.round_ahead.Ahead.TheVariants.{AtOrders, NoPresident, NoTurn}
 use Rattle.market.specs.OperatingOrder.{next_company}
 use Rattle.tables.specs.Roster.{same_company}
 use Rattle.tables.specs.declared.roster.Company.{Company}
@@ -32,11 +31,11 @@ pub record OthersHaveTurns (company : Company) (old new : AheadState) : Type 0 w
 -- a company that comes next, by its president, if it has one: it is at the head of its orders, or behind those that are
 -- looked at
 abbrev pub IsLed : Company → AheadState → Ahead → Type 0
-IsLed company ahead (ahead.AtOrders orders) =
+IsLed company ahead (AtOrders orders) =
     (president : Seat) × (president_of ahead.game.events company ≡ Some president)
     × IsBehindDraft ahead (record { company = company; president = president }) orders
-IsLed company ahead ahead.NoPresident = president_of ahead.game.events company ≡ None
-IsLed company ahead ahead.NoTurn = ⊥
+IsLed company ahead NoPresident = president_of ahead.game.events company ≡ None
+IsLed company ahead NoTurn = ⊥
 
 -- other companies have had their turns, and this one comes next
 pub record ComesToOrders (company : Company) (opened : AheadState) (found : Ahead) : Type 0 where
@@ -53,5 +52,5 @@ pub record HasNoTurn (company : Company) (opened : AheadState) : Type 0 where
 
 -- how a company fares in a round that comes
 abbrev pub IsAhead : Company → AheadState → Ahead → Type 0
-IsAhead company opened ahead.NoTurn = HasNoTurn company opened
+IsAhead company opened NoTurn = HasNoTurn company opened
 IsAhead company opened found = ComesToOrders company opened found

@@ -64,7 +64,7 @@ impl<'a> RoundAhead<'a> {
         requires sound { IsSound history }
         requires seats { history.seats ≡ length (players_of draft.sheets.now) }
         ensures { IfOk result (λ ahead. ahead
-            ≡ opened_state draft.sheets.now draft.drafter round history) }
+            ≡ opened_state draft.entry.sheets.now draft.entry.drafter round history) }
     {
         let mut history = history;
         draft.open(&mut history, round)?;
@@ -199,7 +199,7 @@ fn played(
     requires laid { IsLaidOut game }
     requires seats { game.history.seats ≡ length (players_of draft.sheets.now) }
     ensures turn { IfOk result (λ next.
-        IsCompanyTurn draft.sheets.now round company game.history next.history) }
+        IsCompanyTurn draft.entry.sheets.now round company game.history next.history) }
     ensures seats { IfOk result (λ next. next.history.seats ≡ game.history.seats) }
     ensures laid { IfOk result IsLaidOut }
 {

@@ -16,11 +16,12 @@ pub fn at_turn(history: History, round: Round, seat: Seat) -> Result<History, Al
     ensures { IfOk result (λ new. IsAtTurn round seat history new) }
 {
     let mut history = history;
+    let seats = history.seats();
     let mut next = history.now().priority();
     history.record_event(Event::Round(round))?;
-    while next != seat {
+    while next.index() != seat.index() {
         history.record_event(Event::Passes(next))?;
-        next = next.left(history.seats());
+        next = next.left(seats);
     }
     Ok(history)
 }

@@ -1,11 +1,8 @@
-use Rattle.std.proofs.Common.{◌≡◌, ◌<◌, ◌≤◌, ℕ, ◌+◌, ◌-◌, if◌then◌else◌, nat_le}
+use Rattle.std.proofs.Common.{◌≡◌, ◌<◌, ◌+◌, ℕ}
+use Rattle.foresight.proofs.Passing.{distance}
 use Rattle.foresight.specs.Turn.{passed_ahead, seat_after}
 use Rattle.history.specs.Sound.{IsSound}
 use Rattle.foresight.proofs.turn_ahead.at_turn.Given as goal
-
--- how many seats pass from one to another, to the left
-abbrev distance : ℕ → ℕ → ℕ → ℕ
-distance seats next seat = if nat_le next seat then seat - next else seats - next + seat
 
 -- this many have passed, and with those to come they are fewer than there are seats
 abbrev pub invariant-loop-seat : goal.invariant-loop-seat
