@@ -6,16 +6,15 @@ ghost use Rattle.desk_may.specs.SheetLines.{turn_lines, turn_rows};
 ghost use Rattle.history.specs.Sound.{IsSound};
 ghost use Rattle.sheets.specs.File.{players_of};
 
+use crate::offerers::{Presidents, may_offer, presidents};
 use crate::row_lines::push_rows;
 use certs::{Sale, market_price};
 use desk_base::Piece::Words;
 use desk_base::fill;
 use forced_purchase::{Operator, raise_rule};
 use foresight::{Draft, OrdersAhead, RoundAhead};
-use history::{History, Shareholder};
-use moves::{
-    Answer, Row, opening_rows, private_rows, standing_rows, stock_rows, train_rows,
-};
+use history::{History, Refusal, Shareholder, TrainRule};
+use moves::{Answer, Row, opening_rows, private_rows, standing_rows, stock_rows, train_rows};
 use order_grammar::Order;
 use sheets::Sheets;
 use std::alloc::{AllocError, Global};
@@ -72,6 +71,7 @@ pub fn push_lines_of_operating(
 {
     let standing = standing_rows(alloc, &history, seat, round)?;
     push_rows(out, draft.sheets, standing.as_slice())?;
+    let offerers = presidents(&history);
     let mut ahead = RoundAhead::open(alloc, history, draft, round)?;
     for _ in 0..COMPANIES {
         let Some(company) = ahead.next_company() else {
@@ -80,7 +80,7 @@ pub fn push_lines_of_operating(
         ahead = if ahead.is_led_by(company, seat) {
             let president = seat;
             let orders = ahead.turn_of(Operator { company, president })?;
-            push_orders(alloc, out, orders)?
+            push_orders(alloc, out, orders, &offerers)?
         } else {
             ahead.take_turn(company)?
         };
@@ -94,31 +94,41 @@ fn push_orders<'a>(
     alloc: Global,
     out: &mut Vec<u8>,
     orders: OrdersAhead<'a>,
+    offerers: &Presidents,
 ) -> Result<RoundAhead<'a>, AllocError> {
-    let mut orders = orders;
     let company = orders.by().company;
     fill(out, "COMPANY %\n", &[Words(company.code())])?;
     let privates = private_rows(alloc, orders.history(), company)?;
     // A company withholds before it buys a train.
-    orders.withhold_if_unpaid()?;
+    let (orders, due) = orders.withheld()?.must_buy()?;
     let trains = train_rows(alloc, orders.history(), company)?;
+    let trains = as_offered(alloc, trains.as_slice(), offerers)?;
     push_rows(out, orders.sheets(), trains.as_slice())?;
     push_rows(out, orders.sheets(), privates.as_slice())?;
-    push_raises(alloc, out, &mut orders)?;
+    if due {
+        let raises = raise_rows(alloc, orders.history(), orders.by())?;
+        push_rows(out, orders.sheets(), raises.as_slice())?;
+    }
     orders.finish()
 }
 
-/// Adds the RAISE lines of a train that a company must buy at the end of its turn.
-fn push_raises(
-    alloc: Global,
-    out: &mut Vec<u8>,
-    orders: &mut OrdersAhead,
-) -> Result<(), AllocError> {
-    if !orders.must_buy()? {
-        return Ok(());
+/// Returns rows in which no train needs an offer that comes too late. An OFFER is ruled as the round
+/// begins: whoever presides over the seller since then has no offer that is obeyed.
+fn as_offered(alloc: Global, rows: &[Row], offerers: &Presidents) -> Result<Vec<Row>, AllocError> {
+    let mut offered = Vec::new(alloc);
+    for row in rows {
+        let answer = match row.answer {
+            Answer::WithConsent { giver, offer, .. } if !may_offer(offerers, giver, offer) => {
+                Answer::Refused(Refusal::Train(TrainRule::NoConsent))
+            }
+            answer => answer,
+        };
+        offered.push(Row {
+            order: row.order.duplicate(),
+            answer,
+        })?;
     }
-    let rows = raise_rows(alloc, orders.history(), orders.by())?;
-    push_rows(out, orders.sheets(), rows.as_slice())
+    Ok(offered)
 }
 
 /// Returns the RAISE lines of a president whose company must buy a train, of one share to all that

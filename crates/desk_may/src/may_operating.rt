@@ -6,6 +6,7 @@ ghost use Rattle.sheets.specs.File.{players_of};
 
 use crate::may_line::{push_may, push_may_not, push_note_column};
 use crate::must_buy::push_end_of_turn;
+use crate::offerers::{Presidents, presidents};
 use crate::until_then::push_until_then;
 use desk_base::Piece::{Bytes, Column, Count, Number, Words};
 use desk_base::{fill, push};
@@ -24,6 +25,8 @@ use tables::{COMPANIES, Company, Kind, Money, Private, Round, Seat, face, limit}
 #[derive(Clone, Copy)]
 struct Buyer<'a> {
     alloc: Global,
+    /// Who presided as the round began.
+    offerers: &'a Presidents,
     sheets: &'a Sheets<'a>,
     history: &'a History,
     by: Operator,
@@ -44,6 +47,7 @@ pub fn push_of_operating(
     requires seats { history.seats ≡ length (players_of draft.sheets.now) }
 {
     let from = history.events().len();
+    let offerers = presidents(&history);
     let mut ahead = RoundAhead::open(alloc, history, draft, round)?;
     for _ in 0..COMPANIES {
         let Some(company) = ahead.next_company() else {
@@ -52,7 +56,7 @@ pub fn push_of_operating(
         ahead = if ahead.is_led_by(company, seat) {
             let president = seat;
             let orders = ahead.turn_of(Operator { company, president })?;
-            push_turn(alloc, out, orders, from)?
+            push_turn(alloc, out, orders, &offerers, from)?
         } else {
             ahead.take_turn(company)?
         };
@@ -78,27 +82,28 @@ fn push_turn<'a>(
     alloc: Global,
     out: &mut Vec<u8>,
     orders: OrdersAhead<'a>,
+    offerers: &Presidents,
     from: usize,
 ) -> Result<RoundAhead<'a>, AllocError> {
-    let mut orders = orders;
     let mut privates = Vec::new(alloc);
     let company = orders.by().company;
-    let buyer = Buyer::of(alloc, &orders);
+    let buyer = Buyer::of(alloc, &orders, offerers);
     buyer.push_heading(out)?;
     push_until_then(alloc, out, buyer.sheets, buyer.history, from, Some(company))?;
     buyer.push_privates(&mut privates)?;
     // A company withholds before it buys a train.
-    orders.withhold_if_unpaid()?;
-    Buyer::of(alloc, &orders).push_trains(out)?;
+    let orders = orders.withheld()?;
+    Buyer::of(alloc, &orders, offerers).push_trains(out)?;
     push(out, &[Bytes(privates.as_slice())])?;
     push_end_of_turn(alloc, out, orders)
 }
 
 impl<'a> Buyer<'a> {
     /// Returns the company whose turn this is.
-    fn of(alloc: Global, orders: &'a OrdersAhead) -> Buyer<'a> {
+    fn of(alloc: Global, orders: &'a OrdersAhead, offerers: &'a Presidents) -> Buyer<'a> {
         Buyer {
             alloc,
+            offerers,
             sheets: orders.sheets(),
             history: orders.history(),
             by: orders.by(),
@@ -111,9 +116,21 @@ impl Buyer<'_> {
     fn push_trains(self, out: &mut Vec<u8>) -> Result<(), AllocError> {
         let trains = trains(self.alloc, self.history, self.by.company)?;
         for train in &trains {
-            self.push_train(out, *train)?;
+            if self.may_have(train.what) {
+                self.push_train(out, *train)?;
+            }
         }
         self.push_trains_not_bought(out, trains.as_slice())
+    }
+
+    /// Returns whether a train may be had: of another's company it may if its president presided as
+    /// the round began, since an offer is ruled then.
+    fn may_have(self, purchase: TrainPurchase) -> bool {
+        let TrainSeller::Company(seller) = purchase.from else {
+            return true;
+        };
+        let president = self.history.now().president(seller);
+        president == Some(self.by.president) || president == self.offerers[seller.index()]
     }
 
     /// Adds the privates that the company may buy, and those that it may not.

@@ -5,8 +5,8 @@ use crate::may_line::push_may;
 use certs::{Sale, market_price};
 use desk_base::Piece::{Bytes, Column, Number, Words};
 use desk_base::{fill, push};
-use foresight::{OrdersAhead, RoundAhead};
 use forced_purchase::{Operator, cheapest, falls_short, lack, sale_rule};
+use foresight::{OrdersAhead, RoundAhead};
 use history::{History, Party, Shareholder, TrainSeller};
 use order_grammar::Order;
 use report::{name, push_event};
@@ -24,12 +24,10 @@ pub fn push_end_of_turn<'a>(
     out: &mut Vec<u8>,
     orders: OrdersAhead<'a>,
 ) -> Result<RoundAhead<'a>, AllocError> {
-    let mut orders = orders;
     let sheets = orders.sheets();
-    orders.withhold_if_unpaid()?;
-    if !orders.must_buy()? {
-        push_if_sold(out, &mut orders)?;
-        return orders.finish();
+    let (orders, due) = orders.withheld()?.must_buy()?;
+    if !due {
+        return push_if_sold(out, orders)?.finish();
     }
     push_purchase(out, sheets, orders.history(), orders.by())?;
     let from = orders.history().events().len();
@@ -38,15 +36,21 @@ pub fn push_end_of_turn<'a>(
     Ok(ahead)
 }
 
-/// Adds what a company must buy that has one train left, if that is sold.
-fn push_if_sold(out: &mut Vec<u8>, orders: &mut OrdersAhead) -> Result<(), AllocError> {
+/// Adds what a company must buy that has one train left, if that is sold. Returns its turn.
+fn push_if_sold<'a>(
+    out: &mut Vec<u8>,
+    orders: OrdersAhead<'a>,
+) -> Result<OrdersAhead<'a>, AllocError> {
     let by = orders.by();
-    let count = orders.history().now().train_count(Some(by.company));
-    if count != 1 || !orders.could_run()? {
-        return Ok(());
+    if orders.history().now().train_count(Some(by.company)) != 1 {
+        return Ok(orders);
     }
-    push_cost(out, orders.history(), by, "IF IT SELLS IT", "")?;
-    push_president(out, orders.sheets(), orders.history(), by)
+    let (orders, could) = orders.could_run()?;
+    if could {
+        push_cost(out, orders.history(), by, "IF IT SELLS IT", "")?;
+        push_president(out, orders.sheets(), orders.history(), by)?;
+    }
+    Ok(orders)
 }
 
 /// Adds what a company must buy, and who pays for it.
@@ -75,8 +79,8 @@ fn push_cost(
     out: &mut Vec<u8>,
     history: &History,
     by: Operator,
-    label: &str,
-    when: &str,
+    label: &'static str,
+    when: &'static str,
 ) -> Result<(), AllocError> {
     let purchase = cheapest(&history.now());
     let seller = match purchase.from {
