@@ -1,17 +1,19 @@
 # The part `desk`: what the umpire's desk writes of games.
 
 # play_desk_text TEXT: the text is what a word of the desk writes. The words and the game of games/ stand in NAME.words; where there
-# is no such file, the name begins with the word, and goes on with the game, unless its order file is NAME.orders.
+# is no such file, the name begins with the word, and goes on with the game, unless its order file is NAME.orders. NAME.said is the
+# line on standard error, where there is one.
 play_desk_text() {
-  local name=${1%.text} words orders status=0
+  local name=${1%.text} words orders status=0 said=none
   words=${name##*/} words=${words%%-*}
   orders=${name##*/} orders=games/${orders#"$words"-}.orders
   [ ! -f "$name.orders" ] || orders=$name.orders
   [ ! -f "$name.words" ] || { read -r orders words < "$name.words" && orders=games/$orders.orders; }
   [ ! -f "$name.status" ] || status=$(< "$name.status")
+  [ ! -f "$name.said" ] || said=$(< "$name.said")
   # shellcheck disable=SC2086
   "$desk" $words < "$orders" > "$scratch/out" 2> "$scratch/err"
-  judge "$name" $? "$status" "$1" none
+  judge "$name" $? "$status" "$1" "$said"
 }
 
 # explain_codes FILE: of each code, in lower case and between spaces, the desk says what the table of that document says, and names a
@@ -136,17 +138,45 @@ play_session() {
 # try_damaged N: each word of the desk on so many damaged files.
 try_damaged() { take_over bench/damaged "$1" "$desk" "$program"; }
 
-# moves_games: ten games with operating rounds, of which each listed lay and token is tried.
+# moves_games: ten games of which each row is tried that the desk lists before the last rounds: openings with bids and limits, stock
+# rounds of three and of six, brown shares, privates and their lays, consents, and trains that must be bought, by
+# RAISE and in vain.
 moves_games() {
   local name
-  for name in a-city-by-dh a-train-by-offer arrival conditions dh-for-a-company first-dividend gift three-companies-build \
-    three-presidents-deal two-lays-by-cs; do
+  for name in auctions-of-two-rounds stock-round-of-six first-dividend codes/S13-several-in-the-brown-zone dh-for-a-company \
+    three-presidents-deal codes/I1-RAISE-that-is-needed a-4-for-pennsylvania a-president-is-bankrupt \
+    desk/may-buy-a-private-that-privates-pay; do
     echo "games/$name.orders"
   done
 }
 
-# try_moves DESK GAME..: what that desk lists as lays and tokens is obeyed, and nothing else, before the last operating round of games.
-try_moves() { take_over bench/moves -p "$program" -d "$1" -r 1 "${@:2}"; }
+# try_moves DESK ROUNDS LINES GAME..: before the last rounds of games, so many of each, each row that this desk lists is ruled as it
+# says, and of each company so many other lays and tokens are refused.
+try_moves() { take_over bench/moves -p "$program" -d "$1" -r "$2" -n "$3" "${@:4}"; }
+
+# desk_but SCRIPT: makes a desk whose lines a script of sed changes, and prints its path.
+desk_but() {
+  local listed=$scratch/listed.\$\$
+  stub "'$desk' \"\$@\" > $listed; status=\$?; sed '$1' $listed; rm $listed; exit \$status"
+}
+
+# moves_must_fail: what is wrong by intent. Of games/first-round three players may buy CS for 40, and not DH. In
+# games/first-stock-round PRR may lay 57 on H10 in OR1.1. Before OR4.1 of the third game PRR may place a token in H10, and PRR, or BO at
+# either price, buy DH if BOB offers it.
+moves_must_fail() {
+  local opening=games/first-round.orders first=games/first-stock-round.orders
+  local later=games/desk/may-buy-a-private-that-privates-pay.orders
+  sees 'a row with another code' 3 try_moves "$(desk_but 's/^BUY DH    A3$/BUY DH    A7/')" 1 600 "$opening"
+  sees 'a row with another price' 3 try_moves "$(desk_but 's/^BUY CS    OK 40$/BUY CS    OK 45/')" 1 600 "$opening"
+  sees 'a refused row that is told as obeyed' 3 try_moves "$(desk_but 's/^BUY DH    A3$/BUY DH    OK 70/')" 1 600 "$opening"
+  sees 'an obeyed row that is told as refused' 3 try_moves "$(desk_but 's/^BUY CS    OK 40$/BUY CS    A3/')" 1 600 "$opening"
+  sees 'a desk that lists nothing' all try_moves "$(stub 'exit 0')" 1 600 "$opening"
+  sees 'lays before a stock round' 1 try_moves "$(stub "[ \$1 != lays ] || exit 0; exec '$desk' \"\$@\"")" 1 600 "$opening"
+  sees 'a lay that is listed and not obeyed' 1 try_moves "$(desk_but 's/^LAY 57 H10 1 /LAY 57 H12 1 /')" 1 600 "$first"
+  sees 'a lay with another price' 1 try_moves "$(desk_but 's/^LAY 57 H10 1    0$/LAY 57 H10 1    80/')" 1 600 "$first"
+  sees 'a token that is not listed' 1 try_moves "$(desk_but '/^TOKEN H10.0 /d')" 1 600 "$later"
+  sees 'the consent of another player' 3 try_moves "$(desk_but 's/ BOB OFFER PRIVATE DH / CYD OFFER PRIVATE DH /')" 1 600 "$later"
+}
 
 # formats: the document that has the table of the codes.
 formats() { echo docs/players/formats.md; }
@@ -164,7 +194,7 @@ check_desk() {
   fi
   try_damaged 100
   # shellcheck disable=SC2046
-  try_moves "$desk" $(moves_games)
+  try_moves "$desk" 3 2000 $(moves_games)
   side_by_side play_rounds games/*.orders
   side_by_side play_runs games/*.orders games/certificates/certs-*.orders
   has_best games/best-run-of-two-trains.orders || count 'the best runs, written out' 'there are none'
@@ -187,8 +217,7 @@ desk_must_fail() {
   sees 'a table that lacks a code' 1 look_at_codes "$wrong/formats.md"
   cp "games/$it.orders" "$wrong" && sed 's/^ROUND.*/&./' "games/$it.report" > "$wrong/$it.report"
   sees 'a round that is not as in the report' 1 play_rounds "$wrong/$it.orders"
-  sees 'lays that are not listed' all try_moves "$(stub 'exit 0')" games/first-dividend.orders
-  sees 'a lay that is listed and not obeyed' all try_moves "$(stub "echo 'LAY 1 H12 0    0'")" games/two-lays-by-cs.orders
+  moves_must_fail
   desk=$(stub 'exit 5')
   sees 'runs that are not written out' 1 play_runs "games/$it.orders"
   sees 'a word with a status that it may not have' 1 try_every_word "games/$it.orders"
