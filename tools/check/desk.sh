@@ -170,6 +170,7 @@ moves_must_fail() {
   sees 'a row with another price' 3 try_moves "$(desk_but 's/^BUY CS    OK 40$/BUY CS    OK 45/')" 1 600 "$opening"
   sees 'a refused row that is told as obeyed' 3 try_moves "$(desk_but 's/^BUY DH    A3$/BUY DH    OK 70/')" 1 600 "$opening"
   sees 'an obeyed row that is told as refused' 3 try_moves "$(desk_but 's/^BUY CS    OK 40$/BUY CS    A3/')" 1 600 "$opening"
+  sees 'another turn before' 1 try_moves "$(desk_but 's/^\(BEFORE .*\) BOB$/\1 ANN/')" 1 600 "$opening"
   sees 'a desk that lists nothing' all try_moves "$(stub 'exit 0')" 1 600 "$opening"
   sees 'lays before a stock round' 1 try_moves "$(stub "[ \$1 != lays ] || exit 0; exec '$desk' \"\$@\"")" 1 600 "$opening"
   sees 'a lay that is listed and not obeyed' 1 try_moves "$(desk_but 's/^LAY 57 H10 1 /LAY 57 H12 1 /')" 1 600 "$first"
