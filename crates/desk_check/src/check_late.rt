@@ -1,5 +1,6 @@
 //! Sheets that replace others: whether the round was played, and how the game has changed since.
 ghost use Rattle.std.specs.Prelude.{◌≡◌, ℕ, ◌++◌, IfOk, List, OnOk, Some};
+ghost use Rattle.rounds.specs.Play.{IsTheGame};
 ghost use Rattle.desk_check.specs.Heads.{AreKept};
 ghost use Rattle.desk_check.specs.Replaced.{AddsReplaced, before, findings_of, lateness_of};
 ghost use Rattle.desk_check.specs.Replaced.{standing_of, turning_of};
@@ -7,7 +8,8 @@ ghost use Rattle.desk_check.specs.RoundsPlayed.{AppliesEvent, AreRoundsOf, line_
 ghost use Rattle.desk_check.specs.SheetLines.{is_under};
 ghost use Rattle.std.specs.List.{flat_map};
 
-use crate::check_found::{Found, Lateness, Matter, Standing};
+use crate::check_changed::first_changed;
+use crate::check_found::{Change, Found, Lateness, Matter, Standing};
 use crate::check_sheets::{Head, Heads};
 use history::Event;
 use rounds::{Game, play};
@@ -75,7 +77,7 @@ fn is_under(line: Option<usize>, number: usize) -> bool
 }
 
 /// Returns how far a game has come.
-fn standing_of(game: &Game) -> Standing
+pub(crate) fn standing_of(game: &Game) -> Standing
     ensures { result ≡ standing_of game.now }
 {
     Standing {
@@ -93,6 +95,8 @@ struct Turn {
     rounds: Rounds,
     /// How far it had come.
     standing: Standing,
+    /// The first of them of which the report is another now.
+    changed: Option<Round>,
 }
 
 /// Finds the sheets that replace others, and whether their round was played by then. At the line
@@ -111,12 +115,12 @@ pub(crate) fn find_replaced<'a>(
         found.old.findings.items found.new.findings.items) }
 {
     let now = standing_of(game);
-    let Some(head) = turning_head(heads, rounds) else {
+    let Some(head) = turning_head(heads, rounds, found.from) else {
         return add_replaced(heads, rounds, &None, now, found);
     };
     let length = file.len().saturating_sub(head.line.from.len());
     match collect(alloc, &file[..length]) {
-        Ok(sheets) => add_turned(alloc, &sheets, heads, &head, rounds, now, found),
+        Ok(sheets) => add_turned(alloc, &sheets, heads, &head, rounds, game, found),
         // An allocation failed: passed on.
         Err(FileFault::Memory) => Err(AllocError),
         Err(_) => add_replaced(heads, rounds, &None, now, found),
@@ -131,7 +135,7 @@ fn add_turned<'a>(
     heads: &Heads<'a>,
     head: &Head<'a>,
     rounds: &Rounds,
-    now: Standing,
+    now: &Game,
     found: &mut Found<'a>,
 ) -> Result<(), AllocError>
     requires { AreKept heads.now }
@@ -145,8 +149,9 @@ fn add_turned<'a>(
         line: head.line.number,
         rounds: Rounds::of(alloc, heads, &game)?,
         standing: standing_of(&game),
+        changed: first_changed(alloc, &game, now)?,
     });
-    add_replaced(heads, rounds, &turn, now, found)
+    add_replaced(heads, rounds, &turn, standing_of(now), found)
 }
 
 /// Adds each sheet that replaces another.
@@ -166,13 +171,17 @@ fn add_replaced<'a>(
             continue;
         };
         let turn_here = match turn {
-            Some(turn) if turn.line == head.line.number => Some((turn.standing, now)),
+            Some(turn) if turn.line == head.line.number => Some(Change {
+                before: turn.standing,
+                now,
+                round: turn.changed,
+            }),
             _ => None,
         };
         let matter = Matter::Replaces {
             line,
             round: head.sent.round,
-            lateness: lateness_of(head, heads, rounds, turn),
+            lateness: lateness_of(head, heads, rounds, turn, is_of_batch(found.from, line)),
             turn: turn_here,
         };
         found.add(&head.line, matter)?;
@@ -180,12 +189,40 @@ fn add_replaced<'a>(
     Ok(())
 }
 
-/// Returns whether a round was played, complete or still open when a line replaced a sheet for it.
-fn lateness_of(head: &Head, heads: &Heads, rounds: &Rounds, turn: &Option<Turn>) -> Lateness
+/// Returns whether a line is among those that are reported, which do not begin with the file: it
+/// came in the batch that is looked at.
+fn is_of_batch(from: usize, line: usize) -> bool
+    ensures { result ≡ is_of_batch from line }
+{
+    from > 1 && line >= from
+}
+
+/// Returns whether a line replaces a sheet that came before the batch that is looked at.
+fn replaces_older(from: usize, replaces: Option<usize>) -> bool
+    ensures { result ≡ replaces_older from replaces }
+{
+    match replaces {
+        Some(line) => !is_of_batch(from, line),
+        None => false,
+    }
+}
+
+/// Returns whether a round was played, complete or still open when a line replaced a sheet for it,
+/// or whether it corrects a sheet of its own batch.
+fn lateness_of(
+    head: &Head,
+    heads: &Heads,
+    rounds: &Rounds,
+    turn: &Option<Turn>,
+    corrects: bool,
+) -> Lateness
     requires { AreKept heads.now }
     ensures { result ≡ lateness_of heads.now rounds.now turn.now
-        head.now.sent.round head.now.line.number }
+        head.now.sent.round head.now.line.number corrects }
 {
+    if corrects {
+        return Lateness::Corrects;
+    }
     let round = head.sent.round;
     let line = head.line.number;
     let line_in_turn = match turn {
@@ -214,7 +251,7 @@ struct Turning<'a> {
 /// played round; completing lines are those by which all players had a sheet for a round. It is the
 /// first late line after the last completing line; if there is none, the first late line of the
 /// last series of late lines without a completing line between them.
-fn turning_head<'a>(heads: &Heads<'a>, rounds: &Rounds) -> Option<Head<'a>>
+fn turning_head<'a>(heads: &Heads<'a>, rounds: &Rounds, from: usize) -> Option<Head<'a>>
     requires { AreKept heads.now }
     ensures { result ≡ (turning_of heads.now rounds.now).head }
 {
@@ -226,7 +263,7 @@ fn turning_head<'a>(heads: &Heads<'a>, rounds: &Rounds) -> Option<Head<'a>>
         let round = head.sent.round;
         let line = head.line.number;
         let is_fresh = turning.is_fresh || heads.complete_by(round) == Some(line);
-        if head.replaces.is_none() || !is_under(rounds.line(round), line) {
+        if !replaces_older(from, head.replaces) || !is_under(rounds.line(round), line) {
             turning.is_fresh = is_fresh;
             continue;
         }

@@ -1,7 +1,7 @@
 //! What `check` finds, as text: a line for each finding, with the number of the line in the file,
 //! its text, and what there is to say of it.
 
-use crate::check_found::{Finding, Found, Lateness, Matter, Standing};
+use crate::check_found::{Change, Finding, Found, Lateness, Matter, Standing};
 use crate::check_hints::push_hint;
 use crate::check_refused::{Cause, Refusal};
 use crate::check_said::push_said;
@@ -31,7 +31,7 @@ pub(crate) fn push_found(
     found.sort()?;
     for finding in &found.findings {
         if finding.line >= found.from {
-            push_finding(out, sheets, finding)?;
+            push_finding(out, sheets, finding, found.told.as_slice())?;
         }
     }
     if found.unlisted == 0 {
@@ -47,20 +47,37 @@ pub(crate) fn push_found(
     )
 }
 
-/// Adds a finding.
-fn push_finding(out: &mut Vec<u8>, sheets: &Sheets, finding: &Finding) -> Result<(), AllocError> {
+/// Adds what heads the findings that are for the umpire alone, since they show what the sheets of
+/// others do.
+pub(crate) fn push_heading(out: &mut Vec<u8>) -> Result<(), AllocError> {
+    let words = "FOR THE UMPIRE ALONE: refused with all sheets that are there\n";
+    push(out, &[Words(words)])
+}
+
+/// Adds a finding, by the texts of the trials.
+fn push_finding(
+    out: &mut Vec<u8>,
+    sheets: &Sheets,
+    finding: &Finding,
+    told: &[u8],
+) -> Result<(), AllocError> {
     push(out, &[Count(finding.line), PARTED])?;
-    if let Matter::Line(sent, _) = finding.matter {
+    if let Matter::Line(sent, _) | Matter::Tried { sent, .. } = finding.matter {
         let name = Bytes(name(sheets, sent.seat));
         push(out, &[name, Words(" "), Piece::Round(sent.round), PARTED])?;
     }
     push(out, &[Cut(finding.text, COLUMNS), PARTED])?;
-    push_matter(out, sheets, finding)?;
+    push_matter(out, sheets, finding, told)?;
     push(out, &[Words("\n")])
 }
 
-/// Adds what there is to say of a line.
-fn push_matter(out: &mut Vec<u8>, sheets: &Sheets, finding: &Finding) -> Result<(), AllocError> {
+/// Adds what there is to say of a line, by the texts of the trials.
+fn push_matter(
+    out: &mut Vec<u8>,
+    sheets: &Sheets,
+    finding: &Finding,
+    told: &[u8],
+) -> Result<(), AllocError> {
     match finding.matter {
         Matter::Unread(fault) => {
             push_rule(out, "it is in no sheet, and is not read. ", fault.code())?;
@@ -87,6 +104,7 @@ fn push_matter(out: &mut Vec<u8>, sheets: &Sheets, finding: &Finding) -> Result<
             ],
         ),
         Matter::Line(sent, said) => push_said(out, sheets, finding.text, sent.round, said),
+        Matter::Tried { from, to, .. } => push(out, &[Bytes(told.get(from..to).unwrap_or(&[]))]),
         Matter::Name { seat, likeness } => {
             let name = name(sheets, seat);
             push(out, &[Words("the name "), Bytes(name), Words(likeness)])
@@ -111,13 +129,13 @@ pub(crate) fn push_rule(
 }
 
 /// Adds what there is to say of a sheet that replaces that of a line; where the game turns there,
-/// how far it had come before, and how far it comes now.
+/// how far it had come before, how far it comes now, and what of its report is another.
 fn push_replaced(
     out: &mut Vec<u8>,
     line: usize,
     round: Round,
     lateness: Lateness,
-    turn: Option<(Standing, Standing)>,
+    turn: Option<Change>,
 ) -> Result<(), AllocError> {
     let (parted, named, words) = match lateness {
         Lateness::Open => (", and not every player had one for that round", NOTHING, ""),
@@ -127,6 +145,7 @@ fn push_replaced(
             ", and the game does not come to it",
         ),
         Lateness::Played => (". ", Piece::Round(round), " WAS PLAYED"),
+        Lateness::Corrects => (", a correction in the same batch", NOTHING, ""),
     };
     push(
         out,
@@ -138,11 +157,22 @@ fn push_replaced(
             Words(words),
         ],
     )?;
-    let Some((before, now)) = turn else {
+    let Some(change) = turn else {
         return Ok(());
     };
-    push_standing(out, ". Before this line: ", before)?;
-    push_standing(out, ". Now: ", now)
+    push_standing(out, ". Before this line: ", change.before)?;
+    push_standing(out, ". Now: ", change.now)?;
+    match change.round {
+        Some(round) => push(
+            out,
+            &[
+                Words("; the report differs from "),
+                Piece::Round(round),
+                Words(" on"),
+            ],
+        ),
+        None => push(out, &[Words("; the report stays the same")]),
+    }
 }
 
 /// Adds how far a game has come, behind some words.

@@ -6,13 +6,15 @@ ghost use Rattle.sheets.specs.File.{content_of};
 ghost use Rattle.sheets.specs.Limits.{file_most};
 
 use crate::check_early::look_at_lines;
-use crate::check_found::Found;
-use crate::check_late::{Rounds, find_replaced};
+use crate::check_found::{Found, Standing};
+use crate::check_late::{Rounds, find_replaced, standing_of};
 use crate::check_pass::{Pass, pass_over};
 use crate::check_refused::refusal_of;
 use crate::check_sheets::Heads;
-use crate::check_text::{push_found, push_refusal};
-use rounds::{Game, play};
+use crate::check_text::{push_found, push_heading, push_refusal};
+use crate::owed::push_owed;
+use crate::trials::try_sheets;
+use rounds::{End, Game, play};
 use sheets::{FileFault, Sheets, collect};
 use std::alloc::{AllocError, Global};
 
@@ -28,8 +30,10 @@ pub struct Extent {
 /// The findings of a file.
 #[derive(Drop)]
 pub struct Findings {
-    /// A line for each finding, in the order of the file; empty where there is none.
+    /// A line for each finding, in the order of the file, and who still owes a sheet.
     pub text: Vec<u8>,
+    /// Whether there is a finding. Who owes a sheet is none.
+    pub any: bool,
     /// Why the file is refused; `None` if it is not.
     pub refused: Option<FileFault>,
 }
@@ -37,9 +41,15 @@ pub struct Findings {
 /// Lints a file. If it is refused, it reports the line and the reason. Otherwise it reports lines
 /// that are in no sheet or look like mail, names that mean something else, sheets that replace
 /// others, sheets for rounds that are not played, and what is wrong with the lines of the sheets of
-/// the last round that was played and of later ones, or of all sheets. It plays the game of the
-/// file, and at most one more: that of the lines before a sheet that replaces one of a played
-/// round.
+/// the last round that was played and of later ones, or of all sheets.
+///
+/// It also plays the round that is awaited: each sheet for it alone, with empty sheets of the other
+/// players, and then all sheets that are there. If not the whole file is reported it plays each
+/// reported sheet for the last round alone, too. It reports what these trials refuse, and what is
+/// sold for trains that companies must buy. Last it says who still owes a sheet.
+///
+/// It plays the game of the file, at most one more for a sheet that replaces one of a played round,
+/// and a game for each trial.
 ///
 /// Fails only if allocation fails.
 pub fn check(alloc: Global, file: &[u8], extent: Extent) -> Result<Findings, AllocError>
@@ -47,6 +57,7 @@ pub fn check(alloc: Global, file: &[u8], extent: Extent) -> Result<Findings, All
 {
     let mut findings = Findings {
         text: Vec::new(alloc),
+        any: false,
         refused: None,
     };
     look_through(alloc, file, extent, &mut findings)?;
@@ -65,43 +76,70 @@ fn look_through(
     ensures { OnOk result (findings.new.refused ≡ refusal_in (content_of file.now)) }
 {
     match collect(alloc, file) {
-        Ok(sheets) => look_at_sheets(alloc, file, extent, &sheets, &mut findings.text),
+        Ok(sheets) => {
+            findings.any = look_at_sheets(alloc, file, extent, &sheets, &mut findings.text)?;
+            Ok(())
+        }
         // An allocation failed: passed on.
         Err(FileFault::Memory) => Err(AllocError),
         Err(fault) => {
+            findings.any = true;
             findings.refused = Some(fault);
             push_refusal(&mut findings.text, fault, refusal_of(file, fault))
         }
     }
 }
 
-/// Adds the findings of a file that is not refused.
+/// Adds the findings of a file that is not refused, and who owes a sheet. Returns whether there is
+/// a finding.
 fn look_at_sheets(
     alloc: Global,
     file: &[u8],
     extent: Extent,
     sheets: &Sheets,
     text: &mut Vec<u8>,
-) -> Result<(), AllocError>
-    requires { length file.now ≤ file_most }
+) -> Result<bool, AllocError>
+    requires short { length file.now ≤ file_most }
+    requires same { sheets.now ≡ file.now }
 {
     let mut pass = pass_over(alloc, sheets, file, extent.from)?;
-    look_at_game(alloc, file, extent, sheets, &mut pass)?;
-    push_found(text, sheets, &mut pass.found)
+    let standing = look_at_game(alloc, file, extent, sheets, &mut pass)?;
+    let mut beyond = Found::nothing(alloc, extent.from);
+    try_sheets(
+        alloc,
+        file,
+        sheets,
+        &pass.heads,
+        standing,
+        &mut pass.found,
+        &mut beyond,
+    )?;
+    push_found(text, sheets, &mut pass.found)?;
+    if !beyond.is_empty() {
+        push_heading(text)?;
+        push_found(text, sheets, &mut beyond)?;
+    }
+    if let End::Awaiting(round) = standing.end {
+        push_owed(text, sheets, round)?;
+    }
+    Ok(!pass.found.is_empty() || !beyond.is_empty())
 }
 
-/// Adds the findings of the game of some sheets, by the SHEET lines of their file.
+/// Adds the findings of the game of some sheets, by the SHEET lines of their file. Returns how far
+/// the game has come.
 fn look_at_game<'a>(
     alloc: Global,
     file: &'a [u8],
     extent: Extent,
     sheets: &Sheets,
     pass: &mut Pass<'a>,
-) -> Result<(), AllocError>
+) -> Result<Standing, AllocError>
     requires { AreKept pass.old.heads }
+    ensures { pass.new.heads ≡ pass.old.heads }
 {
     let game = play(alloc, sheets)?;
-    look_at_rounds(alloc, file, extent, &pass.heads, &game, &mut pass.found)
+    look_at_rounds(alloc, file, extent, &pass.heads, &game, &mut pass.found)?;
+    Ok(standing_of(&game))
 }
 
 /// Finds the sheets that replace others, those for rounds that are not played, and what is wrong in

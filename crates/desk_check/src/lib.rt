@@ -10,6 +10,8 @@
 //! `check_refused` (refused files), `check_text` (the text), `checking` (`check`).
 #![tactic(auto)]
 
+mod alone;
+mod check_changed;
 mod check_codes;
 mod check_early;
 mod check_found;
@@ -28,5 +30,13 @@ mod check_sheets;
 mod check_text;
 mod check_words;
 mod checking;
+mod consent;
+mod forced;
+mod numbered;
+mod owed;
+mod refusals;
+mod taken;
+mod told;
+mod trials;
 
 pub use checking::{Extent, Findings, check};

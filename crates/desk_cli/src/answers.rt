@@ -220,10 +220,10 @@ fn checked<'a>(alloc: Global, file: &[u8], extent: Extent) -> Result<Answer<'a>,
     let findings = check(alloc, file, extent)?;
     let status = if findings.refused.is_some() {
         REFUSED
-    } else if findings.text.is_empty() {
-        WRITTEN
-    } else {
+    } else if findings.any {
         TOLD
+    } else {
+        WRITTEN
     };
     Ok(answered(findings.text, "", status))
 }

@@ -1,6 +1,6 @@
 //! A round of a game: its part of the report, the rules that refused lines broke, what its trains
-//! ran, and the round as its players read it. Each public call takes the allocator and the bytes of
-//! an order file, and returns text. No call reads or writes a stream.
+//! ran, and the round as its players read it. The calls that write a text of a round take the
+//! allocator and the bytes of an order file, and return text. No call reads or writes a stream.
 //!
 //! Reading order: `played`, `refused` (which lines were), `round_part` (`round`), `round_texts`
 //! (the game of a file), `sheet_line` (the lines of the sheets), `why` (the rule that a line
@@ -26,6 +26,10 @@ mod train_runs;
 mod ways;
 mod why;
 
+pub use refusal_detail::Ruled;
+pub use refused::refused_in;
 pub use round_part::{round, round_with_rules};
 pub use round_texts::bulletin;
+pub use sheet_line::{LinePlace, SheetLine, lines_of, sheet_line};
 pub use train_runs::runs;
+pub use why::push_rule;

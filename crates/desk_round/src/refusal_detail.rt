@@ -24,19 +24,19 @@ use tables::{Company, Private, Round, Seat};
 
 /// Where a line was ruled.
 #[derive(Clone, Copy)]
-pub(crate) struct Ruled<'a> {
+pub struct Ruled<'a> {
     /// The sheets of the game.
-    pub(crate) sheets: &'a Sheets<'a>,
+    pub sheets: &'a Sheets<'a>,
     /// The lines of those for the round.
-    pub(crate) lines: &'a [SheetLine<'a>],
+    pub lines: &'a [SheetLine<'a>],
     /// The game before it.
-    pub(crate) view: &'a GameView<'a>,
+    pub view: &'a GameView<'a>,
     /// The round.
-    pub(crate) round: Round,
+    pub round: Round,
     /// Whose line it is.
-    pub(crate) seat: Seat,
+    pub seat: Seat,
     /// Where it stands in its sheet, if that is known.
-    pub(crate) place: Option<LinePlace>,
+    pub place: Option<LinePlace>,
 }
 
 impl Ruled<'_> {

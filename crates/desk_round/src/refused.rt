@@ -10,7 +10,7 @@ use tables::Round;
 
 /// Returns the places in the list of events of all rulings of a round by which a line was refused,
 /// or has a fault, in their order. Fails only if allocation fails.
-pub(crate) fn refused_in(
+pub fn refused_in(
     alloc: Global,
     events: &[Event],
     round: Round,

@@ -13,20 +13,20 @@ const LINES_KEPT: u32 = 1_024;
 
 /// A line of a sheet.
 #[derive(Clone, Copy)]
-pub(crate) struct SheetLine<'a> {
+pub struct SheetLine<'a> {
     /// Whose sheet it is.
     seat: Seat,
     /// Its number in the sheet.
     number: u32,
     /// Its bytes.
-    pub(crate) text: &'a [u8],
+    pub text: &'a [u8],
     /// Where it stands in the sheet.
-    pub(crate) place: LinePlace,
+    pub place: LinePlace,
 }
 
 /// Where a line stands in a sheet.
 #[derive(Clone, Copy)]
-pub(crate) enum LinePlace {
+pub enum LinePlace {
     /// Above the first head.
     Standing,
     /// In a turn, its head included.
@@ -37,7 +37,7 @@ pub(crate) enum LinePlace {
 
 impl LinePlace {
     /// Returns the company among whose orders the line is; `None` if it is among none.
-    pub(crate) fn company(self) -> Option<Company> {
+    pub fn company(self) -> Option<Company> {
         match self {
             LinePlace::Orders(company) => Some(company),
             LinePlace::Standing | LinePlace::Turn => None,
@@ -47,7 +47,7 @@ impl LinePlace {
 
 /// Returns the lines of all sheets for a round, up to the last that is kept. Fails only if
 /// allocation fails.
-pub(crate) fn lines_of<'a>(
+pub fn lines_of<'a>(
     alloc: Global,
     sheets: &Sheets<'a>,
     round: Round,
@@ -99,7 +99,7 @@ fn place_behind(head: UnreadLine) -> LinePlace {
 
 /// Returns the line with this number in the sheet of a seat, among those of all sheets; `None` if
 /// there is none, or it is not kept.
-pub(crate) fn sheet_line<'a>(
+pub fn sheet_line<'a>(
     lines: &[SheetLine<'a>],
     seat: Seat,
     number: u32,

@@ -30,7 +30,7 @@ pub(crate) fn push_why<'a>(
 
 /// Adds the rule that a line of a sheet broke, with its code and the figures that it compared;
 /// nothing if it was obeyed.
-pub(crate) fn push_rule<'a>(
+pub fn push_rule<'a>(
     alloc: Global,
     out: &mut Vec<u8>,
     ruled: Ruled<'a>,

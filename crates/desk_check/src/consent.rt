@@ -1,0 +1,87 @@
+//! The offer of another player with which an order would be obeyed that lacks their consent.
+
+use desk_base::Piece::{Bytes, Words};
+use desk_base::{fill, push};
+use history::{GameView, Holder, PrivateRule, Refusal, TrainRule, TrainSeller};
+use order_grammar::{Offer, Order, TrainSource, print_order};
+use purchases::{is_not_sellers, is_too_dear};
+use report::name;
+use sheets::Sheets;
+use std::alloc::AllocError;
+use tables::{Company, Private, Seat};
+
+/// An offer that a player would have to make.
+#[derive(Clone, Copy)]
+struct Consent {
+    /// Who would make it.
+    seat: Seat,
+    offer: Offer,
+}
+
+/// Adds with whose offer an order of a company would be obeyed, if it was refused for want of that
+/// alone. The order is of the player of a seat, and the game is as it was before it.
+pub(crate) fn push_consent(
+    out: &mut Vec<u8>,
+    sheets: &Sheets,
+    view: &GameView,
+    seat: Seat,
+    company: Company,
+    order: &Order,
+    rule: Refusal,
+) -> Result<(), AllocError> {
+    let Some(consent) = consent_lacking(view, seat, company, order, rule) else {
+        return Ok(());
+    };
+    fill(out, "; only with %'s ", &[Bytes(name(sheets, consent.seat))])?;
+    print_order(out, &Order::Offer(consent.offer))
+}
+
+/// Returns the offer with which an order of a company would be obeyed; `None` if it was refused for
+/// another rule, or would be refused in spite of the offer.
+fn consent_lacking(
+    view: &GameView,
+    seat: Seat,
+    company: Company,
+    order: &Order,
+    rule: Refusal,
+) -> Option<Consent> {
+    match (rule, order) {
+        (
+            Refusal::Train(TrainRule::NoConsent),
+            Order::BuyTrain {
+                kind,
+                from: TrainSource::Company { seller, price },
+            },
+        ) if *price > 0 && !is_not_sellers(view, company, *kind, TrainSeller::Company(*seller)) => {
+            let offer = Offer::Train {
+                kind: *kind,
+                seller: *seller,
+                buyer: company,
+                price: *price,
+            };
+            consent_of(view.president(*seller)?, seat, offer)
+        }
+        (Refusal::Private(PrivateRule::NoConsent), Order::BuyOwnedPrivate { private, price })
+            if *private != Private::BaltimoreOhio && !is_too_dear(view, company, *price) =>
+        {
+            let Some(Holder::Seat(owner)) = view.owner(*private) else {
+                return None;
+            };
+            let offer = Offer::Private {
+                private: *private,
+                buyer: company,
+                price: *price,
+            };
+            consent_of(owner, seat, offer)
+        }
+        _ => None,
+    }
+}
+
+/// Returns the offer of the player of a seat to another; `None` if they are the same.
+fn consent_of(giver: Seat, taker: Seat, offer: Offer) -> Option<Consent> {
+    if giver == taker {
+        return None;
+    }
+    Some(Consent { seat: giver, offer })
+}

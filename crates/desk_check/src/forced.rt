@@ -1,0 +1,186 @@
+//! The train that a company must buy which its own orders leave without one: what it is, who pays
+//! for it, what is sold for it, and whether its president is bankrupt.
+
+use crate::check_sheets::Sent;
+use desk_base::Piece::{Bytes, Number, Words};
+use desk_base::{fill, view_behind};
+use history::{Event, GameView, ShareCount, Walk};
+use purchases::{NUMBERED, sells};
+use report::name;
+use rounds::Game;
+use sheets::Sheets;
+use std::alloc::{AllocError, Global};
+use tables::{Amount, Company, Kind, Money, Seat, train};
+
+/// What happens as a company must buy a train.
+#[derive(Clone, Copy)]
+pub(crate) enum ForcedFact {
+    /// The company has no train, and must buy one of this kind.
+    Must(Kind),
+    /// The president adds this to what the company pays, in dollars.
+    Adds(Seat, Amount),
+    /// The president sells shares of a company, for which they get this, in dollars.
+    Sells {
+        seat: Seat,
+        company: Company,
+        shares: u8,
+        price: Amount,
+    },
+    /// The presidency of a company passes to this player.
+    Presides(Company, Seat),
+    /// The president is bankrupt.
+    Bankrupt(Seat),
+}
+
+/// A company that must buy a train, and something that happens then.
+#[derive(Clone, Copy)]
+pub(crate) struct Forced {
+    /// The company that must buy a train.
+    pub(crate) company: Company,
+    pub(crate) fact: ForcedFact,
+}
+
+/// Returns what happens in a round as the companies over which a player presides must buy trains,
+/// in its order. Fails only if allocation fails.
+pub(crate) fn forced_of(alloc: Global, game: &Game, sent: Sent) -> Result<Vec<Forced>, AllocError> {
+    let mut forced = Vec::new(alloc);
+    let (events, seats) = (game.history().events(), game.history().seats());
+    let mut walk = Walk::along(events);
+    let mut is_within = false;
+    let mut buyer = None;
+    for (place, event) in events.iter().enumerate() {
+        if let Event::Round(round) = event {
+            is_within = *round == sent.round;
+        }
+        if let Event::Forced(company) = event
+            && is_within
+        {
+            let view = view_behind(&mut walk, place, seats);
+            buyer = buyer_of(&view, *company, sent.seat);
+            push_must(&mut forced, &view, buyer)?;
+        } else if let Some(company) = buyer {
+            push_fact(&mut forced, company, event)?;
+            buyer = buyer_then(company, event);
+        }
+    }
+    Ok(forced)
+}
+
+/// Returns a company that must buy a train; `None` if a seat does not preside over it.
+fn buyer_of(view: &GameView, company: Company, seat: Seat) -> Option<Company> {
+    if view.president(company) == Some(seat) {
+        Some(company)
+    } else {
+        None
+    }
+}
+
+/// Returns the company that must still buy a train after one more event.
+fn buyer_then(company: Company, event: &Event) -> Option<Company> {
+    match event {
+        Event::Train { .. } | Event::Bankrupt(_) | Event::Round(_) => None,
+        _ => Some(company),
+    }
+}
+
+/// Adds what a company must buy, if there is one that must.
+fn push_must(
+    forced: &mut Vec<Forced>,
+    view: &GameView,
+    buyer: Option<Company>,
+) -> Result<(), AllocError> {
+    let Some(company) = buyer else {
+        return Ok(());
+    };
+    forced.push(Forced {
+        company,
+        fact: ForcedFact::Must(cheapest(view)),
+    })?;
+    Ok(())
+}
+
+/// Returns the kind of the cheapest train that the bank or the pool sells.
+fn cheapest(view: &GameView) -> Kind {
+    for &kind in &NUMBERED {
+        if sells(view, kind) || view.trains(None, kind) > 0 {
+            return kind;
+        }
+    }
+    Kind::Diesel
+}
+
+/// Adds what an event brings while a company must buy a train, if it is told of.
+fn push_fact(
+    forced: &mut Vec<Forced>,
+    company: Company,
+    event: &Event,
+) -> Result<(), AllocError> {
+    let Some(fact) = fact_of(event) else {
+        return Ok(());
+    };
+    forced.push(Forced { company, fact })?;
+    Ok(())
+}
+
+/// Returns what an event brings while a company must buy a train; `None` if it is not told of.
+fn fact_of(event: &Event) -> Option<ForcedFact> {
+    match event {
+        Event::Aid { seat, amount, .. } => Some(ForcedFact::Adds(*seat, *amount)),
+        Event::Sells {
+            company,
+            seat,
+            shares,
+            price,
+        } => Some(ForcedFact::Sells {
+            seat: *seat,
+            company: *company,
+            shares: *shares,
+            price: *price,
+        }),
+        Event::President { company, seat } => Some(ForcedFact::Presides(*company, *seat)),
+        Event::Bankrupt(seat) => Some(ForcedFact::Bankrupt(*seat)),
+        _ => None,
+    }
+}
+
+/// Adds what happens as a company must buy a train, as a sentence without a stop.
+pub(crate) fn push_forced(
+    out: &mut Vec<u8>,
+    sheets: &Sheets,
+    forced: Forced,
+) -> Result<(), AllocError> {
+    let buyer = Words(forced.company.code());
+    match forced.fact {
+        ForcedFact::Must(kind) => {
+            let price = Number(Money::from(train(kind).price));
+            let pieces = [buyer, Words(kind.code()), price];
+            fill(out, "% has no train and must buy a % for %", &pieces)
+        }
+        ForcedFact::Adds(seat, amount) => {
+            let pieces = [Bytes(name(sheets, seat)), Number(Money::from(amount))];
+            fill(out, "% adds % to it", &pieces)
+        }
+        ForcedFact::Sells {
+            seat,
+            company,
+            shares,
+            price,
+        } => {
+            let count = Number(Money::from(ShareCount::from(shares)));
+            let what = if shares == 1 { "share" } else { "shares" };
+            let pieces = [
+                Bytes(name(sheets, seat)),
+                count,
+                Words(what),
+                Words(company.code()),
+                Number(Money::from(price)),
+            ];
+            fill(out, "% sells % % of % for % to pay for it", &pieces)
+        }
+        ForcedFact::Presides(company, seat) => {
+            let pieces = [Words(company.code()), Bytes(name(sheets, seat))];
+            fill(out, "the presidency of % passes to %", &pieces)
+        }
+        ForcedFact::Bankrupt(seat) => fill(out, "% IS BANKRUPT", &[Bytes(name(sheets, seat))]),
+    }
+}

@@ -1,0 +1,30 @@
+//! Who still owes a sheet.
+
+use desk_base::Piece::{Bytes, Round as RoundPiece, Words};
+use desk_base::{owes, push};
+use report::name;
+use sheets::Sheets;
+use std::alloc::AllocError;
+use tables::{Round, Seat};
+
+/// Adds who owes a sheet for a round, if some player has one for it, and not every player has.
+pub(crate) fn push_owed(
+    out: &mut Vec<u8>,
+    sheets: &Sheets,
+    round: Round,
+) -> Result<(), AllocError> {
+    let count = (0..sheets.seats()).filter(|seat| owes(sheets, Seat::at(*seat), &round)).count();
+    if count == 0 || count == sheets.seats() {
+        return Ok(());
+    }
+    push(out, &[Words("OWED for "), RoundPiece(round)])?;
+    let mut before = ": ";
+    for number in 0..sheets.seats() {
+        let seat = Seat::at(number);
+        if owes(sheets, seat, &round) {
+            push(out, &[Words(before), Bytes(name(sheets, seat))])?;
+            before = ", ";
+        }
+    }
+    push(out, &[Words("\n")])
+}

@@ -1,0 +1,110 @@
+//! Who took the last tile, train, share or private before an order that wanted it.
+
+use desk_base::Piece::Bytes;
+use desk_base::fill;
+use history::{Event, LayRule, OpeningRule, Refusal, StockRule, TrainRule, TrainSeller};
+use order_grammar::{Order, TrainSource};
+use report::name;
+use sheets::Sheets;
+use std::alloc::AllocError;
+use tables::{Company, Seat};
+
+/// Adds whose sheet takes the last of what an order wanted, if an event of the same round before it
+/// shows that. The events are those before its ruling.
+pub(crate) fn push_taker(
+    out: &mut Vec<u8>,
+    sheets: &Sheets,
+    events: &[Event],
+    order: &Order,
+    rule: Refusal,
+) -> Result<(), AllocError> {
+    match taker_of(events, order, rule) {
+        Some(seat) => fill(
+            out,
+            "; %'s sheet takes the last one",
+            &[Bytes(name(sheets, seat))],
+        ),
+        None => Ok(()),
+    }
+}
+
+/// Returns who last took one of what an order wanted, in the round in hand after some events.
+fn taker_of(events: &[Event], order: &Order, rule: Refusal) -> Option<Seat> {
+    let mut taker = None;
+    let mut whose = None;
+    for event in events {
+        whose = whose_then(whose, event);
+        if let Event::Round(_) = event {
+            taker = None;
+        } else if takes(event, order, rule) {
+            taker = whose;
+        }
+    }
+    taker
+}
+
+/// Returns by whose sheet the next events come, after one more event: that of the line that was
+/// ruled last, or that of the player who acts. A purchase by force comes by no sheet.
+fn whose_then(whose: Option<Seat>, event: &Event) -> Option<Seat> {
+    match event {
+        Event::Round(_) | Event::Forced(_) => None,
+        Event::Ruled { seat, .. }
+        | Event::Sold { seat, .. }
+        | Event::Bought { seat, .. }
+        | Event::Exchanged { seat, .. } => Some(*seat),
+        _ => whose,
+    }
+}
+
+/// Returns whether an event takes one of what an order wanted that was refused since none is left.
+fn takes(event: &Event, order: &Order, rule: Refusal) -> bool {
+    match (rule, order, event) {
+        (Refusal::Lay(LayRule::NoneLeft), Order::Lay(wanted), Event::Laid { lay, .. }) => {
+            lay.tile == wanted.tile
+        }
+        (
+            Refusal::Train(TrainRule::NotOnSale | TrainRule::NotSellers),
+            Order::BuyTrain {
+                kind: wanted,
+                from: source,
+            },
+            Event::Train { kind, from, .. },
+        ) => kind == wanted && is_seller(*source, *from),
+        (
+            Refusal::Stock(StockRule::NoneThere),
+            Order::BuyShare {
+                company: wanted,
+                from: source,
+            },
+            Event::Bought { company, from, .. },
+        ) => company == wanted && from == source,
+        (
+            Refusal::Stock(StockRule::NoneThere),
+            Order::BuyShare {
+                company: Company::NewYorkCentral,
+                from: source,
+            },
+            Event::Exchanged { from, .. },
+        ) => from == source,
+        (
+            Refusal::Opening(OpeningRule::Sold),
+            Order::BuyPrivate(wanted)
+            | Order::Bid {
+                private: wanted,
+                ..
+            },
+            Event::Sold { private, .. },
+        ) => private == wanted,
+        _ => false,
+    }
+}
+
+/// Returns whether a train is bought where an order wanted one.
+fn is_seller(source: TrainSource, seller: TrainSeller) -> bool {
+    match (source, seller) {
+        (TrainSource::Bank | TrainSource::Trade(_), TrainSeller::Bank) => true,
+        (TrainSource::BankPool, TrainSeller::BankPool) => true,
+        (TrainSource::Company { seller: wanted, .. }, TrainSeller::Company(its)) => wanted == its,
+        _ => false,
+    }
+}

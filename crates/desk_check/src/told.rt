@@ -1,0 +1,167 @@
+//! Adds the findings of a trial: the lines that it did not obey, each with the rule, its figures
+//! and its cause, and what happens as companies must buy trains.
+
+use crate::check_found::{Found, Matter};
+use crate::check_lines::FileLine;
+use crate::check_mail::is_mail;
+use crate::check_sheets::{Head, Sent};
+use crate::consent::push_consent;
+use crate::forced::{Forced, push_forced};
+use crate::numbered::{head_of, line_numbered};
+use crate::refusals::RefusedLine;
+use crate::taken::push_taker;
+use desk_base::Piece::Words;
+use desk_base::{push, view_behind};
+use desk_round::{Ruled, SheetLine, lines_of, push_rule, sheet_line};
+use history::{Event, GameView, PackedRuling, Ruling, Verdict, Walk};
+use rounds::Game;
+use std::alloc::{AllocError, Global};
+
+/// Which trial it is.
+#[derive(Clone, Copy)]
+pub(crate) enum Trial {
+    /// That of a player's sheet alone.
+    Alone,
+    /// That of all sheets that are there.
+    All,
+}
+
+impl Trial {
+    /// Returns the words with which its findings begin.
+    fn words(self) -> &'static str {
+        match self {
+            Trial::Alone => "as things stand: ",
+            Trial::All => "with all sheets: ",
+        }
+    }
+}
+
+/// A sheet, and the game of a trial that played it.
+#[derive(Clone, Copy)]
+pub(crate) struct TriedSheet<'g, 'a> {
+    pub(crate) trial: Trial,
+    pub(crate) game: &'g Game<'g>,
+    /// The SHEET line.
+    pub(crate) head: &'g Head<'a>,
+    /// The lines of the sheet.
+    pub(crate) numbered: &'g [FileLine<'a>],
+}
+
+/// Adds the lines of a sheet that a trial did not obey, unless a finding of the line has the same
+/// code already.
+pub(crate) fn tell_refused<'a>(
+    alloc: Global,
+    played: TriedSheet<'_, 'a>,
+    rows: &[RefusedLine],
+    found: &mut Found<'a>,
+) -> Result<(), AllocError> {
+    let game = played.game;
+    let lines = lines_of(alloc, game.sheets(), played.head.sent.round)?;
+    let mut walk = Walk::along(game.history().events());
+    for row in rows {
+        let Some(line) = line_numbered(played.numbered, row.number) else {
+            continue;
+        };
+        if is_told(found, &line, row.verdict) {
+            continue;
+        }
+        let view = view_behind(&mut walk, row.place, game.history().seats());
+        tell_row(alloc, played, lines.as_slice(), &view, row, &line, found)?;
+    }
+    Ok(())
+}
+
+/// Returns whether a finding of a line has the code already with which it was refused, or says that
+/// the line looks like mail and so has a fault.
+fn is_told(found: &Found, line: &FileLine, verdict: Verdict) -> bool {
+    match verdict {
+        Verdict::Obeyed => true,
+        Verdict::Refused(rule) => found.tells(line.number, rule.code()),
+        Verdict::Faulty(fault) => is_mail(line.text) || found.tells(line.number, fault.code()),
+    }
+}
+
+/// Adds a line that a trial did not obey. The game is as it was before the line.
+fn tell_row<'a>(
+    alloc: Global,
+    played: TriedSheet<'_, 'a>,
+    lines: &[SheetLine],
+    view: &GameView,
+    row: &RefusedLine,
+    line: &FileLine<'a>,
+    found: &mut Found<'a>,
+) -> Result<(), AllocError> {
+    let sent = played.head.sent;
+    let events = played.game.history().events();
+    let Some(Event::Ruled { ruling, .. }) = events.get(row.place) else {
+        return Ok(());
+    };
+    let from = found.told.len();
+    let ruled = Ruled {
+        sheets: played.game.sheets(),
+        lines,
+        view,
+        round: sent.round,
+        seat: sent.seat,
+        place: None,
+    };
+    push(&mut found.told, &[Words(played.trial.words())])?;
+    push_rule(alloc, &mut found.told, ruled, row.number, ruling)?;
+    push_others(&mut found.told, played.trial, ruled, row.number, ruling)?;
+    add_told(found, line, sent, from)
+}
+
+/// Adds what others have to do with the refusal of a line: whose offer is lacking, or who took the
+/// last of what it wanted.
+fn push_others(
+    out: &mut Vec<u8>,
+    trial: Trial,
+    ruled: Ruled,
+    number: u32,
+    ruling: &PackedRuling,
+) -> Result<(), AllocError> {
+    let ruling = ruling.ruling();
+    let Ruling::Refused { rule, order, .. } = &ruling else {
+        return Ok(());
+    };
+    let (sheets, view) = (ruled.sheets, ruled.view);
+    if let Trial::All = trial {
+        return push_taker(out, sheets, view.events, order, *rule);
+    }
+    let place = sheet_line(ruled.lines, ruled.seat, number).map(|line| line.place);
+    match place.and_then(|place| place.company()) {
+        Some(company) => push_consent(out, sheets, view, ruled.seat, company, order, *rule),
+        None => Ok(()),
+    }
+}
+
+/// Adds a finding of a line of a sheet, of which the texts of the trials say what they have from a
+/// place on.
+fn add_told<'a>(
+    found: &mut Found<'a>,
+    line: &FileLine<'a>,
+    sent: Sent,
+    from: usize,
+) -> Result<(), AllocError> {
+    let to = found.told.len();
+    found.add_line(line, Matter::Tried { sent, from, to })
+}
+
+/// Adds what happens as companies must buy trains, to the line with which the orders for the
+/// company begin, or to the SHEET line if there is none.
+pub(crate) fn tell_forced<'a>(
+    played: TriedSheet<'_, 'a>,
+    forced: &[Forced],
+    found: &mut Found<'a>,
+) -> Result<(), AllocError> {
+    let sheets = played.game.sheets();
+    for fact in forced {
+        let head = head_of(sheets.version(), played.numbered, fact.company);
+        let line = head.unwrap_or(played.head.line);
+        let from = found.told.len();
+        push(&mut found.told, &[Words(played.trial.words())])?;
+        push_forced(&mut found.told, sheets, *fact)?;
+        add_told(found, &line, played.head.sent, from)?;
+    }
+    Ok(())
+}
