@@ -6,14 +6,15 @@ ghost use Rattle.sheets.specs.File.{content_of};
 ghost use Rattle.sheets.specs.Limits.{file_most};
 
 use crate::check_early::look_at_lines;
-use crate::check_found::{Found, Standing};
+use crate::check_found::Found;
 use crate::check_late::{Rounds, find_replaced, standing_of};
 use crate::check_pass::{Pass, pass_over};
 use crate::check_refused::refusal_of;
 use crate::check_sheets::Heads;
 use crate::check_text::{push_found, push_heading, push_refusal};
 use crate::owed::push_owed;
-use crate::trials::try_sheets;
+use crate::outcome::Outcome;
+use crate::trials::{Reached, try_sheets};
 use rounds::{End, Game, play};
 use sheets::{FileFault, Sheets, collect};
 use std::alloc::{AllocError, Global};
@@ -103,14 +104,14 @@ fn look_at_sheets(
     requires same { sheets.now ≡ file.now }
 {
     let mut pass = pass_over(alloc, sheets, file, extent.from)?;
-    let standing = look_at_game(alloc, file, extent, sheets, &mut pass)?;
+    let reached = look_at_game(alloc, file, extent, sheets, &mut pass)?;
     let mut beyond = Found::nothing(alloc, extent.from);
     try_sheets(
         alloc,
         file,
         sheets,
         &pass.heads,
-        standing,
+        &reached,
         &mut pass.found,
         &mut beyond,
     )?;
@@ -119,7 +120,7 @@ fn look_at_sheets(
         push_heading(text)?;
         push_found(text, sheets, &mut beyond)?;
     }
-    if let End::Awaiting(round) = standing.end {
+    if let End::Awaiting(round) = reached.standing.end {
         push_owed(text, sheets, round)?;
     }
     Ok(!pass.found.is_empty() || !beyond.is_empty())
@@ -133,13 +134,27 @@ fn look_at_game<'a>(
     extent: Extent,
     sheets: &Sheets,
     pass: &mut Pass<'a>,
-) -> Result<Standing, AllocError>
+) -> Result<Reached, AllocError>
     requires { AreKept pass.old.heads }
     ensures { pass.new.heads ≡ pass.old.heads }
 {
     let game = play(alloc, sheets)?;
     look_at_rounds(alloc, file, extent, &pass.heads, &game, &mut pass.found)?;
-    Ok(standing_of(&game))
+    reached_by(alloc, &game, extent.from > 1)
+}
+
+/// Returns how far a game has come; with what the last round refused, if sheets for it are to be
+/// tried.
+fn reached_by(alloc: Global, game: &Game, tries_last: bool) -> Result<Reached, AllocError> {
+    let standing = standing_of(game);
+    let last = match standing.last {
+        Some(round) if tries_last => {
+            let (events, seats) = (game.history().events(), game.history().seats());
+            Some(Outcome::of(alloc, events, seats, round)?)
+        }
+        _ => None,
+    };
+    Ok(Reached { standing, last })
 }
 
 /// Finds the sheets that replace others, those for rounds that are not played, and what is wrong in

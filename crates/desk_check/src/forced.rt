@@ -57,7 +57,7 @@ pub(crate) fn forced_of(alloc: Global, game: &Game, sent: Sent) -> Result<Vec<Fo
         {
             let view = view_behind(&mut walk, place, seats);
             buyer = buyer_of(&view, *company, sent.seat);
-            push_must(&mut forced, &view, buyer)?;
+            push_must(&mut forced, &view, buyer, events.get(place..).unwrap_or(&[]))?;
         } else if let Some(company) = buyer {
             push_fact(&mut forced, company, event)?;
             buyer = buyer_then(company, event);
@@ -83,11 +83,13 @@ fn buyer_then(company: Company, event: &Event) -> Option<Company> {
     }
 }
 
-/// Adds what a company must buy, if there is one that must.
+/// Adds what a company must buy, if there is one that must, and what its president adds to the
+/// price by these events.
 fn push_must(
     forced: &mut Vec<Forced>,
     view: &GameView,
     buyer: Option<Company>,
+    events: &[Event],
 ) -> Result<(), AllocError> {
     let Some(company) = buyer else {
         return Ok(());
@@ -96,7 +98,27 @@ fn push_must(
         company,
         fact: ForcedFact::Must(cheapest(view)),
     })?;
+    if let Some(fact) = aid_to(events, company) {
+        forced.push(Forced { company, fact })?;
+    }
     Ok(())
+}
+
+/// Returns what the president adds to the price of the train that a company must buy by the first
+/// of some events; `None` if they add nothing.
+fn aid_to(events: &[Event], buyer: Company) -> Option<ForcedFact> {
+    for event in events {
+        match event {
+            Event::Aid {
+                seat,
+                company,
+                amount,
+            } if *company == buyer => return Some(ForcedFact::Adds(*seat, *amount)),
+            Event::Train { .. } | Event::Bankrupt(_) => return None,
+            _ => {}
+        }
+    }
+    None
 }
 
 /// Returns the kind of the cheapest train that the bank or the pool sells.
@@ -125,7 +147,6 @@ fn push_fact(
 /// Returns what an event brings while a company must buy a train; `None` if it is not told of.
 fn fact_of(event: &Event) -> Option<ForcedFact> {
     match event {
-        Event::Aid { seat, amount, .. } => Some(ForcedFact::Adds(*seat, *amount)),
         Event::Sells {
             company,
             seat,

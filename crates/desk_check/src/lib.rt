@@ -33,6 +33,7 @@ mod checking;
 mod consent;
 mod forced;
 mod numbered;
+mod outcome;
 mod owed;
 mod refusals;
 mod taken;

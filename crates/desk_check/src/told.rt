@@ -147,21 +147,18 @@ fn add_told<'a>(
     found.add_line(line, Matter::Tried { sent, from, to })
 }
 
-/// Adds what happens as companies must buy trains, to the line with which the orders for the
-/// company begin, or to the SHEET line if there is none.
+/// Adds what happens as a company must buy a train, to the line with which its orders begin, or to
+/// the SHEET line if it has none.
 pub(crate) fn tell_forced<'a>(
     played: TriedSheet<'_, 'a>,
-    forced: &[Forced],
+    forced: Forced,
     found: &mut Found<'a>,
 ) -> Result<(), AllocError> {
     let sheets = played.game.sheets();
-    for fact in forced {
-        let head = head_of(sheets.version(), played.numbered, fact.company);
-        let line = head.unwrap_or(played.head.line);
-        let from = found.told.len();
-        push(&mut found.told, &[Words(played.trial.words())])?;
-        push_forced(&mut found.told, sheets, *fact)?;
-        add_told(found, &line, played.head.sent, from)?;
-    }
-    Ok(())
+    let head = head_of(sheets.version(), played.numbered, forced.company);
+    let line = head.unwrap_or(played.head.line);
+    let from = found.told.len();
+    push(&mut found.told, &[Words(played.trial.words())])?;
+    push_forced(&mut found.told, sheets, forced)?;
+    add_told(found, &line, played.head.sent, from)
 }

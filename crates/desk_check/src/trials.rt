@@ -9,19 +9,13 @@ use crate::check_found::{Found, Standing};
 use crate::check_sheets::{Head, Heads, Sent};
 use crate::forced::forced_of;
 use crate::numbered::numbered_lines;
+use crate::outcome::{Outcome, SeatLine, push_lines, rows_where};
 use crate::refusals::{RefusedLine, refused_of};
 use crate::told::{Trial, TriedSheet, tell_forced, tell_refused};
 use rounds::{End, Game, play};
 use sheets::{FileFault, Sheets, collect};
 use std::alloc::{AllocError, Global};
-use tables::{Round, Seat};
-
-/// A line that was refused in the trial alone of its sheet.
-#[derive(Clone, Copy)]
-struct RefusedAlone {
-    seat: Seat,
-    number: u32,
-}
+use tables::Round;
 
 /// A trial that was played, with the lines of a sheet that it did not obey.
 #[derive(Drop)]
@@ -30,16 +24,25 @@ struct Tried<'g> {
     rows: Vec<RefusedLine>,
 }
 
+/// How far the game of a file has come.
+#[derive(Drop)]
+pub(crate) struct Reached {
+    pub(crate) standing: Standing,
+    /// What the round refused that was played last, if sheets for it are to be tried.
+    pub(crate) last: Option<Outcome>,
+}
+
 /// Adds what the trials alone find in the sheets for the round that is awaited, and, if not the
 /// whole file is reported, in the sheets for the last round that was played that begin on the first
-/// reported line or below it. Adds to `beyond` what the trial of all sheets for the round that is
-/// awaited refuses and no trial alone does. Fails only if allocation fails.
+/// reported line or below it; of these what the round itself refused, too. Adds to `beyond` what
+/// the trial of all sheets for the round that is awaited refuses and no trial alone does. Fails
+/// only if allocation fails.
 pub(crate) fn try_sheets<'a>(
     alloc: Global,
     file: &[u8],
     sheets: &Sheets,
     heads: &Heads<'a>,
-    standing: Standing,
+    reached: &Reached,
     found: &mut Found<'a>,
     beyond: &mut Found<'a>,
 ) -> Result<(), AllocError>
@@ -47,39 +50,38 @@ pub(crate) fn try_sheets<'a>(
     requires kept { AreKept heads.now }
 {
     let mut trial = TrialFile::begin(alloc, file)?;
-    if let Some(last) = standing.last
-        && found.from > 1
-    {
-        try_each_alone(alloc, sheets, heads, last, found.from, &mut trial, found)?;
+    if let (Some(round), Some(_)) = (reached.standing.last, &reached.last) {
+        try_each_alone(alloc, sheets, heads, round, &reached.last, &mut trial, found)?;
     }
-    let End::Awaiting(round) = standing.end else {
+    let End::Awaiting(round) = reached.standing.end else {
         return Ok(());
     };
-    let alone = try_each_alone(alloc, sheets, heads, round, 0, &mut trial, found)?;
+    let alone = try_each_alone(alloc, sheets, heads, round, &None, &mut trial, found)?;
     trial.put_all(sheets, round)?;
     try_all(alloc, sheets, heads, round, &trial, alone.as_slice(), beyond)
 }
 
-/// Adds what the trials alone find in the sheets for a round that begin on a line of the file or
-/// below it. Returns the lines that they refuse.
+/// Adds what the trials alone find in the sheets for a round; in those that are reported, if the
+/// round was played, with what it refused. Returns the lines that are told of.
 fn try_each_alone<'a>(
     alloc: Global,
     sheets: &Sheets,
     heads: &Heads<'a>,
     round: Round,
-    from: usize,
+    played: &Option<Outcome>,
     trial: &mut TrialFile,
     found: &mut Found<'a>,
-) -> Result<Vec<RefusedAlone>, AllocError>
+) -> Result<Vec<SeatLine>, AllocError>
     requires begun { IsBegun sheets.now trial.old }
     requires kept { AreKept heads.now }
     ensures { IfOk result (λ _. IsBegun sheets.now trial.new) }
 {
     let mut alone = Vec::new(alloc);
     for head in &heads.heads {
-        if head.sent.round == round && head.line.number >= from && heads.counts(head) {
+        let is_reported = played.is_none() || head.line.number >= found.from;
+        if is_reported && head.sent.round == round && heads.counts(head) {
             trial.put_alone(sheets, head.sent.round, head.sent.seat)?;
-            try_alone(alloc, sheets, head, trial, found, &mut alone)?;
+            try_alone(alloc, sheets, head, played, trial, found, &mut alone)?;
         }
     }
     Ok(alone)
@@ -91,15 +93,16 @@ fn try_alone<'a>(
     alloc: Global,
     sheets: &Sheets,
     head: &Head<'a>,
+    played: &Option<Outcome>,
     trial: &TrialFile,
     found: &mut Found<'a>,
-    alone: &mut Vec<RefusedAlone>,
+    alone: &mut Vec<SeatLine>,
 ) -> Result<(), AllocError>
     requires { trial.now.bytes.items
         ≡ alone_file sheets.now head.now.sent.round head.now.sent.seat }
 {
     match collect(alloc, trial.bytes.as_slice()) {
-        Ok(tried) => tell_alone(alloc, &tried, head, found, alone),
+        Ok(tried) => tell_alone(alloc, &tried, head, played, found, alone),
         // An allocation failed: passed on.
         Err(FileFault::Memory) => Err(AllocError),
         Err(_) => Ok(()),
@@ -121,15 +124,20 @@ fn try_sheet<'g>(
 }
 
 /// Adds what the trial alone of the sheet that a head begins finds, by the sheets of the trial, and
-/// the lines that it refuses.
+/// the lines that it refuses; if its round was played, what that refused, too.
 fn tell_alone<'a>(
     alloc: Global,
     tried: &Sheets,
     head: &Head<'a>,
+    played: &Option<Outcome>,
     found: &mut Found<'a>,
-    alone: &mut Vec<RefusedAlone>,
+    alone: &mut Vec<SeatLine>,
 ) -> Result<(), AllocError> {
     let Tried { game, rows } = try_sheet(alloc, tried, head.sent)?;
+    let rows = match played {
+        Some(outcome) => outcome.also_refused(alloc, head.sent.seat, rows.as_slice())?,
+        None => rows,
+    };
     let numbered = numbered_lines(alloc, head)?;
     let sheet = TriedSheet {
         trial: Trial::Alone,
@@ -138,14 +146,12 @@ fn tell_alone<'a>(
         numbered: numbered.as_slice(),
     };
     tell_refused(alloc, sheet, rows.as_slice(), found)?;
-    tell_forced(sheet, forced_of(alloc, &game, head.sent)?.as_slice(), found)?;
-    for row in &rows {
-        alone.push(RefusedAlone {
-            seat: head.sent.seat,
-            number: row.number,
-        })?;
+    for forced in &forced_of(alloc, &game, head.sent)? {
+        if played.as_ref().map_or(true, |outcome| outcome.forces(forced.company)) {
+            tell_forced(sheet, *forced, found)?;
+        }
     }
-    Ok(())
+    push_lines(alone, head.sent.seat, rows.as_slice())
 }
 
 /// Adds the lines of the sheets for a round that are refused with all sheets that are there, and in
@@ -157,7 +163,7 @@ fn try_all<'a>(
     heads: &Heads<'a>,
     round: Round,
     trial: &TrialFile,
-    alone: &[RefusedAlone],
+    alone: &[SeatLine],
     beyond: &mut Found<'a>,
 ) -> Result<(), AllocError>
     requires kept { AreKept heads.now }
@@ -177,7 +183,7 @@ fn tell_all<'a>(
     tried: &Sheets,
     heads: &Heads<'a>,
     round: Round,
-    alone: &[RefusedAlone],
+    alone: &[SeatLine],
     beyond: &mut Found<'a>,
 ) -> Result<(), AllocError>
     requires { AreKept heads.now }
@@ -196,16 +202,12 @@ fn tell_beyond<'a>(
     alloc: Global,
     game: &Game,
     head: &Head<'a>,
-    alone: &[RefusedAlone],
+    alone: &[SeatLine],
     beyond: &mut Found<'a>,
 ) -> Result<(), AllocError> {
     let numbered = numbered_lines(alloc, head)?;
-    let mut rows = Vec::new(alloc);
-    for row in &refused_of(alloc, game.history().events(), head.sent)? {
-        if !is_told_alone(alone, head.sent.seat, row.number) {
-            rows.push(*row)?;
-        }
-    }
+    let all = refused_of(alloc, game.history().events(), head.sent)?;
+    let rows = rows_where(alloc, alone, head.sent.seat, all.as_slice(), false)?;
     let sheet = TriedSheet {
         trial: Trial::All,
         game,
@@ -213,14 +215,4 @@ fn tell_beyond<'a>(
         numbered: numbered.as_slice(),
     };
     tell_refused(alloc, sheet, rows.as_slice(), beyond)
-}
-
-/// Returns whether the line with a number of the sheet of a seat was refused alone.
-fn is_told_alone(alone: &[RefusedAlone], seat: Seat, number: u32) -> bool {
-    for line in alone {
-        if line.seat == seat && line.number == number {
-            return true;
-        }
-    }
-    false
 }
