@@ -9,22 +9,23 @@ use sheets::Sheets;
 use std::alloc::AllocError;
 use tables::{Company, Seat};
 
-/// Adds whose sheet takes the last of what an order wanted, if an event of the same round before it
-/// shows that. The events are those before its ruling.
+/// Adds which other player's sheet takes the last of what an order of a seat wanted, if an event of
+/// the same round before it shows that. The events are those before its ruling.
 pub(crate) fn push_taker(
     out: &mut Vec<u8>,
     sheets: &Sheets,
     events: &[Event],
+    seat: Seat,
     order: &Order,
     rule: Refusal,
 ) -> Result<(), AllocError> {
     match taker_of(events, order, rule) {
-        Some(seat) => fill(
+        Some(taker) if taker != seat => fill(
             out,
             "; %'s sheet takes the last one",
-            &[Bytes(name(sheets, seat))],
+            &[Bytes(name(sheets, taker))],
         ),
-        None => Ok(()),
+        _ => Ok(()),
     }
 }
 

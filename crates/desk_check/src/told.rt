@@ -126,7 +126,7 @@ fn push_others(
     };
     let (sheets, view) = (ruled.sheets, ruled.view);
     if let Trial::All = trial {
-        return push_taker(out, sheets, view.events, order, *rule);
+        return push_taker(out, sheets, view.events, ruled.seat, order, *rule);
     }
     let place = sheet_line(ruled.lines, ruled.seat, number).map(|line| line.place);
     match place.and_then(|place| place.company()) {
