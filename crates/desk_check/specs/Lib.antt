@@ -1,13 +1,17 @@
 -- What a look through an order file finds.
+pub mod Alone
 pub mod FileLines
 pub mod Found
 pub mod Heads
 pub mod Looked
 pub mod Mail
+pub mod Numbered
+pub mod Refusals
 pub mod Refused
 pub mod Replaced
 pub mod RoundsPlayed
 pub mod SheetFaults
 pub mod SheetLines
 pub mod Slip
+pub mod Trials
 pub mod Unplayed

@@ -1,8 +1,8 @@
 //! Sheets that replace others: whether the round was played, and how the game has changed since.
 ghost use Rattle.std.specs.Prelude.{◌≡◌, ℕ, ◌++◌, IfOk, List, OnOk, Some};
-ghost use Rattle.rounds.specs.Play.{IsTheGame};
 ghost use Rattle.desk_check.specs.Heads.{AreKept};
-ghost use Rattle.desk_check.specs.Replaced.{AddsReplaced, before, findings_of, lateness_of};
+ghost use Rattle.desk_check.specs.Replaced.{AddsReplaced, before, findings_of, is_of_batch, lateness_of};
+ghost use Rattle.desk_check.specs.Replaced.{replaces_older};
 ghost use Rattle.desk_check.specs.Replaced.{standing_of, turning_of};
 ghost use Rattle.desk_check.specs.RoundsPlayed.{AppliesEvent, AreRoundsOf, line_kept};
 ghost use Rattle.desk_check.specs.SheetLines.{is_under};
@@ -111,8 +111,8 @@ pub(crate) fn find_replaced<'a>(
     found: &mut Found<'a>,
 ) -> Result<(), AllocError>
     requires { AreKept heads.now }
-    ensures { OnOk result (AddsReplaced file.now heads.now rounds.now (standing_of game.now)
-        found.old.findings.items found.new.findings.items) }
+    ensures { OnOk result (AddsReplaced file.now found.old.from heads.now rounds.now
+        (standing_of game.now) found.old.findings.items found.new.findings.items) }
 {
     let now = standing_of(game);
     let Some(head) = turning_head(heads, rounds, found.from) else {
@@ -140,8 +140,8 @@ fn add_turned<'a>(
 ) -> Result<(), AllocError>
     requires { AreKept heads.now }
     ensures { OnOk result ((file : List ℕ) → sheets.now ≡ before file head.now.line
-        → (turning_of heads.now rounds.now).head ≡ Some head.now
-        → AddsReplaced file heads.now rounds.now now
+        → (turning_of found.old.from heads.now rounds.now).head ≡ Some head.now
+        → AddsReplaced file found.old.from heads.now rounds.now (standing_of now.now)
         found.old.findings.items found.new.findings.items) }
 {
     let game = play(alloc, sheets)?;
@@ -164,7 +164,8 @@ fn add_replaced<'a>(
 ) -> Result<(), AllocError>
     requires { AreKept heads.now }
     ensures { OnOk result (found.new.findings.items ≡ found.old.findings.items
-        ++ flat_map (findings_of heads.now rounds.now turn.now now) heads.now.heads.items) }
+        ++ flat_map (findings_of found.old.from heads.now rounds.now turn.now now)
+        heads.now.heads.items) }
 {
     for head in &heads.heads {
         let Some(line) = head.replaces else {
@@ -253,7 +254,7 @@ struct Turning<'a> {
 /// last series of late lines without a completing line between them.
 fn turning_head<'a>(heads: &Heads<'a>, rounds: &Rounds, from: usize) -> Option<Head<'a>>
     requires { AreKept heads.now }
-    ensures { result ≡ (turning_of heads.now rounds.now).head }
+    ensures { result ≡ (turning_of from heads.now rounds.now).head }
 {
     let mut turning = Turning {
         head: None,

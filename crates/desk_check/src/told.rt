@@ -12,7 +12,7 @@ use crate::refusals::RefusedLine;
 use crate::taken::push_taker;
 use desk_base::Piece::Words;
 use desk_base::{push, view_behind};
-use desk_round::{Ruled, SheetLine, lines_of, push_rule, sheet_line};
+use desk_round::{Ruled, SheetLine, find_line, lines_of, push_rule};
 use history::{Event, GameView, PackedRuling, Ruling, Verdict, Walk};
 use rounds::Game;
 use std::alloc::{AllocError, Global};
@@ -128,7 +128,7 @@ fn push_others(
     if let Trial::All = trial {
         return push_taker(out, sheets, view.events, ruled.seat, order, *rule);
     }
-    let place = sheet_line(ruled.lines, ruled.seat, number).map(|line| line.place);
+    let place = find_line(ruled.lines, ruled.seat, number).map(|line| line.place);
     match place.and_then(|place| place.company()) {
         Some(company) => push_consent(out, sheets, view, ruled.seat, company, order, *rule),
         None => Ok(()),

@@ -4,7 +4,7 @@
 use crate::groups::{Group, Whose, groups_of};
 use crate::refusal_detail::Ruled;
 use crate::round_part::{round_asked, text_of};
-use crate::sheet_line::{SheetLine, lines_of, sheet_line};
+use crate::sheet_line::{SheetLine, find_line, lines_of};
 use crate::train_runs::push_ran;
 use crate::why::{FAULTY_COLUMNS, push_rule};
 use desk_base::Piece::{Bytes, Column, Cut, Number, Right, Words};
@@ -252,7 +252,7 @@ impl Telling<'_> {
                 print_condition(out, condition.as_ref())?;
                 print_order(out, order)
             }
-            Ruling::Faulty(_) => match sheet_line(self.lines, seat, number) {
+            Ruling::Faulty(_) => match find_line(self.lines, seat, number) {
                 Some(line) => push(out, &[Cut(line.text, FAULTY_COLUMNS)]),
                 None => Ok(()),
             },

@@ -1,6 +1,6 @@
 //! The events of a round in groups: each belongs to the turn of a company, of a player, or to none.
 
-use crate::sheet_line::{SheetLine, sheet_line};
+use crate::sheet_line::{SheetLine, find_line};
 use history::Event;
 use std::alloc::{AllocError, Global};
 use tables::{Company, Round, Seat};
@@ -82,7 +82,7 @@ fn push_any(groups: &mut Vec<Group>, group: Option<Group>) -> Result<(), AllocEr
 
 /// Returns the company among whose orders a line is, if it is among some.
 fn company_of(lines: &[SheetLine], seat: Seat, line: u32) -> Option<Company> {
-    sheet_line(lines, seat, line)?.place.company()
+    find_line(lines, seat, line)?.place.company()
 }
 
 /// Returns whose turn an event belongs to. `now` is whose turn the event before it belongs to, and

@@ -30,6 +30,6 @@ pub use refusal_detail::Ruled;
 pub use refused::refused_in;
 pub use round_part::{round, round_with_rules};
 pub use round_texts::bulletin;
-pub use sheet_line::{LinePlace, SheetLine, lines_of, sheet_line};
+pub use sheet_line::{LinePlace, SheetLine, find_line, lines_of};
 pub use train_runs::runs;
 pub use why::push_rule;

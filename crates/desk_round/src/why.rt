@@ -3,7 +3,7 @@ ghost use Rattle.std.specs.Prelude.{◌≡◌};
 ghost use Rattle.desk_round.specs.Why.{reason_of};
 
 use crate::refusal_detail::{Ruled, push_of_place, push_refusal_detail};
-use crate::sheet_line::sheet_line;
+use crate::sheet_line::find_line;
 use desk_base::Piece::{Cut, Words};
 use desk_base::{Reason, fill};
 use history::{PackedRuling, Verdict};
@@ -42,7 +42,7 @@ pub fn push_rule<'a>(
     };
     let (code, rule) = (Words(reason.code()), Words(reason.sentence()));
     fill(out, "%: %", &[code, rule])?;
-    let line = sheet_line(ruled.lines, ruled.seat, number);
+    let line = find_line(ruled.lines, ruled.seat, number);
     if let (Verdict::Faulty(fault), Some(line)) = (ruling.verdict(), line) {
         fill(out, ": %", &[Cut(line.text, FAULTY_COLUMNS)])?;
         push_of_place(out, ruled.round, line.place, fault)?;

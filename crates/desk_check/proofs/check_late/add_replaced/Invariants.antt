@@ -8,4 +8,4 @@ abbrev pub invariant-loop-head : goal.invariant-loop-head
 invariant-loop-head l =
     l.found.findings.items
     ≡ l.fn.found.findings.items
-    ++ flat_map (findings_of l.heads l.rounds l.turn l.now) (take l.head-index l.heads.heads.items)
+    ++ flat_map (findings_of l.fn.found.from l.heads l.rounds l.turn l.now) (take l.head-index l.heads.heads.items)

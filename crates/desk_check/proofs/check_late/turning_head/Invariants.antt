@@ -7,5 +7,5 @@ use Rattle.desk_check.proofs.check_late.turning_head.Given as goal
 abbrev pub invariant-loop-head : goal.invariant-loop-head
 invariant-loop-head l =
     l.turning
-    ≡ fold (turning_then l.heads l.rounds) (record { head = None; is_fresh = true })
+    ≡ fold (turning_then l.from l.heads l.rounds) (record { head = None; is_fresh = true })
     (take l.head-index l.heads.heads.items)
