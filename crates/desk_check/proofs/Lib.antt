@@ -1,7 +1,9 @@
 -- What the proofs of a look through a file share.
+pub mod AloneLemmas
 pub mod FaultLemmas
 pub mod FileLemmas
 pub mod HeadLemmas
+pub mod NumberedLemmas
 pub mod RefusedLemmas
 pub mod RoundLemmas
 pub mod SentLemmas

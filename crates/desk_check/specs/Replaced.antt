@@ -11,6 +11,7 @@ use Rattle.desk_check.specs.declared.check_found.Change.{Change}
 use Rattle.desk_check.specs.declared.check_found.Finding.{Finding}
 use Rattle.desk_check.specs.declared.check_found.Lateness.{Lateness}
 use Rattle.desk_check.specs.declared.check_found.Lateness.TheVariants as lateness
+use Rattle.desk_check.specs.declared.check_found.Matter.{Matter}
 use Rattle.desk_check.specs.declared.check_found.Matter.TheVariants as matter
 use Rattle.desk_check.specs.declared.check_found.Standing.{Standing}
 use Rattle.desk_check.specs.declared.check_late.Rounds.{Rounds}
@@ -115,12 +116,16 @@ turned (Some turn) line now =
     if turn.line == line then Some (record { before = turn.standing; now = now; round = turn.changed }) else None
 
 -- what there is to say of a line that begins a sheet in place of that of another, where lines are reported from one on
+abbrev pub matter_of : ℕ → Heads → Rounds → Option Turn → Standing → Head → ℕ → Matter
+matter_of from heads rounds turn now head replaced =
+    matter.Replaces replaced head.sent.round
+    (lateness_of heads rounds turn head.sent.round head.line.number (is_of_batch from replaced))
+    (turned turn head.line.number now)
+
+-- so it is a finding
 abbrev pub replacing : ℕ → Heads → Rounds → Option Turn → Standing → Head → ℕ → Finding
 replacing from heads rounds turn now head replaced =
-    finding head.line
-    (matter.Replaces replaced head.sent.round
-    (lateness_of heads rounds turn head.sent.round head.line.number (is_of_batch from replaced))
-    (turned turn head.line.number now))
+    finding head.line (matter_of from heads rounds turn now head replaced)
 
 -- if it does
 abbrev pub replacing_if : ℕ → Heads → Rounds → Option Turn → Standing → Head → Option ℕ → List Finding

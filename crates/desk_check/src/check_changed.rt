@@ -39,7 +39,10 @@ pub(crate) fn first_changed(
 
 /// Returns whether an event is compared.
 fn is_said(event: &Event) -> bool {
-    matches!(event, Event::Round(_) | Event::Ruled { .. } | Event::Left { .. })
+    matches!(
+        event,
+        Event::Round(_) | Event::Ruled { .. } | Event::Left { .. }
+    )
 }
 
 /// Returns the place of the first event that is compared, from a place on; the number of events if

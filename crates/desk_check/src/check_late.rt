@@ -2,8 +2,7 @@
 ghost use Rattle.std.specs.Prelude.{◌≡◌, ℕ, ◌++◌, IfOk, List, OnOk, Some};
 ghost use Rattle.desk_check.specs.Heads.{AreKept};
 ghost use Rattle.desk_check.specs.Replaced.{AddsReplaced, before, findings_of, is_of_batch, lateness_of};
-ghost use Rattle.desk_check.specs.Replaced.{replaces_older};
-ghost use Rattle.desk_check.specs.Replaced.{standing_of, turning_of};
+ghost use Rattle.desk_check.specs.Replaced.{matter_of, replaces_older, standing_of, turned, turning_of};
 ghost use Rattle.desk_check.specs.RoundsPlayed.{AppliesEvent, AreRoundsOf, line_kept};
 ghost use Rattle.desk_check.specs.SheetLines.{is_under};
 ghost use Rattle.std.specs.List.{flat_map};
@@ -171,23 +170,48 @@ fn add_replaced<'a>(
         let Some(line) = head.replaces else {
             continue;
         };
-        let turn_here = match turn {
-            Some(turn) if turn.line == head.line.number => Some(Change {
-                before: turn.standing,
-                now,
-                round: turn.changed,
-            }),
-            _ => None,
-        };
-        let matter = Matter::Replaces {
-            line,
-            round: head.sent.round,
-            lateness: lateness_of(head, heads, rounds, turn, is_of_batch(found.from, line)),
-            turn: turn_here,
-        };
+        let matter = matter_of(found.from, heads, rounds, turn, now, head, line);
         found.add(&head.line, matter)?;
     }
     Ok(())
+}
+
+/// Returns what there is to say of a head that replaces the sheet of a line, where lines are
+/// reported from one on.
+fn matter_of(
+    from: usize,
+    heads: &Heads,
+    rounds: &Rounds,
+    turn: &Option<Turn>,
+    now: Standing,
+    head: &Head,
+    line: usize,
+) -> Matter
+    requires { AreKept heads.now }
+    ensures { result ≡ matter_of from heads.now rounds.now turn.now now head.now line }
+{
+    let corrects = is_of_batch(from, line);
+    Matter::Replaces {
+        line,
+        round: head.sent.round,
+        lateness: lateness_of(head, heads, rounds, turn, corrects),
+        turn: turned(turn, head.line.number, now),
+    }
+}
+
+/// Returns how far the game had come before a line, how far it comes now, and what changes, if it
+/// turns at that line.
+fn turned(turn: &Option<Turn>, line: usize, now: Standing) -> Option<Change>
+    ensures { result ≡ turned turn.now line now }
+{
+    match turn {
+        Some(turn) if turn.line == line => Some(Change {
+            before: turn.standing,
+            now,
+            round: turn.changed,
+        }),
+        _ => None,
+    }
 }
 
 /// Returns whether a line is among those that are reported, which do not begin with the file: it

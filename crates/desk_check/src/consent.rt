@@ -32,7 +32,11 @@ pub(crate) fn push_consent(
     let Some(consent) = consent_lacking(view, seat, company, order, rule) else {
         return Ok(());
     };
-    fill(out, "; only with %'s ", &[Bytes(name(sheets, consent.seat))])?;
+    fill(
+        out,
+        "; only with %'s ",
+        &[Bytes(name(sheets, consent.seat))],
+    )?;
     print_order(out, &Order::Offer(consent.offer))
 }
 
@@ -62,8 +66,7 @@ fn consent_lacking(
             consent_of(view.president(*seller)?, seat, offer)
         }
         (Refusal::Private(PrivateRule::NoConsent), Order::BuyOwnedPrivate { private, price })
-            if *private != Private::BaltimoreOhio && !is_too_dear(view, company, *price) =>
-        {
+            if *private != Private::BaltimoreOhio && !is_too_dear(view, company, *price) => {
             let Some(Holder::Seat(owner)) = view.owner(*private) else {
                 return None;
             };

@@ -57,7 +57,12 @@ pub(crate) fn forced_of(alloc: Global, game: &Game, sent: Sent) -> Result<Vec<Fo
         {
             let view = view_behind(&mut walk, place, seats);
             buyer = buyer_of(&view, *company, sent.seat);
-            push_must(&mut forced, &view, buyer, events.get(place..).unwrap_or(&[]))?;
+            push_must(
+                &mut forced,
+                &view,
+                buyer,
+                events.get(place..).unwrap_or(&[]),
+            )?;
         } else if let Some(company) = buyer {
             push_fact(&mut forced, company, event)?;
             buyer = buyer_then(company, event);
@@ -132,11 +137,7 @@ fn cheapest(view: &GameView) -> Kind {
 }
 
 /// Adds what an event brings while a company must buy a train, if it is told of.
-fn push_fact(
-    forced: &mut Vec<Forced>,
-    company: Company,
-    event: &Event,
-) -> Result<(), AllocError> {
+fn push_fact(forced: &mut Vec<Forced>, company: Company, event: &Event) -> Result<(), AllocError> {
     let Some(fact) = fact_of(event) else {
         return Ok(());
     };

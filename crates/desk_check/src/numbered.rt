@@ -1,7 +1,6 @@
 //! The lines of a sheet that are numbered, where they are in the file.
-ghost use Rattle.std.specs.Prelude.{◌≡◌, ◌≤◌, IfOk};
+ghost use Rattle.std.specs.Prelude.{◌≡◌, IfOk, map};
 ghost use Rattle.desk_check.specs.Numbered.{ends_numbered, line_at, numbered_of};
-ghost use Rattle.std.specs.Prelude.{map};
 
 use crate::check_lines::{FileLine, FileLines};
 use crate::check_sheets::Head;

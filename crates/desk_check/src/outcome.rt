@@ -110,5 +110,7 @@ pub(crate) fn rows_where(
 
 /// Returns whether a line of the sheet of a seat is among some lines.
 fn has_line(lines: &[SeatLine], seat: Seat, number: u32) -> bool {
-    lines.iter().any(|line| line.seat == seat && line.number == number)
+    lines
+        .iter()
+        .any(|line| line.seat == seat && line.number == number)
 }

@@ -13,7 +13,7 @@ pub(crate) fn push_owed(
     sheets: &Sheets,
     round: Round,
 ) -> Result<(), AllocError> {
-    let count = (0..sheets.seats()).filter(|seat| owes(sheets, Seat::at(*seat), &round)).count();
+    let count = count_owing(sheets, round);
     if count == 0 || count == sheets.seats() {
         return Ok(());
     }
@@ -27,4 +27,15 @@ pub(crate) fn push_owed(
         }
     }
     push(out, &[Words("\n")])
+}
+
+/// Returns how many players owe a sheet for a round.
+fn count_owing(sheets: &Sheets, round: Round) -> usize {
+    let mut count: usize = 0;
+    for number in 0..sheets.seats() {
+        if owes(sheets, Seat::at(number), &round) {
+            count = count.saturating_add(1);
+        }
+    }
+    count
 }

@@ -1,7 +1,6 @@
 //! The lines of a player's sheet that a trial did not obey.
 ghost use Rattle.std.specs.Prelude.{◌≡◌, ◌++◌, IfOk, OnOk};
-ghost use Rattle.desk_check.specs.Refusals.{is_told, refused_of, row_at, rows_by};
-ghost use Rattle.tables.specs.declared.seat.Seat.{Seat as SeatOf};
+ghost use Rattle.desk_check.specs.Refusals.{is_told, refused_of, row_at};
 
 use crate::check_sheets::Sent;
 use desk_round::refused_in;

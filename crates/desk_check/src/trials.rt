@@ -1,8 +1,8 @@
 //! Plays the trials: that of each sheet alone, and that of all sheets that are there.
-ghost use Rattle.std.specs.Prelude.{◌≡◌, IfOk};
+ghost use Rattle.std.specs.Prelude.{◌≡◌, ◌++◌, IfOk, OnOk};
 ghost use Rattle.desk_check.specs.Alone.{IsBegun, alone_file, tried_file};
 ghost use Rattle.desk_check.specs.Heads.{AreKept};
-ghost use Rattle.desk_check.specs.Trials.{IsTried};
+ghost use Rattle.desk_check.specs.Trials.{IsTried, head_if, sheets_for};
 
 use crate::alone::TrialFile;
 use crate::check_found::{Found, Standing};
@@ -49,40 +49,123 @@ pub(crate) fn try_sheets<'a>(
     requires same { sheets.now ≡ file.now }
     requires kept { AreKept heads.now }
 {
-    let mut trial = TrialFile::begin(alloc, file)?;
-    if let (Some(round), Some(_)) = (reached.standing.last, &reached.last) {
-        try_each_alone(alloc, sheets, heads, round, &reached.last, &mut trial, found)?;
+    let last = last_to_try(alloc, heads, reached, found.from)?;
+    let awaited = awaited_to_try(alloc, heads, reached)?;
+    if last.is_empty() && awaited.is_empty() {
+        return Ok(());
     }
+    let mut trial = TrialFile::begin(alloc, file)?;
+    try_each_alone(
+        alloc,
+        sheets,
+        last.as_slice(),
+        &reached.last,
+        &mut trial,
+        found,
+    )?;
+    let alone = try_each_alone(alloc, sheets, awaited.as_slice(), &None, &mut trial, found)?;
     let End::Awaiting(round) = reached.standing.end else {
         return Ok(());
     };
-    let alone = try_each_alone(alloc, sheets, heads, round, &None, &mut trial, found)?;
+    // The trial of a sheet that is there alone is that of all.
+    if awaited.len() < 2 {
+        return Ok(());
+    }
     trial.put_all(sheets, round)?;
-    try_all(alloc, sheets, heads, round, &trial, alone.as_slice(), beyond)
+    try_all(
+        alloc,
+        sheets,
+        awaited.as_slice(),
+        round,
+        &trial,
+        alone.as_slice(),
+        beyond,
+    )
 }
 
-/// Adds what the trials alone find in the sheets for a round; in those that are reported, if the
-/// round was played, with what it refused. Returns the lines that are told of.
+/// Returns the heads of the sheets for the last round that was played that are tried: those that
+/// begin on a line of the file or below it. Fails only if allocation fails.
+fn last_to_try<'a>(
+    alloc: Global,
+    heads: &Heads<'a>,
+    reached: &Reached,
+    from: usize,
+) -> Result<Vec<Head<'a>>, AllocError>
+    requires { AreKept heads.now }
+{
+    match (reached.standing.last, &reached.last) {
+        (Some(round), Some(_)) => sheets_for(alloc, heads, round, from),
+        _ => Ok(Vec::new(alloc)),
+    }
+}
+
+/// Returns the heads of the sheets for the round that is awaited. Fails only if allocation fails.
+fn awaited_to_try<'a>(
+    alloc: Global,
+    heads: &Heads<'a>,
+    reached: &Reached,
+) -> Result<Vec<Head<'a>>, AllocError>
+    requires { AreKept heads.now }
+{
+    match reached.standing.end {
+        End::Awaiting(round) => sheets_for(alloc, heads, round, 0),
+        End::Bank | End::Bankrupt => Ok(Vec::new(alloc)),
+    }
+}
+
+/// Returns the heads of the sheets for a round that count and begin on a line of the file or below
+/// it, in the order of the file. Fails only if allocation fails.
+fn sheets_for<'a>(
+    alloc: Global,
+    heads: &Heads<'a>,
+    round: Round,
+    from: usize,
+) -> Result<Vec<Head<'a>>, AllocError>
+    requires { AreKept heads.now }
+    ensures { IfOk result (λ tried. tried.items ≡ sheets_for heads.now round from) }
+{
+    let mut tried = Vec::new(alloc);
+    for head in &heads.heads {
+        push_if_for(&mut tried, heads, head, round, from)?;
+    }
+    Ok(tried)
+}
+
+/// Adds a head, if its sheet is for a round, counts, and begins on a line of the file or below it.
+fn push_if_for<'a>(
+    tried: &mut Vec<Head<'a>>,
+    heads: &Heads<'a>,
+    head: &Head<'a>,
+    round: Round,
+    from: usize,
+) -> Result<(), AllocError>
+    requires { AreKept heads.now }
+    ensures { OnOk result (tried.new.items
+        ≡ tried.old.items ++ head_if heads.now round from head.now) }
+{
+    if head.sent.round == round && head.line.number >= from && heads.counts(head) {
+        tried.push(*head)?;
+    }
+    Ok(())
+}
+
+/// Adds what the trials alone find in the sheets that some heads begin; of a round that was played,
+/// what it refused, too. Returns the lines that are told of.
 fn try_each_alone<'a>(
     alloc: Global,
     sheets: &Sheets,
-    heads: &Heads<'a>,
-    round: Round,
+    heads: &[Head<'a>],
     played: &Option<Outcome>,
     trial: &mut TrialFile,
     found: &mut Found<'a>,
 ) -> Result<Vec<SeatLine>, AllocError>
-    requires begun { IsBegun sheets.now trial.old }
-    requires kept { AreKept heads.now }
+    requires { IsBegun sheets.now trial.old }
     ensures { IfOk result (λ _. IsBegun sheets.now trial.new) }
 {
     let mut alone = Vec::new(alloc);
-    for head in &heads.heads {
-        let is_reported = played.is_none() || head.line.number >= found.from;
-        if is_reported && head.sent.round == round && heads.counts(head) {
-            trial.put_alone(sheets, head.sent.round, head.sent.seat)?;
-            try_alone(alloc, sheets, head, played, trial, found, &mut alone)?;
-        }
+    for head in heads {
+        trial.put_alone(sheets, head.sent.round, head.sent.seat)?;
+        try_alone(alloc, sheets, head, played, trial, found, &mut alone)?;
     }
     Ok(alone)
 }
@@ -111,11 +194,7 @@ fn try_alone<'a>(
 
 /// Plays the sheets of a trial, and returns the game with the lines of a sheet that it did not
 /// obey. Fails only if allocation fails.
-fn try_sheet<'g>(
-    alloc: Global,
-    tried: &'g Sheets<'g>,
-    sent: Sent,
-) -> Result<Tried<'g>, AllocError>
+fn try_sheet<'g>(alloc: Global, tried: &'g Sheets<'g>, sent: Sent) -> Result<Tried<'g>, AllocError>
     ensures { IfOk result (IsTried tried.now sent) }
 {
     let game = play(alloc, tried)?;
@@ -147,52 +226,50 @@ fn tell_alone<'a>(
     };
     tell_refused(alloc, sheet, rows.as_slice(), found)?;
     for forced in &forced_of(alloc, &game, head.sent)? {
-        if played.as_ref().map_or(true, |outcome| outcome.forces(forced.company)) {
+        if played
+            .as_ref()
+            .map_or(true, |outcome| outcome.forces(forced.company))
+        {
             tell_forced(sheet, *forced, found)?;
         }
     }
     push_lines(alone, head.sent.seat, rows.as_slice())
 }
 
-/// Adds the lines of the sheets for a round that are refused with all sheets that are there, and in
-/// no trial alone. If the file of the trial is refused, since it is longer than the order file,
-/// nothing is found.
+/// Adds the lines of the sheets that some heads begin that are refused with all sheets for a round
+/// that are there, and in no trial alone. If the file of the trial is refused, since it is longer
+/// than the order file, nothing is found.
 fn try_all<'a>(
     alloc: Global,
     sheets: &Sheets,
-    heads: &Heads<'a>,
+    heads: &[Head<'a>],
     round: Round,
     trial: &TrialFile,
     alone: &[SeatLine],
     beyond: &mut Found<'a>,
 ) -> Result<(), AllocError>
-    requires kept { AreKept heads.now }
-    requires file { trial.now.bytes.items ≡ tried_file sheets.now round }
+    requires { trial.now.bytes.items ≡ tried_file sheets.now round }
 {
     match collect(alloc, trial.bytes.as_slice()) {
-        Ok(tried) => tell_all(alloc, &tried, heads, round, alone, beyond),
+        Ok(tried) => tell_all(alloc, &tried, heads, alone, beyond),
         // An allocation failed: passed on.
         Err(FileFault::Memory) => Err(AllocError),
         Err(_) => Ok(()),
     }
 }
 
-/// Adds the lines of the sheets for a round that these sheets refuse, and no trial alone.
+/// Adds the lines of the sheets that some heads begin that the sheets of a trial refuse, and no
+/// trial alone.
 fn tell_all<'a>(
     alloc: Global,
     tried: &Sheets,
-    heads: &Heads<'a>,
-    round: Round,
+    heads: &[Head<'a>],
     alone: &[SeatLine],
     beyond: &mut Found<'a>,
-) -> Result<(), AllocError>
-    requires { AreKept heads.now }
-{
+) -> Result<(), AllocError> {
     let game = play(alloc, tried)?;
-    for head in &heads.heads {
-        if head.sent.round == round && heads.counts(head) {
-            tell_beyond(alloc, &game, head, alone, beyond)?;
-        }
+    for head in heads {
+        tell_beyond(alloc, &game, head, alone, beyond)?;
     }
     Ok(())
 }

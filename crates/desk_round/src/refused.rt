@@ -10,11 +10,7 @@ use tables::Round;
 
 /// Returns the places in the list of events of all rulings of a round by which a line was refused,
 /// or has a fault, in their order. Fails only if allocation fails.
-pub fn refused_in(
-    alloc: Global,
-    events: &[Event],
-    round: Round,
-) -> Result<Vec<usize>, AllocError>
+pub fn refused_in(alloc: Global, events: &[Event], round: Round) -> Result<Vec<usize>, AllocError>
     ensures { IfOk result (λ places. places.items ≡ refused_in round events.now) }
 {
     let mut places = Vec::new(alloc);

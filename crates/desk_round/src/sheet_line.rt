@@ -99,11 +99,7 @@ fn place_behind(head: UnreadLine) -> LinePlace {
 
 /// Returns the line with this number in the sheet of a seat, among those of all sheets; `None` if
 /// there is none, or it is not kept.
-pub fn find_line<'a>(
-    lines: &[SheetLine<'a>],
-    seat: Seat,
-    number: u32,
-) -> Option<SheetLine<'a>>
+pub fn find_line<'a>(lines: &[SheetLine<'a>], seat: Seat, number: u32) -> Option<SheetLine<'a>>
     ensures { IfSome result (IsLineOf seat number) }
 {
     if number > LINES_KEPT {
