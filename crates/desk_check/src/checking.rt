@@ -106,15 +106,7 @@ fn look_at_sheets(
     let mut pass = pass_over(alloc, sheets, file, extent.from)?;
     let reached = look_at_game(alloc, file, extent, sheets, &mut pass)?;
     let mut beyond = Found::nothing(alloc, extent.from);
-    try_sheets(
-        alloc,
-        file,
-        sheets,
-        &pass.heads,
-        &reached,
-        &mut pass.found,
-        &mut beyond,
-    )?;
+    try_pass(alloc, file, sheets, &reached, &mut pass, &mut beyond)?;
     push_found(text, sheets, &mut pass.found)?;
     if !beyond.is_empty() {
         push_heading(text)?;
@@ -124,6 +116,30 @@ fn look_at_sheets(
         push_owed(text, sheets, round)?;
     }
     Ok(!pass.found.is_empty() || !beyond.is_empty())
+}
+
+/// Adds what the trials find, by the SHEET lines of a file, and to `beyond` what only all sheets that
+/// are there show.
+fn try_pass<'a>(
+    alloc: Global,
+    file: &[u8],
+    sheets: &Sheets,
+    reached: &Reached,
+    pass: &mut Pass<'a>,
+    beyond: &mut Found<'a>,
+) -> Result<(), AllocError>
+    requires same { sheets.now ≡ file.now }
+    requires kept { AreKept pass.old.heads }
+{
+    try_sheets(
+        alloc,
+        file,
+        sheets,
+        &pass.heads,
+        reached,
+        &mut pass.found,
+        beyond,
+    )
 }
 
 /// Adds the findings of the game of some sheets, by the SHEET lines of their file. Returns how far

@@ -38,20 +38,20 @@ impl Trial {
 
 /// A sheet, and the game of a trial that played it.
 #[derive(Clone, Copy)]
-pub(crate) struct TriedSheet<'g, 'a> {
+pub(crate) struct TriedSheet<'g, 'h, 'n, 'a> {
     pub(crate) trial: Trial,
     pub(crate) game: &'g Game<'g>,
     /// The SHEET line.
-    pub(crate) head: &'g Head<'a>,
+    pub(crate) head: &'h Head<'a>,
     /// The lines of the sheet.
-    pub(crate) numbered: &'g [FileLine<'a>],
+    pub(crate) numbered: &'n [FileLine<'a>],
 }
 
 /// Adds the lines of a sheet that a trial did not obey, unless a finding of the line has the same
 /// code already.
 pub(crate) fn tell_refused<'a>(
     alloc: Global,
-    played: TriedSheet<'_, 'a>,
+    played: TriedSheet<'_, '_, '_, 'a>,
     rows: &[RefusedLine],
     found: &mut Found<'a>,
 ) -> Result<(), AllocError> {
@@ -84,7 +84,7 @@ fn is_told(found: &Found, line: &FileLine, verdict: Verdict) -> bool {
 /// Adds a line that a trial did not obey. The game is as it was before the line.
 fn tell_row<'a>(
     alloc: Global,
-    played: TriedSheet<'_, 'a>,
+    played: TriedSheet<'_, '_, '_, 'a>,
     lines: &[SheetLine],
     view: &GameView,
     row: &RefusedLine,
@@ -150,7 +150,7 @@ fn add_told<'a>(
 /// Adds what happens as a company must buy a train, to the line with which its orders begin, or to
 /// the SHEET line if it has none.
 pub(crate) fn tell_forced<'a>(
-    played: TriedSheet<'_, 'a>,
+    played: TriedSheet<'_, '_, '_, 'a>,
     forced: Forced,
     found: &mut Found<'a>,
 ) -> Result<(), AllocError> {

@@ -275,9 +275,9 @@ fn tell_all<'a>(
 }
 
 /// Adds the lines of the sheet that a head begins that a game refuses, and its trial alone did not.
-fn tell_beyond<'a>(
+fn tell_beyond<'g, 'a>(
     alloc: Global,
-    game: &Game,
+    game: &'g Game<'g>,
     head: &Head<'a>,
     alone: &[SeatLine],
     beyond: &mut Found<'a>,
