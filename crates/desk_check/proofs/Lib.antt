@@ -7,3 +7,4 @@ pub mod NumberedLemmas
 pub mod RefusedLemmas
 pub mod RoundLemmas
 pub mod SentLemmas
+pub mod StepLemmas

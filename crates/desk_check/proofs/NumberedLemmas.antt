@@ -1,6 +1,6 @@
 -- The lines of a sheet that are numbered, one after another.
-use Rattle.std.proofs.Common.{◌≡◌, ℕ, ◌+◌, Bool, true, false, List, [], ◌∷◌, ◌++◌, length, map, refl, sym, ap, ◌∙◌, append_assoc}
-use Rattle.std.proofs.lemmas.List.{append-nil, length_push, map-append}
+use Rattle.std.proofs.Common.{◌≡◌, ℕ, ◌+◌, Bool, true, false, List, [], ◌∷◌, ◌++◌, map, refl, sym, ap, ◌∙◌, append_assoc}
+use Rattle.std.proofs.lemmas.List.{append-nil, map-append}
 use Rattle.desk_check.specs.Numbered.{LineAt, ends_numbered, line_at, numbered_in}
 use Rattle.desk_check.specs.declared.check_lines.FileLine.{FileLine}
 use Rattle.sheets.specs.Text.{is_blank}
@@ -56,18 +56,20 @@ behind_blank whole kept count passed number next_passed text lines texts before 
     ∙ before
 
 -- behind another one, which is kept
-pub behind_written : (whole : List LineAt) (old new : List FileLine) (line : FileLine) (passed next_passed : ℕ)
-    (lines texts : List (List ℕ)) → map line_at old ++ numbered_in (length old) passed lines ≡ whole
-    → lines ≡ line.text.now ∷ texts → ends_numbered (length old) line.text.now ≡ false
-    → is_blank line.text.now ≡ false → line.number ≡ passed + 1 → next_passed ≡ line.number
-    → new ≡ old ++ line ∷ [] → map line_at new ++ numbered_in (length new) next_passed texts ≡ whole
-behind_written whole old new line passed next_passed lines texts before next goes_on written is same pushed =
-    let more = numbered_in (length old + 1) line.number texts in
-    ap (λ (n : ℕ). map line_at new ++ numbered_in (length new) n texts) same
-    ∙ ap (λ (all : List FileLine). map line_at all ++ numbered_in (length all) line.number texts) pushed
-    ∙ ap (λ (n : ℕ). map line_at (old ++ line ∷ []) ++ numbered_in n line.number texts) (length_push old line)
+pub behind_written : (whole : List LineAt) (old new : List FileLine) (line : FileLine)
+    (count next_count passed next_passed : ℕ) (lines texts : List (List ℕ))
+    → map line_at old ++ numbered_in count passed lines ≡ whole → lines ≡ line.text.now ∷ texts
+    → ends_numbered count line.text.now ≡ false → is_blank line.text.now ≡ false → line.number ≡ passed + 1
+    → next_passed ≡ line.number → new ≡ old ++ line ∷ [] → next_count ≡ count + 1
+    → map line_at new ++ numbered_in next_count next_passed texts ≡ whole
+behind_written whole old new line count next_count passed next_passed lines texts before next goes_on written is same
+    pushed counted =
+    let more = numbered_in (count + 1) line.number texts in
+    ap (λ (n : ℕ). map line_at new ++ numbered_in next_count n texts) same
+    ∙ ap (λ (all : List FileLine). map line_at all ++ numbered_in next_count line.number texts) pushed
+    ∙ ap (λ (n : ℕ). map line_at (old ++ line ∷ []) ++ numbered_in n line.number texts) counted
     ∙ ap (λ (kept : List LineAt). kept ++ more) (map-append line_at old (line ∷ []))
     ∙ append_assoc (map line_at old) (line_at line ∷ []) more
     ∙ ap (λ (some : List LineAt). map line_at old ++ some)
-    (sym (takes (length old) passed line.number line.text.now lines texts next goes_on written is))
+    (sym (takes count passed line.number line.text.now lines texts next goes_on written is))
     ∙ before

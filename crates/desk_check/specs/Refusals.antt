@@ -1,5 +1,5 @@
 -- The lines of a player's sheet that a game did not obey in its round, as its events say.
-use Rattle.std.specs.Prelude.{ℕ, ◌==◌, ◌&&◌, Bool, true, false, if◌then◌else◌, List, [], ◌∷◌, Option, Some, None, slice_get}
+use Rattle.std.specs.Prelude.{ℕ, ◌==◌, Bool, true, false, if◌then◌else◌, List, [], ◌∷◌, Option, Some, None, slice_get}
 use Rattle.std.specs.List.{flat_map}
 use Rattle.desk_check.specs.declared.check_sheets.Sent.{Sent}
 use Rattle.desk_check.specs.declared.refusals.RefusedLine.{RefusedLine}
@@ -25,10 +25,14 @@ row_of place number verdict =
     if is_told verdict then record { place = place; number = number; verdict = verdict } ∷ [] else []
 
 -- the line that an event at this place rules, if it is of this seat
+abbrev pub row_in : Seat → ℕ → Event → List RefusedLine
+row_in seat place (Ruled ruled line ruling) = if ruled.0 == seat.0 then row_of place line (verdict_of ruling) else []
+row_in seat place other = []
+
+-- if there is an event
 abbrev pub row_by : Seat → ℕ → Option Event → List RefusedLine
-row_by seat place (Some (Ruled ruled line ruling)) =
-    if ruled.0 == seat.0 then row_of place line (verdict_of ruling) else []
-row_by seat place other = []
+row_by seat place None = []
+row_by seat place (Some event) = row_in seat place event
 
 -- the line that the event at a place rules
 abbrev pub row_at : List Event → Seat → ℕ → List RefusedLine

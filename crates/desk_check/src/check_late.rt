@@ -166,11 +166,12 @@ fn add_replaced<'a>(
         ++ flat_map (findings_of found.old.from heads.now rounds.now turn.now now)
         heads.now.heads.items) }
 {
+    let from = found.from;
     for head in &heads.heads {
         let Some(line) = head.replaces else {
             continue;
         };
-        let matter = matter_of(found.from, heads, rounds, turn, now, head, line);
+        let matter = matter_of(from, heads, rounds, turn, now, head, line);
         found.add(&head.line, matter)?;
     }
     Ok(())

@@ -42,7 +42,7 @@ pub(crate) fn push_found(
         &[
             Words("and of "),
             Count(found.unlisted),
-            Words(" lines more: unread, like mail, or with a fault\n"),
+            Words(" lines more: unread, like mail, with a fault, or refused in a trial\n"),
         ],
     )
 }

@@ -164,10 +164,7 @@ fn look_at_game<'a>(
 fn reached_by(alloc: Global, game: &Game, tries_last: bool) -> Result<Reached, AllocError> {
     let standing = standing_of(game);
     let last = match standing.last {
-        Some(round) if tries_last => {
-            let (events, seats) = (game.history().events(), game.history().seats());
-            Some(Outcome::of(alloc, events, seats, round)?)
-        }
+        Some(round) if tries_last => Some(Outcome::of(alloc, game, round)?),
         _ => None,
     };
     Ok(Reached { standing, last })

@@ -2,13 +2,13 @@
 
 use desk_base::Piece::{Bytes, Words};
 use desk_base::{fill, push};
-use history::{GameView, Holder, PrivateRule, Refusal, TrainRule, TrainSeller};
+use history::{GameView, Holder, Party, PrivateRule, Refusal, TrainRule};
 use order_grammar::{Offer, Order, TrainSource, print_order};
-use purchases::{is_not_sellers, is_too_dear};
+use purchases::has_train;
 use report::name;
 use sheets::Sheets;
 use std::alloc::AllocError;
-use tables::{Company, Private, Seat};
+use tables::{Amount, Company, Money, Private, Seat};
 
 /// An offer that a player would have to make.
 #[derive(Clone, Copy)]
@@ -56,7 +56,7 @@ fn consent_lacking(
                 kind,
                 from: TrainSource::Company { seller, price },
             },
-        ) if *price > 0 && !is_not_sellers(view, company, *kind, TrainSeller::Company(*seller)) => {
+        ) if *price > 0 && has_train(view, *seller, *kind) && *seller != company => {
             let offer = Offer::Train {
                 kind: *kind,
                 seller: *seller,
@@ -66,7 +66,7 @@ fn consent_lacking(
             consent_of(view.president(*seller)?, seat, offer)
         }
         (Refusal::Private(PrivateRule::NoConsent), Order::BuyOwnedPrivate { private, price })
-            if *private != Private::BaltimoreOhio && !is_too_dear(view, company, *price) => {
+            if *private != Private::BaltimoreOhio && has_cash(view, company, *price) => {
             let Some(Holder::Seat(owner)) = view.owner(*private) else {
                 return None;
             };
@@ -79,6 +79,11 @@ fn consent_lacking(
         }
         _ => None,
     }
+}
+
+/// Returns whether a company has a sum, in dollars.
+fn has_cash(view: &GameView, company: Company, price: Amount) -> bool {
+    view.cash(Party::of_company(company)) >= Money::from(price)
 }
 
 /// Returns the offer of the player of a seat to another; `None` if they are the same.

@@ -1,13 +1,19 @@
-//! Lints an order file: `check` takes the allocator and the bytes of the file, and returns text.
+//! Lints an order file, and tries its sheets: `check` takes the allocator and the bytes of the file,
+//! and returns text.
 //!
 //! The facts come from contracts: the lines of a file and their numbers, the sheets that they
-//! begin, which sheet replaces which, which rounds were played by then, which can still come, and
-//! the fault of a line. How they are laid out is tested by the games of `games/desk/`.
+//! begin, which sheet replaces which, which rounds were played by then, which can still come, the
+//! fault of a line, the file of a trial, and the lines that its game refuses. How they are laid out
+//! is tested by the games of `games/desk/`.
 //!
 //! Reading order: `check_lines` (the lines of a file), `check_mail`, `check_names`, `check_found`
 //! (what is found), `check_sheets` (the SHEET lines), `check_pass` (one pass over a file),
-//! `check_late` (sheets that replace others), `check_early` (sheets for rounds to come),
-//! `check_refused` (refused files), `check_text` (the text), `checking` (`check`).
+//! `check_changed` and `check_late` (sheets that replace others), `check_early` (sheets for rounds
+//! to come), `check_refused` (refused files); then the trials: `alone` (their files), `refusals`
+//! (the lines that they refuse), `outcome` (what the last round refused), `numbered` (where those
+//! lines are in the file), `forced` (trains that companies must buy), `consent` and `taken` (what
+//! other players have to do with it), `told` (their findings), `trials`; `owed`, `check_text` (the
+//! text), `checking` (`check`).
 #![tactic(auto)]
 
 mod alone;

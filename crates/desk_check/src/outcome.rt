@@ -3,6 +3,7 @@
 use crate::check_sheets::Sent;
 use crate::refusals::{RefusedLine, refused_of};
 use history::Event;
+use rounds::Game;
 use std::alloc::{AllocError, Global};
 use tables::{COMPANIES, Company, PerCompany, Round, Seat};
 
@@ -23,16 +24,11 @@ pub(crate) struct Outcome {
 }
 
 impl Outcome {
-    /// Returns what a round refused, by the events of a game with so many seats. Fails only if
-    /// allocation fails.
-    pub(crate) fn of(
-        alloc: Global,
-        events: &[Event],
-        seats: usize,
-        round: Round,
-    ) -> Result<Outcome, AllocError> {
+    /// Returns what a round of a game refused. Fails only if allocation fails.
+    pub(crate) fn of(alloc: Global, game: &Game, round: Round) -> Result<Outcome, AllocError> {
+        let events = game.history().events();
         let mut refused = Vec::new(alloc);
-        for number in 0..seats {
+        for number in 0..game.sheets().seats() {
             let sent = Sent {
                 seat: Seat::at(number),
                 round,

@@ -1,11 +1,13 @@
 //! The lines of a player's sheet that a trial did not obey.
 ghost use Rattle.std.specs.Prelude.{◌≡◌, ◌++◌, IfOk, OnOk};
-ghost use Rattle.desk_check.specs.Refusals.{is_told, refused_of, row_at};
+ghost use Rattle.std.specs.List.{flat_map};
+ghost use Rattle.desk_check.specs.Refusals.{is_told, refused_of, row_at, row_in, row_of};
 
 use crate::check_sheets::Sent;
 use desk_round::refused_in;
 use history::{Event, Refusal, Verdict};
 use std::alloc::{AllocError, Global};
+use tables::Seat;
 
 /// A line of a sheet that was not obeyed.
 #[derive(Clone, Copy)]
@@ -27,31 +29,74 @@ pub(crate) fn refused_of(
 ) -> Result<Vec<RefusedLine>, AllocError>
     ensures { IfOk result (λ rows. rows.items ≡ refused_of sent events.now) }
 {
-    let mut rows = Vec::new(alloc);
     let places = refused_in(alloc, events, sent.round)?;
-    for place in &places {
-        push_row(&mut rows, events, sent, *place)?;
+    rows_at(alloc, events, sent.seat, places.as_slice())
+}
+
+/// Returns the lines of the sheet of a seat that the events at some places refuse, those that are
+/// told of. Fails only if allocation fails.
+fn rows_at(
+    alloc: Global,
+    events: &[Event],
+    seat: Seat,
+    places: &[usize],
+) -> Result<Vec<RefusedLine>, AllocError>
+    ensures { IfOk result (λ rows. rows.items ≡ flat_map (row_at events.now seat) places.now) }
+{
+    let mut rows = Vec::new(alloc);
+    for place in places {
+        push_row(&mut rows, events, seat, *place)?;
     }
     Ok(rows)
 }
 
-/// Adds the line that the event at a place refuses, if it is of this sheet and to be told.
+/// Adds the line that the event at a place refuses, if it is of the sheet of a seat and told of.
 fn push_row(
     rows: &mut Vec<RefusedLine>,
     events: &[Event],
-    sent: Sent,
+    seat: Seat,
     place: usize,
 ) -> Result<(), AllocError>
-    ensures { OnOk result (rows.new.items ≡ rows.old.items ++ row_at events.now sent.seat place) }
+    ensures { OnOk result (rows.new.items ≡ rows.old.items ++ row_at events.now seat place) }
 {
-    let Some(Event::Ruled { seat, line, ruling }) = events.get(place) else {
-        return Ok(());
-    };
-    let verdict = ruling.verdict();
-    if seat.index() == sent.seat.index() && is_told(verdict) {
+    match events.get(place) {
+        Some(event) => push_ruled(rows, seat, place, event),
+        None => Ok(()),
+    }
+}
+
+/// Adds the line that an event at a place refuses, if it is of the sheet of a seat and to be told.
+fn push_ruled(
+    rows: &mut Vec<RefusedLine>,
+    seat: Seat,
+    place: usize,
+    event: &Event,
+) -> Result<(), AllocError>
+    ensures { OnOk result (rows.new.items ≡ rows.old.items ++ row_in seat place event.now) }
+{
+    match event {
+        Event::Ruled {
+            seat: its,
+            line,
+            ruling,
+        } if its.index() == seat.index() => push_told(rows, place, *line, ruling.verdict()),
+        _ => Ok(()),
+    }
+}
+
+/// Adds the line with a number, whose ruling is at a place, if it is to be told.
+fn push_told(
+    rows: &mut Vec<RefusedLine>,
+    place: usize,
+    number: u32,
+    verdict: Verdict,
+) -> Result<(), AllocError>
+    ensures { OnOk result (rows.new.items ≡ rows.old.items ++ row_of place number verdict) }
+{
+    if is_told(verdict) {
         rows.push(RefusedLine {
             place,
-            number: *line,
+            number,
             verdict,
         })?;
     }

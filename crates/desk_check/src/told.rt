@@ -62,7 +62,7 @@ pub(crate) fn tell_refused<'a>(
         let Some(line) = line_numbered(played.numbered, row.number) else {
             continue;
         };
-        if is_told(found, &line, row.verdict) {
+        if line.number < found.from || is_told(found, &line, row.verdict) {
             continue;
         }
         let view = view_behind(&mut walk, row.place, game.history().seats());

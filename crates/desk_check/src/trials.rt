@@ -1,5 +1,6 @@
 //! Plays the trials: that of each sheet alone, and that of all sheets that are there.
 ghost use Rattle.std.specs.Prelude.{◌≡◌, ◌++◌, IfOk, OnOk};
+ghost use Rattle.std.specs.List.{flat_map};
 ghost use Rattle.desk_check.specs.Alone.{IsBegun, alone_file, tried_file};
 ghost use Rattle.desk_check.specs.Heads.{AreKept};
 ghost use Rattle.desk_check.specs.Trials.{IsTried, head_if, sheets_for};
@@ -124,8 +125,24 @@ fn sheets_for<'a>(
     requires { AreKept heads.now }
     ensures { IfOk result (λ tried. tried.items ≡ sheets_for heads.now round from) }
 {
+    sheets_among(alloc, heads, heads.heads.as_slice(), round, from)
+}
+
+/// Returns those of some heads whose sheet is for a round, counts, and begins on a line of the file
+/// or below it.
+fn sheets_among<'a>(
+    alloc: Global,
+    heads: &Heads<'a>,
+    among: &[Head<'a>],
+    round: Round,
+    from: usize,
+) -> Result<Vec<Head<'a>>, AllocError>
+    requires { AreKept heads.now }
+    ensures { IfOk result (λ tried.
+        tried.items ≡ flat_map (head_if heads.now round from) among.now) }
+{
     let mut tried = Vec::new(alloc);
-    for head in &heads.heads {
+    for head in among {
         push_if_for(&mut tried, heads, head, round, from)?;
     }
     Ok(tried)
