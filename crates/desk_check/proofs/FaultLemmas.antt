@@ -1,10 +1,9 @@
 -- Faults that are told of lines, one after another.
-use Rattle.std.proofs.Common.{◌≡◌, ℕ, ◌+◌, ◌≤◌, Bool, true, false, List, [], ◌∷◌, ◌++◌, Option, Some, cond, refl, sym, ap}
+use Rattle.std.proofs.Common.{◌≡◌, ℕ, ◌+◌, ◌≤◌, Bool, true, false, List, [], ◌∷◌, ◌++◌, Option, cond, refl, sym, ap}
 use Rattle.std.proofs.Common.{◌∙◌, append_assoc, arith, subst}
 use Rattle.std.proofs.lemmas.Bool.{ltb-false, or_parts}
 use Rattle.std.proofs.lemmas.List.{append-nil}
 use Rattle.std.specs.Prelude.{nat_lt}
-use Rattle.desk_check.specs.Found.{reported}
 use Rattle.desk_check.specs.SheetFaults.{TellsFaults, Told, ends_sheet, fault_of_line, faults_in, faults_told}
 use Rattle.desk_check.specs.SheetFaults.{is_open_then, number_then, told_from}
 use Rattle.desk_check.specs.declared.check_found.Found.{Found}

@@ -1,5 +1,5 @@
 -- The lines of a sheet that are numbered, one after another.
-use Rattle.std.proofs.Common.{◌≡◌, ℕ, ◌+◌, Bool, true, false, List, [], ◌∷◌, ◌++◌, map, refl, sym, ap, ◌∙◌, append_assoc}
+use Rattle.std.proofs.Common.{◌≡◌, ℕ, ◌+◌, true, false, List, [], ◌∷◌, ◌++◌, map, refl, sym, ap, ◌∙◌, append_assoc}
 use Rattle.std.proofs.lemmas.List.{append-nil, map-append}
 use Rattle.desk_check.specs.Numbered.{LineAt, ends_numbered, line_at, numbered_in}
 use Rattle.desk_check.specs.declared.check_lines.FileLine.{FileLine}

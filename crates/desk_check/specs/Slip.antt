@@ -1,6 +1,6 @@
 -- A slip in a word: one letter more than in a code, one less, another letter, or two letters that
 -- have changed places. Letters of either case are equal.
-use Rattle.std.specs.Prelude.{ℕ, Bool, true, false, ◌&&◌, ◌||◌, if◌then◌else◌, List, [], ◌∷◌, Option, Some, None, nat_lt}
+use Rattle.std.specs.Prelude.{ℕ, Bool, false, ◌&&◌, ◌||◌, if◌then◌else◌, List, [], ◌∷◌, Option, Some, None, nat_lt}
 use Rattle.std.specs.Prelude.{length, drop, map}
 use Rattle.std.specs.Borrow.{Bor}
 use Rattle.std.specs.Char.{eq_ignore_ascii_case}

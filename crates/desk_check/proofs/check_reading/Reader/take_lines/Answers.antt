@@ -1,4 +1,4 @@
-use Rattle.std.proofs.Common.{◌≡◌, ℕ, ◌≤◌, Bool, true, false, List, [], ◌∷◌, rules, refl, sym, ap, subst, ◌∙◌, arith}
+use Rattle.std.proofs.Common.{◌≡◌, ℕ, false, List, ◌∷◌, rules, refl, sym, ap, subst, ◌∙◌, arith}
 use Rattle.desk_check.proofs.FaultLemmas.{faults_ended, faults_left, is_read, number_within, tells_first, tells_next, tells_none}
 use Rattle.desk_check.specs.SheetFaults.{TellsFaults, ends_sheet, fault_of_line, faults_in, is_open_then}
 use Rattle.order_grammar.specs.declared.condition.Version.{Version}
