@@ -67,7 +67,9 @@ fn push_turn(
     requires at_table { seat.0 < coming.history.seats }
 {
     let Coming {
-        sheets, history, ..
+        sheets,
+        history,
+        ..
     } = coming;
     let from = history.events().len();
     // For the proof alone: the seats are at most six.
@@ -98,7 +100,9 @@ fn push_operating(
     requires seats { coming.history.seats ≡ length (players_of coming.sheets.now) }
 {
     let Coming {
-        sheets, history, ..
+        sheets,
+        history,
+        ..
     } = coming;
     let draft = Draft { sheets, drafter };
     if lines {
