@@ -6,7 +6,7 @@ use Rattle.moves.specs.StandingRows.{standing_rows}
 use Rattle.moves.specs.StockRows.{stock_orders, stock_row}
 use Rattle.moves.specs.declared.row.Row.{Row}
 use Rattle.tables.specs.declared.round.Round.{Round}
-use Rattle.tables.specs.declared.round.Round.TheVariants.{Opening, Stock, Operating}
+use Rattle.tables.specs.declared.round.Round.TheVariants.{Opening}
 use Rattle.tables.specs.declared.seat.Seat.{Seat}
 use Rattle.totals.specs.LookBack.{Game}
 
