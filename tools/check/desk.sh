@@ -100,7 +100,8 @@ what_came() {
 try_every_word() {
   local words status why=
   for words in round 'round --why' 'round OR1.1' runs 'runs SR1' state 'state SR1' 'state --before' bulletin page 'page SR1' check \
-    'check --all' 'check --from 9' 'lays PRR' 'may ANN' 'best NYC 2' trial 'hex H10'; do
+    'check --all' 'check --from 9' 'lays PRR' 'lays PRR --drafted --lines' 'may ANN' 'may ANN --lines' 'may ANN --drafted' 'best NYC 2' \
+    trial 'hex H10'; do
     # shellcheck disable=SC2086
     "$desk" $words < "$1" > "$scratch/out" 2> "$scratch/err"
     status=$?
