@@ -29,10 +29,9 @@ pub(crate) fn coming_in<'a>(
     sheets: &'a Sheets<'a>,
     after: Option<Round>,
 ) -> Result<Coming<'a>, MovesFault>
-    ensures sheets { IfOk result (λ coming. coming.sheets.now ≡ sheets.now) }
     ensures sound { IfOk result (λ coming. IsSound coming.history) }
     ensures seats { IfOk result (λ coming.
-        coming.history.seats ≡ length (players_of sheets.now)) }
+        coming.history.seats ≡ length (players_of coming.sheets.now)) }
 {
     match after {
         Some(round) => coming_after(alloc, sheets, round),
@@ -42,10 +41,9 @@ pub(crate) fn coming_in<'a>(
 
 /// Returns the game after the last round that the sheets play.
 fn coming_at_last<'a>(alloc: Global, sheets: &'a Sheets<'a>) -> Result<Coming<'a>, MovesFault>
-    ensures sheets { IfOk result (λ coming. coming.sheets.now ≡ sheets.now) }
     ensures sound { IfOk result (λ coming. IsSound coming.history) }
     ensures seats { IfOk result (λ coming.
-        coming.history.seats ≡ length (players_of sheets.now)) }
+        coming.history.seats ≡ length (players_of coming.sheets.now)) }
 {
     let game = play(alloc, sheets)?;
     let end = game.outcome();
@@ -62,18 +60,17 @@ fn coming_after<'a>(
     sheets: &'a Sheets<'a>,
     after: Round,
 ) -> Result<Coming<'a>, MovesFault>
-    ensures sheets { IfOk result (λ coming. coming.sheets.now ≡ sheets.now) }
     ensures sound { IfOk result (λ coming. IsSound coming.history) }
     ensures seats { IfOk result (λ coming.
-        coming.history.seats ≡ length (players_of sheets.now)) }
+        coming.history.seats ≡ length (players_of coming.sheets.now)) }
 {
     let play = play_behind(alloc, sheets, after)?;
-    let Some(stood) = stood_now(&play) else {
-        return Err(MovesFault::Desk(DeskFault::Round));
+    let end = match (play.history(), stood_now(&play)) {
+        (Some(_), Some(stood)) => stood.end,
+        _ => return Err(MovesFault::Desk(DeskFault::Round)),
     };
-    let end = stood.end;
     Ok(Coming {
-        sheets,
+        sheets: play.sheets(),
         history: play.into_history(),
         end,
     })

@@ -14,7 +14,7 @@ use crate::may_text::may_text;
 use crate::progress::Progress;
 use foresight::{Ahead, Draft, OrdersAhead, RoundAhead};
 use map_tables::Hex;
-use sheets::collect;
+use sheets::{Sheets, collect};
 use std::alloc::Global;
 use tables::{Company, Kind, Round, Seat};
 
@@ -71,16 +71,51 @@ pub fn answer<P: Progress>(
     progress: &mut P,
 ) -> Result<Vec<u8>, MovesFault> {
     let sheets = collect(alloc, file)?;
-    let coming = coming_in(alloc, &sheets, after)?;
+    answer_in(alloc, &sheets, after, question, progress)
+}
+
+/// Returns the answer by some sheets.
+fn answer_in<P: Progress>(
+    alloc: Global,
+    sheets: &Sheets,
+    after: Option<Round>,
+    question: Question,
+    progress: &mut P,
+) -> Result<Vec<u8>, MovesFault> {
+    let coming = coming_in(alloc, sheets, after)?;
+    answer_by(alloc, coming, question, progress)
+}
+
+/// Returns the answer by a game before a round that comes.
+fn answer_by<P: Progress>(
+    alloc: Global,
+    coming: Coming,
+    question: Question,
+    progress: &mut P,
+) -> Result<Vec<u8>, MovesFault>
+    requires sound { IsSound coming.history }
+    requires seats { coming.history.seats ≡ length (players_of coming.sheets.now) }
+{
     match question {
         Question::Lays { company, form } => answer_lays(alloc, coming, company, form, progress),
         Question::May { name, form } => may_text(alloc, coming, name, form),
-        Question::Best { company, trains } => {
-            let orders = orders_in(alloc, coming, company, None)?;
-            best_text(alloc, orders.history(), company, trains)
-        }
+        Question::Best { company, trains } => answer_best(alloc, coming, company, trains),
         Question::Hex(hex) => Ok(hex_text(alloc, coming, hex)?),
     }
+}
+
+/// Returns the best runs of a company at the head of its orders.
+fn answer_best(
+    alloc: Global,
+    coming: Coming,
+    company: Company,
+    trains: &[Kind],
+) -> Result<Vec<u8>, MovesFault>
+    requires sound { IsSound coming.history }
+    requires seats { coming.history.seats ≡ length (players_of coming.sheets.now) }
+{
+    let orders = orders_in(alloc, coming, company, None)?;
+    best_text(alloc, orders.history(), company, trains)
 }
 
 /// Returns what a company may lay and place at the head of its orders, or behind those that are
