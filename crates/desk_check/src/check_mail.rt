@@ -21,7 +21,13 @@ static HEADS: [&[u8]; 8] = [
 pub(crate) fn is_mail(line: &[u8]) -> bool
     ensures { result ≡ is_mail line.now }
 {
-    begins_with_one(line, &HEADS) || is_above_quotation(line)
+    match line {
+        // (a line that begins otherwise, as most do, is compared with no head)
+        [b'F' | b'T' | b'C' | b'D' | b'S' | b'M' | b'>' | b'O', ..] => {
+            begins_with_one(line, &HEADS) || is_above_quotation(line)
+        }
+        _ => false,
+    }
 }
 
 /// Returns whether a line begins with one of these.
