@@ -95,6 +95,17 @@ what_came() {
     END { for (it in earned) if (earned[it] > 0) print it, earned[it] | "sort" }' "$1"
 }
 
+# tell_beyond MORE: of a file with so many more unread lines than `check` lists, it lists 10,000, and counts the others.
+tell_beyond() {
+  local findings=findings why=
+  [ "$1" != 1 ] || findings=finding
+  { printf 'GAME 1830 1\nPLAYERS ANN BOB CYD\n' && yes BUY | head -n $((10000 + $1)); } > "$scratch/unread.orders"
+  "$desk" check < "$scratch/unread.orders" > "$scratch/out" 2> "$scratch/err"
+  [ "$(grep -c ' | BUY | it is in no sheet' "$scratch/out")" = 10000 ] || why+=' it does not list 10,000;'
+  grep -q "^and $1 $findings more, of lines" "$scratch/out" || why+=' it does not count the others;'
+  count "$1 findings more than are listed" "${why# }"
+}
+
 # try_every_word ORDERS: each word of the desk on the order file, with no other status than it may
 # have, and with text on standard error if it has no result, and only then.
 try_every_word() {
@@ -173,7 +184,7 @@ moves_must_fail() {
   sees 'an obeyed row that is told as refused' 3 try_moves "$(desk_but 's/^BUY CS    OK 40$/BUY CS    A3/')" 1 600 "$opening"
   sees 'another turn before' 1 try_moves "$(desk_but 's/^\(BEFORE .*\) BOB$/\1 ANN/')" 1 600 "$opening"
   sees 'a desk that lists nothing' all try_moves "$(stub 'exit 0')" 1 600 "$opening"
-  sees 'lays before a stock round' 1 try_moves "$(stub "[ \$1 != lays ] || exit 0; exec '$desk' \"\$@\"")" 1 600 "$opening"
+  sees 'lays before an opening' 1 try_moves "$(stub "[ \$1 != lays ] || exit 0; exec '$desk' \"\$@\"")" 1 600 "$opening"
   sees 'a lay that is listed and not obeyed' 1 try_moves "$(desk_but 's/^LAY 57 H10 1 /LAY 57 H12 1 /')" 1 600 "$first"
   sees 'a lay with another price' 1 try_moves "$(desk_but 's/^LAY 57 H10 1    0$/LAY 57 H10 1    80/')" 1 600 "$first"
   sees 'a token that is not listed' 1 try_moves "$(desk_but '/^TOKEN H10.0 /d')" 1 600 "$later"
@@ -188,6 +199,8 @@ formats() { echo docs/players/formats.md; }
 check_desk() {
   side_by_side play_desk_text games/desk/*.text
   play_session games/desk/ten-rounds
+  tell_beyond 1
+  tell_beyond 2
   explain_codes "$(formats)"
   look_at_codes "$(formats)"
   if [ "${1:-}" = quick ]; then
@@ -220,6 +233,8 @@ desk_must_fail() {
   cp "games/$it.orders" "$wrong" && sed 's/^ROUND.*/&./' "games/$it.report" > "$wrong/$it.report"
   sees 'a round that is not as in the report' 1 play_rounds "$wrong/$it.orders"
   moves_must_fail
+  desk=$(desk_but 's/^and 2 findings/and 3 findings/')
+  sees 'a wrong number of findings' 1 tell_beyond 2
   desk=$(stub 'exit 5')
   sees 'runs that are not written out' 1 play_runs "games/$it.orders"
   sees 'a word with a status that it may not have' 1 try_every_word "games/$it.orders"

@@ -1,5 +1,4 @@
 -- What the proofs of a look through a file share.
-pub mod AloneLemmas
 pub mod FaultLemmas
 pub mod FileLemmas
 pub mod HeadLemmas

@@ -1,5 +1,4 @@
 -- What a look through an order file finds.
-pub mod Alone
 pub mod FileLines
 pub mod Found
 pub mod Heads

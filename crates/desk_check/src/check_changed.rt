@@ -100,7 +100,7 @@ fn have_same_text(
 }
 
 /// Returns whether two lines were obeyed, or not for the same reason.
-fn are_alike(verdict: Verdict, other: Verdict) -> bool {
+pub(crate) fn are_alike(verdict: Verdict, other: Verdict) -> bool {
     match (verdict, other) {
         (Verdict::Obeyed, Verdict::Obeyed) => true,
         (Verdict::Refused(a), Verdict::Refused(b)) => a == b,

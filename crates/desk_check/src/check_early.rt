@@ -8,7 +8,7 @@ use crate::check_found::{Found, Matter};
 use crate::check_late::Rounds;
 use crate::check_reading::look_at_sheet;
 use crate::check_sheets::{Head, Heads};
-use desk_base::can_come;
+use desk_base::{can_come, view_behind};
 use history::{Event, GameView, Walk};
 use rounds::{End, Game};
 use std::alloc::AllocError;
@@ -27,10 +27,7 @@ pub(crate) fn look_at_lines<'a>(
     let last = game.history().now().round();
     let mut walk = Walk::along(game.history().events());
     let place = place_of_last(game.history().events());
-    if place <= walk.events.len() {
-        walk.go(place);
-    }
-    let before_last = walk.view(game.history().seats());
+    let before_last = view_behind(&mut walk, place, game.history().seats());
     for head in &heads.heads {
         if !heads.counts(head) {
             continue;

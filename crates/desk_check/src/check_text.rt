@@ -34,17 +34,24 @@ pub(crate) fn push_found(
             push_finding(out, sheets, finding, found.told.as_slice())?;
         }
     }
-    if found.unlisted == 0 {
-        return Ok(());
-    }
-    push(
-        out,
-        &[
-            Words("and of "),
-            Count(found.unlisted),
-            Words(" lines more: unread, like mail, with a fault, or refused in a trial\n"),
-        ],
-    )
+    push_unlisted(out, found.unlisted)
+}
+
+/// Adds how many findings of lines there are that are not listed, if there are any.
+fn push_unlisted(out: &mut Vec<u8>, unlisted: usize) -> Result<(), AllocError> {
+    let findings = match unlisted {
+        0 => return Ok(()),
+        1 => " finding",
+        _ => " findings",
+    };
+    let whose = " more, of lines that are unread, like mail, with a fault, or refused in a trial\n";
+    let pieces = [
+        Words("and "),
+        Count(unlisted),
+        Words(findings),
+        Words(whose),
+    ];
+    push(out, &pieces)
 }
 
 /// Adds what heads the findings that are for the umpire alone, since they show what the sheets of

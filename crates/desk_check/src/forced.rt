@@ -4,8 +4,8 @@
 use crate::check_sheets::Sent;
 use desk_base::Piece::{Bytes, Number, Words};
 use desk_base::{fill, view_behind};
+use forced_purchase::cheapest;
 use history::{Event, GameView, ShareCount, Walk};
-use purchases::{NUMBERED, sells};
 use report::name;
 use rounds::Game;
 use sheets::Sheets;
@@ -13,7 +13,7 @@ use std::alloc::{AllocError, Global};
 use tables::{Amount, Company, Kind, Money, Seat, train};
 
 /// What happens as a company must buy a train.
-#[derive(Clone, Copy)]
+#[derive(Clone, Copy, PartialEq, Eq)]
 pub(crate) enum ForcedFact {
     /// The company has no train, and must buy one of this kind.
     Must(Kind),
@@ -33,7 +33,7 @@ pub(crate) enum ForcedFact {
 }
 
 /// A company that must buy a train, and something that happens then.
-#[derive(Clone, Copy)]
+#[derive(Clone, Copy, PartialEq, Eq)]
 pub(crate) struct Forced {
     /// The company that must buy a train.
     pub(crate) company: Company,
@@ -101,7 +101,7 @@ fn push_must(
     };
     forced.push(Forced {
         company,
-        fact: ForcedFact::Must(cheapest(view)),
+        fact: ForcedFact::Must(cheapest(view).kind),
     })?;
     if let Some(fact) = aid_to(events, company) {
         forced.push(Forced { company, fact })?;
@@ -124,16 +124,6 @@ fn aid_to(events: &[Event], buyer: Company) -> Option<ForcedFact> {
         }
     }
     None
-}
-
-/// Returns the kind of the cheapest train that the bank or the pool sells.
-fn cheapest(view: &GameView) -> Kind {
-    for &kind in &NUMBERED {
-        if sells(view, kind) || view.trains(None, kind) > 0 {
-            return kind;
-        }
-    }
-    Kind::Diesel
 }
 
 /// Adds what an event brings while a company must buy a train, if it is told of.

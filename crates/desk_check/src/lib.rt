@@ -9,14 +9,13 @@
 //! Reading order: `check_lines` (the lines of a file), `check_mail`, `check_names`, `check_found`
 //! (what is found), `check_sheets` (the SHEET lines), `check_pass` (one pass over a file),
 //! `check_changed` and `check_late` (sheets that replace others), `check_early` (sheets for rounds
-//! to come), `check_refused` (refused files); then the trials: `alone` (their files), `refusals`
+//! to come), `check_refused` (refused files); then the trials: `refusals`
 //! (the lines that they refuse), `outcome` (what the last round refused), `numbered` (where those
 //! lines are in the file), `forced` (trains that companies must buy), `consent` and `taken` (what
 //! other players have to do with it), `told` (their findings), `trials`; `owed`, `check_text` (the
 //! text), `checking` (`check`).
 #![tactic(auto)]
 
-mod alone;
 mod check_changed;
 mod check_codes;
 mod check_early;

@@ -1,74 +1,79 @@
-//! What a round that was played refused, by which the trials alone of its sheets are told.
+//! What became of a round that was played, by which the trials alone of its sheets are told.
 
+use crate::check_changed::are_alike;
 use crate::check_sheets::Sent;
+use crate::forced::{Forced, forced_of};
 use crate::refusals::{RefusedLine, refused_of};
-use history::Event;
+use history::Verdict;
 use rounds::Game;
 use std::alloc::{AllocError, Global};
-use tables::{COMPANIES, Company, PerCompany, Round, Seat};
+use tables::{Round, Seat};
 
-/// A line of the sheet of a seat for a round.
+/// A line of the sheet of a seat for a round that was refused or has a fault.
 #[derive(Clone, Copy)]
 pub(crate) struct SeatLine {
     pub(crate) seat: Seat,
     pub(crate) number: u32,
+    /// Which rule it broke, or which fault it has.
+    pub(crate) verdict: Verdict,
 }
 
-/// What a round refused that was played.
+/// What became of a round that was played.
 #[derive(Drop)]
 pub(crate) struct Outcome {
     /// The lines that were refused, but not for their condition, or have a fault.
     refused: Vec<SeatLine>,
-    /// The companies that had to buy a train.
-    forced: PerCompany<bool>,
+    /// What happened as companies had to buy trains.
+    forced: Vec<Forced>,
 }
 
 impl Outcome {
-    /// Returns what a round of a game refused. Fails only if allocation fails.
+    /// Returns what became of a round of a game. Fails only if allocation fails.
     pub(crate) fn of(alloc: Global, game: &Game, round: Round) -> Result<Outcome, AllocError> {
         let events = game.history().events();
         let mut refused = Vec::new(alloc);
+        let mut forced = Vec::new(alloc);
         for number in 0..game.sheets().seats() {
-            let sent = Sent {
-                seat: Seat::at(number),
-                round,
-            };
+            let seat = Seat::at(number);
+            let sent = Sent { seat, round };
             let rows = refused_of(alloc, events, sent)?;
-            push_lines(&mut refused, sent.seat, rows.as_slice())?;
+            push_lines(&mut refused, seat, rows.as_slice())?;
+            for fact in &forced_of(alloc, game, sent)? {
+                forced.push(*fact)?;
+            }
         }
-        let forced = companies_forced(events, round);
         Ok(Outcome { refused, forced })
     }
 
-    /// Returns whether a company had to buy a train.
-    pub(crate) fn forces(&self, company: Company) -> bool {
-        self.forced[company.index()]
+    /// Returns whether something happened in the round, too, as a company had to buy a train.
+    pub(crate) fn has(&self, forced: Forced) -> bool {
+        self.forced.iter().any(|fact| *fact == forced)
     }
 
-    /// Returns the lines of the sheet of a seat that a trial refused and the round did, too. Fails
-    /// only if allocation fails.
+    /// Returns the lines of the sheet of a seat that a trial refused and the round did, too, for the
+    /// same rule. Fails only if allocation fails.
     pub(crate) fn also_refused(
         &self,
         alloc: Global,
         seat: Seat,
         rows: &[RefusedLine],
     ) -> Result<Vec<RefusedLine>, AllocError> {
-        rows_where(alloc, self.refused.as_slice(), seat, rows, true)
-    }
-}
-
-/// Returns which companies had to buy a train in a round.
-fn companies_forced(events: &[Event], round: Round) -> PerCompany<bool> {
-    let mut forced = [false; COMPANIES];
-    let mut is_within = false;
-    for event in events {
-        match event {
-            Event::Round(begun) => is_within = *begun == round,
-            Event::Forced(company) if is_within => forced[company.index()] = true,
-            _ => {}
+        let mut refused = Vec::new(alloc);
+        for row in rows {
+            if self.refuses(seat, row) {
+                refused.push(*row)?;
+            }
         }
+        Ok(refused)
     }
-    forced
+
+    /// Returns whether the round refused a line of the sheet of a seat for the rule for which a
+    /// trial did.
+    fn refuses(&self, seat: Seat, row: &RefusedLine) -> bool {
+        self.refused.iter().any(|line| {
+            is_line(line, seat, row.number) && are_alike(line.verdict, row.verdict)
+        })
+    }
 }
 
 /// Adds the lines of the sheet of a seat that were refused.
@@ -81,32 +86,30 @@ pub(crate) fn push_lines(
         lines.push(SeatLine {
             seat,
             number: row.number,
+            verdict: row.verdict,
         })?;
     }
     Ok(())
 }
 
-/// Returns those of some lines of the sheet of a seat that are among others, or that are not, as
-/// asked. Fails only if allocation fails.
-pub(crate) fn rows_where(
+/// Returns those of some lines of the sheet of a seat that are not among others. Fails only if
+/// allocation fails.
+pub(crate) fn rows_beyond(
     alloc: Global,
     lines: &[SeatLine],
     seat: Seat,
     rows: &[RefusedLine],
-    are_among: bool,
 ) -> Result<Vec<RefusedLine>, AllocError> {
-    let mut left = Vec::new(alloc);
+    let mut beyond = Vec::new(alloc);
     for row in rows {
-        if has_line(lines, seat, row.number) == are_among {
-            left.push(*row)?;
+        if !lines.iter().any(|line| is_line(line, seat, row.number)) {
+            beyond.push(*row)?;
         }
     }
-    Ok(left)
+    Ok(beyond)
 }
 
-/// Returns whether a line of the sheet of a seat is among some lines.
-fn has_line(lines: &[SeatLine], seat: Seat, number: u32) -> bool {
-    lines
-        .iter()
-        .any(|line| line.seat == seat && line.number == number)
+/// Returns whether a line is that with a number of the sheet of a seat.
+fn is_line(line: &SeatLine, seat: Seat, number: u32) -> bool {
+    line.seat == seat && line.number == number
 }

@@ -31,17 +31,52 @@ pub(crate) fn push_taker(
 
 /// Returns who last took one of what an order wanted, in the round in hand after some events.
 fn taker_of(events: &[Event], order: &Order, rule: Refusal) -> Option<Seat> {
+    if !wants_the_last(rule) {
+        return None;
+    }
     let mut taker = None;
     let mut whose = None;
-    for event in events {
+    for event in events_of_round(events) {
         whose = whose_then(whose, event);
-        if let Event::Round(_) = event {
+        if leaves_none(event, order) {
             taker = None;
         } else if takes(event, order, rule) {
             taker = whose;
         }
     }
     taker
+}
+
+/// Returns whether a rule is one that is broken where none is left of what an order wants.
+fn wants_the_last(rule: Refusal) -> bool {
+    matches!(
+        rule,
+        Refusal::Lay(LayRule::NoneLeft)
+            | Refusal::Train(TrainRule::NotOnSale | TrainRule::NotSellers)
+            | Refusal::Stock(StockRule::NoneThere)
+            | Refusal::Opening(OpeningRule::Sold)
+    )
+}
+
+/// Returns the events of the last of the rounds that begin in a list.
+fn events_of_round(events: &[Event]) -> &[Event] {
+    let mut begun = 0;
+    for (place, event) in events.iter().enumerate().rev() {
+        if let Event::Round(_) = event {
+            begun = place;
+            break;
+        }
+    }
+    events.get(begun..).unwrap_or(&[])
+}
+
+/// Returns whether trains of the kind that an order wants leave play by an event, so that nobody
+/// took the last.
+fn leaves_none(event: &Event, order: &Order) -> bool {
+    match (event, order) {
+        (Event::Rusted { kind, .. }, Order::BuyTrain { kind: wanted, .. }) => kind == wanted,
+        _ => false,
+    }
 }
 
 /// Returns by whose sheet the next events come, after one more event: that of the line that was

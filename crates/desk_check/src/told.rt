@@ -1,7 +1,7 @@
 //! Adds the findings of a trial: the lines that it did not obey, each with the rule, its figures
 //! and its cause, and what happens as companies must buy trains.
 
-use crate::check_found::{Found, Matter};
+use crate::check_found::{CodedLine, Found, Matter};
 use crate::check_lines::FileLine;
 use crate::check_mail::is_mail;
 use crate::check_sheets::{Head, Sent};
@@ -22,6 +22,8 @@ use std::alloc::{AllocError, Global};
 pub(crate) enum Trial {
     /// That of a player's sheet alone.
     Alone,
+    /// That of a player's sheet alone for a round that was played.
+    Played,
     /// That of all sheets that are there.
     All,
 }
@@ -31,6 +33,7 @@ impl Trial {
     fn words(self) -> &'static str {
         match self {
             Trial::Alone => "as things stand: ",
+            Trial::Played => "tried alone: ",
             Trial::All => "with all sheets: ",
         }
     }
@@ -57,12 +60,13 @@ pub(crate) fn tell_refused<'a>(
 ) -> Result<(), AllocError> {
     let game = played.game;
     let lines = lines_of(alloc, game.sheets(), played.head.sent.round)?;
+    let coded = found.coded_within(alloc, played.numbered)?;
     let mut walk = Walk::along(game.history().events());
     for row in rows {
         let Some(line) = line_numbered(played.numbered, row.number) else {
             continue;
         };
-        if line.number < found.from || is_told(found, &line, row.verdict) {
+        if line.number < found.from || is_told(coded.as_slice(), &line, row.verdict) {
             continue;
         }
         let view = view_behind(&mut walk, row.place, game.history().seats());
@@ -73,12 +77,16 @@ pub(crate) fn tell_refused<'a>(
 
 /// Returns whether a finding of a line has the code already with which it was refused, or says that
 /// the line looks like mail and so has a fault.
-fn is_told(found: &Found, line: &FileLine, verdict: Verdict) -> bool {
-    match verdict {
-        Verdict::Obeyed => true,
-        Verdict::Refused(rule) => found.tells(line.number, rule.code()),
-        Verdict::Faulty(fault) => is_mail(line.text) || found.tells(line.number, fault.code()),
-    }
+fn is_told(coded: &[CodedLine], line: &FileLine, verdict: Verdict) -> bool {
+    let code = match verdict {
+        Verdict::Obeyed => return true,
+        Verdict::Faulty(_) if is_mail(line.text) => return true,
+        Verdict::Faulty(fault) => fault.code(),
+        Verdict::Refused(rule) => rule.code(),
+    };
+    coded
+        .iter()
+        .any(|told| told.number == line.number && told.code == code)
 }
 
 /// Adds a line that a trial did not obey. The game is as it was before the line.

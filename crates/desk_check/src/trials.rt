@@ -1,18 +1,18 @@
 //! Plays the trials: that of each sheet alone, and that of all sheets that are there.
 ghost use Rattle.std.specs.Prelude.{◌≡◌, ◌++◌, IfOk, OnOk};
 ghost use Rattle.std.specs.List.{flat_map};
-ghost use Rattle.desk_check.specs.Alone.{IsBegun, alone_file, tried_file};
+ghost use Rattle.foresight.specs.TrialFile.{IsBegun, alone_file, tried_file};
 ghost use Rattle.desk_check.specs.Heads.{AreKept};
 ghost use Rattle.desk_check.specs.Trials.{IsTried, head_if, sheets_for};
 
-use crate::alone::TrialFile;
 use crate::check_found::{Found, Standing};
 use crate::check_sheets::{Head, Heads, Sent};
 use crate::forced::forced_of;
 use crate::numbered::numbered_lines;
-use crate::outcome::{Outcome, SeatLine, push_lines, rows_where};
+use crate::outcome::{Outcome, SeatLine, push_lines, rows_beyond};
 use crate::refusals::{RefusedLine, refused_of};
 use crate::told::{Trial, TriedSheet, tell_forced, tell_refused};
+use foresight::TrialFile;
 use rounds::{End, Game, play};
 use sheets::{FileFault, Sheets, collect};
 use std::alloc::{AllocError, Global};
@@ -29,15 +29,15 @@ struct Tried<'g> {
 #[derive(Drop)]
 pub(crate) struct Reached {
     pub(crate) standing: Standing,
-    /// What the round refused that was played last, if sheets for it are to be tried.
+    /// What became of the round that was played last, if sheets for it are to be tried.
     pub(crate) last: Option<Outcome>,
 }
 
 /// Adds what the trials alone find in the sheets for the round that is awaited, and, if not the
 /// whole file is reported, in the sheets for the last round that was played that begin on the first
-/// reported line or below it; of these what the round itself refused, too. Adds to `beyond` what
-/// the trial of all sheets for the round that is awaited refuses and no trial alone does. Fails
-/// only if allocation fails.
+/// reported line or below it; of these only what the round itself came to, too. Adds to `beyond`
+/// what the trial of all sheets for the round that is awaited refuses and no trial alone does.
+/// Fails only if allocation fails.
 pub(crate) fn try_sheets<'a>(
     alloc: Global,
     file: &[u8],
@@ -166,8 +166,8 @@ fn push_if_for<'a>(
     Ok(())
 }
 
-/// Adds what the trials alone find in the sheets that some heads begin; of a round that was played,
-/// what it refused, too. Returns the lines that are told of.
+/// Adds what the trials alone find in the sheets that some heads begin; of a round that was played
+/// only what it came to, too. Returns the lines that are refused.
 fn try_each_alone<'a>(
     alloc: Global,
     sheets: &Sheets,
@@ -220,7 +220,7 @@ fn try_sheet<'g>(alloc: Global, tried: &'g Sheets<'g>, sent: Sent) -> Result<Tri
 }
 
 /// Adds what the trial alone of the sheet that a head begins finds, by the sheets of the trial, and
-/// the lines that it refuses; if its round was played, what that refused, too.
+/// the lines that it refuses; if its round was played, only what that came to, too.
 fn tell_alone<'a>(
     alloc: Global,
     tried: &Sheets,
@@ -235,18 +235,19 @@ fn tell_alone<'a>(
         None => rows,
     };
     let numbered = numbered_lines(alloc, head)?;
+    let trial = match played {
+        Some(_) => Trial::Played,
+        None => Trial::Alone,
+    };
     let sheet = TriedSheet {
-        trial: Trial::Alone,
+        trial,
         game: &game,
         head,
         numbered: numbered.as_slice(),
     };
     tell_refused(alloc, sheet, rows.as_slice(), found)?;
     for forced in &forced_of(alloc, &game, head.sent)? {
-        if played
-            .as_ref()
-            .map_or(true, |outcome| outcome.forces(forced.company))
-        {
+        if played.as_ref().map_or(true, |outcome| outcome.has(*forced)) {
             tell_forced(sheet, *forced, found)?;
         }
     }
@@ -301,7 +302,7 @@ fn tell_beyond<'g, 'a>(
 ) -> Result<(), AllocError> {
     let numbered = numbered_lines(alloc, head)?;
     let all = refused_of(alloc, game.history().events(), head.sent)?;
-    let rows = rows_where(alloc, alone, head.sent.seat, all.as_slice(), false)?;
+    let rows = rows_beyond(alloc, alone, head.sent.seat, all.as_slice())?;
     let sheet = TriedSheet {
         trial: Trial::All,
         game,

@@ -183,8 +183,8 @@ fn moves_told_of<P: Progress>(
 /// Returns the text of a trial: the round as a bulletin, or as its part of the report, with the
 /// rules that refused lines broke, where they are asked for.
 fn trial_told_of(alloc: Global, file: &[u8], task: &Task) -> Result<Vec<u8>, MovesFault> {
-    let tried = trial(alloc, file, task.names.as_slice())?;
-    let (file, round) = (tried.bytes.as_slice(), Some(tried.round));
+    let trial = trial(alloc, file, task.names.as_slice())?;
+    let (file, round) = (trial.file.bytes.as_slice(), Some(trial.round));
     if task.why {
         Ok(round_with_rules(alloc, file, round)?)
     } else {

@@ -6,19 +6,20 @@ ghost use Rattle.desk_may.specs.SheetLines.{turn_lines, turn_rows};
 ghost use Rattle.history.specs.Sound.{IsSound};
 ghost use Rattle.sheets.specs.File.{players_of};
 
+use crate::must_buy::{held, proceeds};
 use crate::offerers::{Presidents, may_offer, presidents};
 use crate::row_lines::push_rows;
-use certs::{Sale, market_price};
+use certs::Sale;
 use desk_base::Piece::Words;
 use desk_base::fill;
 use forced_purchase::{Operator, raise_rule};
 use foresight::{Draft, OrdersAhead, RoundAhead};
-use history::{History, Refusal, Shareholder, TrainRule};
+use history::{History, Refusal, TrainRule};
 use moves::{Answer, Row, opening_rows, private_rows, standing_rows, stock_rows, train_rows};
 use order_grammar::Order;
 use sheets::Sheets;
 use std::alloc::{AllocError, Global};
-use tables::{Amount, COMPANIES, Company, Money, Round, Seat};
+use tables::{COMPANIES, Company, Round, Seat};
 
 /// Adds the lines of a player's first turn of an opening or a stock round, in a game at its head.
 /// Fails only if allocation fails.
@@ -57,7 +58,7 @@ fn turn_rows(
 }
 
 /// Adds the lines of an operating round that comes: the standing lines, and the orders of each of
-/// the player's companies.
+/// the player's companies. Fails only if allocation fails.
 pub fn push_lines_of_operating(
     alloc: Global,
     out: &mut Vec<u8>,
@@ -136,8 +137,7 @@ fn as_offered(alloc: Global, rows: &[Row], offerers: &Presidents) -> Result<Vec<
 fn raise_rows(alloc: Global, history: &History, by: Operator) -> Result<Vec<Row>, AllocError> {
     let mut rows = Vec::new(alloc);
     for company in &Company::ALL {
-        let held = history.shares(*company, Shareholder::Seat(by.president));
-        for shares in 1..=Amount::try_from(held).unwrap_or(0) {
+        for shares in 1..=held(history, by, *company) {
             let company = *company;
             let answer = answer_to_raise(history, by, Sale { company, shares });
             rows.push(Row {
@@ -153,11 +153,8 @@ fn raise_rows(alloc: Global, history: &History, by: Operator) -> Result<Vec<Row>
 fn answer_to_raise(history: &History, by: Operator, sale: Sale) -> Answer {
     match raise_rule(history, by, None, sale, true) {
         Some(rule) => Answer::Refused(rule),
-        None => {
-            let price = Money::from(market_price(&history.now(), sale.company));
-            Answer::Obeyed {
-                price: price.saturating_mul(Money::from(sale.shares)),
-            }
-        }
+        None => Answer::Obeyed {
+            price: proceeds(history, sale),
+        },
     }
 }

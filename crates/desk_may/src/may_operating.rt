@@ -1,17 +1,13 @@
 //! What a player's companies may buy in an operating round that comes, each at the head of its
 //! orders, or behind those that the player has drafted.
-ghost use Rattle.std.specs.Prelude.{◌≡◌, length};
-ghost use Rattle.history.specs.Sound.{IsSound};
-ghost use Rattle.sheets.specs.File.{players_of};
-
 use crate::may_line::{push_may, push_may_not, push_note_column};
 use crate::must_buy::push_end_of_turn;
 use crate::offerers::{Presidents, presidents};
-use crate::until_then::push_until_then;
+use crate::until_then::{SAID, push_until_then};
 use desk_base::Piece::{Bytes, Column, Count, Number, Words};
 use desk_base::{fill, push};
 use forced_purchase::Operator;
-use foresight::{Draft, OrdersAhead, RoundAhead};
+use foresight::{OrdersAhead, RoundAhead};
 use history::{History, Holder, Party, Refusal, TrainSeller};
 use moves::{Priced, least_price, owned_privates, trains};
 use order_grammar::{Order, TrainSource};
@@ -19,7 +15,7 @@ use purchases::{Consents, TrainPurchase, judge_private, judge_purchase, sells};
 use report::name;
 use sheets::Sheets;
 use std::alloc::{AllocError, Global};
-use tables::{COMPANIES, Company, Kind, Money, Private, Round, Seat, face, limit};
+use tables::{COMPANIES, Company, Kind, Money, Private, Seat, face, limit};
 
 /// A company of a player's, in a game at the head of its orders, or behind some of them.
 #[derive(Clone, Copy)]
@@ -32,23 +28,20 @@ struct Buyer<'a> {
     by: Operator,
 }
 
-/// Adds what each company of a player's may buy in an operating round that comes, and what it might
-/// be expected to buy and may not: companies that operate, in their order, and then those that are
-/// not floated. If the player's own sheet is looked at, each is told of behind its orders there.
+/// Adds what each company of a player's may buy in an operating round that has been opened, and what
+/// it might be expected to buy and may not: companies that operate, in their order, and then those
+/// without a turn. If the player's own sheet is looked at, each is told of behind its orders there.
+/// `from` is the place in the list of the event that begins the round. Fails only if allocation
+/// fails.
 pub fn push_of_operating(
     alloc: Global,
     out: &mut Vec<u8>,
-    history: History,
-    draft: Draft,
-    round: Round,
+    ahead: RoundAhead,
+    from: usize,
     seat: Seat,
-) -> Result<(), AllocError>
-    requires sound { IsSound history }
-    requires seats { history.seats ≡ length (players_of draft.sheets.now) }
-{
-    let from = history.events().len();
-    let offerers = presidents(&history);
-    let mut ahead = RoundAhead::open(alloc, history, draft, round)?;
+) -> Result<(), AllocError> {
+    let offerers = presidents(ahead.history());
+    let mut ahead = ahead;
     for _ in 0..COMPANIES {
         let Some(company) = ahead.next_company() else {
             break;
@@ -61,19 +54,35 @@ pub fn push_of_operating(
             ahead.take_turn(company)?
         };
     }
-    push_not_floated(out, ahead.history(), seat)
+    push_without_a_turn(out, ahead.history(), from, seat)
 }
 
-/// Adds the companies of a player's that are not floated.
-fn push_not_floated(out: &mut Vec<u8>, history: &History, seat: Seat) -> Result<(), AllocError> {
+/// Adds the companies of a player's that have no turn in a round, with why.
+fn push_without_a_turn(
+    out: &mut Vec<u8>,
+    history: &History,
+    from: usize,
+    seat: Seat,
+) -> Result<(), AllocError> {
     for company in &Company::ALL {
         let is_theirs = history.now().president(*company) == Some(seat);
-        if is_theirs && !history.floated(*company) {
+        if is_theirs && !has_operated(history, from, *company) {
+            let why = if history.floated(*company) {
+                "no turn: the game ends before"
+            } else {
+                "not floated"
+            };
             let code = Words(company.code());
-            fill(out, "\nCOMPANY %%not floated\n", &[code, Column(18)])?;
+            fill(out, "\nCOMPANY %%%\n", &[code, Column(SAID), Words(why)])?;
         }
     }
     Ok(())
+}
+
+/// Returns whether a company has had its turn since the event at a place in the list.
+fn has_operated(history: &History, from: usize, company: Company) -> bool {
+    let events = history.events().get(from..).unwrap_or(&[]);
+    events.iter().any(|event| event.operated() == Some(company))
 }
 
 /// Adds what a company may buy at the head of its orders, or behind those that are drafted, and
@@ -146,7 +155,11 @@ impl Buyer<'_> {
     fn push_heading(self, out: &mut Vec<u8>) -> Result<(), AllocError> {
         let cash = Number(self.cash());
         let code = Words(self.by.company.code());
-        fill(out, "\nCOMPANY %%cash %, trains", &[code, Column(18), cash])?;
+        fill(
+            out,
+            "\nCOMPANY %%cash %, trains",
+            &[code, Column(SAID), cash],
+        )?;
         let mut none = " none";
         for kind in &Kind::ALL {
             for _ in 0..self.history.trains(Some(self.by.company), *kind) {

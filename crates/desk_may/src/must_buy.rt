@@ -2,6 +2,7 @@
 //! president may sell for it, and what happens otherwise.
 
 use crate::may_line::push_may;
+use crate::until_then::{SAID, push_events};
 use certs::{Sale, market_price};
 use desk_base::Piece::{Bytes, Column, Number, Words};
 use desk_base::{fill, push};
@@ -9,13 +10,38 @@ use forced_purchase::{Operator, cheapest, falls_short, lack, sale_rule};
 use foresight::{OrdersAhead, RoundAhead};
 use history::{History, Party, Shareholder, TrainSeller};
 use order_grammar::Order;
-use report::{name, push_event};
+use report::name;
 use sheets::Sheets;
 use std::alloc::{AllocError, Global};
 use tables::{Amount, Company, Money};
 
-/// The column of what is said in a head.
-const SAID: usize = 18;
+/// When a company must buy a train, as it is told.
+#[derive(Clone, Copy)]
+struct Occasion {
+    label: &'static str,
+    /// What is said of the end of its turn.
+    when: &'static str,
+    /// What the company has beside its cash.
+    beside: &'static str,
+    /// Whether the company's cash is all that it has then, so that what it lacks can be told.
+    is_lack_known: bool,
+}
+
+/// As its turn ends, since it has no train.
+const AT_THE_END: Occasion = Occasion {
+    label: "MUST BUY",
+    when: ", as its turn ends without a train",
+    beside: "",
+    is_lack_known: true,
+};
+
+/// If it sells the one train that it has, at a price that is not known yet.
+const IF_SOLD: Occasion = Occasion {
+    label: "IF IT SELLS IT",
+    when: "",
+    beside: " and what it gets for it",
+    is_lack_known: false,
+};
 
 /// Ends the turn of a company. If it must buy a train then, adds that, and what follows. Returns the
 /// round after the turn. Fails only if allocation fails.
@@ -47,8 +73,8 @@ fn push_if_sold<'a>(
     }
     let (orders, could) = orders.could_run()?;
     if could {
-        push_cost(out, orders.history(), by, "IF IT SELLS IT", "")?;
-        push_president(out, orders.sheets(), orders.history(), by)?;
+        push_cost(out, orders.history(), by, IF_SOLD)?;
+        push_president(out, orders.sheets(), orders.history(), by, IF_SOLD)?;
     }
     Ok(orders)
 }
@@ -60,14 +86,8 @@ fn push_purchase(
     history: &History,
     by: Operator,
 ) -> Result<(), AllocError> {
-    push_cost(
-        out,
-        history,
-        by,
-        "MUST BUY",
-        ", as its turn ends without a train",
-    )?;
-    push_president(out, sheets, history, by)?;
+    push_cost(out, history, by, AT_THE_END)?;
+    push_president(out, sheets, history, by, AT_THE_END)?;
     if falls_short(history, by) {
         push_raises(out, history, by)?;
     }
@@ -79,8 +99,7 @@ fn push_cost(
     out: &mut Vec<u8>,
     history: &History,
     by: Operator,
-    label: &'static str,
-    when: &'static str,
+    occasion: Occasion,
 ) -> Result<(), AllocError> {
     let purchase = cheapest(&history.now());
     let seller = match purchase.from {
@@ -89,16 +108,17 @@ fn push_cost(
     };
     let code = Words(by.company.code());
     let pieces = [
-        Words(label),
+        Words(occasion.label),
         Column(SAID),
         code,
         Words(purchase.kind.code()),
         Words(seller),
         Number(Money::from(purchase.price())),
-        Words(when),
+        Words(occasion.when),
         Number(history.cash(Party::of_company(by.company))),
+        Words(occasion.beside),
     ];
-    fill(out, "%%% must buy TRAIN % % for %%; it has %\n", &pieces)
+    fill(out, "%%% must buy TRAIN % % for %%; it has %%\n", &pieces)
 }
 
 /// Adds what the president pays, has and can raise.
@@ -107,14 +127,19 @@ fn push_president(
     sheets: &Sheets,
     history: &History,
     by: Operator,
+    occasion: Occasion,
 ) -> Result<(), AllocError> {
     let lacking = lack(history, by.company);
     if lacking <= 0 {
         return Ok(());
     }
+    let lacks = if occasion.is_lack_known {
+        Number(lacking)
+    } else {
+        Words("what is lacking")
+    };
     let president = Bytes(name(sheets, by.president));
-    let adds = [president, Words(" ADDS"), Column(SAID), Number(lacking)];
-    push(out, &adds)?;
+    push(out, &[president, Words(" ADDS"), Column(SAID), lacks])?;
     let free = Number(history.now().free_cash(by.president));
     fill(
         out,
@@ -140,7 +165,7 @@ fn raised_at_most(history: &History, by: Operator) -> Money {
 }
 
 /// Returns how many shares of a company a president has.
-fn held(history: &History, by: Operator, company: Company) -> Amount {
+pub(crate) fn held(history: &History, by: Operator, company: Company) -> Amount {
     let shares = history.shares(company, Shareholder::Seat(by.president));
     Amount::try_from(shares).unwrap_or(0)
 }
@@ -148,11 +173,16 @@ fn held(history: &History, by: Operator, company: Company) -> Amount {
 /// Returns what a sale to pay for a train brings, in dollars; `None` if a rule refuses it.
 fn brought_by(history: &History, by: Operator, company: Company, shares: Amount) -> Option<Money> {
     let sale = Sale { company, shares };
-    if sale_rule(history, by, sale).is_some() {
-        return None;
+    match sale_rule(history, by, sale) {
+        Some(_) => None,
+        None => Some(proceeds(history, sale)),
     }
-    let price = Money::from(market_price(&history.now(), company));
-    Some(price.saturating_mul(Money::from(shares)))
+}
+
+/// Returns what the shares of a sale bring, in dollars.
+pub(crate) fn proceeds(history: &History, sale: Sale) -> Money {
+    let price = Money::from(market_price(&history.now(), sale.company));
+    price.saturating_mul(Money::from(sale.shares))
 }
 
 /// Adds each RAISE that would be obeyed, with what it brings.
@@ -180,12 +210,6 @@ fn push_what_follows(
     history: &History,
     from: usize,
 ) -> Result<(), AllocError> {
-    let mut label = "OTHERWISE";
-    for event in history.events().get(from..).unwrap_or(&[]) {
-        let mut line = Vec::new(alloc);
-        push_event(&mut line, sheets, event)?;
-        push(out, &[Words(label), Column(SAID), Bytes(line.as_slice())])?;
-        label = "";
-    }
-    Ok(())
+    let events = history.events().get(from..).unwrap_or(&[]);
+    push_events(alloc, out, sheets, "OTHERWISE", events)
 }

@@ -8,8 +8,8 @@ use sheets::Sheets;
 use std::alloc::{AllocError, Global};
 use tables::Company;
 
-/// The column of what is said in a head.
-const SAID: usize = 18;
+/// The column of what is said behind a label.
+pub(crate) const SAID: usize = 18;
 
 /// Adds who has a turn before in a round that comes, and what happens until then. `from` is the
 /// place in the list of the event that begins the round, and `company` the one whose turn it is in
@@ -24,7 +24,19 @@ pub fn push_until_then(
 ) -> Result<(), AllocError> {
     let events = history.events().get(from..).unwrap_or(&[]);
     push_before(out, sheets, events, company)?;
-    let mut label = "UNTIL THEN";
+    push_events(alloc, out, sheets, "UNTIL THEN", events)
+}
+
+/// Adds some events as the report has them, behind a label: not that a round begins, nor that a
+/// seat passes.
+pub(crate) fn push_events(
+    alloc: Global,
+    out: &mut Vec<u8>,
+    sheets: &Sheets,
+    label: &'static str,
+    events: &[Event],
+) -> Result<(), AllocError> {
+    let mut label = label;
     for event in events {
         if is_told(event) {
             let mut line = Vec::new(alloc);

@@ -1,4 +1,3 @@
 -- What the desk says of moves.
 pub mod Fault
 pub mod Lines
-pub mod Trial

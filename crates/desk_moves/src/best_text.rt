@@ -4,8 +4,8 @@ ghost use Rattle.board_state.specs.MapState.{position_of};
 ghost use Rattle.legal_runs.specs.Claim.{ClaimHolds};
 ghost use Rattle.legal_runs.specs.Set.{IsGreatest};
 
+use crate::board_now::board_now;
 use crate::fault::{MovesFault, NoAnswer};
-use crate::turn_start::board_now;
 use best_run::best;
 use board::Board;
 use desk_base::Piece::{Number, Words};

@@ -85,31 +85,21 @@ impl Coming<'_> {
         }
     }
 
-    /// Fails with `NotStarted` or `NoPresident` if a company has no president to order anything for
-    /// it.
-    pub(crate) fn must_have_president(&self, company: Company) -> Result<(), MovesFault> {
+    /// Returns the president of a company, who orders for it. Fails with `NotStarted` or
+    /// `NoPresident` if it has none.
+    pub(crate) fn president(&self, company: Company) -> Result<Seat, MovesFault> {
         let view = self.history.now();
         if !view.is_started(company) {
             return Err(MovesFault::Asked(NoAnswer::NotStarted));
         }
         match view.president(company) {
-            Some(_) => Ok(()),
-            None => Err(MovesFault::Asked(NoAnswer::NoPresident)),
-        }
-    }
-
-    /// Returns the president of a company, whose own sheet for the round is to be looked at. Fails
-    /// with `NotStarted` or `NoPresident` if there is none, and with `NoDraft` if they have none.
-    pub(crate) fn drafter_for(&self, company: Company) -> Result<Seat, MovesFault> {
-        self.must_have_president(company)?;
-        match self.history.now().president(company) {
-            Some(seat) => self.drafter(seat),
+            Some(seat) => Ok(seat),
             None => Err(MovesFault::Asked(NoAnswer::NoPresident)),
         }
     }
 
     /// Returns a seat whose own sheet for the round is to be looked at. Fails with `NoDraft` if it
-    /// has none.
+    /// has none, and with `GameOver` if no round comes.
     pub(crate) fn drafter(&self, seat: Seat) -> Result<Seat, MovesFault> {
         if owes(self.sheets, seat, &self.round()?) {
             return Err(MovesFault::Asked(NoAnswer::NoDraft));

@@ -3,9 +3,9 @@ ghost use Rattle.std.specs.Prelude.{◌≡◌, length};
 ghost use Rattle.history.specs.Sound.{IsSound};
 ghost use Rattle.sheets.specs.File.{players_of};
 
+use crate::board_now::board_now;
 use crate::coming::Coming;
 use crate::hex_sides::push_sides;
-use crate::turn_start::board_now;
 use board::Board;
 use board_state::OnMap;
 use desk_base::Piece::{Bytes, Column, Count, Number, Right, Words};

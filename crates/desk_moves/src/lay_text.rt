@@ -3,11 +3,11 @@
 //! a train that the company must buy.
 
 use crate::best_after::Trains;
+use crate::board_now::board_now;
 use crate::fault::MovesFault;
 use crate::lay_best::Earning;
 use crate::progress::Progress;
 use crate::questions::LayForm;
-use crate::turn_start::board_now;
 use desk_base::Piece::{Bytes, Column, Count, Number, Right, Words};
 use desk_base::{fill, push, tiles_left, trains_of};
 use desk_may::{push_end_of_turn, push_until_then};

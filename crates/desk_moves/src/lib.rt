@@ -8,7 +8,7 @@
 //!
 //! Reading order: `fault` (why there is no answer), `progress` (how far one is), `words`
 //! (companies, hexes and trains on a command line), `questions` (`answer`: the turn that is asked),
-//! `coming` (the game before the round that comes), `turn_start` (its board), `line_text` (lays and
+//! `coming` (the game before the round that comes), `board_now` (its board), `line_text` (lays and
 //! tokens as order lines), `lay_text` (the same for a reader), `best_after` and `lay_best` (with
 //! revenues), `best_text` (best runs), `may_text` (what a player may do, by `desk_may`), `hex_text`
 //! with `hex_sides`, `trials` (`trial`).
@@ -16,6 +16,7 @@
 
 mod best_after;
 mod best_text;
+mod board_now;
 mod coming;
 mod fault;
 mod hex_sides;
@@ -27,11 +28,10 @@ mod may_text;
 mod progress;
 mod questions;
 mod trials;
-mod turn_start;
 mod words;
 
 pub use fault::{MovesFault, NoAnswer};
 pub use progress::Progress;
 pub use questions::{LayForm, MayForm, Question, answer};
-pub use trials::{TrialFile, trial};
+pub use trials::{Trial, trial};
 pub use words::{read_company, read_hex, read_kind};

@@ -13,7 +13,7 @@ use desk_may::{
     push_lines_of_operating, push_lines_of_turn, push_of_opening, push_of_operating, push_of_stock,
     push_until_then,
 };
-use foresight::{Draft, at_turn};
+use foresight::{Draft, RoundAhead, at_turn};
 use history::{History, Party};
 use report::name;
 use sheets::Sheets;
@@ -21,8 +21,8 @@ use std::alloc::{AllocError, Global};
 use tables::{Round, Seat, certificate_limit};
 
 /// Returns what the player of a name may do in the round that comes, at the head of their turn, or
-/// of their companies' orders. The error says that nobody has that name or that they have no sheet
-/// for the round, or is `Memory`.
+/// of their companies' orders. The error says that nobody has that name, that the game is over or
+/// that they have no sheet for the round, or is `Memory`.
 pub(crate) fn may_text(
     alloc: Global,
     coming: Coming,
@@ -108,8 +108,10 @@ fn push_operating(
     if lines {
         return push_lines_of_operating(alloc, out, history, draft, round, seat);
     }
-    push_head(out, sheets, &history, seat, round)?;
-    push_of_operating(alloc, out, history, draft, round, seat)
+    let from = history.events().len();
+    let ahead = RoundAhead::open(alloc, history, draft, round)?;
+    push_head(out, sheets, ahead.history(), seat, round)?;
+    push_of_operating(alloc, out, ahead, from, seat)
 }
 
 /// Returns the seat of the player of a name, in either case; `None` if nobody who plays has it.

@@ -114,6 +114,7 @@ fn answer_best(
     requires sound { IsSound coming.history }
     requires seats { coming.history.seats ≡ length (players_of coming.sheets.now) }
 {
+    coming.president(company)?;
     let orders = orders_in(alloc, coming, company, None)?;
     best_text(alloc, orders.history(), company, trains)
 }
@@ -131,8 +132,9 @@ fn answer_lays<P: Progress>(
     requires seats { coming.history.seats ≡ length (players_of coming.sheets.now) }
 {
     let from = coming.history.events().len();
+    let president = coming.president(company)?;
     let drafter = if form.drafted {
-        Some(coming.drafter_for(company)?)
+        Some(coming.drafter(president)?)
     } else {
         None
     };
@@ -143,8 +145,9 @@ fn answer_lays<P: Progress>(
     lay_text(alloc, orders, from, form, progress)
 }
 
-/// Returns the turn of a company at the head of its orders in the round that comes, or behind those
-/// of the sheet that is looked at. The error says why it has none there, or is `Memory`.
+/// Returns the turn of a company that has a president at the head of its orders in the round that
+/// comes, or behind those of the sheet that is looked at. The error says why it has none there, or
+/// is `Memory`.
 fn orders_in<'a>(
     alloc: Global,
     coming: Coming<'a>,
@@ -154,7 +157,6 @@ fn orders_in<'a>(
     requires sound { IsSound coming.history }
     requires seats { coming.history.seats ≡ length (players_of coming.sheets.now) }
 {
-    coming.must_have_president(company)?;
     let round = coming.round()?;
     let Round::Operating { .. } = round else {
         return Err(MovesFault::Asked(NoAnswer::NoOperatingRound));

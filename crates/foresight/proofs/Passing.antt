@@ -23,8 +23,3 @@ left_within seats next few at_table = grind (arith, nat_tests)
 pub nearer : (seats : ℕ) (next : Seat) (seat : ℕ) → seats ≤ 6 → next.0 < seats → seat < seats → (next.0 ≡ seat → ⊥)
     → suc (distance seats (left_of seats next).0 seat) ≡ distance seats next.0 seat
 nearer seats next seat few at_table its other = grind (arith, nat_tests)
-
--- passes leave the seats as they are
-pub passed_seats : (round : Round) (old : Game) (count : ℕ) → (passed_ahead round old count).seats ≡ old.seats
-passed_seats round old zero = refl
-passed_seats round old (suc count) = passed_seats round old count

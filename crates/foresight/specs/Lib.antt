@@ -1,5 +1,6 @@
--- A game at the head of a turn of the round that comes.
+-- A game at the head of a turn of the round that comes, and the files of trials.
 pub mod Draft
 pub mod Ahead
 pub mod Orders
 pub mod Turn
+pub mod TrialFile

@@ -7,15 +7,18 @@
 //!
 //! Reading order: `draft` (whose sheet is looked at), `round_ahead` (an operating round that comes,
 //! turn by turn), `orders_ahead` (a company's turn in it, at the head of its orders or behind those
-//! that are drafted), `turn_ahead` (an opening or a stock round up to a seat's first turn).
+//! that are drafted), `turn_ahead` (an opening or a stock round up to a seat's first turn),
+//! `trial_file` (the files that trials play).
 #![tactic(auto)]
 
 mod draft;
 mod orders_ahead;
 mod round_ahead;
+mod trial_file;
 mod turn_ahead;
 
 pub use draft::Draft;
 pub use orders_ahead::OrdersAhead;
 pub use round_ahead::{Ahead, RoundAhead};
+pub use trial_file::TrialFile;
 pub use turn_ahead::at_turn;

@@ -7,8 +7,8 @@ use std::alloc::AllocError;
 use tables::{Round, Seat};
 
 /// Returns a game at the head of a seat's first turn, in the opening or the stock round that comes:
-/// each seat before it has passed. The list of events must be sound, and the seat at the table.
-/// Fails only if allocation fails.
+/// each seat before it has passed. The list of events must be sound, its seats at most six, and the
+/// seat at the table. Fails only if allocation fails.
 pub fn at_turn(history: History, round: Round, seat: Seat) -> Result<History, AllocError>
     requires sound { IsSound history }
     requires few { history.seats ≤ 6 }

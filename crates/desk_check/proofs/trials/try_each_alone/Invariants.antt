@@ -1,5 +1,5 @@
 -- the copy of the file stays
-use Rattle.desk_check.specs.Alone.{IsBegun}
+use Rattle.foresight.specs.TrialFile.{IsBegun}
 use Rattle.desk_check.proofs.trials.try_each_alone.Given as goal
 
 abbrev pub invariant-loop-head : goal.invariant-loop-head
