@@ -2,10 +2,19 @@
 
 # check_sources: each place that answers that memory was refused, by whether a comment there says
 # that it passes on what failed below it.
-check_sources() { take_over tools/check/want_of_memory; }
+# And how many functions have no clause that says what they return: the number of a crate only falls.
+check_sources() {
+  take_over tools/check/want_of_memory
+  count_unstated tools/check/unstated.txt
+}
+
+# count_unstated FILE: whether each crate has as many functions without an `ensures` as that file says.
+count_unstated() { count 'functions without an ensures' "$(tools/unstated --check --allowed "$1")"; }
 
 sources_must_fail() {
   printf 'fn it() -> Fault {\n    Fault::Memory\n}\n' > "$scratch/source.rt"
   sees 'want of memory that no comment says' 1 take_over tools/check/want_of_memory "$scratch/source.rt"
   take_over tools/check/want_of_memory --self-test
+  sed 's/^page .*/page 1/' tools/check/unstated.txt > "$scratch/unstated.txt"
+  sees 'a function without an ensures that is one too many' 1 count_unstated "$scratch/unstated.txt"
 }
