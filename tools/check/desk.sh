@@ -172,6 +172,19 @@ desk_but() {
   stub "'$desk' \"\$@\" > $listed; status=\$?; sed '$1' $listed; rm $listed; exit \$status"
 }
 
+# told_games: games of each code, and those of the codes that come only of what earlier rounds brought.
+told_games() {
+  local name
+  echo games/codes/*.orders
+  for name in a-sale-into-a-full-pool prices-of-privates BOP-for-a-company a-tile-of-an-earlier-round; do
+    echo "games/desk/check-$name.orders"
+  done
+}
+
+# try_told DESK ROUNDS WORD..: of each sheet for the last rounds of games, so many of each, this desk tells before the round what the
+# umpire then refuses; with -a each code of an order is told.
+try_told() { take_over bench/told -p "$program" -d "$1" -r "$2" "${@:3}"; }
+
 # moves_must_fail: what is wrong by intent. Of games/first-round three players may buy CS for 40, and not DH. In
 # games/first-stock-round PRR may lay 57 on H10 in OR1.1. Before OR4.1 of the third game PRR may place a token in H10, and PRR, or BO at
 # either price, buy DH if BOB offers it.
@@ -189,6 +202,14 @@ moves_must_fail() {
   sees 'a lay with another price' 1 try_moves "$(desk_but 's/^LAY 57 H10 1    0$/LAY 57 H10 1    80/')" 1 600 "$first"
   sees 'a token that is not listed' 1 try_moves "$(desk_but '/^TOKEN H10.0 /d')" 1 600 "$later"
   sees 'the consent of another player' 3 try_moves "$(desk_but 's/ BOB OFFER PRIVATE DH / CYD OFFER PRIVATE DH /')" 1 600 "$later"
+}
+
+# told_must_fail: what is wrong by intent. In the game the order to sell is refused with S4.
+told_must_fail() {
+  local game=games/desk/check-a-sale-into-a-full-pool.orders
+  sees 'a refusal that is not told before its round' 1 try_told "$(desk_but '/ as things stand: S4: /d')" 1 "$game"
+  sees 'a refusal that is told and does not come' 2 try_told "$(desk_but 's/ as things stand: S4: / as things stand: S5: /')" 1 "$game"
+  sees 'codes that nobody is told' all try_told "$(stub 'exit 0')" 1 -a "$game"
 }
 
 # formats: the document that has the table of the codes.
@@ -210,6 +231,8 @@ check_desk() {
   try_damaged 100
   # shellcheck disable=SC2046
   try_moves "$desk" 3 2000 $(moves_games)
+  # shellcheck disable=SC2046
+  try_told "$desk" 2 -a $(told_games)
   side_by_side play_rounds games/*.orders
   side_by_side play_runs games/*.orders games/certificates/certs-*.orders
   has_best games/best-run-of-two-trains.orders || count 'the best runs, written out' 'there are none'
@@ -233,6 +256,7 @@ desk_must_fail() {
   cp "games/$it.orders" "$wrong" && sed 's/^ROUND.*/&./' "games/$it.report" > "$wrong/$it.report"
   sees 'a round that is not as in the report' 1 play_rounds "$wrong/$it.orders"
   moves_must_fail
+  told_must_fail
   desk=$(desk_but 's/^and 2 findings/and 3 findings/')
   sees 'a wrong number of findings' 1 tell_beyond 2
   desk=$(stub 'exit 5')
