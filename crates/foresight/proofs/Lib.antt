@@ -1,3 +1,4 @@
+pub mod Idle
 pub mod TurnsAhead
 pub mod Ended
 pub mod Passing
