@@ -5,8 +5,8 @@ import re
 
 HEAD = re.compile(r'(?:(?:abbrev|unfoldable) )?(?:pub )?(?:data |record )?([^\W\d][\w-]*)(?=[ :]|$)')
 OPENS = re.compile(r'(abbrev|unfoldable|pub|data|record)\b')
-INSIDE = re.compile(r'\s+((?:abbrev|unfoldable) pub|pub (?:data|record)) ')
-IMPORT = re.compile(r'(?:pub )?use Rattle\.([\w.]+)(?:\.\{(.*)\})?(?: as (\S+))?\s*$')
+IMPORT = re.compile(r'(?:(?:(?:abbrev|unfoldable) )?pub )?use (?:Rattle\.)?([\w.]+?)(?:\.\{(.*)\})?(?: as (\S+))?\s*$')
+LIBRARIES = ('std.', 'lib.')
 
 
 class Definition:
@@ -31,37 +31,46 @@ class Module:
 
     def __init__(self):
         self.comment, self.imports, self.definitions, self.fields = [], {}, {}, set()
+        self.library: dict[str, str] = {}  # the words of the kit's library that it uses, each with its module
 
 
 def read_import(module, path, items, alias):
     """Adds the names that one `use` line brings into a module."""
-    if path.startswith('std.'):
+    if path.startswith(LIBRARIES):
+        for item in re.split(r',\s*', items.strip(' ,')) if items else [path.split('.')[-1]]:
+            module.library[alias or item.split(' as ')[-1].strip()] = path.replace('.', '/')
         return
     target = path.replace('.', '/')
     if items is None:
         module.imports[alias or path.split('.')[-1]] = (target, None)
         return
-    for item in re.split(r',\s*', items):
+    for item in re.split(r',\s*', items.strip(' ,')):
         parts = item.split(' as ')
         module.imports[parts[-1].strip()] = (target, parts[0].strip())
 
 
+def use_lines(text: str) -> str:
+    """Returns the text of a file with each `use` on one line. The other lines keep their numbers."""
+    return re.sub(r'^(?:(?:(?:abbrev|unfoldable) )?pub )?use [^;\n]*\{\n[^}]*\}', lambda found: ' '.join(found.group().split()) + '\n' * found.group().count('\n'),
+                  text, flags=re.M)
+
+
 def read_module(path, crate, file):
     """Reads one file of specs/."""
-    module, comment, current, shared = Module(), [], None, ''
-    for number, line in enumerate(open(path, encoding='utf-8').read().split('\n'), 1):
+    module, comment, current, shared, depth = Module(), [], None, '', 2
+    for number, line in enumerate(use_lines(open(path, encoding='utf-8').read()).split('\n'), 1):
         if line.lstrip().startswith('--'):
             comment.append(line.strip().lstrip('-').strip())
             continue
-        if line.startswith('module '):
-            current, shared = None, line
+        if line.startswith('module ') or (shared and not shared.endswith('where')):
+            current, shared = None, (shared + ' ' + line.strip()).strip()
             continue
-        if INSIDE.match(line):
-            line = line.lstrip()
-            in_block = True
-        else:
-            in_block = line.startswith(' ')
-        shared = shared if in_block or not line.strip() else ''
+        if line.strip() == 'mutual':
+            current, depth = None, len(line) - len(line.lstrip()) + 2
+            continue
+        shared = shared if line.startswith(' ') or not line.strip() else ''
+        depth = max(depth, 2) if line.startswith(' ' * depth) or not line.strip() else 2
+        line = line[depth:] if shared and line.startswith('  ') else line
         found = IMPORT.match(line)
         if found:
             if not module.imports and not module.comment:
@@ -70,8 +79,8 @@ def read_module(path, crate, file):
             comment, current = [], None
             continue
         head = HEAD.match(line)
-        if head and head.group(1) not in ('use', 'pub') and (
-                OPENS.match(line) or (current and head.group(1) != current.name and ' : ' in line)):
+        if head and head.group(1) not in ('use', 'pub', 'mod') and (
+                OPENS.match(line) or (not (current and head.group(1) == current.name) and ' : ' in line and not line.startswith(' '))):
             current = Definition(crate, file, head.group(1), number, comment)
             current.shared = shared
             module.definitions.setdefault(current.name, current)

@@ -1,11 +1,13 @@
-# The part `docs`: the names that the documents cite exist, the page of what the claim rests on is
-# fresh, the picture of the crates is that of crates.txt, and the examples at the roots of crates are
-# tests.
+# The part `docs`: the names that the documents cite exist, the picture of the crates is that of
+# crates.txt, the rulebook and the counts of what the claims rest on are fresh, a second count gives
+# the same, and the examples at the roots of crates are tests.
 
 check_docs() {
   take_over tools/names
   take_over tools/layers
   take_over tools/claim --check
+  take_over tools/recount
+  take_over tools/rulebook/tests.py
   take_over tools/check/examples
 }
 
@@ -18,8 +20,12 @@ docs_must_fail() {
   # shellcheck disable=SC2016
   printf '\n`tables: a_name_that_is_gone`\n' >> "$wrong/docs/developers/architecture.md"
   sees 'a name that is gone' 1 take_over "$wrong/tools/names"
-  printf '\nAnother line.\n' >> "$wrong/docs/developers/claim.md"
-  sees 'a page of the claim that is not fresh' 1 take_over "$wrong/tools/claim" --check
+  printf '\nAnother line.\n' >> "$wrong/docs/rulebook/13-sales.md"
+  sees 'a chapter that is not fresh' 1 take_over "$wrong/tools/claim" --check
+  sed -i 's/| S3 | [^|]*/| S3 | it sells nothing /' "$wrong/docs/players/rules.md"
+  sees 'a rule in other words, and the chapter that has it' 2 take_over "$wrong/tools/claim" --check
+  sed 's/^\(| `run`[^|]*| \)[0-9]*/\10/' docs/developers/claim.md > "$scratch/counts.md"
+  sees 'a count that is not the other' 1 take_over tools/recount "$scratch/counts.md"
   sed 's/^market: /&desk_base /' crates.txt > "$wrong/others.txt"
   sees 'a crate that stands on one above it' 1 take_over tools/layers --crates "$wrong/others.txt"
   sed '/>market</d' docs/crates.svg > "$wrong/crates.svg"

@@ -1,0 +1,206 @@
+"""The pages of the rulebook as text."""
+from __future__ import annotations
+
+import re
+import textwrap
+from collections import Counter
+
+import specs
+from rulebook import shapes
+from rulebook.chapters import Chapter, Index
+from rulebook.examples import Example
+from rulebook.kinds import Kind, kind_of
+from rulebook.reach import House, Name, Reach
+from rulebook.shapes import Shapes, cite, table
+
+MADE = '<!-- `tools/claim --write` made this page. -->\n'
+BLOCK = re.compile(r'(<!-- (rows|events|columns|chart) (\w+): ([^>]*?) -->\n).*?(<!-- end -->\n)', re.S)
+HEADED = re.compile(r'^Definition `(\w+): (\w+)` · function `(\w+): (\w+)` · game `([\w./-]+)`$', re.M)
+
+
+def wrap(text: str) -> str:
+    return textwrap.fill(text, 120, break_long_words=False, break_on_hyphens=False) + '\n'
+
+
+def wrap_item(text: str) -> str:
+    return textwrap.fill(text, 120, subsequent_indent='  ', break_long_words=False, break_on_hyphens=False) + '\n'
+
+
+def with_blocks(page: str, made: Shapes) -> str:
+    """Returns a players' page whose tables that come from definitions are made again."""
+    def fresh(found: re.Match[str]) -> str:
+        head, shape, crate, rest, end = found.groups()
+        if shape != 'columns':
+            one = named(made.index, crate, rest)
+            made.shown |= {one} if shape == 'chart' else set()
+            return head + {'rows': made.rows_table, 'events': made.events_table, 'chart': made.chart}[shape](one) + end
+        parts = [part.split(' = ') for part in rest.split('; ')]
+        names = [named(made.index, crate, name) for name, _ in parts[1:]]
+        made.shown |= set(names)
+        return head + made.columns_table(names, [parts[0][1]] + [title for _, title in parts[1:]], parts[0][0] == 'name') + end
+
+    return BLOCK.sub(fresh, page)
+
+
+def named(index: Index, crate: str, name: str) -> Name:
+    one = index.named(crate, name)
+    if one is None:
+        raise ValueError('no definition %s: %s' % (crate, name))
+    return one
+
+
+def without_marks(text: str) -> str:
+    """Returns a text of the players without the marks of its made tables, and with its links as they are from the rulebook."""
+    text = re.sub(r'<!-- (?:rows|events|columns|chart) .*? -->\n|<!-- end -->\n', '', text)
+    text = HEADED.sub(lambda found: 'Definition `%s: %s` · function `%s: %s` · game [`%s`](../../games/%s.orders), [its report]'
+                      '(../../games/%s.report)' % (found.groups() + found.groups()[-1:] * 2), text)
+    return re.sub(r'\]\((?!\.\./|https?:)([\w.-]+\.md)', r'](../players/\1', text)
+
+
+class Book:
+    """The rulebook: its chapters with the definitions that they bring."""
+
+    def __init__(self, house: House, chapters: list[Chapter], made: Shapes, order: list[str], examples: list[Example]):
+        self.house, self.chapters, self.made, self.order, self.examples = house, chapters, made, order, examples
+        self.kinds = {one: kind_of(house.definition(one)) for chapter in chapters for one in chapter.brings}
+        self.number = {id(chapter): number for number, chapter in enumerate(chapters, 1)}
+
+    def file(self, chapter: Chapter) -> str:
+        return '%02d-%s.md' % (self.number[id(chapter)], chapter.file)
+
+    def page(self, chapter: Chapter) -> str:
+        """Returns the page of a chapter."""
+        text = '# %d. %s\n\n%s\n' % (self.number[id(chapter)], chapter.title, MADE) + without_marks(chapter.text)
+        text += ''.join(self.example(one) for one in self.examples if one.chapter == chapter.file)
+        by_kind = {kind: [one for one in chapter.brings if self.kinds[one] is kind] for kind in Kind}
+        if not chapter.brings:
+            return text
+        text += '\n## Definitions\n\n' + wrap(self.count(by_kind))
+        text += self.tables(by_kind[Kind.TABLE])
+        return text + self.code('Rules', by_kind[Kind.RULE]) + self.code('Plumbing', by_kind[Kind.PLUMBING]) + self.needs(chapter)
+
+    def needs(self, chapter: Chapter) -> str:
+        """Returns what the definitions of a chapter use of other chapters."""
+        inside = set(chapter.brings)
+        used = {other for one in inside for other in self.house.used_by(one)[0]} - inside
+        parts = []
+        for other in self.chapters:
+            names = sorted(one[1] for one in used & set(other.brings) if self.kinds[one] is not Kind.PLUMBING)
+            parts += ['- [%s](%s): %s\n' % (other.title, self.file(other), ', '.join('`%s`' % name for name in names))] if names else []
+        return '\n### From other chapters\n\n' + ''.join(wrap_item(part) for part in parts) if parts else ''
+
+    def count(self, by_kind: dict[Kind, list[Name]]) -> str:
+        words = {Kind.RULE: 'rules', Kind.TABLE: 'tables', Kind.PLUMBING: 'of plumbing'}
+        parts = ['%d %s in %d lines' % (len(ones), words[kind], self.house.lines(set(ones))) for kind, ones in by_kind.items() if ones]
+        return ('This chapter is the first that needs these: %s. `README.md` says how to read them; a file comes before those that it '
+                'uses, and a definition before those that it uses.' % ', '.join(parts))
+
+    def example(self, example: Example) -> str:
+        return '\n## Computed: %s\n\n%s\n```agda\n%s```\n' % (example.title, wrap(example.text), example.code)
+
+    def tables(self, ones: list[Name]) -> str:
+        """Returns tables in their own shape: those of a file with the same cases as the columns of one table."""
+        text = '\n### Tables\n' if ones else ''
+        here = [one for one in ones if one in self.made.shown]
+        text += '\n' + wrap('The text above has these as tables: %s.' % ', '.join(cite(one) for one in here)) if here else ''
+        grouped: dict[tuple[str, tuple[str, ...]], list[Name]] = {}
+        for one in [one for one in ones if one not in self.made.shown]:
+            cases = tuple(left for left, _ in shapes.sides(one[1], self.house.definition(one).lines))
+            plain = len(cases) > 2 and all(re.fullmatch(r'[\w.]+', case) for case in cases) and len(set(cases)) == len(cases)
+            grouped.setdefault((one[0], cases if plain else (one[1],)), []).append(one)
+        for (key, cases), names in grouped.items():
+            text += '\n#### %s\n\n' % ', '.join(['`%s`' % names[0][0].replace('/specs/', ': specs/')] + ['`%s`' % name for _, name in names])
+            if len(cases) == 1:
+                text += '```agda\n%s```\n' % self.text_of(names[0])
+                continue
+            text += ''.join('- `%s`: %s\n' % (name, ' '.join(self.house.definition((key, name)).comment)) for _, name in names) + '\n'
+            by_names = any(name.startswith('code_of_') for _, name in names)
+            text += self.made.columns_table(names, [''] + ['`%s`' % name for _, name in names], by_names)
+        return text
+
+    def text_of(self, one: Name) -> str:
+        """Returns the text of a definition, with its comment before it."""
+        of = self.house.definition(one)
+        return ''.join(('-- ' + line).rstrip() + '\n' for line in of.comment) + ''.join(line + '\n' for line in of.lines)
+
+    def code(self, title: str, ones: list[Name]) -> str:
+        """Returns the text of definitions, file by file, from the top down."""
+        text = '\n### %s\n' % title if ones else ''
+        for key in sorted({key for key, _ in ones}, key=self.order.index):
+            inside = sorted((one for one in ones if one[0] == key), key=lambda one: -self.house.definition(one).number)
+            text += '\n#### `%s`\n\n' % key.replace('/specs/', ': specs/')
+            text += wrap(' '.join(self.house.modules[key].comment)) + '\n' if title == 'Rules' and self.is_first(key, ones) else ''
+            text += '```agda\n' + '\n'.join(self.text_of(one) for one in inside) + '```\n'
+        return text
+
+    def is_first(self, key: str, ones: list[Name]) -> bool:
+        """Returns whether these are of the chapter that is the first to have rules of a file."""
+        first = next(chapter for chapter in self.chapters if any(one[0] == key and self.kinds[one] is Kind.RULE for one in chapter.brings))
+        return ones[0] in first.brings
+
+    def names(self) -> str:
+        """Returns the page of all definitions by their names."""
+        rows = []
+        for chapter in self.chapters:
+            for one in chapter.brings:
+                rows.append([one[1], cite(one), '[%d](%s)' % (self.number[id(chapter)], self.file(chapter)), self.kinds[one].value])
+        rows.sort(key=lambda row: (row[0].lower(), row[1]))
+        return '# Where each definition is\n\n%s\n' % MADE + table(['Definition', 'Chapter', 'It is'], [row[1:] for row in rows])
+
+    def types(self, types: set[Name]) -> str:
+        """Returns the page of the types of the source."""
+        rows = []
+        for one in sorted(types, key=lambda one: (one[0], one[1])):
+            of = self.house.types[one]
+            rows.append(['`%s: %s`' % one, of.sentence(), '`%s`' % of.file, seen_as(of)])
+        text = ('A definition names types of the source: enums and structs. This page has each of them, with the file where it stands. Where a '
+                'type has a model, definitions see the value that the model makes of it, and none of its fields.')
+        return '# Types of the source\n\n%s\n' % MADE + wrap(text) + '\n' + table(['Type', 'What it is', 'File', 'Definitions see'], rows)
+
+    def chapters_table(self) -> str:
+        """Returns the table of chapters, with what each brings."""
+        rows = []
+        for chapter in self.chapters:
+            counts = Counter(self.kinds[one] for one in chapter.brings)
+            lines = self.house.lines({one for one in chapter.brings if self.kinds[one] is Kind.RULE})
+            rows.append(['%d' % self.number[id(chapter)], '[%s](%s)' % (chapter.title, self.file(chapter))]
+                        + ['%d' % counts[kind] for kind in Kind] + ['%d' % lines])
+        return table(['', 'Chapter', 'Rules', 'Tables', 'Plumbing', 'Lines of rules'], rows)
+
+
+def seen_as(of) -> str:
+    """Returns what definitions see of a type: the value of its model, its variants or its fields."""
+    if of.value:
+        return '`%s`' % of.value
+    inside = [line.partition('//')[0].rstrip() for line in of.lines if not line.strip().startswith(('//', '#'))]
+    text = ' '.join(' '.join(inside).split())
+    if re.search(r'\benum\b', text):
+        names = re.findall(r'(?:^|[{,] )([A-Z]\w*)(?=[ ,({}]|$)', re.sub(r'\([^()]*\)|(?<=\w) \{[^{}]*\}', '', text.partition('{')[2]).replace('{', '{ '))
+        first = re.match(r' ?([A-Z]\w*)', text.partition('{')[2])
+        names = ([first.group(1)] if first and first.group(1) not in names else []) + names
+        return 'its variants, %d' % len(names) if len(names) > 12 else ', '.join(names)
+    fields = re.findall(r'(?:pub(?:\([^)]*\))? )?(\w+): ', text)
+    return ', '.join(fields) if fields else 'its value'
+
+
+def library_page(library: set[Name], words: dict[str, tuple[str, str]]) -> str:
+    """Returns the page of the words of the kit's library."""
+    used: dict[str, str] = {}
+    for module, name in sorted(library):
+        used.setdefault(name, module)
+    rows = [['`%s`' % words[name][0].replace('|', '\\|'), words[name][1], '`%s`' % used[name].replace('/', '.')] for name in words if name in used]
+    text = ('Definitions use these words of the kit\'s library, `std`. This page says what each means; what the library itself says of it is '
+            'trusted with the kit.')
+    return '# Words of the library\n\n%s\n' % MADE + wrap(text) + '\n' + table(['Word', 'Meaning', 'From'], rows)
+
+
+def claims_table(rows: list[tuple[str, Reach]], house: House, all_definitions: int, all_lines: int) -> str:
+    """Returns the counts of what the claims rest on."""
+    shown = []
+    for title, reach in rows:
+        kinds = Counter(kind_of(house.definition(one)) for one in reach.definitions)
+        lines = {kind: house.lines({one for one in reach.definitions if kind_of(house.definition(one)) is kind}) for kind in Kind}
+        shown.append([title, '%d' % len(reach.definitions), '%d' % house.lines(reach.definitions)]
+                     + ['%d (%d)' % (kinds[kind], lines[kind]) for kind in Kind] + ['%d' % len(reach.types), '%d' % len(reach.library)])
+    shown.append(['all of `specs/`', '%d' % all_definitions, '%d' % all_lines, '', '', '', '', ''])
+    return table(['Claim', 'Definitions', 'Lines', 'Rules', 'Tables', 'Plumbing', 'Types', 'Words of the library'], shown)
