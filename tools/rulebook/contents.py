@@ -4,6 +4,7 @@ from __future__ import annotations
 from dataclasses import dataclass
 
 from rulebook.chapters import Chapter
+from rulebook.examples import Law
 
 
 @dataclass(frozen=True)
@@ -25,6 +26,16 @@ CLAIMS = [
         'desk_check: check', 'desk_check: look_at_sheet', 'desk_check: find_replaced', 'foresight: put_alone', 'foresight: put_all',
         'desk_check: refused_of', 'desk_may: push_lines_of_turn', 'desk_moves: line_text', 'desk_moves: best_now',
         'desk_moves: best_after_lay', 'desk_moves: best_after_token', 'desk_moves: trial', 'page: page')),
+]
+
+# Examples that the crates of the rules state as laws. Those of crates/rulebook say themselves which chapter they belong to.
+LAWS = [
+    Law('opening-round', 'an opening round of a file', 'rounds/specs/Example', ('first_file', 'first_events', 'first_end'), ('first_example',)),
+    Law('stock-round', 'a stock round of a file', 'rounds/specs/Example', ('second_file', 'second_opening', 'second_stock_round', 'second_end'),
+        ('second_example',)),
+    Law('operating-round', 'who operates first', 'market/specs/OperatingOrder', ('both_at_67',), ('first_there_operates_first',)),
+    Law('lays', 'a lay and a token', 'board/specs/Example', (), ('worked_examples',)),
+    Law('certificates', 'a tree and its marks', 'certificate/specs/Example', (), ('worked_tree', 'worked_marks')),
 ]
 
 # Definitions that have no comment yet: a comment is a change of its crate, which is then proved again.

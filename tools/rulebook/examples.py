@@ -1,16 +1,20 @@
-"""Computed examples: facts that the prover computes from the definitions, in proofs/ of a crate."""
+"""Computed examples: facts that the prover computes from the definitions, and not the program."""
 from __future__ import annotations
 
 import glob
 import re
 from dataclasses import dataclass
 
+import specs
+from rulebook import sources
+
 HEAD = re.compile(r'-- Example for the chapter `([\w-]+)`: ([^\n]*?)\n((?:--[^\n]*\n)*)')
+PROOF = re.compile(r'^(?:unfolding [^\n]*\n(?: +[^\n]*\n)*)?[^\W\d][\w-]* = refl\n', re.M)
 
 
 @dataclass(frozen=True)
 class Example:
-    """An example: the chapter that it belongs to, its title, what it shows, and its text."""
+    """An example: the chapter that it belongs to, its title, what it shows, its text, and where that stands."""
     chapter: str
     title: str
     text: str
@@ -18,21 +22,48 @@ class Example:
     path: str
 
 
+@dataclass(frozen=True)
+class Law:
+    """An example that a function states: definitions of a file of specs/, all of them if none is named, and the functions that say so."""
+    chapter: str
+    title: str
+    file: str  # as `crate/specs/File`
+    definitions: tuple[str, ...]
+    functions: tuple[str, ...]
+
+
 def read_example(path: str, text: str) -> Example | None:
-    """Returns the example that a file of proofs has, if its first line says so."""
+    """Returns the example that a file of proofs has, if its first line says so. What proves a fact, that it is computed, is left out."""
     head = HEAD.match(text)
     if not head:
         return None
     chapter, title, rest = head.groups()
     words = ' '.join(line[2:].strip() for line in rest.split('\n'))
-    code = re.sub(r'^use [^\n]*\n', '', text[head.end():], flags=re.M).strip('\n') + '\n'
-    return Example(chapter, title.rstrip('.'), words.strip(), code, path)
+    code = PROOF.sub('', re.sub(r'^use [^\n]*\n', '', text[head.end():], flags=re.M))
+    code = re.sub(r'^(?:abbrev pub|abbrev|pub) (?=[a-z])', '', code, flags=re.M)
+    return Example(chapter, title.rstrip('.'), words.strip(), code.strip('\n') + '\n', path)
 
 
-def all_examples(root: str) -> list[Example]:
-    """Returns the examples of all crates, by their paths."""
-    found = []
+def law_example(root: str, modules: dict[str, specs.Module], law: Law) -> Example:
+    """Returns an example that functions state."""
+    module, crate = modules[law.file], law.file.partition('/')[0]
+    named = [definition for name, definition in module.definitions.items() if name in law.definitions or not law.definitions]
+    parts = [''.join('-- %s\n' % line for line in one.comment) + '\n'.join(one.lines) + '\n' for one in named]
+    for function in law.functions:
+        contract = sources.find_contract(root, crate, function)
+        if contract is None:
+            raise ValueError('no law %s: %s' % (crate, function))
+        parts.append('-- it holds: %s\n%s\n' % (function, re.search(r'ensures \{ (.*?) \}', contract.text, re.S).group(1)))
+    names = ' and '.join('`%s: %s`' % (crate, function) for function in law.functions)
+    comment = '' if law.definitions else ' '.join(module.comment) + ' '
+    return Example(law.chapter, law.title, '%sThis is stated by %s.' % (comment, names), '\n'.join(parts), 'crates/%s.antt' % law.file)
+
+
+def all_examples(root: str, modules: dict[str, specs.Module], laws: list[Law]) -> list[Example]:
+    """Returns the examples of all crates: those that laws state, and those of proofs/ by their paths."""
+    found = [law_example(root, modules, law) for law in laws]
     for path in sorted(glob.glob(root + '/crates/*/proofs/**/*.antt', recursive=True)):
         with open(path, encoding='utf-8') as file:
-            found.append(read_example(path[len(root) + 1:], file.read()))
-    return [one for one in found if one]
+            example = read_example(path[len(root) + 1:], file.read())
+        found += [example] if example else []
+    return found

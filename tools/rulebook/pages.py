@@ -92,11 +92,12 @@ class Book:
     def count(self, by_kind: dict[Kind, list[Name]]) -> str:
         words = {Kind.RULE: 'rules', Kind.TABLE: 'tables', Kind.PLUMBING: 'of plumbing'}
         parts = ['%d %s in %d lines' % (len(ones), words[kind], self.house.lines(set(ones))) for kind, ones in by_kind.items() if ones]
+        parts = [re.sub(r'^1 (rule|table)s', r'1 \1', part) for part in parts]
         return ('This chapter is the first that needs these: %s. `README.md` says how to read them; a file comes before those that it '
                 'uses, and a definition before those that it uses.' % ', '.join(parts))
 
     def example(self, example: Example) -> str:
-        return '\n## Computed: %s\n\n%s\n```agda\n%s```\n' % (example.title, wrap(example.text), example.code)
+        return '\n## Computed: %s\n\n%s\n```agda\n%s```\n\n`%s`\n' % (example.title, wrap(example.text), example.code, example.path)
 
     def tables(self, ones: list[Name]) -> str:
         """Returns tables in their own shape: those of a file with the same cases as the columns of one table."""

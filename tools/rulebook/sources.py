@@ -87,7 +87,7 @@ def read_model(of: SourceType, text: str, model: str) -> None:
 
 def contract(crate: str, file: str, text: str, name: str) -> Contract | None:
     """Returns the contract of a function of a file: its text from the head to the brace before its body."""
-    found = re.search(r'^( *)pub(?:\([^)]*\))? fn %s\b.*?(?:^\1\{| \{)$' % name, text, re.M | re.S)
+    found = re.search(r'^( *)pub(?:\([^)]*\))? fn %s\b.*?(?:^\1\{\}?| \{\}?)$' % name, text, re.M | re.S)
     if not found:
         return None
     used = ghost_imports(text)

@@ -252,9 +252,9 @@ class TestChapters(unittest.TestCase):
         self.assertEqual(brings, [{'sale_rules', 'is_empty', 'Rule'}, {'counted', 'sold', 'paid'}, {'price', 'count_in', 'over', 'text_of'}])
 
     def test_example(self):
-        text = '-- Example for the chapter `sales`: a sale.\n-- Two are sold.\nuse Rattle.shop.specs.Rules.{price}\n\nsmall : price Small ≡ 5\nsmall = refl\n'
+        text = '-- Example for the chapter `sales`: a sale.\n-- Two are sold.\nuse Rattle.shop.specs.Rules.{price}\n\nabbrev pub it : Kind\nit = Small\n\n-- five\npub small : price it ≡ 5\nunfolding price\n    it\nsmall = refl\n'
         found = examples.read_example('crates/shop/proofs/Example.antt', text)
-        self.assertEqual((found.chapter, found.title, found.text, found.code), ('sales', 'a sale', 'Two are sold.', 'small : price Small ≡ 5\nsmall = refl\n'))
+        self.assertEqual((found.chapter, found.title, found.text, found.code), ('sales', 'a sale', 'Two are sold.', 'it : Kind\nit = Small\n\n-- five\nsmall : price it ≡ 5\n'))
         self.assertIsNone(examples.read_example('p', '-- no example\n'))
 
 
