@@ -9,7 +9,8 @@ import specs
 from rulebook import sources
 
 HEAD = re.compile(r'-- Example for the chapter `([\w-]+)`: ([^\n]*?)\n((?:--[^\n]*\n)*)')
-PROOF = re.compile(r'^(?:unfolding [^\n]*\n(?: +[^\n]*\n)*)?[^\W\d][\w-]* = refl\n', re.M)
+LONG_TEXT = re.compile(r'codes "((?:[^"\\]*\\n){4,})"')
+NAMED = re.compile(r'(abbrev )?(?:pub )?([^\W\d][\w-]*)(?= :)')
 
 
 @dataclass(frozen=True)
@@ -39,9 +40,21 @@ def read_example(path: str, text: str) -> Example | None:
         return None
     chapter, title, rest = head.groups()
     words = ' '.join(line[2:].strip() for line in rest.split('\n'))
-    code = PROOF.sub('', re.sub(r'^use [^\n]*\n', '', text[head.end():], flags=re.M))
-    code = re.sub(r'^(?:abbrev pub|abbrev|pub) (?=[a-z])', '', code, flags=re.M)
-    return Example(chapter, title.rstrip('.'), words.strip(), code.strip('\n') + '\n', path)
+    parts = re.sub(r'^use [^\n]*\n', '', text[head.end():], flags=re.M).strip('\n').split('\n\n')
+    return Example(chapter, title.rstrip('.'), words.strip(), '\n\n'.join(statement(part) for part in parts) + '\n', path)
+
+
+def statement(part: str) -> str:
+    """Returns a definition whole, and a fact without what proves it. A text of many lines stands line by line."""
+    lines = LONG_TEXT.sub(lambda found: 'codes "\n%s    "' % ''.join('      %s\n' % line for line in found.group(1).split('\\n')[:-1]), part).split('\n')
+    at = next((number for number, line in enumerate(lines) if not line.startswith('--')), len(lines))
+    named = NAMED.match(lines[at]) if at < len(lines) else None
+    if not named:
+        return part
+    lines[at] = lines[at][named.start(2):]
+    proof = re.compile(r'unfolding |%s =' % re.escape(named.group(2)))
+    end = next((number for number, line in enumerate(lines) if proof.match(line)), len(lines)) if not named.group(1) else len(lines)
+    return '\n'.join(lines[:end])
 
 
 def law_example(root: str, modules: dict[str, specs.Module], law: Law) -> Example:

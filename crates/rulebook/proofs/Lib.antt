@@ -9,12 +9,16 @@ pub mod Lines
 pub mod Map
 pub mod Market
 pub mod Money
+pub mod OperatingRound
 pub mod OwnedPrivates
 pub mod Phases
 pub mod Priority
 pub mod Privates
 pub mod Purchases
+pub mod Report
 pub mod Runs
 pub mod Sales
+pub mod TheGame
 pub mod TrainPurchases
 pub mod Trains
+pub mod VersionTwo
