@@ -160,7 +160,7 @@ class Shapes:
         found: list[Step] = []
         for event, other in dict.fromkeys(self.parts(one)):
             found += [self.step(event, other)] if event else self.steps(other)
-        return found
+        return without_repeats(found)
 
     def step(self, event: str, one: Name) -> Step:
         says = variant_comments(self.house.types[('events', 'Event')]).get(event, '')
@@ -221,6 +221,15 @@ class Shapes:
         for letter, row in zip('ABCDEFGHIJK', cells):
             lines.append(letter + ' ' + ' '.join('%*s' % (width, cell) for width, cell in zip(widths, row)))
         return '```\n%s\n```\n' % '\n'.join(lines)
+
+
+def without_repeats(steps: list[Step]) -> list[Step]:
+    """Returns steps without those that repeat the ones right before them, as where seat after seat is paid."""
+    for length in range(1, len(steps) // 2 + 1):
+        for at in range(len(steps) - 2 * length + 1):
+            if steps[at:at + length] == steps[at + length:at + 2 * length]:
+                return without_repeats(steps[:at + length] + steps[at + 2 * length:])
+    return steps
 
 
 def variant_comments(of: SourceType) -> dict[str, str]:

@@ -220,6 +220,10 @@ class TestShapes(unittest.TestCase):
     def test_events_from_the_inside_out(self):
         self.assertEqual([step.word for step in self.shapes.steps(named('sold'))], ['SOLD', 'PAID', 'CLOSED'])
 
+    def test_repeats(self):
+        one, two = self.shapes.steps(named('paid'))[0], self.shapes.steps(named('sold'))[0]
+        self.assertEqual(shapes.without_repeats([one, two, one, two, one, one]), [one, two, one])
+
     def test_columns(self):
         self.assertEqual(self.shapes.columns_table([named('price')], ['Kind', 'Price']),
                          '| Kind | Price |\n|---|---|\n| small | 5 |\n| large | 10 |\n')
