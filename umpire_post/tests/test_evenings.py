@@ -1,0 +1,258 @@
+"""Each command, what it tells, and what it refuses."""
+
+import io
+import os
+import sys
+import unittest
+from pathlib import Path
+from unittest import mock
+
+from umpire_post.disk import locked
+from umpire_post.tests.evenings import THREE, UMPIRE, Evenings, mail, mbox
+
+EMPTY = [[f"SHEET {it} PR1"] for it in ("ANN", "BOB", "CYD")]
+
+
+class New(Evenings):
+    def test_a_folder_is_made(self) -> None:
+        told = self.post("new", "--umpire", UMPIRE, *THREE)
+        self.assertEqual("PR1 comes next. It awaits a sheet from each of ANN, BOB and CYD.\n", told)
+        self.assertEqual("GAME 1830 2\nPLAYERS ANN BOB CYD\n", (self.game / "game.orders").read_text())
+        self.assertEqual(["club.toml", "game.orders", "inbox", "outbox", "rounds", "sent"], self.names("."))
+
+    def test_what_the_umpire_refuses_leaves_nothing(self) -> None:
+        told = self.post("new", "--umpire", UMPIRE, *THREE[:2], status=2)
+        self.assertIn("F2", told)
+        self.post("new", "--umpire", UMPIRE, "ANN=ann", "BOB=b@x.org", "CYD=c@x.org", status=1)
+        self.post("new", "--umpire", "nobody", *THREE, status=1)
+        self.assertEqual([], sorted(self.place.iterdir()))
+
+    def test_a_folder_that_is_there_stays_as_it_is(self) -> None:
+        self.game.mkdir()
+        (self.game / "other").write_text("mine")
+        self.assertIn("is there already", self.post("new", "--umpire", UMPIRE, *THREE, status=1))
+        self.assertEqual(["other"], self.names("."))
+
+    def test_a_game_that_has_begun(self) -> None:
+        orders = self.place / "old.orders"
+        orders.write_text("GAME 1830 1\nPLAYERS ANN BOB CYD\nSHEET ANN PR1\nSHEET BOB PR1\nSHEET CYD PR1")
+        told = self.post("new", "--umpire", UMPIRE, "--orders", str(orders), *THREE)
+        self.assertIn("PR2 comes next", told)
+        self.assertIn("the file is of ANN, BOB and CYD", self.again(orders, "ANN=a@x.org"))
+        self.comes(*(mail(it, [f"SHEET {it} PR2"], 1) for it in ("ANN", "BOB", "CYD")))
+        self.post("round")
+        self.assertIn(b"SHEET CYD PR1\nSHEET ANN PR2\n", (self.game / "game.orders").read_bytes())
+
+    def again(self, orders: Path, *players: str) -> str:
+        here, self.game = self.game, self.place / "another"
+        told = self.post("new", "--umpire", UMPIRE, "--orders", str(orders), *players, status=2)
+        self.game = here
+        return told
+
+    def test_a_name_of_which_the_desk_warns(self) -> None:
+        told = self.post("new", "--umpire", UMPIRE, "BO=a@x.org", "BOB=b@x.org", "CYD=c@x.org")
+        self.assertIn("BO", told.splitlines()[0])
+
+
+class In(Evenings):
+    def setUp(self) -> None:
+        super().setUp()
+        self.new()
+
+    def test_each_message_is_read_once(self) -> None:
+        messages = [mail("ANN", EMPTY[0], 1), mail("BOB", EMPTY[1], 2)]
+        self.comes(*messages)
+        told = self.comes(*messages, mail("CYD", EMPTY[2], 3))
+        self.assertEqual(["0003 cyd@example.org: CYD PR1", "2 read before"], told.splitlines())
+        self.assertEqual(["0001-answer.eml", "0002-answer.eml", "0003-answer.eml"], self.names("outbox"))
+
+    def test_what_a_mail_program_writes_into_an_mbox_makes_no_other_message(self) -> None:
+        content = mail("ANN", EMPTY[0], 1)
+        self.comes(content)
+        noted = content.replace(b"Subject:", b"Status: RO\nX-Mozilla-Status: 0001\nX-Keywords: a\n b\nSubject:").replace(b"\n", b"\r\n")
+        self.assertEqual("1 read before\n", self.comes(noted))
+
+    def test_the_same_words_in_two_messages_are_two(self) -> None:
+        self.comes(mail("ANN", EMPTY[0], 1), mail("ANN", EMPTY[0], 2))
+        self.assertEqual(2, len(self.names("outbox")))
+
+    def test_a_maildir_a_folder_a_file_and_standard_input(self) -> None:
+        maildir = self.place / "Maildir"
+        for inner in ("new", "cur", "tmp"):
+            (maildir / inner).mkdir(parents=True)
+        (maildir / "cur" / "1700000002.M1.host:2,S").write_bytes(mail("ANN", [*EMPTY[0], "TURN"], 2))
+        (maildir / "new" / "1700000001.M9.host").write_bytes(mail("ANN", EMPTY[0], 1))
+        self.post("in", str(maildir))
+        self.assertIn("TURN", (self.game / "inbox" / "0002.json").read_text())
+        folder = self.place / "saved"
+        folder.mkdir()
+        (folder / "b.eml").write_bytes(mail("BOB", EMPTY[1], 3))
+        self.post("in", str(folder))
+        self.post("in", str(folder / "b.eml"))
+        with mock.patch.object(sys, "stdin", mock.Mock(buffer=io.BytesIO(mbox([mail("CYD", EMPTY[2], 4)])))):
+            self.post("in")
+        with mock.patch.object(sys, "stdin", mock.Mock(buffer=io.BytesIO(b""))):
+            self.post("in")
+        self.assertEqual(8, len(self.names("inbox")))
+        self.assertIn("there is no", self.post("in", str(self.place / "nothing"), status=1))
+
+    def test_the_last_sheet_counts(self) -> None:
+        self.comes(mail("ANN", [*EMPTY[0], "TURN", "BUY SV"], 1), mail("ANN", [*EMPTY[0], "TURN", "BUY CS"], 2))
+        self.assertIn("It counts for PR1, in place of the one in message 1.", (self.game / "outbox" / "0002-answer.eml").read_text())
+        self.post("round", "--without", "BOB", "CYD")
+        self.assertIn("SHEET ANN PR1\nTURN\nBUY CS\nSHEET BOB PR1\nSHEET CYD PR1\n", (self.game / "game.orders").read_text())
+
+    def test_an_answer_tells_nothing_of_anothers_sheet(self) -> None:
+        """CYD's answer is the same whether BOB has ordered what makes CYD's order bad or not."""
+        cyd = mail("CYD", [*EMPTY[2], "TURN", "BUY CS"], 9)
+        self.comes(mail("ANN", EMPTY[0], 1), cyd)
+        alone = (self.game / "outbox" / "0002-answer.eml").read_text()
+        other = self.place / "other"
+        self.game, here = other, self.game
+        self.clock.__init__()  # type: ignore[misc]
+        self.new()
+        (self.game / "club.toml").write_text((here / "club.toml").read_text())
+        self.comes(mail("ANN", [*EMPTY[0], "TURN", "BUY SV", "TURN", "BUY CS"], 1), cyd)
+        self.assertEqual(alone, (self.game / "outbox" / "0002-answer.eml").read_text())
+
+    def test_the_umpire_accepts_what_was_set_aside(self) -> None:
+        told = self.comes(mail("ANN", EMPTY[0], 1, "ann@new.example"), status=3)
+        self.assertIn("set aside: message 1 from ann@new.example (sheet): a sheet for ANN from an address that is nobody's", told)
+        self.assertIn("ANN      owes", self.post("status"))
+        self.post("in", "--accept", "1")
+        self.assertIn("ANN      sent message 2", self.post("status"))
+        self.assertIn("To: ann@example.org\n", (self.game / "outbox" / "0002-answer-ANN.eml").read_text())
+        self.assertIn("there is no message 7", self.post("in", "--accept", "7", status=1))
+
+    def test_a_sheet_after_its_round_is_set_aside(self) -> None:
+        self.post("round", "--without", "ANN", "BOB", "CYD")
+        told = self.comes(mail("ANN", EMPTY[0], 1), status=3)
+        self.assertIn("the sheet of ANN for PR1, after PR1 was played", told)
+        self.assertIn("ANN still owes a sheet for PR2.", (self.game / "outbox" / "0001-answer.eml").read_text())
+
+    def test_a_sheet_before_its_round_is_kept_and_looked_at_again(self) -> None:
+        self.comes(mail("BOB", ["SHEET BOB PR2", "TURN", "BUY DH"], 1))
+        answer = (self.game / "outbox" / "0001-answer.eml").read_text()
+        self.assertIn("It is kept for PR2. The round that comes next is PR1.", answer)
+        self.assertIn("BOB still owes a sheet for PR1.", answer)
+        self.assertIn("has sent a sheet for PR2 already", self.post("status"))
+        self.post("round", "--without", "ANN", "BOB", "CYD")
+        letter = (self.game / "outbox" / "round-001-PR1-BOB.eml").read_text()
+        self.assertIn("Your sheet for PR2 is here already: it came in message 1.", letter)
+        self.assertIn("line 2 below SHEET | BUY DH | as things stand: A3", letter)
+        self.assertNotIn("is here already", (self.game / "outbox" / "round-001-PR1-ANN.eml").read_text())
+
+    def test_a_sheet_that_no_umpire_reads_does_not_stop_the_round(self) -> None:
+        self.comes(mail("ANN", [f"SHEET ANN PR1 #{'x' * 1100}", "TURN"], 1))
+        self.assertIn("No sheet begins with this line", (self.game / "outbox" / "0001-answer.eml").read_text())
+
+
+class Round(Evenings):
+    def setUp(self) -> None:
+        super().setUp()
+        self.new()
+
+    def test_it_waits_for_those_who_owe(self) -> None:
+        self.comes(mail("BOB", EMPTY[1], 1))
+        before = (self.game / "game.orders").read_bytes()
+        self.assertIn("ANN and CYD owe a sheet for PR1", self.post("round", status=1))
+        self.assertIn("CYD owes a sheet for PR1", self.post("round", "--without", "ANN", status=1))
+        self.assertIn("BOB does not owe a sheet for PR1", self.post("round", "--without", "ANN", "BOB", "CYD", status=1))
+        self.assertEqual(before, (self.game / "game.orders").read_bytes())
+        self.post("round", "--without", "cyd", "ANN")
+        self.assertEqual(["before.orders", "bulletin", "page.html", "report", "round.json", "sheets"], self.names("rounds/001-PR1"))
+        self.assertEqual(before, (self.game / "rounds" / "001-PR1" / "before.orders").read_bytes())
+
+    def test_undo_and_who_must_be_told(self) -> None:
+        self.assertIn("no round was played by post", self.post("undo", status=1))
+        self.comes(mail("BOB", [*EMPTY[1], "TURN", "BUY SV"], 1))
+        before = (self.game / "game.orders").read_bytes()
+        self.post("round", "--without", "ANN", "CYD")
+        os.rename(self.game / "outbox" / "round-001-PR1-CYD.eml", self.game / "sent" / "round-001-PR1-CYD.eml")
+        told = self.post("undo")
+        self.assertEqual(["PR1 was taken back, and is awaited again.", "Tell CYD: their letters of the round are sent."], told.splitlines())
+        self.assertEqual(before, (self.game / "game.orders").read_bytes())
+        self.assertEqual(["0001-answer.eml"], self.names("outbox"))
+        self.assertIn("BOB      sent message 1", self.post("status"))
+        self.post("round", "--without", "ANN", "CYD")
+        self.assertEqual(["002-PR1", "undone"], self.names("rounds"))
+
+    def test_undo_does_not_lose_what_somebody_wrote_into_the_file(self) -> None:
+        self.post("round", "--without", "ANN", "BOB", "CYD")
+        with open(self.game / "game.orders", "a", encoding="utf-8") as file:
+            file.write("# by hand\n")
+        self.assertIn("game.orders is not as PR1 left it", self.post("undo", status=1))
+
+    def test_a_file_that_is_refused(self) -> None:
+        (self.game / "game.orders").write_text("GAME 1831 1\n")
+        for words in (["status"], ["round"], ["in", str(self.place)]):
+            self.assertIn("F1", self.post(*words, status=2))
+
+    def test_the_report_may_be_linked(self) -> None:
+        self.change("club.toml", "# link = .*", 'link = "https://example.org/report"')
+        self.post("round", "--without", "ANN", "BOB", "CYD")
+        letter = (self.game / "outbox" / "round-001-PR1-ANN.eml").read_text()
+        self.assertIn("The report is at https://example.org/report\n", letter)
+        self.assertEqual(1, letter.count("Content-Disposition: attachment"))
+
+
+class Status(Evenings):
+    def test_who_owes_since_when_and_what_was_set_aside(self) -> None:
+        self.new()
+        self.comes(mail("ANN", EMPTY[0], 1), mail("BOB", EMPTY[2], 2), status=3)
+        self.assertEqual([
+            "PR1 is awaited since 2026-11-02 18:01",
+            "  ANN      sent message 1 at 2026-11-02 18:03",
+            "  BOB      owes a sheet",
+            "  CYD      owes a sheet",
+            "set aside: message 2 from bob@example.org (sheet): the sheet of CYD for PR1, from an address that is not CYD's",
+            "2 letters in outbox",
+        ], self.post("status").splitlines())
+
+    def test_what_is_for_the_umpire_alone(self) -> None:
+        self.new()
+        self.comes(mail("ANN", [*EMPTY[0], "TURN", "BUY SV"], 1), mail("BOB", [*EMPTY[1], "TURN", "BUY SV"], 2))
+        told = self.post("status", "--check")
+        self.assertIn("with all sheets: A2", told)
+        self.assertIn("Keep to yourself what is below FOR THE UMPIRE ALONE.", told)
+        for name in self.names("outbox"):
+            self.assertNotIn("A2", (self.game / "outbox" / name).read_text())
+
+    def test_a_reminder_a_day(self) -> None:
+        self.new()
+        self.comes(mail("ANN", EMPTY[0], 1))
+        self.assertIn("reminders for BOB and CYD are in outbox", self.post("status", "--remind"))
+        self.assertIn("nobody is to be reminded today", self.post("status", "--remind"))
+        letter = (self.game / "outbox" / "reminder-PR1-BOB-2026-11-02.eml").read_text()
+        self.assertIn("You still owe a sheet for PR1. It has been awaited since 2026-11-02.", letter)
+
+    def test_a_folder_that_is_none(self) -> None:
+        self.assertIn("there is no folder", self.post("status", status=1))
+        self.game.mkdir()
+        self.assertIn("is no game's folder: it has no club.toml", self.post("status", status=1))
+
+    def test_a_club_that_is_wrong(self) -> None:
+        self.new()
+        for pattern, to, why in (('umpire = "[^"]*"', 'umpire = "x"', "umpire is no address"), ("mark = .*", "mark = 7", "no text mark"),
+                                 ('addresses = .*', 'addresses = ["a@b\\nc"]', "an address that is none"),
+                                 (r"\[send\]", "[send]\nport = 0", "port is no number"), ("by = .*", 'by = "pigeon"', "by is none of"),
+                                 ("begun = .*", 'begun = "now"', "begun is no time"), (r"\[texts\]", "[texts", "no TOML")):
+            kept = (self.game / "club.toml").read_text()
+            self.change("club.toml", pattern, to)
+            self.assertIn(why, self.post("status", status=1))
+            (self.game / "club.toml").write_text(kept)
+
+    def test_a_record_that_was_changed(self) -> None:
+        self.new()
+        self.comes(mail("ANN", EMPTY[0], 1))
+        (self.game / "inbox" / "0001.json").write_text("{}")
+        self.assertIn("0001.json was changed, and cannot be read", self.post("status", status=1))
+
+    def test_two_commands_at_once(self) -> None:
+        self.new()
+        with locked(self.game):
+            self.assertIn("another command works on", self.post("status", status=4))
+
+
+if __name__ == "__main__":
+    unittest.main()

@@ -1,0 +1,196 @@
+"""Each command is killed at each of its writes, and then run again: nothing is lost, doubled or half
+done."""
+
+import builtins
+import contextlib
+import io
+import os
+import secrets
+import shutil
+from collections.abc import Callable, Sequence
+from datetime import datetime, timezone
+from pathlib import Path
+from typing import IO, Any
+from unittest import mock
+
+from umpire_post import disk
+from umpire_post.commands import main
+from umpire_post.tests.evenings import MARK, THREE, UMPIRE, Evenings, mail, mbox
+from umpire_post.tests.programs import PROGRAMS
+
+KILLED, BROKEN = 77, 78
+NOON = datetime(2026, 11, 2, 12, 0, tzinfo=timezone.utc)
+MOST = 400  # writes of a command
+WRITES = ("rename", "replace", "unlink", "rmdir", "mkdir", "fsync")
+SENDMAIL = "#!/bin/sh\nwhile [ \"$1\" != -- ]; do shift; done\n{ echo \"$2\"; cat; } > \"$(mktemp \"${0%/*}/gone/XXXXXX\")\"\n"
+
+
+class Killer:
+    """Counts the writes of this process, and ends it at one of them: before it, or in its middle."""
+
+    def __init__(self, at: int) -> None:
+        self.left = at
+
+    def counted(self, write: Callable[..., Any]) -> Callable[..., Any]:
+        def run(*words: Any, **named: Any) -> Any:
+            self.count()
+            return write(*words, **named)
+        return run
+
+    def count(self) -> None:
+        self.left -= 1
+        if self.left == 0:
+            os._exit(KILLED)
+
+    def open(self, path: Path, mode: str) -> "HalfWritten":
+        return HalfWritten(builtins.open(path, mode), self)
+
+
+class HalfWritten:
+    """A file of which a write may be its process's last, and comes half onto the disk."""
+
+    def __init__(self, file: IO[bytes], killer: Killer) -> None:
+        self.file = file
+        self.killer = killer
+
+    def write(self, content: bytes) -> int:
+        if self.killer.left == 1:
+            self.file.write(content[:len(content) // 2])
+            self.file.flush()
+        self.killer.count()
+        return self.file.write(content)
+
+    def __getattr__(self, name: str) -> Any:
+        return getattr(self.file, name)
+
+    def __enter__(self) -> "HalfWritten":
+        return self
+
+    def __exit__(self, *_: object) -> None:
+        self.file.close()
+
+
+def run(words: Sequence[str]) -> int:
+    with contextlib.redirect_stdout(io.StringIO()), contextlib.redirect_stderr(io.StringIO()):
+        return main(words, now=lambda: NOON, programs=PROGRAMS)
+
+
+def is_killed(words: Sequence[str], at: int) -> bool:
+    """Runs a command in a process of its own that is killed at a write. Returns whether it came so far."""
+    child = os.fork()
+    if child == 0:
+        try:
+            killer = Killer(at)
+            for name in WRITES:
+                setattr(os, name, killer.counted(getattr(os, name)))
+            setattr(disk, "open", killer.open)
+            run(words)
+            os._exit(0)
+        finally:
+            os._exit(BROKEN)  # (no test goes on in the child)
+    status = os.waitstatus_to_exitcode(os.waitpid(child, 0)[1])
+    assert status in (0, KILLED), f"the child ended with status {status}"
+    return status == KILLED
+
+
+def tree(top: Path) -> dict[str, bytes]:
+    """Returns each file of a folder with its content, but for the lock."""
+    return {str(it.relative_to(top)): it.read_bytes() for it in top.rglob("*") if it.is_file() and it.name != ".lock"}
+
+
+class Killed(Evenings):
+    def setUp(self) -> None:
+        super().setUp()
+        known = mock.patch.object(secrets, "token_hex", lambda _: MARK)
+        known.start()
+        self.addCleanup(known.stop)
+
+    def look_at(self, words: Sequence[str], looks: Callable[[dict[str, bytes], dict[str, bytes]], None] | None = None) -> None:
+        """Kills a command at each write. Run again, it must leave what it leaves when nothing happens."""
+        before = self.place / "before"
+        if self.game.exists():
+            shutil.copytree(self.game, before)
+        run(words)
+        owed = tree(self.game)
+        for at in range(1, MOST):
+            shutil.rmtree(self.game)
+            if before.exists():
+                shutil.copytree(before, self.game)
+            if not is_killed(words, at):
+                break
+            run(words)
+            self.assertEqual(owed.keys(), tree(self.game).keys(), f"write {at}")
+            self.assertEqual(owed, tree(self.game), f"write {at}")
+        self.assertGreater(at, 5)
+        self.assertLess(at, MOST - 1)
+
+    def begun(self) -> None:
+        run(["new", str(self.game), "--umpire", UMPIRE, *THREE])
+
+    def came(self) -> Path:
+        path = self.place / "mbox"
+        sheets = (("ANN", ["SHEET ANN PR1", "TURN", "BUY SV", "SHEET BOB PR1"]), ("BOB", ["SHEET BOB PR1"]),
+                  ("CYD", ["SHEET CYD PR1", "TURN", "BYU CS"]))
+        path.write_bytes(mbox([mail(name, lines, at) for at, (name, lines) in enumerate(sheets)]))
+        return path
+
+    def test_new(self) -> None:
+        self.look_at(["new", str(self.game), "--umpire", UMPIRE, *THREE])
+
+    def test_in(self) -> None:
+        self.begun()
+        self.look_at(["in", str(self.game), str(self.came())])
+        self.assertEqual(3 * 2, len(self.names("inbox")))
+
+    def test_round(self) -> None:
+        self.begun()
+        run(["in", str(self.game), str(self.came())])
+        self.look_at(["round", str(self.game)])
+
+    def test_round_is_not_followed_by_the_next_one(self) -> None:
+        self.begun()
+        path = self.place / "mbox"
+        names = ("ANN", "BOB", "CYD")
+        path.write_bytes(mbox([mail(it, [f"SHEET {it} PR1", f"SHEET {it} PR2"], at) for at, it in enumerate(names)]))
+        run(["in", str(self.game), str(path)])
+        self.look_at(["round", str(self.game)])
+
+    def test_undo(self) -> None:
+        self.begun()
+        run(["round", str(self.game), "--without", "ANN", "BOB", "CYD"])
+        run(["round", str(self.game), "--without", "ANN", "BOB", "CYD"])
+        self.look_at(["undo", str(self.game)])
+
+    def test_status_that_reminds(self) -> None:
+        self.begun()
+        self.look_at(["status", str(self.game), "--remind"])
+
+    def test_send(self) -> None:
+        """No letter is lost or sent twice: if nobody knows whether it was, the umpire is told."""
+        self.begun()
+        run(["round", str(self.game), "--without", "ANN", "BOB", "CYD"])
+        gone = self.place / "gone"
+        sendmail = self.place / "sendmail"
+        sendmail.write_text(SENDMAIL)
+        sendmail.chmod(0o755)
+        self.change("club.toml", 'by = "program"', f'sendmail = ["{sendmail}"]\nby = "sendmail"')
+        before = self.place / "before"
+        shutil.copytree(self.game, before)
+        doubts = 0
+        for at in range(1, MOST):
+            shutil.rmtree(self.game)
+            shutil.copytree(before, self.game)
+            shutil.rmtree(gone, ignore_errors=True)
+            gone.mkdir()
+            was_killed = is_killed(["send", str(self.game)], at)
+            run(["send", str(self.game)])
+            sent, doubtful = self.names("sent"), [it for it in self.names("outbox") if it.endswith(".sending")]
+            letters = [it.read_bytes() for it in gone.iterdir()]
+            self.assertEqual(len(letters), len(set(letters)), f"write {at}: a letter was sent twice")
+            self.assertEqual(3, len(sent) + len(doubtful))
+            self.assertIn(len(letters) - len(sent), (0, len(doubtful)))
+            doubts += len(doubtful)
+            if not was_killed:
+                break
+        self.assertGreater(doubts, 0)
+        self.assertEqual([], doubtful)

@@ -1,0 +1,185 @@
+"""What somebody may send who wants to harm a game or its umpire, each refused with a sentence."""
+
+import email
+import time
+import unittest
+from email.policy import default
+
+from umpire_post.letters import answer
+from umpire_post.message import MAX_DEPTH, MAX_PARTS, MAX_TEXT, take_apart
+from umpire_post.reading import Reading
+from umpire_post.sheets import MAX_SHEETS
+from umpire_post.sources import MAX_BYTES, Raw
+from umpire_post.tests.club import CLUB, KEY, Clock, read
+
+HEADS = {"From", "To", "Subject", "Date", "Message-ID", "Auto-Submitted", "In-Reply-To", "References", "Content-Type",
+         "Content-Transfer-Encoding", "MIME-Version"}
+SHEET = "SHEET ANN SR2\nTURN\nBUY PRR IPO\n"
+SECONDS = 3
+
+
+def message(body: str, heads: str = "", sender: str = "Ann <ann@example.org>") -> bytes:
+    return f"From: {sender}\nSubject: sheet\nMessage-ID: <1@example.org>\n{heads}\n{body}".encode()
+
+
+def answered(reading: Reading) -> tuple[str, dict[str, str]]:
+    """Returns the text and the heads of the answer to a message."""
+    made = answer(CLUB, reading, 1, [], Clock()(), to=reading.incoming.sender, name="0001-answer")
+    parsed = email.message_from_bytes(made.content, policy=default)
+    return parsed.get_content(), dict(parsed.items())
+
+
+class Threats(unittest.TestCase):
+    def assert_refused(self, content: bytes, why: str) -> Reading:
+        """The message is set aside, with this in the sentence, and no sheet of it counts."""
+        begun = time.monotonic()
+        reading = read(content)
+        self.assertLess(time.monotonic() - begun, SECONDS)
+        self.assertEqual([], reading.counting())
+        self.assertIn(why, " ".join(reading.aside))
+        return reading
+
+    # A forged sender.
+
+    def test_a_sheet_without_the_key_is_set_aside(self) -> None:
+        content = message("SHEET EVE SR2\nTURN\n", sender="eve@example.org")
+        text, _ = answered(self.assert_refused(content, "without the right KEY line"))
+        self.assertIn("A sheet of EVE counts only with the line KEY", text)
+
+    def test_a_wrong_key_is_not_repeated(self) -> None:
+        content = message("KEY Stork-9\nSHEET EVE SR2\nTURN\n", sender="eve@example.org")
+        text, _ = answered(self.assert_refused(content, "without the right KEY line"))
+        self.assertNotIn("Stork-9", text)
+
+    def test_the_right_key_counts_and_is_not_repeated(self) -> None:
+        reading = read(message(f"SHEET EVE SR2\nTURN\nKEY {KEY}\nBUY PRR IPO\n", sender="eve@example.org"))
+        self.assertEqual([("SHEET EVE SR2", "TURN", "BUY PRR IPO")], [it.sheet.lines for it in reading.counting()])
+        self.assertNotIn(KEY, answered(reading)[0])
+
+    def test_a_key_among_the_orders_is_not_put_into_the_file(self) -> None:
+        content = message(f"KEY {KEY}\nSHEET EVE SR2\nTURN # {KEY}\n", sender="eve@example.org")
+        text, _ = answered(self.assert_refused(content, "with the key in a line of its own orders"))
+        self.assertNotIn(KEY, text)
+
+    def test_two_senders_are_none(self) -> None:
+        self.assert_refused(message(SHEET, "From: bob@example.org\n"), "not exactly one sender")
+        self.assert_refused(message(SHEET, sender="ann@example.org, eve@elsewhere.example"), "not exactly one sender")
+
+    def test_an_address_in_a_name_is_not_the_sender(self) -> None:
+        self.assert_refused(message(SHEET, sender='"ann@example.org" <eve@elsewhere.example>'), "an address that is nobody's")
+        for sender in ("ann@example.org <eve@elsewhere.example>", "ann@example.org)eve@elsewhere.example", "<ann@example.org>, <eve@elsewhere.example>",
+                       '"<ann@example.org>" <eve@elsewhere.example>', "Ann", "", "<>", "@", "ann@example.org\0"):
+            self.assert_refused(message(SHEET, sender=sender), "not exactly one sender")
+
+    def test_other_heads_make_no_sender(self) -> None:
+        heads = "Sender: ann@example.org\nReply-To: ann@example.org\nReturn-Path: <ann@example.org>\n"
+        reading = self.assert_refused(message(SHEET, heads, "eve@elsewhere.example"), "an address that is nobody's")
+        self.assertEqual("eve@elsewhere.example", answered(reading)[1]["To"])
+
+    # A sheet in somebody else's name.
+
+    def test_a_sheet_of_another_is_set_aside(self) -> None:
+        reading = self.assert_refused(message(SHEET, sender="bob@example.org"), "from an address that is not ANN's")
+        text, heads = answered(reading)
+        self.assertIn("did not come from an address of ANN", text)
+        self.assertNotIn("BUY PRR IPO", text)
+        self.assertEqual("bob@example.org", heads["To"])
+
+    def test_what_is_forwarded_is_nobodys(self) -> None:
+        inner = "From: ann@example.org\n\nSHEET ANN SR2\nTURN\n"
+        heads = 'MIME-Version: 1.0\nContent-Type: message/rfc822\n'
+        reading = read(message(inner, heads, "bob@example.org"))
+        self.assertEqual(([], ["a message that is attached"]), (reading.sheets, reading.incoming.unread))
+
+    # A bomb of a message.
+
+    def test_a_message_of_many_bytes_is_not_read(self) -> None:
+        raw = Raw(message(SHEET)[:1000], MAX_BYTES + 1)
+        self.assertIn(f"and at most {MAX_BYTES:,} are read", take_apart(raw).refused)
+
+    def test_a_message_of_many_parts_is_not_read(self) -> None:
+        heads = "Content-Type: multipart/mixed; boundary=b\n"
+        many = "--b\nContent-Type: text/plain\n\nx\n" * 3 * MAX_PARTS
+        self.assert_refused(message(many, heads), f"more than {MAX_PARTS} parts")
+
+    def test_parts_within_parts_are_not_read(self) -> None:
+        depth = MAX_DEPTH + 2
+        heads = "Content-Type: multipart/mixed; boundary=b0\n"
+        nested = "".join(f"--b{it}\nContent-Type: multipart/mixed; boundary=b{it + 1}\n\n" for it in range(depth))
+        self.assert_refused(message(nested + f"--b{depth}\n\n{SHEET}", heads), "nested more than")
+        deeper = "".join(f"--b{it}\nContent-Type: multipart/mixed; boundary=b{it + 1}\n\n" for it in range(20_000))
+        self.assert_refused(message(deeper, heads), f"more than {MAX_PARTS} parts")
+
+    def test_a_long_text_is_not_read(self) -> None:
+        self.assert_refused(message(SHEET + "#\n" * MAX_TEXT), f"and at most {MAX_TEXT:,} are read")
+
+    def test_many_sheets_are_not_read(self) -> None:
+        self.assert_refused(message(SHEET * (MAX_SHEETS + 1)), f"more than {MAX_SHEETS} sheets")
+
+    def test_html_that_is_expensive_to_read_takes_no_long_time(self) -> None:
+        for piece in ("<div>", "<!--", "<![CDATA[", "<a ", "<a b='", "</", "&#", "<p class=gmail_quote>", "<b></i>", "&" * 9, "<!"):
+            heads = "Content-Type: text/html\n"
+            begun = time.monotonic()
+            read(message(piece * (MAX_TEXT // len(piece) - 1), heads))
+            self.assertLess(time.monotonic() - begun, SECONDS, piece)
+
+    def test_lines_that_are_expensive_to_match_take_no_long_time(self) -> None:
+        for piece in (" ", "- ", "On wrote: ", ">", "=20", "-", "From: ", "KEY ", "wrote", "SHEET ANN ", "On "):
+            begun = time.monotonic()
+            read(message(f"SHEET ANN SR2\n{piece * (MAX_TEXT // len(piece) - 20)}\n> x\n"))
+            self.assertLess(time.monotonic() - begun, SECONDS, piece)
+
+    def test_heads_that_are_expensive_to_read_take_no_long_time(self) -> None:
+        for piece in ("(", '"', "<", "@", "=?utf-8?q?", ",", "\\", "a.", "=?utf-8?q?a?= "):
+            begun = time.monotonic()
+            reading = read(message(SHEET, f"X: {piece * 200_000}\nSubject: {piece * 100_000}\n", piece * 100_000))
+            self.assertLess(time.monotonic() - begun, SECONDS, piece)
+            self.assertEqual([], reading.counting())
+
+    # Attachments.
+
+    def test_a_path_names_no_file_and_a_zip_is_not_opened(self) -> None:
+        parts = ('--b\nContent-Type: text/plain; name="/etc/passwd"\nContent-Disposition: attachment; filename="../../../etc/cron.d/x"\n\n'
+                 f"{SHEET}--b\nContent-Type: application/zip; name=bomb.zip\nContent-Transfer-Encoding: base64\n\nUEsDBA==\n--b--\n")
+        reading = read(message(parts, "Content-Type: multipart/mixed; boundary=b\n"))
+        self.assertEqual([("SHEET ANN SR2", "TURN", "BUY PRR IPO")], [it.sheet.lines for it in reading.counting()])
+        self.assertEqual(["bomb.zip (application/zip)"], reading.incoming.unread)
+        self.assertIn("Not read: bomb.zip (application/zip).", answered(reading)[0])
+
+    # Heads and lines of letters.
+
+    def test_nothing_of_a_message_becomes_a_head(self) -> None:
+        evil = "=?utf-8?q?x=0D=0ABcc=3A_all=40example.org?="
+        heads = f"Subject: {evil}\nIn-Reply-To: {evil}\nMessage-ID: <a\n b@c>\r\n\tBcc: x@example.org\n"
+        for sender in (f"{evil} <ann@example.org>", "Ann\r\n Bcc: x <ann@example.org>"):
+            content = f"From: {sender}\n{heads}\n{SHEET}".encode()
+            text, found = answered(read(content))
+            self.assertLessEqual(set(found), HEADS)
+            self.assertEqual("our-game: your message 1", found["Subject"])
+            self.assertEqual("ann@example.org", found["To"])
+            self.assertNotIn("all@", text)
+
+    def test_an_address_with_a_line_end_is_none(self) -> None:
+        for sender in ('"x\\\nBcc: y@example.org" <ann@example.org\n>', "ann@example.org\r\nBcc: y@example.org", "<ann@exa mple.org>"):
+            reading = read(f"From: {sender}\n\n{SHEET}".encode())
+            self.assertNotIn("\n", reading.incoming.sender)
+            self.assertLessEqual(set(answered(reading)[1]) if reading.incoming.sender else set(), HEADS)
+
+    def test_no_control_character_comes_into_a_letter_or_onto_the_screen(self) -> None:
+        reading = read(message("SHEET ANN SR2\nTURN \x1b[2J\x07\x00\n", "Subject: \x1b]0;x\x07\n"))
+        text, _ = answered(reading)
+        for character in "\x1b\x07\x00":
+            self.assertNotIn(character, text + reading.incoming.subject)
+
+    def test_a_program_is_not_answered(self) -> None:
+        for heads in ("Auto-Submitted: auto-generated\n", "Precedence: junk\n", "Return-Path: <>\n", "X-Autoreply: 1\n"):
+            self.assertFalse(self.assert_refused(message(SHEET, heads), "").is_answered)
+
+    def test_damage_is_said(self) -> None:
+        for heads in ("Content-Type: multipart/mixed\n", "Content-Type: text/plain; charset*=x'\n", "Content-Transfer-Encoding: x-uuencode\n",
+                      "Content-Type: multipart/alternative; boundary=b\n", "Content-Disposition: attachment; filename*0*=utf-8''%\n"):
+            self.assertEqual([], [it for it in read(message("--b\n\x80", heads)).sheets if it.counts])
+
+
+if __name__ == "__main__":
+    unittest.main()
