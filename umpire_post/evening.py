@@ -18,8 +18,10 @@ from umpire_post.folder import (CLUB, HANDED_OVER, INBOX, ORDERS, OUTBOX, ROUNDS
 from umpire_post.letters import Letter, listed
 from umpire_post.message import take_apart
 from umpire_post.programs import ALONE, Programs, Report
-from umpire_post.reading import Reader, Reading
+from umpire_post.reading import Reader, Reading, findings_in
+from umpire_post.sheets import Found
 from umpire_post.sources import Raw
+from umpire_post.text import Line
 
 FOLDERS = (INBOX, OUTBOX, SENT, ROUNDS)
 
@@ -242,10 +244,9 @@ def _letter_of(evening: Evening, folder: Folder, number: int, after: Report, pla
     own = []
     early = folder.pending(after.awaited).get(player.name) if after.awaited else None
     if early:
-        first = line_count(orders) + 1
-        found = evening.programs.findings(with_sheets(orders, [early.sheet]), first)
+        found = Found.of(map(Line, early.sheet.lines))
         own = [f"Your sheet for {after.awaited} is here already: it came in message {early.record.number}.",
-               letters.findings_text([f"line {it.line - first} below SHEET | {it.said}" for it in found])]
+               letters.findings_text(list(findings_in(early.sheet, found, orders, evening.programs)))]
     name = f"round-{number:03}-{after.played[-1]}-{player.name}"
     return letters.round_letter(folder.club, name, player, after, bulletin, page, own, evening.now())
 

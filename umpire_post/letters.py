@@ -101,8 +101,8 @@ def next_of(report: Report) -> str:
 def findings_text(findings: Sequence[str]) -> str:
     """Says what the desk found in a sheet."""
     if not findings:
-        return "As things stand, the desk finds nothing to correct in it."
-    return "As things stand, the desk finds:\n\n" + "\n".join(_wrapped(it) for it in findings)
+        return "The desk finds nothing to correct in it, as things stand."
+    return "The desk finds:\n\n" + "\n".join(_wrapped(it) for it in findings)
 
 
 def listed(names: Iterable[str]) -> str:

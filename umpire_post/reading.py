@@ -5,7 +5,8 @@ and for a round that is not played yet. The last one that comes for a round coun
 in a sheet is asked of the order file with this sheet alone, so it tells nothing of another's.
 """
 
-from collections.abc import Sequence
+import re
+from collections.abc import Iterator, Sequence
 from dataclasses import dataclass, field
 
 from umpire_post.club import Club, Player
@@ -14,6 +15,8 @@ from umpire_post.message import Incoming
 from umpire_post.programs import Programs, Report
 from umpire_post.sheets import MAX_SHEETS, Found, InMessage, find_sheets
 from umpire_post.text import Lines, lines_of
+
+LINE = re.compile(r"\bline (\d+)\b")
 
 
 @dataclass(frozen=True)
@@ -151,11 +154,21 @@ class Reader:
 
     def _findings(self, one: Found) -> tuple[str, ...]:
         """Returns what the desk finds in a sheet, with the numbers of its own lines."""
-        orders = self.folder.orders
-        first = line_count(orders) + 1
-        numbered = one.numbered()
-        told = []
-        for it in self.programs.findings(with_sheets(orders, [Sheet(one.player, one.round, one.texts())]), first):
-            number = numbered[it.line - first][0] if 0 <= it.line - first < len(numbered) else None
-            told.append(f"line {number} | {it.said}" if number else it.said)
-        return tuple(told)
+        sheet, orders = Sheet(one.player, one.round, one.texts()), self.folder.orders
+        return tuple(findings_in(sheet, one, orders, self.programs))
+
+
+def findings_in(sheet: Sheet, found: Found, orders: bytes, programs: Programs) -> Iterator[str]:
+    """Yields what the desk finds in a sheet alone at the end of an order file, with the numbers that its
+    lines have in the sheet in place of those in the file."""
+    first = line_count(orders) + 1
+    numbers = {first + at: number for at, (number, _) in enumerate(found.numbered())}
+
+    def named(cited: re.Match[str]) -> str:
+        number = numbers.get(int(cited[1]))
+        return f"line {number}" if number else cited[0]
+
+    for it in programs.findings(with_sheets(orders, [sheet]), first):
+        number = numbers.get(it.line)
+        said = LINE.sub(named, it.said)
+        yield f"line {number} | {said}" if number else said

@@ -19,9 +19,8 @@ from umpire_post.errors import PostError
 MAX_BYTES = 2 * 1024 * 1024
 KEPT_OF_LARGE = 64 * 1024
 # Heads that mail programs write into a message that they keep.
-KEEPERS = re.compile(rb"^(?:Status|X-Status|X-Keywords|X-UID|X-IMAP|X-Mozilla-[\w-]+|Content-Length|Lines):.*\r?\n"
-                     rb"(?:[ \t].*\r?\n)*", re.M | re.I)
-HEAD_END = re.compile(rb"\r?\n\r?\n")
+KEEPERS = re.compile(rb"^(?:Status|X-Status|X-Keywords|X-UID|X-IMAP|X-Mozilla-[\w-]+|Content-Length|Lines):.*\n"
+                     rb"(?:[ \t].*\n)*", re.M | re.I)
 
 
 @dataclass(frozen=True)
@@ -38,10 +37,8 @@ class Raw:
     @property
     def digest(self) -> str:
         """What tells it from other messages: its bytes, without the heads of mail programs."""
-        end = HEAD_END.search(self.content)
-        head = self.content[:end.start() + 1] if end else self.content
-        rest = self.content[len(head):]
-        known = KEEPERS.sub(b"", head).replace(b"\r\n", b"\n") + rest.replace(b"\r\n", b"\n").rstrip(b"\r\n")
+        head, blank, rest = self.content.replace(b"\r\n", b"\n").partition(b"\n\n")
+        known = KEEPERS.sub(b"", head + b"\n") + blank + rest.rstrip(b"\r\n")
         return hashlib.sha256(known + str(self.size if self.is_too_large else "").encode()).hexdigest()
 
 

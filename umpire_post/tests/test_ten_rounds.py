@@ -1,0 +1,138 @@
+"""The ten rounds of `games/desk/ten-rounds` by post: each round is sent with every slip that there is
+and sent again, as it was mended. The report is that of the game's file, and each slip is told to its
+sender alone."""
+
+import email
+import re
+import unittest
+import unittest.mock
+from collections.abc import Iterator
+from email.policy import default
+from pathlib import Path
+
+from umpire_post.tests.evenings import Evenings, mail, mbox
+from umpire_post.tests.programs import PROGRAMS
+
+SESSION = Path(__file__).resolve().parents[2] / "games" / "desk" / "ten-rounds"
+NAMES = ("ANN", "BOB", "CYD", "DOT")
+ADDRESSES = {it: f"{it.lower()}@example.org" for it in NAMES}
+MEANT = {"DTO": "DOT"}
+UNDONE_AFTER = "05-OR2.1"
+SENDMAIL = "#!/bin/sh\ncat > /dev/null\n"
+
+# What the desk says of lines of the file that the post has put right or left out: ends of lines, =20, a
+# no-break space, heads of mail, and a quotation; and of a sheet that came late, which it sets aside.
+PUT_RIGHT = {"01-PR1": {3, 4, 5, 6, 7, 16, 18}, "04-SR2": {72, 73, 79, 80}, "06-SR3": {108}}
+# The curly quotation marks are plain ones now.
+TOLD_OTHERWISE = {("01-PR1", 19): 'G4: the words after the first are those of no form'}
+
+
+def chunks(path: Path) -> Iterator[tuple[str, list[str], int]]:
+    """Yields of each sheet its sender, the lines as they were sent, and where they begin. Heads of mail
+    above a SHEET line belong to it."""
+    lines = path.read_bytes().decode().split("\n")[:-1]
+    begins = [at for at, line in enumerate(lines) if line.startswith("SHEET ")]
+    starts = [0, *begins[1:]]
+    for start, begun, end in zip(starts, begins, [*starts[1:], len(lines)]):
+        name = lines[begun].split()[1]
+        yield MEANT.get(name, name), lines[start:end], start
+
+
+def flat(text: str) -> str:
+    """Returns a text on one line. Lines that a finding cites have other numbers in an answer."""
+    return re.sub(r"\bon line \d+\b", "on line N", " ".join(text.split()))
+
+
+class TenRounds(Evenings):
+    def setUp(self) -> None:
+        super().setUp()
+        self.post("new", "--umpire", "umpire@example.org", *(f"{it}={ADDRESSES[it]}" for it in NAMES))
+        sendmail = self.place / "sendmail"
+        sendmail.write_text(SENDMAIL)
+        sendmail.chmod(0o755)
+        self.change("club.toml", 'by = "program"', f'sendmail = ["{sendmail}"]\nby = "sendmail"')
+        self.mail = self.place / "mail"
+        self.number = 0
+
+    def arrive(self, sheets: list[tuple[str, list[str]]], status: int = 0) -> dict[str, str]:
+        """Adds messages to the umpire's mailbox and reads all of it. Returns the answer to each player, without those
+        sent before."""
+        with open(self.mail, "ab") as box:
+            for name, lines in sheets:
+                self.number += 1
+                box.write(mbox([mail(name, lines, self.number)]))
+        self.post("in", str(self.mail), status=status)
+        found = {}
+        for path in (self.game / "outbox").glob("*-answer.eml"):
+            letter = email.message_from_bytes(path.read_bytes(), policy=default)
+            found[str(letter["To"])] = letter.get_content()
+        self.post("send")
+        return found
+
+    def look_at_slips(self, sent: Path, answers: dict[str, str], before: int) -> None:
+        """Each finding of the session is in the answer to the player of its sheet, and in no other of a line of this text."""
+        told = [it.split(" | ") for it in sent.with_suffix(".told").read_text().splitlines() if not it.startswith("OWED")]
+        whose = {before + 1 + start + at: name for name, lines, start in chunks(sent) for at in range(len(lines))}
+        for number, *_, text, said in told:
+            if int(number) in PUT_RIGHT.get(sent.stem, ()):
+                continue
+            said = TOLD_OTHERWISE.get((sent.stem, int(number)), said)
+            name = whose[int(number)]
+            self.assertIn(flat(said), flat(answers[ADDRESSES[name]]), f"{sent.stem} line {number}")
+            others = [flat(it) for address, it in answers.items() if address != ADDRESSES[name]]
+            self.assertFalse([it for it in others if flat(f"{text} | {said}") in it], f"{sent.stem} line {number}")
+        for name, lines, _ in chunks(sent):
+            for address, answer in answers.items():
+                if address != ADDRESSES[name]:
+                    self.assertNotRegex(answer, rf"SHEET {name} ")
+
+    def play(self, sheets: Path, lines: int) -> int:
+        """Plays a round of the session. Returns how many lines the session's file has then."""
+        mended = [(name, text) for name, text, _ in chunks(sheets)]
+        sent = sheets.with_suffix(".sent")
+        if sent.exists():
+            first = [(name, text) for name, text, _ in chunks(sent)]
+            self.look_at_slips(sent, self.arrive(first, 3 if sent.stem == "06-SR3" else 0), lines)
+            mended = [it for it in mended if it not in first]
+        for answer in self.arrive(mended).values():
+            # (what is right once another has ordered first is refused as things stand)
+            for found in re.findall(r"^ {4}line [\s\S]*?(?=^ {4}line|^$)", answer, re.M):
+                self.assertIn("| as things stand: ", flat(found))
+        self.post("round")
+        if sheets.stem == UNDONE_AFTER:
+            self.post("undo")
+            self.post("round")
+        self.post("send")
+        return lines + len(sheets.read_bytes().splitlines())
+
+    def test_ten_rounds(self) -> None:
+        lines = 2
+        paths = sorted(SESSION.glob("*.sheets"))
+        for sheets in paths[1:]:
+            lines = self.play(sheets, lines)
+        owed = PROGRAMS.report(b"".join(it.read_bytes() for it in paths))
+        self.assertEqual(10, len(owed.played))
+        self.assertEqual(owed, PROGRAMS.report((self.game / "game.orders").read_bytes()))
+        self.assertEqual(owed.text, (self.game / "rounds" / "011-OR4.1" / "report").read_text())
+        self.assertTrue(re.match(r"OR4.2 is awaited since .*\n  ANN      owes a sheet\n", self.post("status")))
+        self.assertEqual([], self.names("outbox"))
+        letters = [it for it in self.names("sent") if it.startswith("round-")]
+        self.assertEqual(10 * len(NAMES), len(letters))
+
+
+class AtOnce(Evenings):
+    def test_one_mbox_of_all_rounds(self) -> None:
+        """All sheets of the ten rounds come at once, before the first is played."""
+        self.post("new", "--umpire", "umpire@example.org", *(f"{it}={ADDRESSES[it]}" for it in NAMES))
+        paths = sorted(SESSION.glob("*.sheets"))
+        sheets = [it for path in paths[1:] for it in chunks(path)]
+        with unittest.mock.patch.object(type(PROGRAMS), "findings", lambda *_: []):
+            self.comes(*(mail(name, lines, at) for at, (name, lines, _) in enumerate(sheets)))
+        for _ in paths[1:]:
+            self.post("round")
+        owed = PROGRAMS.report(b"".join(it.read_bytes() for it in paths))
+        self.assertEqual(owed, PROGRAMS.report((self.game / "game.orders").read_bytes()))
+
+
+if __name__ == "__main__":
+    unittest.main()
