@@ -1,0 +1,65 @@
+# The part `post`: a game by mail, from the inbox to the outbox.
+
+# The modules of umpire_post/tests, the longest first.
+post_modules=(test_killed test_ten_rounds test_six_rounds test_evenings test_delivery test_damaged test_threats test_messages)
+
+# run_tests TESTS [FOLDER]: runs tests of umpire_post in a folder that has it, this one where none is
+# named, by the programs that are tried, and counts each test.
+run_tests() {
+  local told=$scratch/tests umpire own
+  umpire=$(realpath "$program") own=$(realpath "$desk")
+  (cd "${2:-.}" && UMPIRE=$umpire UMPIRE_DESK=$own PYTHONDONTWRITEBYTECODE=1 python3 -m unittest "umpire_post.tests.$1") > "$told" 2>&1
+  awk -v name="$1" '
+    /^(FAIL|ERROR): / { failed++; print "check: FAILED: " $2 " of " name }
+    /^Ran [0-9]+ test/ { ran = $2 }
+    END { if (!ran) { failed = 1; ran = 1; print "check: FAILED: no test of " name " ran" }
+          print (ran > failed ? ran - failed : 0) " passed, " failed + 0 " failed" }' "$told" > "$told.counts"
+  take_over cat "$told.counts"
+  ! grep -q '^FAILED\|Error' "$told" || tail -n 20 "$told" | cut -c 1-160
+}
+
+# has_all_modules: each module of tests is run.
+has_all_modules() {
+  local path name
+  for path in umpire_post/tests/test_*.py; do
+    name=${path##*/} name=${name%.py}
+    count "$name" "$([[ " ${post_modules[*]} " == *" $name "* ]] || echo 'no part of the check runs it')"
+  done
+}
+
+# post_answers WORDS STATUS: ./post answers these words, and has no program to call.
+post_answers() {
+  # shellcheck disable=SC2086
+  ./post $1 < /dev/null > "$scratch/out" 2> "$scratch/err"
+  set -- "$1" "$?" "$2"
+  count "./post $1" "$([ "$2" = "$3" ] || echo "its status is $2 and not $3")"
+}
+
+check_post() {
+  local words
+  has_all_modules
+  side_by_side run_tests "${post_modules[@]}"
+  for words in '' nonsense new 'new x ANN=a@x.org' in 'round' 'send x --sent --again' 'status'; do post_answers "$words" 1; done
+  for words in --help 'new --help' 'in --help' 'status --help' 'round --help' 'undo --help' 'send --help'; do post_answers "$words" 0; done
+}
+
+# wrong_post SCRIPT FILE: makes a copy of the post in which a script of sed has changed a file, and
+# prints where it is.
+wrong_post() {
+  local wrong=$scratch/wrong-post
+  rm -rf "$wrong" && mkdir "$wrong"
+  cp -r umpire_post "$wrong" && ln -s "$PWD/games" "$wrong/games"
+  sed -i -e "$1" "$wrong/umpire_post/$2"
+  ! cmp -s "umpire_post/$2" "$wrong/umpire_post/$2" || echo 'nothing was changed'
+  echo "$wrong"
+}
+
+post_must_fail() {
+  sees 'a post that takes sheets from anybody' 1 run_tests test_messages "$(wrong_post 's/player not in reading.senders/False/' reading.py)"
+  sees 'a post that shows the key' 1 run_tests test_threats.Threats.test_a_key_among_the_orders_is_not_put_into_the_file \
+    "$(wrong_post 's/elif player.key and any(/elif False and any(/' reading.py)"
+  sees 'a step that is not finished' 1 run_tests test_killed.Killed.test_undo "$(wrong_post 's/yield finish(top)/yield None/' disk.py)"
+  sees 'a letter that is sent twice' 1 run_tests test_killed.Killed.test_send \
+    "$(wrong_post 's/handed = path.with_suffix(HANDED_OVER)/handed = path/; s/_move(path, handed)/pass/' delivery.py)"
+  sees 'another letter' 1 run_tests test_six_rounds "$(wrong_post '0,/It counts/s//It counted/' tests/six-rounds.outbox)"
+}
