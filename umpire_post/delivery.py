@@ -18,7 +18,7 @@ from pathlib import Path
 from umpire_post.club import Delivery
 from umpire_post.disk import flush_folder
 from umpire_post.errors import DEVICE_FAILED, PostError
-from umpire_post.evening import Evening
+from umpire_post.evening import Evening, counted
 from umpire_post.folder import HANDED_OVER, OUTBOX, SENT, Folder
 
 SECONDS = 60  # without an answer of a host or of sendmail
@@ -42,7 +42,7 @@ def send(evening: Evening) -> int:
     if delivery.by == "program":
         for path in folder.letters():
             evening.tell(f"{path}: to {_to(path.read_bytes())}")
-        evening.tell("Send them by your own program, and then say: post send --sent")
+        evening.tell(f"Send them by your own program, and then say: send {evening.top} --sent")
         return 0
     if folder.letters():
         with _opened(delivery) as hand_over:
@@ -50,7 +50,7 @@ def send(evening: Evening) -> int:
                 failed += not _send_one(evening, folder, path, hand_over)
     for path in folder.in_doubt():
         evening.tell(f"in doubt: {path.name.removesuffix(HANDED_OVER)}. Ask {_to(path.read_bytes())} or your mail system whether it "
-                     "came, and then say: post send --sent, or --again")
+                     f"came, and then say: send {evening.top} --sent, or --again")
         failed += 1
     return DEVICE_FAILED if failed else 0
 
@@ -61,7 +61,7 @@ def say_sent(evening: Evening) -> None:
     paths = folder.in_doubt() or folder.letters()
     for path in paths:
         _move(path, evening.top / SENT / path.with_suffix(".eml").name)
-    evening.tell(f"{len(paths)} letters are in {SENT}")
+    evening.tell(f"{counted(len(paths), 'letter')} moved to {SENT}")
 
 
 def say_again(evening: Evening) -> None:
@@ -69,7 +69,7 @@ def say_again(evening: Evening) -> None:
     folder = Folder(evening.top)
     for path in folder.in_doubt():
         _move(path, path.with_suffix(".eml"))
-    evening.tell(f"{len(folder.letters())} letters are in {OUTBOX}")
+    evening.tell(f"{counted(len(folder.letters()), 'letter')} in {OUTBOX}")
 
 
 def _send_one(evening: Evening, folder: Folder, path: Path, hand_over: HandOver) -> bool:

@@ -192,7 +192,7 @@ def _read(evening: Evening, reader: Reader, raw: Raw, content: bytes, is_vouched
     folder.keep(record)
     names = ", ".join(f"{it.player} {it.round}" for it in counting) or "no sheet"
     found = sum(len(it.findings) for it in reading.sheets)
-    evening.tell(f"{number:04} {record.sender or 'without a sender'}: {names}" + (f", {found} findings" if found else ""))
+    evening.tell(f"{number:04} {record.sender or 'without a sender'}: {names}" + (f", {counted(found, 'finding')}" if found else ""))
     if record.aside:
         _tell_aside(evening, record)
     return bool(record.aside)
@@ -291,7 +291,7 @@ def _tell_aside(evening: Evening, record: Record) -> None:
 def _tell_letters(evening: Evening, folder: Folder) -> None:
     """Tells how many letters are to be sent, and of which it is not known whether they are."""
     if folder.letters():
-        evening.tell(f"{len(folder.letters())} letters in {OUTBOX}")
+        evening.tell(f"{counted(len(folder.letters()), 'letter')} in {OUTBOX}")
     for path in folder.in_doubt():
         evening.tell(f"in doubt: {path.name.removesuffix(HANDED_OVER)} was being handed over when send was broken off")
 
@@ -313,6 +313,11 @@ def _remind(evening: Evening, folder: Folder, report: Report, round_: str) -> No
 
 def _minute(time: str) -> str:
     return time[:16].replace("T", " ")
+
+
+def counted(number: int, what: str) -> str:
+    """Returns a number of things in words."""
+    return f"{number} {what}{'' if number == 1 else 's'}"
 
 
 def plain_sentence(text: str) -> str:

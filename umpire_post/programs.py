@@ -54,13 +54,14 @@ class Programs:
         self.desk = tuple(desk)
 
     @classmethod
-    def found(cls, beside: Path) -> "Programs":
-        """Finds them: those that UMPIRE and UMPIRE_DESK name, or the installed ones, or the scripts
-        `umpire` and `desk` of the folder, which build them."""
+    def found(cls, home: Path) -> "Programs":
+        """Finds them: those that UMPIRE and UMPIRE_DESK name, or those installed at home or on the path,
+        or the scripts `umpire` and `desk` at home, which build them."""
         named = [os.environ.get(it) for it in ("UMPIRE", "UMPIRE_DESK")]
+        beside = [_file(home / it) for it in ("umpire", "umpire-desk")]
         installed = [shutil.which(it) for it in ("umpire", "umpire-desk")]
-        scripts = [str(beside / it) if (beside / it).is_file() else None for it in ("umpire", "desk")]
-        for umpire, desk in (named, installed, scripts):
+        scripts = [_file(home / it) for it in ("umpire", "desk")]
+        for umpire, desk in (named, beside, installed, scripts):
             if umpire and desk:
                 return cls([umpire], [desk])
         raise PostError("neither the programs umpire and umpire-desk nor the scripts that build them are there")
@@ -111,3 +112,7 @@ class Programs:
         if done.returncode < 0 or done.returncode in (1, 4):
             raise PostError(f"{' '.join(words)} failed with status {done.returncode}", DEVICE_FAILED)
         return done.returncode, done.stdout.decode("ascii", "replace")
+
+
+def _file(path: Path) -> str | None:
+    return str(path) if path.is_file() else None
