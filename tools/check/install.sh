@@ -5,10 +5,14 @@
 # and completions.
 installed() {
   local name page word why
-  for name in umpire desk; do
-    page=umpire
-    [ "$name" = umpire ] || page=umpire-$name
-    count "$page, installed" "$(cmp "$([ "$name" = umpire ] && echo "$program" || echo "$desk")" "$1/bin/$page" 2>&1)"
+  for name in umpire desk post; do
+    page=umpire-$name
+    case $name in
+      umpire) page=umpire why=$program ;;
+      desk) why=$desk ;;
+      post) why=post ;;
+    esac
+    count "$page, installed" "$(cmp "$why" "$1/bin/$page" 2>&1)"
     why=
     for word in $(words_of "$name"); do
       grep -qx "\.B $word" "$1/share/man/man1/$page.1" || why+=" it has no word $word;"
@@ -42,6 +46,7 @@ check_install() {
   installed "$prefix"
   "$prefix/bin/umpire" report < "$game.orders" > "$scratch/out" 2> "$scratch/err"
   judge 'umpire, installed' $? 0 "$game.report" none
+  count 'umpire-post, installed' "$(PYTHONDONTWRITEBYTECODE=1 "$prefix/bin/umpire-post" --help 2>&1 | cmp - <(sed 's/: post /: umpire-post /' tools/help/post.txt) 2>&1)"
   ./install --uninstall "$prefix" 2> /dev/null
   left "$prefix"
   count 'what ./install did not put there' "$([ -f "$prefix/bin/another" ] || echo 'it was removed')"
