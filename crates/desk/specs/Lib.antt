@@ -1,3 +1,4 @@
 -- What the desk finds of a game as it stands.
 pub mod Earnings
 pub mod Stack
+pub mod Standing

@@ -2,12 +2,13 @@
 //! stream.
 //!
 //! Each figure comes from a reader of the game's list, from `desk_base`, or from `player_figures`,
-//! `earnings` or `stack`, whose contracts define it. The games of `games/desk/` test the layout.
+//! `earnings`, `stack` or `standing`, whose contracts define it. The games of `games/desk/` test the layout.
 //!
 //! Reading order: `round_name` (the round that is asked for). Then the figures that the readers of
-//! a game do not have (`player_figures`, `earnings`, `stack`, `state_rows`), and their layout:
-//! `lines`, `state_round`, `state_players`, `state_companies`, `state_stock`, `state_chart`,
-//! `state_map`, `whole_state` (`state`).
+//! a game do not have (`player_figures`, `earnings`, `stack`, `standing`, `state_rows`), and their
+//! layout: `lines`, `state_round`, `state_players`, `state_companies`, `state_stock`,
+//! `state_chart`, `state_map`, `whole_state` (`state`); `statement_parties`, `statement_next`,
+//! `statement` (what ends a bulletin).
 #![tactic(auto)]
 
 mod earnings;
@@ -15,6 +16,7 @@ mod lines;
 mod player_figures;
 mod round_name;
 mod stack;
+mod standing;
 mod state_chart;
 mod state_companies;
 mod state_map;
@@ -22,6 +24,9 @@ mod state_players;
 mod state_round;
 mod state_rows;
 mod state_stock;
+mod statement;
+mod statement_next;
+mod statement_parties;
 mod whole_state;
 
 pub use earnings::{Earnings, earnings_of};
@@ -29,4 +34,5 @@ pub use market::operates;
 pub use player_figures::{Purse, purse_of};
 pub use round_name::read_round;
 pub use stack::{all_in_order, before_in_stack, company_at};
+pub use statement::statement;
 pub use whole_state::{state, state_text};

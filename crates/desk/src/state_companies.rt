@@ -60,13 +60,32 @@ pub(crate) fn push_companies(
     for company in order {
         push_figures(out, stood, *company)?;
     }
+    push_all_shares(out, stood, order)?;
+    push_all_tokens(out, stood.history, order)
+}
+
+/// Adds the shares of each company by their holders.
+pub(crate) fn push_all_shares(
+    out: &mut Vec<u8>,
+    stood: &Stood,
+    order: &[Company],
+) -> Result<(), AllocError> {
     push_share_heading(out, stood.sheets)?;
     for company in order {
         push_shares(out, stood, *company)?;
     }
+    Ok(())
+}
+
+/// Adds how many tokens each company has left, and where those lie that it has placed.
+pub(crate) fn push_all_tokens(
+    out: &mut Vec<u8>,
+    history: &History,
+    order: &[Company],
+) -> Result<(), AllocError> {
     fill(out, "\nTOKENS  LEFT  PLACED\n", &[])?;
     for company in order {
-        push_tokens(out, stood.history, *company)?;
+        push_tokens(out, history, *company)?;
     }
     Ok(())
 }

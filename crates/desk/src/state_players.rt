@@ -3,7 +3,7 @@
 use crate::player_figures::purse_of;
 use crate::state_rows::private_row;
 use desk_base::Piece::{Bytes, Column, Number, Right, Words};
-use desk_base::{Stood, fill, push};
+use desk_base::{Stood, fill, push, width_in_hand};
 use history::{History, Holder};
 use report::name;
 use std::alloc::AllocError;
@@ -20,6 +20,10 @@ const OWNER: usize = 21;
 
 /// The column in front of the bids on a private.
 const BIDS: usize = 29;
+
+/// The last column after which a bid is on the same line: that of a name of eight letters and a sum
+/// of five digits ends before column 80.
+const BIDS_END: usize = 65;
 
 /// Adds what each player has: cash, certificates, worth and privates.
 pub(crate) fn push_players(out: &mut Vec<u8>, stood: &Stood) -> Result<(), AllocError> {
@@ -68,16 +72,25 @@ pub(crate) fn push_owners(out: &mut Vec<u8>, stood: &Stood) -> Result<(), AllocE
     fill(out, "\nPRIVATE FACE  PRICE  OWNER    BIDS\n", &[])?;
     for private in &Private::ALL {
         push_owner(out, stood, *private)?;
-        for seat in 0..stood.sheets.seats() {
-            let seat = Seat::at(seat);
-            if let Some(bid) = stood.history.bid(*private, seat) {
-                let name = Bytes(name(stood.sheets, seat));
-                fill(out, "% % %", &[Column(BIDS), name, Number(bid)])?;
-            }
-        }
-        fill(out, "\n", &[])?;
+        push_bids(out, stood, *private)?;
     }
     Ok(())
+}
+
+/// Adds the bids that are held on a private, and ends the line. A bid that would end past column 80
+/// begins a new line.
+fn push_bids(out: &mut Vec<u8>, stood: &Stood, private: Private) -> Result<(), AllocError> {
+    for seat in 0..stood.sheets.seats() {
+        let seat = Seat::at(seat);
+        if let Some(bid) = stood.history.bid(private, seat) {
+            if width_in_hand(out) > BIDS_END {
+                fill(out, "\n", &[])?;
+            }
+            let name = Bytes(name(stood.sheets, seat));
+            fill(out, "% % %", &[Column(BIDS), name, Number(bid)])?;
+        }
+    }
+    fill(out, "\n", &[])
 }
 
 /// Adds a private with its face and its owner; with its price, where it is unsold.

@@ -8,7 +8,7 @@ ghost use Rattle.market.specs.OperatingOrder.{operates};
 ghost use Rattle.privates.specs.Bank.{price_of};
 ghost use Rattle.std.specs.Prelude.{None};
 ghost use Rattle.tables.specs.Roster.{certificate_limit_of, face_of};
-ghost use Rattle.tables.specs.Train.{trains_of};
+ghost use Rattle.tables.specs.Train.{limit_of, trains_of};
 ghost use Rattle.totals.specs.LookBack.{cash_of, is_sold, owner_of, priority_of};
 ghost use Rattle.totals.specs.Shares.{is_started, par_of, president_of, shares_of, square_of};
 ghost use Rattle.totals.specs.Trains.{phase_of, trains_held};
@@ -17,7 +17,9 @@ use desk_base::trains_left;
 use history::{GameView, Holder, Party, ShareCount, Shareholder, TrainCount};
 use market::operates;
 use privates::price_of;
-use tables::{Amount, Company, Kind, Money, Private, Seat, Square, certificate_limit, face, train};
+use tables::{
+    Amount, Company, Kind, Money, Private, Seat, Square, certificate_limit, face, limit, train,
+};
 
 /// The figures of the whole game.
 #[derive(Clone, Copy)]
@@ -28,6 +30,8 @@ pub(crate) struct GameRow {
     pub(crate) priority: Seat,
     /// The most certificates of a player.
     pub(crate) certificates: usize,
+    /// The most trains of a company.
+    pub(crate) trains: usize,
 }
 
 /// Returns the figures of a game.
@@ -35,11 +39,13 @@ pub(crate) fn game_row(view: &GameView) -> GameRow
     ensures phase { result.phase ≡ phase_of view.now.events.now }
     ensures priority { result.priority ≡ priority_of view.now.seats view.now.events.now }
     ensures certificates { result.certificates ≡ certificate_limit_of view.now.seats }
+    ensures trains { result.trains ≡ limit_of (phase_of view.now.events.now) }
 {
     GameRow {
         phase: view.phase(),
         priority: view.priority(),
         certificates: certificate_limit(view.seats),
+        trains: limit(view.phase()),
     }
 }
 

@@ -22,8 +22,8 @@ use tables::{Company, Round};
 /// Returns the state of the game of an order file at a moment, as text. It has who owes a sheet, or
 /// how the game ended; the phase, priority, the number of operating rounds of the set and the limit
 /// of certificates; players, privates, companies in operating order, trains and tiles; the stock
-/// market and the map. Lines have at most 80 columns, except those of a private with many bids and
-/// of a company with over three privates.
+/// market and the map. Lines have at most 80 columns, except that of a company with over three
+/// privates.
 ///
 /// Fails with `File` if the file is refused, with `Round` if the moment names a round that was not
 /// played, or is before the last round and none was played, and with `Memory` if allocation fails.

@@ -1,12 +1,13 @@
 //! What is written for a task, and the status with which the program ends.
 
+use crate::bulletin::bulletin;
 use crate::streams::StreamFault;
 use crate::task::{Job, Task};
 use desk::state;
 use desk_base::{DeskFault, Moment, Reason, all_reasons_text, explain, list_text, reason_text};
 use desk_check::{Extent, check};
 use desk_moves::{LayForm, MayForm, MovesFault, Progress, Question, answer, trial};
-use desk_round::{bulletin, round, round_with_rules, runs};
+use desk_round::{round, round_with_rules, runs};
 use page::{page, tile_sheet};
 use report::refusal_text;
 use std::alloc::{AllocError, Global};
@@ -78,17 +79,19 @@ pub(crate) fn answer_to<'a, P: Progress>(
         round: task.round,
         why: task.why,
         before: task.before,
+        due: task.due,
     };
     answer_with(alloc, task.round.is_some(), told_of(alloc, file, asked))
 }
 
 /// What is asked of a game.
 #[derive(Clone, Copy)]
-struct Asking {
+struct Asking<'a> {
     job: Job,
     round: Option<Round>,
     why: bool,
     before: bool,
+    due: &'a str,
 }
 
 /// Returns the text of a word about the game of a file.
@@ -96,7 +99,7 @@ fn told_of(alloc: Global, file: &[u8], asked: Asking) -> Result<Vec<u8>, DeskFau
     match asked.job {
         Job::State => state(alloc, file, moment_of(asked)),
         Job::Runs => runs(alloc, file, asked.round),
-        Job::Bulletin => bulletin(alloc, file, asked.round),
+        Job::Bulletin => bulletin(alloc, file, asked.round, asked.due),
         Job::Page => page(alloc, file, asked.round),
         _ => told_of_round(alloc, file, asked),
     }
@@ -188,7 +191,7 @@ fn trial_told_of(alloc: Global, file: &[u8], task: &Task) -> Result<Vec<u8>, Mov
     if task.why {
         Ok(round_with_rules(alloc, file, round)?)
     } else {
-        Ok(bulletin(alloc, file, round)?)
+        Ok(bulletin(alloc, file, round, "")?)
     }
 }
 

@@ -2,11 +2,12 @@
 //! each writes text to standard output: `round` a round's part of the report, ready to be mailed;
 //! `state` how the game stands.
 //!
-//! Reading order: `task` (the command line), `streams` (standard input and output), `answers` (what
-//! is written, and the status), `waiting` (what is said while that takes long), `version`.
+//! Reading order: `task` (the command line), `streams` (standard input and output), `bulletin`,
+//! `answers` (what is written, and the status), `waiting` (what is said while that takes long), `version`.
 #![tactic(auto)]
 
 mod answers;
+mod bulletin;
 mod streams;
 mod task;
 mod version;

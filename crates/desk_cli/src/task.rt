@@ -53,6 +53,8 @@ pub(crate) struct Task<'a> {
     pub(crate) all: bool,
     /// The first line of the file that is reported.
     pub(crate) from: usize,
+    /// When the next sheets are due; empty if that is not said.
+    pub(crate) due: &'a str,
     /// Whether to write order lines alone.
     pub(crate) lines: bool,
     /// Whether to tell what the best runs would earn.
@@ -112,6 +114,8 @@ enum Operand {
     From,
     /// Codes, or none.
     Codes,
+    /// `--due TEXT`.
+    Due,
     /// `--lines`.
     Lines,
     /// `--best`.
@@ -176,7 +180,7 @@ static WORDS: [Word; 12] = [
         about: "Writes a round for its players: what each had, and what each line brought",
         example: "Example: desk bulletin OR2.1 < our-game.orders",
         job: Job::Bulletin,
-        operands: &[Operand::Round],
+        operands: &[Operand::Round, Operand::Due],
     },
     Word {
         name: "lays",
@@ -291,6 +295,10 @@ fn argument_of<'a>(alloc: Global, operand: Operand) -> Arg<'a> {
         Operand::From => Arg::new(alloc, "from").long("from").value_name("LINE").help(
             "Tell only what begins on this line of the file or below it",
         ),
+        Operand::Due => Arg::new(alloc, "due")
+            .long("due")
+            .value_name("TEXT")
+            .help("When the next sheets are due, in your own words"),
         Operand::Codes => Arg::new(alloc, "CODE")
             .num_args(0..)
             .help("The codes, as G3; a list of them all if none is named"),
@@ -364,6 +372,7 @@ fn task_of<'a>(
         before: false,
         all: false,
         from: 1,
+        due: "",
         lines: false,
         best: false,
         drafted: false,
@@ -417,7 +426,11 @@ fn take_list<'a>(
 }
 
 /// Takes what was given after a word. Returns what is wrong with it; `None` if nothing is.
-fn take_operand(task: &mut Task, given: &ArgMatches, operand: Operand) -> Option<&'static str> {
+fn take_operand<'a>(
+    task: &mut Task<'a>,
+    given: &ArgMatches<'a>,
+    operand: Operand,
+) -> Option<&'static str> {
     match operand {
         Operand::Why => task.why = given.get_flag("why"),
         Operand::Before => task.before = given.get_flag("before"),
@@ -429,6 +442,7 @@ fn take_operand(task: &mut Task, given: &ArgMatches, operand: Operand) -> Option
         Operand::Round => return take_round(task, given.get_str("ROUND")?),
         Operand::After => return take_round(task, given.get_str("after")?),
         Operand::From => return take_from(task, given.get_str("from")?),
+        Operand::Due => task.due = given.get_str("due")?,
         Operand::Company => return take_company(task, given.get_str("COMPANY")?),
         Operand::Hex => return take_hex(task, given.get_str("HEX")?),
         Operand::Codes | Operand::Trains | Operand::Player | Operand::Players => {}

@@ -1,26 +1,29 @@
-//! The bulletin of a round: whose turn it was, what each had before and after, and what each line
-//! brought.
+//! The turns of a round for its players: whose turn it was, what each had before and after, and what
+//! each line brought.
 
+use crate::changes::{push_change, push_changes};
 use crate::groups::{Group, Whose, groups_of};
+use crate::left_lines::{Left, Presided, ruled_in};
 use crate::refusal_detail::Ruled;
 use crate::round_part::{round_asked, text_of};
 use crate::sheet_line::{SheetLine, find_line, lines_of};
 use crate::train_runs::push_ran;
 use crate::why::{FAULTY_COLUMNS, push_rule};
 use desk_base::Piece::{Bytes, Column, Cut, Number, Right, Words};
-use desk_base::{
-    DeskFault, Piece, fill, owes, push, push_wrapped, push_wrapped_lines, view_behind, who,
-};
-use history::{Event, GameView, Holder, PackedRuling, Party, Ruling, Verdict, Walk};
+use desk_base::{DeskFault, Piece, fill, push, push_wrapped, push_wrapped_lines, view_behind, who};
+use history::{Event, GameView, Holder, PackedRuling, Ruling, Verdict, Walk};
 use order_grammar::{print_condition, print_order};
 use report::name;
-use rounds::{End, Game};
+use rounds::Game;
 use sheets::first_line;
 use std::alloc::{AllocError, Global};
-use tables::{Amount, Company, Money, Round, Seat, Square, price};
+use tables::{Amount, Company, Money, Round, Seat};
 
 /// The column of what a line brought.
-const BROUGHT: usize = 6;
+pub(crate) const BROUGHT: usize = 6;
+
+/// The column behind the name of whose turn it was.
+const NAMED: usize = 17;
 
 /// A round of a game.
 #[derive(Clone, Copy)]
@@ -32,13 +35,23 @@ struct Telling<'a> {
     lines: &'a [SheetLine<'a>],
 }
 
-/// Returns the bulletin of a round of a game, of the last that was played if none is named. Fails
-/// with `Round` if there is none.
-pub(crate) fn bulletin_of(
-    alloc: Global,
-    game: &Game,
-    asked: Option<Round>,
-) -> Result<Vec<u8>, DeskFault> {
+/// How far a round is told.
+#[derive(Drop)]
+struct Course<'a> {
+    /// The game before the turn in hand.
+    before: Walk<'a>,
+    /// The game at the event in hand.
+    now: Walk<'a>,
+    /// Which companies have had a turn, and under whom.
+    presided: Vec<Presided>,
+    /// The names of those who have passed in a row, separated by commas.
+    passed: Vec<u8>,
+}
+
+/// Returns the turns of a round of a game, of the last that was played if none is named, as its
+/// players read them, in lines of at most 80 columns. Fails with `Round` if the round is not
+/// played, or none is, and with `Memory` if allocation fails.
+pub fn turns(alloc: Global, game: &Game, asked: Option<Round>) -> Result<Vec<u8>, DeskFault> {
     let Some(round) = round_asked(game, asked) else {
         return Err(DeskFault::Round);
     };
@@ -50,31 +63,71 @@ pub(crate) fn bulletin_of(
         round,
         lines: lines.as_slice(),
     };
-    Ok(told(telling, text.as_slice())?)
-}
-
-/// Returns the bulletin of a round whose part of the report is this text.
-fn told<'a>(telling: Telling<'a>, text: &[u8]) -> Result<Vec<u8>, AllocError> {
-    let mut out = Vec::new(telling.alloc);
-    fill(&mut out, "ROUND %\n", &[Piece::Round(telling.round)])?;
-    telling.push_groups(&mut out, text)?;
-    telling.push_next(&mut out)?;
+    let mut out = Vec::new(alloc);
+    fill(&mut out, "ROUND %\n", &[Piece::Round(round)])?;
+    telling.push_groups(&mut out, text.as_slice())?;
     Ok(out)
 }
 
 impl Telling<'_> {
     /// Adds the groups of a round's events, whose lines in the report are these, behind the line of
-    /// the round.
+    /// the round. Turns that are nothing but passes are on one line as long as they follow each
+    /// other.
     fn push_groups(&self, out: &mut Vec<u8>, text: &[u8]) -> Result<(), AllocError> {
         let events = self.game.history().events();
         let groups = groups_of(self.alloc, self.lines, events, self.round)?;
-        let mut walk = Walk::along(events);
+        let mut course = Course {
+            before: Walk::along(events),
+            now: Walk::along(events),
+            presided: Vec::new(self.alloc),
+            passed: Vec::new(self.alloc),
+        };
         let mut rest = behind_line(text);
         for group in &groups {
-            self.push_heading(out, &mut walk, group)?;
-            rest = self.push_events(out, &mut walk, group, rest)?;
+            if let Some(seat) = group.pass(events) {
+                self.push_pass(&mut course.passed, seat)?;
+                rest = behind_line(rest);
+            } else {
+                push_passes(out, &mut course.passed)?;
+                rest = self.push_group(out, &mut course, group, rest)?;
+            }
         }
-        Ok(())
+        push_passes(out, &mut course.passed)
+    }
+
+    /// Adds a player to those who have passed in a row.
+    fn push_pass(&self, passed: &mut Vec<u8>, seat: Seat) -> Result<(), AllocError> {
+        let comma = if passed.is_empty() { "" } else { ", " };
+        push(
+            passed,
+            &[Words(comma), Bytes(name(self.game.sheets(), seat))],
+        )
+    }
+
+    /// Adds a group, whose lines in the report begin this text: whose turn it is, with what that
+    /// party had before and after, its events, and whose cash changed beside. Returns the text
+    /// behind these lines.
+    fn push_group<'t>(
+        &self,
+        out: &mut Vec<u8>,
+        course: &mut Course,
+        group: &Group,
+        text: &'t [u8],
+    ) -> Result<&'t [u8], AllocError> {
+        let mut told = Vec::new(self.alloc);
+        let rest = self.push_events(&mut told, course, group, text)?;
+        let (sheets, seats) = (self.game.sheets(), self.game.history().seats());
+        let before = view_behind(&mut course.before, group.from, seats);
+        let after = view_behind(&mut course.now, group.to, seats);
+        if let Whose::Company(company) = group.whose {
+            let president = before.president(company);
+            course.presided.push(Presided { company, president })?;
+        }
+        self.push_whose(out, &after, group.whose)?;
+        push_change(out, group.whose, &before, &after)?;
+        fill(out, "\n%", &[Bytes(told.as_slice())])?;
+        push_changes(self.alloc, out, sheets, group.whose, &before, &after)?;
+        Ok(rest)
     }
 
     /// Adds the events of a group, whose lines in the report begin this text. Returns the text
@@ -82,7 +135,7 @@ impl Telling<'_> {
     fn push_events<'t>(
         &self,
         out: &mut Vec<u8>,
-        walk: &mut Walk,
+        course: &mut Course,
         group: &Group,
         text: &'t [u8],
     ) -> Result<&'t [u8], AllocError> {
@@ -93,29 +146,11 @@ impl Telling<'_> {
             let line = first_line(rest).map_or(rest, |first| first.line);
             rest = behind_line(rest);
             if let Some(event) = events.get(passed) {
-                self.push_event(out, walk, passed, event, line, &mut dividends)?;
+                self.push_event(out, course, passed, event, line, &mut dividends)?;
             }
         }
         self.push_dividends(out, &mut dividends)?;
         Ok(rest)
-    }
-
-    /// Adds whose turn a group is of, and what it had before and after.
-    fn push_heading(
-        &self,
-        out: &mut Vec<u8>,
-        walk: &mut Walk,
-        group: &Group,
-    ) -> Result<(), AllocError> {
-        let seats = self.game.history().seats();
-        let before = had_at(&view_behind(walk, group.from, seats), group.whose);
-        let view = view_behind(walk, group.to, seats);
-        let after = had_at(&view, group.whose);
-        self.push_whose(out, &view, group.whose)?;
-        if group.whose != Whose::Nobody {
-            push_change(out, group.whose, before, after)?;
-        }
-        fill(out, "\n", &[])
     }
 
     /// Adds whose turn a group is of, on a new line.
@@ -139,7 +174,7 @@ impl Telling<'_> {
     fn push_event(
         &self,
         out: &mut Vec<u8>,
-        walk: &mut Walk,
+        course: &mut Course,
         passed: usize,
         event: &Event,
         line: &[u8],
@@ -150,16 +185,40 @@ impl Telling<'_> {
         }
         self.push_dividends(out, dividends)?;
         if let Event::Ruled { seat, line, ruling } = event {
-            let view = view_behind(walk, passed, self.game.history().seats());
+            let view = view_behind(&mut course.now, passed, self.game.history().seats());
             return self.push_ruled(out, &view, *seat, *line, ruling);
         }
         push(out, &[Column(BROUGHT)])?;
         push_wrapped(out, BROUGHT, line)?;
-        if let Event::Runs { company, .. } = event {
-            let view = view_behind(walk, passed, self.game.history().seats());
-            return self.push_stops(out, &view, *company);
+        match event {
+            Event::Runs { company, .. } => {
+                let view = view_behind(&mut course.now, passed, self.game.history().seats());
+                self.push_stops(out, &view, *company)
+            }
+            Event::Left { seat, lines } => self.push_left(out, course, *seat, *lines),
+            _ => Ok(()),
         }
-        Ok(())
+    }
+
+    /// Adds the lines of a sheet that were not taken up, this many, and why not.
+    fn push_left(
+        &self,
+        out: &mut Vec<u8>,
+        course: &Course,
+        seat: Seat,
+        count: u32,
+    ) -> Result<(), AllocError> {
+        let events = self.game.history().events();
+        let ruled = ruled_in(self.alloc, events, self.round, seat)?;
+        let left = Left {
+            alloc: self.alloc,
+            sheets: self.game.sheets(),
+            lines: self.lines,
+            ruled: ruled.as_slice(),
+            presided: course.presided.as_slice(),
+            seat,
+        };
+        left.push_lines(out, count)
     }
 
     /// Adds what a holder is paid to the dividends that are on one line.
@@ -258,76 +317,17 @@ impl Telling<'_> {
             },
         }
     }
-
-    /// Adds what comes next, and who owes a sheet for it.
-    fn push_next(&self, out: &mut Vec<u8>) -> Result<(), AllocError> {
-        let events = self.game.history().events();
-        if let Some(next) = round_behind(events, self.round) {
-            return fill(out, "\nNEXT %, which is played\n", &[Piece::Round(next)]);
-        }
-        let round = match self.game.outcome() {
-            End::Awaiting(round) => round,
-            End::Bank => return fill(out, "\nTHE END, for the bank is broken\n", &[]),
-            End::Bankrupt => return fill(out, "\nTHE END, for a president is bankrupt\n", &[]),
-        };
-        fill(out, "\nNEXT %: sheets are owed by", &[Piece::Round(round)])?;
-        let sheets = self.game.sheets();
-        let mut names = Vec::new(self.alloc);
-        for seat in 0..sheets.seats() {
-            let seat = Seat::at(seat);
-            if owes(sheets, seat, &round) {
-                fill(&mut names, " %", &[Bytes(name(sheets, seat))])?;
-            }
-        }
-        push_wrapped(out, BROUGHT, names.as_slice())
-    }
 }
 
-/// What a company or a player had.
-#[derive(Clone, Copy)]
-struct Had {
-    cash: Money,
-    square: Option<Square>,
-}
-
-/// Returns what a company or a player had at a moment; 0 for nobody.
-fn had_at(view: &GameView, whose: Whose) -> Had {
-    match whose {
-        Whose::Company(company) => Had {
-            cash: view.cash(Party::of_company(company)),
-            square: view.square(company),
-        },
-        Whose::Seat(seat) => Had {
-            cash: view.cash(Party::of_seat(seat)),
-            square: None,
-        },
-        Whose::Nobody => Had {
-            cash: 0,
-            square: None,
-        },
-    }
-}
-
-/// Adds the cash before and after a turn, and for a company its price.
-fn push_change(out: &mut Vec<u8>, whose: Whose, before: Had, after: Had) -> Result<(), AllocError> {
-    push(out, &[Column(17), Words("cash"), Right(6, before.cash)])?;
-    fill(out, " -> %", &[Number(after.cash)])?;
-    let Whose::Company(_) = whose else {
+/// Adds who have passed in a row, on one line, and keeps none.
+fn push_passes(out: &mut Vec<u8>, passed: &mut Vec<u8>) -> Result<(), AllocError> {
+    if passed.is_empty() {
         return Ok(());
-    };
-    push(out, &[Column(40), Words("price ")])?;
-    push_square(out, before.square)?;
-    fill(out, " -> ", &[])?;
-    push_square(out, after.square)
-}
-
-/// Adds the price of a square with its name; `-` where there is none.
-fn push_square(out: &mut Vec<u8>, square: Option<Square>) -> Result<(), AllocError> {
-    let Some(square) = square else {
-        return fill(out, "-", &[]);
-    };
-    let price = Number(Money::from(price(square)));
-    fill(out, "% %", &[price, Piece::Square(square)])
+    }
+    fill(out, "\nPASSED%", &[Column(NAMED)])?;
+    push_wrapped(out, NAMED, passed.as_slice())?;
+    passed.clear();
+    Ok(())
 }
 
 /// Returns the last event that rules a line; `None` if none does.
@@ -341,18 +341,4 @@ fn last_ruled(events: &[Event]) -> Option<&Event> {
 /// Returns a text without its first line.
 fn behind_line(text: &[u8]) -> &[u8] {
     first_line(text).map_or(text, |first| first.rest)
-}
-
-/// Returns the round that was played after another; `None` if none was.
-fn round_behind(events: &[Event], round: Round) -> Option<Round> {
-    let mut is_behind = false;
-    for event in events {
-        if let Event::Round(begun) = event {
-            if is_behind {
-                return Some(*begun);
-            }
-            is_behind = *begun == round;
-        }
-    }
-    None
 }

@@ -27,6 +27,20 @@ pub(crate) struct Group {
     pub(crate) to: usize,
 }
 
+impl Group {
+    /// Returns the seat whose turn it is, if the turn is nothing but a pass, among the events of
+    /// the game.
+    pub(crate) fn pass(&self, events: &[Event]) -> Option<Seat> {
+        if self.from.saturating_add(1) != self.to {
+            return None;
+        }
+        match events.get(self.from) {
+            Some(Event::Passes(seat)) => Some(*seat),
+            _ => None,
+        }
+    }
+}
+
 /// Returns the groups of the events of a round, without the event that begins it. Fails only if
 /// allocation fails.
 pub(crate) fn groups_of(

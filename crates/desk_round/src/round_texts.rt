@@ -1,6 +1,5 @@
 //! The texts of a round of the game of a file, other than its part of the report.
 
-use crate::bulletin_text::bulletin_of;
 use crate::round_part::rules_of;
 use crate::train_runs::runs_of;
 use desk_base::DeskFault;
@@ -16,8 +15,6 @@ pub(crate) enum Told {
     Runs,
     /// Its part of the report, with the rules that refused lines broke.
     Rules,
-    /// The round for its players.
-    Bulletin,
 }
 
 /// Returns a text of a round of the game of a file.
@@ -42,14 +39,5 @@ fn tell_in(
     match told {
         Told::Runs => runs_of(alloc, &game, asked),
         Told::Rules => rules_of(alloc, &game, asked),
-        Told::Bulletin => bulletin_of(alloc, &game, asked),
     }
-}
-
-/// Returns the bulletin of a round of the game of a file, of the last that was played if none is
-/// named: whose turn it was, what each had before and after, what each line brought, in lines of at
-/// most 80 columns, and who owes a sheet for the next round. Fails with `Round` if the round is not
-/// played, or none is.
-pub fn bulletin(alloc: Global, file: &[u8], asked: Option<Round>) -> Result<Vec<u8>, DeskFault> {
-    tell(alloc, file, asked, Told::Bulletin)
 }

@@ -9,7 +9,7 @@ use tables::{Company, Round, Seat};
 
 /// How many lines of a sheet are kept. Those past the 512th all have the same fault, and few sheets
 /// have more.
-const LINES_KEPT: u32 = 1_024;
+pub(crate) const LINES_KEPT: u32 = 1_024;
 
 /// A line of a sheet.
 #[derive(Clone, Copy)]
@@ -22,6 +22,20 @@ pub struct SheetLine<'a> {
     pub text: &'a [u8],
     /// Where it stands in the sheet.
     pub place: LinePlace,
+    /// Whether it is a head: a TURN or COMPANY line that begins a part of the sheet.
+    pub(crate) is_head: bool,
+}
+
+impl SheetLine<'_> {
+    /// Returns whether the line is in the sheet of a seat.
+    pub(crate) fn is_of(&self, seat: Seat) -> bool {
+        self.seat == seat
+    }
+
+    /// Returns its number in its sheet.
+    pub(crate) fn number(&self) -> u32 {
+        self.number
+    }
 }
 
 /// Where a line stands in a sheet.
@@ -69,12 +83,12 @@ fn push_sheet<'a>(
     let mut parts = sheets.parts(seat, round);
     let mut place = LinePlace::Standing;
     for _ in 0..LINES_KEPT {
-        let line = match parts.take_line() {
-            Some(line) => line,
+        let (line, is_head) = match parts.take_line() {
+            Some(line) => (line, false),
             None => match parts.take_head() {
                 Some(head) => {
                     place = place_behind(head);
-                    head
+                    (head, true)
                 }
                 None => return Ok(()),
             },
@@ -84,6 +98,7 @@ fn push_sheet<'a>(
             number: line.number,
             text: line.text,
             place,
+            is_head,
         })?;
     }
     Ok(())

@@ -1,0 +1,188 @@
+//! The statement that ends a bulletin: how everybody stands after a round, and what comes next.
+//!
+//! Its figures come from the rows of a state, and the ranks of the result from `standing`. The rest
+//! is layout.
+ghost use Rattle.std.specs.Prelude.{IfErr};
+ghost use Rattle.desk_base.specs.Refusal.{IsOfGame};
+ghost use Rattle.rounds.specs.Play.{IsTheGame};
+
+use crate::stack::all_in_order;
+use crate::state_companies::{push_all_shares, push_all_tokens};
+use crate::state_players::push_owners;
+use crate::state_round::push_matters;
+use crate::state_rows::train_row;
+use crate::state_stock::push_laid;
+use crate::statement_next::push_next;
+use crate::statement_parties::{push_companies_moved, push_players_moved};
+use desk_base::Piece::{Column, Count, Number, Words};
+use desk_base::{
+    DeskFault, Piece, Stood, fill, play_behind, push, push_wrapped, stood_at_last, stood_now,
+    view_behind,
+};
+use history::{Event, History, Party, Walk};
+use purchases::sells;
+use rounds::Game;
+use sheets::Sheets;
+use std::alloc::{AllocError, Global};
+use tables::{Amount, Company, Kind, Money, Round};
+
+/// The column of the values of the head.
+pub(crate) const VALUES: usize = 18;
+
+/// Returns the statement of a game after a round, after the last that was played if none is named,
+/// in lines of at most 80 columns. It has what each player and each started company has, beside
+/// what they had before the round; shares, trains, tokens and tiles; what comes next, and who owes a
+/// sheet for it, `due` then if that is not empty; and the result once the game is over.
+///
+/// Fails with `Round` if the round was not played, or none was, and with `Memory` if allocation
+/// fails.
+pub fn statement(
+    alloc: Global,
+    game: &Game,
+    asked: Option<Round>,
+    due: &str,
+) -> Result<Vec<u8>, DeskFault>
+    requires { IsTheGame game.now }
+    ensures { IfErr result IsOfGame }
+{
+    let last = game.history().now().round();
+    match asked {
+        Some(round) if last != asked => statement_behind(alloc, game.sheets(), round, due),
+        _ => Ok(statement_text(alloc, &stood_at_last(game), due)?),
+    }
+}
+
+/// Returns the statement of the game of some sheets after a round.
+fn statement_behind(
+    alloc: Global,
+    sheets: &Sheets,
+    round: Round,
+    due: &str,
+) -> Result<Vec<u8>, DeskFault>
+    ensures { IfErr result IsOfGame }
+{
+    let play = play_behind(alloc, sheets, round)?;
+    match stood_now(&play) {
+        Some(stood) => Ok(statement_text(alloc, &stood, due)?),
+        None => Err(DeskFault::Round),
+    }
+}
+
+/// Returns the statement of a game at a moment. Fails only if allocation fails.
+fn statement_text(alloc: Global, stood: &Stood, due: &str) -> Result<Vec<u8>, AllocError> {
+    let order = all_in_order(alloc, stood.history)?;
+    let mut text = Vec::new(alloc);
+    push_statement(alloc, &mut text, stood, order.as_slice(), due)?;
+    Ok(text)
+}
+
+/// Adds the statement of a game, with its companies in this order.
+fn push_statement(
+    alloc: Global,
+    out: &mut Vec<u8>,
+    stood: &Stood,
+    order: &[Company],
+    due: &str,
+) -> Result<(), AllocError> {
+    let events = stood.history.events();
+    let mut walk = Walk::along(events);
+    let before = view_behind(&mut walk, before_round(events), stood.history.seats());
+    push_head(alloc, out, stood)?;
+    push_players_moved(out, stood, &before)?;
+    if stood.history.now().cheapest_unsold().is_some() {
+        push_owners(out, stood)?;
+    }
+    let started = started_in(alloc, stood.history, order)?;
+    push_companies_moved(alloc, out, stood, &before, started.as_slice())?;
+    push_all_shares(out, stood, order)?;
+    if !started.is_empty() {
+        push_all_tokens(out, stood.history, started.as_slice())?;
+    }
+    if !stood.history.lays().is_empty() {
+        push_laid(out, stood.history)?;
+    }
+    push_next(alloc, out, stood, order, due)
+}
+
+/// Returns those of some companies that are started, in their order.
+fn started_in(
+    alloc: Global,
+    history: &History,
+    order: &[Company],
+) -> Result<Vec<Company>, AllocError> {
+    let mut started = Vec::new(alloc);
+    for company in order {
+        if history.now().is_started(*company) {
+            started.push(*company)?;
+        }
+    }
+    Ok(started)
+}
+
+/// Returns how many events were before the round that began last; 0 if none began.
+fn before_round(events: &[Event]) -> usize {
+    let mut before = 0;
+    for (place, event) in events.iter().enumerate() {
+        if event.round().is_some() {
+            before = place;
+        }
+    }
+    before
+}
+
+/// Adds the round, the phase and what it brings, and what the bank has.
+fn push_head(alloc: Global, out: &mut Vec<u8>, stood: &Stood) -> Result<(), AllocError> {
+    let round = match stood.history.now().round() {
+        Some(round) => Piece::Round(round),
+        None => Words("no round"),
+    };
+    fill(out, "\nAFTER %\n", &[round])?;
+    push_matters(out, stood)?;
+    fill(
+        out,
+        "BANK              %\n",
+        &[Number(stood.history.cash(Party::Bank))],
+    )?;
+    let (mut bank, mut pool) = (Vec::new(alloc), Vec::new(alloc));
+    for kind in &Kind::ALL {
+        push_sold(&mut bank, &mut pool, stood.history, *kind)?;
+    }
+    push_trains(out, "TRAINS ON SALE", bank.as_slice())?;
+    push_trains(out, "TRAINS IN POOL", pool.as_slice())
+}
+
+/// Adds a kind of train with its price to the list of those that the bank sells, with how many are
+/// left, and to the list of those in the pool, with how many are there.
+fn push_sold(
+    bank: &mut Vec<u8>,
+    pool: &mut Vec<u8>,
+    history: &History,
+    kind: Kind,
+) -> Result<(), AllocError> {
+    let view = history.now();
+    let row = train_row(&view, kind);
+    if sells(&view, kind) {
+        push_priced(bank, kind, row.price)?;
+        if let Some(left) = row.left {
+            fill(bank, " (% left)", &[Count(left)])?;
+        }
+    }
+    if row.pool > 0 {
+        push_priced(pool, kind, row.price)?;
+        fill(pool, " (% there)", &[Number(Money::from(row.pool))])?;
+    }
+    Ok(())
+}
+
+/// Adds a kind of train with its price to a list.
+fn push_priced(list: &mut Vec<u8>, kind: Kind, price: Amount) -> Result<(), AllocError> {
+    let comma = if list.is_empty() { "" } else { ", " };
+    let price = Number(Money::from(price));
+    fill(list, "%% for %", &[Words(comma), Words(kind.code()), price])
+}
+
+/// Adds a list of trains behind its name; `none` if it is empty.
+fn push_trains(out: &mut Vec<u8>, name: &str, list: &[u8]) -> Result<(), AllocError> {
+    push(out, &[Words(name), Column(VALUES)])?;
+    push_wrapped(out, VALUES, if list.is_empty() { b"none" } else { list })
+}

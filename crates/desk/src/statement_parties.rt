@@ -1,0 +1,168 @@
+//! What the players and the companies have after a round, beside what they had before it.
+
+use crate::earnings::earnings_of;
+use crate::player_figures::purse_of;
+use crate::state_players::push_privates;
+use crate::state_rows::{company_row, game_row};
+use desk_base::Piece::{Bytes, Column, Count, Number, Right, Words};
+use desk_base::{Piece, Stood, fill, push, push_wrapped};
+use history::{GameView, History, Holder, Party};
+use report::name;
+use std::alloc::{AllocError, Global};
+use tables::{Company, Kind, Money, Private, Seat, Square, price};
+
+/// The width of a column of money.
+const MONEY: usize = 8;
+
+/// The width of the certificates that count.
+const CERTIFICATES: usize = 5;
+
+/// The column behind a player's figures.
+const PRIVATES: usize = 51;
+
+/// The column of a company's president.
+const PRESIDENT: usize = 5;
+
+/// The column of its price before the round.
+const BEFORE: usize = 14;
+
+/// The column of its price after the round.
+const NOW: usize = 22;
+
+/// The column in front of its cash.
+const CASH: usize = 29;
+
+/// The column of the round that its last revenue is of.
+const ROUND: usize = 46;
+
+/// The column of its trains.
+const TRAINS: usize = 56;
+
+/// Adds what each player has: cash before the round and after it, free cash, certificates, worth
+/// and privates.
+pub(crate) fn push_players_moved(
+    out: &mut Vec<u8>,
+    stood: &Stood,
+    before: &GameView,
+) -> Result<(), AllocError> {
+    let most = Count(game_row(&stood.history.now()).certificates);
+    fill(
+        out,
+        "\nPLAYER    BEFORE    CASH    FREE     CERTS   WORTH  PRIVATES\n",
+        &[],
+    )?;
+    for seat in 0..stood.sheets.seats() {
+        let seat = Seat::at(seat);
+        let purse = purse_of(stood.history, seat);
+        let had = before.cash(Party::of_seat(seat));
+        push(
+            out,
+            &[
+                Bytes(name(stood.sheets, seat)),
+                Column(8),
+                Right(MONEY, had),
+            ],
+        )?;
+        push(out, &[Right(MONEY, purse.cash), Right(MONEY, purse.free)])?;
+        let counted = Right(CERTIFICATES, purse.certificates);
+        fill(out, "% of %%", &[counted, most, Right(MONEY, purse.worth)])?;
+        push_privates(out, stood.history, Holder::Seat(seat), PRIVATES)?;
+    }
+    Ok(())
+}
+
+/// Adds what each of some companies has, in this order: president, price before the round and after
+/// it, cash, last revenue, trains of how many, privates. Nothing if there are none.
+pub(crate) fn push_companies_moved(
+    alloc: Global,
+    out: &mut Vec<u8>,
+    stood: &Stood,
+    before: &GameView,
+    order: &[Company],
+) -> Result<(), AllocError> {
+    if order.is_empty() {
+        return Ok(());
+    }
+    fill(
+        out,
+        "\nCOMPANY       BEFORE  NOW       CASH REVENUE OF        TRAINS, PRIVATES\n",
+        &[],
+    )?;
+    for company in order {
+        push_figures(out, stood, before, *company)?;
+        let mut rest = Vec::new(alloc);
+        push_belongings(&mut rest, stood.history, *company)?;
+        push(out, &[Column(TRAINS)])?;
+        push_wrapped(out, TRAINS, rest.as_slice())?;
+    }
+    Ok(())
+}
+
+/// Adds a company's president, its price before the round and after it, its cash, and its last
+/// revenue with the round that it is of.
+fn push_figures(
+    out: &mut Vec<u8>,
+    stood: &Stood,
+    before: &GameView,
+    company: Company,
+) -> Result<(), AllocError> {
+    let row = company_row(&stood.history.now(), company);
+    let president = match row.president {
+        Some(president) => Bytes(name(stood.sheets, president)),
+        None => Words("nobody"),
+    };
+    push(out, &[Words(company.code()), Column(PRESIDENT), president])?;
+    push_square(out, BEFORE, before.square(company))?;
+    push_square(out, NOW, row.square)?;
+    if !row.operates {
+        return Ok(());
+    }
+    push(out, &[Column(CASH), Right(MONEY, row.cash)])?;
+    let earnings = earnings_of(stood.history.events(), company);
+    let Some(round) = earnings.round else {
+        return Ok(());
+    };
+    let dollars = Right(MONEY, earnings.dollars as Money);
+    push(out, &[dollars, Column(ROUND), Piece::Round(round)])
+}
+
+/// Adds the price of a square, with its name, at a column; `-` if there is none.
+fn push_square(out: &mut Vec<u8>, column: usize, square: Option<Square>) -> Result<(), AllocError> {
+    push(out, &[Column(column)])?;
+    match square {
+        Some(square) => {
+            let price = Number(Money::from(price(square)));
+            fill(out, "% %", &[price, Piece::Square(square)])
+        }
+        None => fill(out, "-", &[]),
+    }
+}
+
+/// Adds a company's trains, how many it may have, and its privates.
+fn push_belongings(
+    out: &mut Vec<u8>,
+    history: &History,
+    company: Company,
+) -> Result<(), AllocError> {
+    let view = history.now();
+    if !company_row(&view, company).operates {
+        return fill(out, "not floated", &[]);
+    }
+    if history.now().train_count(Some(company)) == 0 {
+        fill(out, "none ", &[])?;
+    }
+    for kind in &Kind::ALL {
+        for _ in 0..history.trains(Some(company), *kind) {
+            fill(out, "% ", &[Words(kind.code())])?;
+        }
+    }
+    fill(out, "of %", &[Count(game_row(&view).trains)])?;
+    let mut comma = ", ";
+    for private in &Private::ALL {
+        if history.owner(*private) == Some(Holder::Company(company)) {
+            fill(out, "%%", &[Words(comma), Words(private.code())])?;
+            comma = " ";
+        }
+    }
+    Ok(())
+}
