@@ -101,7 +101,7 @@ tell_beyond() {
   [ "$1" != 1 ] || findings=finding
   { printf 'GAME 1830 1\nPLAYERS ANN BOB CYD\n' && yes BUY | head -n $((10000 + $1)); } > "$scratch/unread.orders"
   "$desk" check < "$scratch/unread.orders" > "$scratch/out" 2> "$scratch/err"
-  [ "$(grep -c ' | BUY | it is in no sheet' "$scratch/out")" = 10000 ] || why+=' it does not list 10,000;'
+  [ "$(grep -c ' | BUY | it belongs to no sheet' "$scratch/out")" = 10000 ] || why+=' it does not list 10,000;'
   grep -q "^and $1 $findings more, of lines" "$scratch/out" || why+=' it does not count the others;'
   count "$1 findings more than are listed" "${why# }"
 }

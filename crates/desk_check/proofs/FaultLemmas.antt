@@ -10,7 +10,7 @@ use Rattle.desk_check.specs.declared.check_found.Found.{Found}
 use Rattle.desk_check.specs.declared.check_found.Said.{Said}
 use Rattle.desk_check.specs.declared.check_sheets.Sent.{Sent}
 use Rattle.order_grammar.specs.declared.condition.Version.{Version}
-use Rattle.sheets.specs.File.{is_sheet_line}
+use Rattle.desk_check.specs.SheetLike.{closes}
 use Rattle.sheets.specs.Limits.{lines_most}
 use Rattle.sheets.specs.Text.{is_blank}
 
@@ -71,7 +71,7 @@ faults_next version sent from number is_open passed text lines texts next goes_o
 -- a line that does not end a sheet is read
 pub is_read : (number : ℕ) (text : List ℕ) → ends_sheet number text ≡ false → number ≤ lines_most
 is_read number text goes_on =
-    ltb-false lines_most number (or_parts (is_sheet_line text) (nat_lt lines_most number) goes_on).1
+    ltb-false lines_most number (or_parts (closes text) (nat_lt lines_most number) goes_on).1
 
 -- and numbered, or blank
 pub number_within : (number : ℕ) (text : List ℕ) → number ≤ lines_most → number_then number text ≤ 513

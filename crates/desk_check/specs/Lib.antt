@@ -10,7 +10,7 @@ pub mod Refused
 pub mod Replaced
 pub mod RoundsPlayed
 pub mod SheetFaults
+pub mod SheetLike
 pub mod SheetLines
-pub mod Slip
 pub mod Trials
 pub mod Unplayed

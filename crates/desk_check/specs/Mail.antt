@@ -1,12 +1,13 @@
--- Lines that look like mail: a header, a line that is quoted, or the line above a quotation.
+-- Lines that look like mail: a header, a line that is quoted, the line above a quotation, or the
+-- first of a signature.
 use Rattle.std.specs.Prelude.{ℕ, Bool, ◌&&◌, ◌||◌, List, [], ◌∷◌, codes, nat_eq}
 use Rattle.std.specs.List.{list_any, ends_with, starts_with}
 
--- the first words of the headers of a mail, and of the lines that it quotes
+-- how the headers of a mail begin, the lines that it quotes, and those of its signature
 abbrev pub mail_heads : List (List ℕ)
 mail_heads =
     codes "From:" ∷ codes "To:" ∷ codes "Cc:" ∷ codes "Date:" ∷ codes "Sent:" ∷ codes "Subject:"
-    ∷ codes "Message-ID:" ∷ codes ">" ∷ []
+    ∷ codes "Message-ID:" ∷ codes ">" ∷ codes "|" ∷ codes "--" ∷ codes "Sent from my " ∷ []
 
 -- the line begins with one of these
 abbrev pub begins_with_one : List ℕ → List (List ℕ) → Bool

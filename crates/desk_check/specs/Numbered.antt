@@ -4,7 +4,7 @@ use Rattle.std.specs.Prelude.{ℕ, ◌+◌, Bool, ◌||◌, nat_le, if◌then◌
 use Rattle.desk_check.specs.SheetFaults.{number_then}
 use Rattle.desk_check.specs.declared.check_lines.FileLine.{FileLine}
 use Rattle.desk_check.specs.declared.check_sheets.Head.{Head}
-use Rattle.sheets.specs.File.{is_sheet_line}
+use Rattle.desk_check.specs.SheetLike.{closes}
 use Rattle.sheets.specs.Text.{is_blank, lines_of}
 
 -- a line of the file: its number there, and its text
@@ -16,9 +16,9 @@ pub record LineAt : Type 0 where
 abbrev pub line_at : FileLine → LineAt
 line_at line = record { line = line.number; text = line.text.now }
 
--- the sheet ends at a line, or so many of its lines came before that no further one is kept
+-- the sheet ends at a line, or was meant to, or so many of its lines came before that no further one is kept
 abbrev pub ends_numbered : ℕ → List ℕ → Bool
-ends_numbered count text = is_sheet_line text || nat_le 513 count
+ends_numbered count text = closes text || nat_le 513 count
 
 -- the line with this number in the file, unless it is blank
 abbrev pub numbered_here : ℕ → List ℕ → List LineAt

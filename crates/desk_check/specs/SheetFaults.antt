@@ -18,7 +18,7 @@ use Rattle.desk_check.specs.declared.check_sheets.Sent.{Sent}
 use Rattle.order_grammar.specs.declared.condition.Version.{Version}
 use Rattle.order_grammar.specs.declared.fault.Fault.{Fault}
 use Rattle.order_grammar.specs.declared.fault.Fault.TheVariants.{OutOfPlace}
-use Rattle.sheets.specs.File.{is_sheet_line}
+use Rattle.desk_check.specs.SheetLike.{closes}
 use Rattle.sheets.specs.Limits.{lines_most}
 use Rattle.sheets.specs.Text.{is_blank, lines_of}
 use Rattle.tables.specs.declared.round.Round.{Round}
@@ -69,9 +69,9 @@ fault_of_line version round number is_open text =
     then None
     else fault_of_look (look_of_text version (number + 1) text round is_open) is_open text
 
--- the sheet ends at a line, or so many lines came before it that it is not read
+-- the sheet ends at a line, or was meant to, or so many lines came before it that it is not read
 abbrev pub ends_sheet : ℕ → List ℕ → Bool
-ends_sheet number text = is_sheet_line text || nat_lt lines_most number
+ends_sheet number text = closes text || nat_lt lines_most number
 
 -- a line of a sheet that is told of, and what is said of it
 pub record Told : Type 0 where

@@ -1,10 +1,10 @@
 //! Lines that look like mail.
 ghost use Rattle.std.specs.Prelude.{◌≡◌};
 ghost use Rattle.desk_check.specs.Mail.{begins_with_one, is_above_quotation, is_mail};
-ghost use Rattle.desk_check.specs.Slip.{texts};
+ghost use Rattle.hints.specs.Slip.{texts};
 
-/// The first words of the headers of a mail, and of the lines that it quotes.
-static HEADS: [&[u8]; 8] = [
+/// How lines begin that are headers of a mail, that it quotes, or that begin its signature.
+static HEADS: [&[u8]; 11] = [
     b"From:",
     b"To:",
     b"Cc:",
@@ -13,19 +13,23 @@ static HEADS: [&[u8]; 8] = [
     b"Subject:",
     b"Message-ID:",
     b">",
+    b"|",
+    b"--",
+    b"Sent from my ",
 ];
 
-/// Returns whether a line looks like mail: a header `From: Ann`, a quoted line `> TURN`, or `On
-/// Friday Bob wrote:`.
+/// Returns whether a line looks like mail: a header `From: Ann`, a quoted line `> TURN`, `On Friday
+/// Bob wrote:`, or the `--` above a signature.
 #[tactic(auto, unfolding(crate::specs::Mail::is_mail))]
 pub(crate) fn is_mail(line: &[u8]) -> bool
     ensures { result ≡ is_mail line.now }
 {
     match line {
         // (a line that begins otherwise, as most do, is compared with no head)
-        [b'F' | b'T' | b'C' | b'D' | b'S' | b'M' | b'>' | b'O', ..] => {
-            begins_with_one(line, &HEADS) || is_above_quotation(line)
-        }
+        [
+            b'F' | b'T' | b'C' | b'D' | b'S' | b'M' | b'>' | b'O' | b'|' | b'-',
+            ..
+        ] => { begins_with_one(line, &HEADS) || is_above_quotation(line) }
         _ => false,
     }
 }

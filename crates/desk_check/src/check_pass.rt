@@ -11,7 +11,11 @@ use crate::check_found::{Found, Matter};
 use crate::check_lines::{FileLine, FileLines};
 use crate::check_mail::is_mail;
 use crate::check_names::likeness_of;
-use crate::check_sheets::{Beginning, Heads, begun_by};
+use crate::check_said::names_of;
+use crate::check_sheets::{Beginning, Head, Heads, Sent, begun_by};
+use crate::sheet_like::is_like_sheet;
+use hints::{Faulty, line_meant};
+use order_grammar::Fault;
 use report::name;
 use sheets::{Sheets, is_blank, unread_fault};
 use std::alloc::{AllocError, Global};
@@ -31,6 +35,21 @@ pub(crate) struct Pass<'a> {
     preamble: usize,
     /// The number of the line that begins the sheet that is open; `None` if none is.
     open: Option<usize>,
+    /// The SHEET line with a fault that came last, if no good one came since.
+    closing: Option<Closing<'a>>,
+    /// The sheets that such lines were meant to begin.
+    pub(crate) meant: Vec<Head<'a>>,
+}
+
+/// A line that was meant to begin a sheet, and has a fault.
+#[derive(Clone, Copy)]
+struct Closing<'a> {
+    line: FileLine<'a>,
+    fault: Fault,
+    /// The sheet that was meant, if that is known.
+    sent: Option<Sent>,
+    /// The first line below it and the last.
+    below: Option<(usize, usize)>,
 }
 
 /// Reads the lines of a file once, for its good SHEET lines and what there is to report of other
@@ -53,6 +72,8 @@ pub(crate) fn pass_over<'a>(
         found: Found::nothing(alloc, from),
         preamble: 0,
         open: None,
+        closing: None,
+        meant: Vec::new(alloc),
     };
     let lines = FileLines {
         passed: 0,
@@ -61,6 +82,7 @@ pub(crate) fn pass_over<'a>(
     for line in lines {
         pass.take(sheets, line)?;
     }
+    pass.end_closing()?;
     Ok(pass)
 }
 
@@ -75,13 +97,12 @@ impl<'a> Pass<'a> {
     {
         match begun_by(sheets, line.text) {
             Beginning::Sheet(sent) => {
+                self.end_closing()?;
                 self.open = Some(line.number);
                 self.heads.take(line, sent)
             }
-            Beginning::Closing => {
-                self.open = None;
-                self.take_loose(sheets, &line)
-            }
+            Beginning::Closing => self.begin_closing(sheets, line),
+            Beginning::Other if is_like_sheet(line.text) => self.begin_closing(sheets, line),
             Beginning::Other => match self.open {
                 None => self.take_loose(sheets, &line),
                 Some(sheet) if is_mail(line.text) => {
@@ -92,11 +113,57 @@ impl<'a> Pass<'a> {
         }
     }
 
+    /// Takes a line that was meant to begin a sheet, and has a fault.
+    fn begin_closing(&mut self, sheets: &Sheets, line: FileLine<'a>) -> Result<(), AllocError>
+        ensures { self.new.heads ≡ self.old.heads }
+    {
+        self.end_closing()?;
+        self.open = None;
+        let fault = unread_fault(sheets.version(), line.text);
+        let sent = sheet_meant(*self.meant.allocator(), sheets, &line, fault)?;
+        if let Some(sent) = sent {
+            self.meant.push(Head {
+                line,
+                sent,
+                replaces: None,
+            })?;
+        }
+        self.closing = Some(Closing {
+            line,
+            fault,
+            sent,
+            below: None,
+        });
+        Ok(())
+    }
+
+    /// Adds what there is to say of the SHEET line with a fault that came last, if one did, as its
+    /// lines have come.
+    fn end_closing(&mut self) -> Result<(), AllocError>
+        ensures { self.new.heads ≡ self.old.heads }
+    {
+        let Some(closing) = self.closing else {
+            return Ok(());
+        };
+        self.closing = None;
+        let matter = Matter::Closes {
+            fault: closing.fault,
+            sent: closing.sent,
+            below: closing.below,
+        };
+        self.found.add_line(&closing.line, matter)
+    }
+
     /// Takes a line where no sheet is open.
     fn take_loose(&mut self, sheets: &Sheets, line: &FileLine<'a>) -> Result<(), AllocError>
         ensures { self.new.heads ≡ self.old.heads }
     {
         if is_blank(line.text) {
+            return Ok(());
+        }
+        if let Some(closing) = &mut self.closing {
+            let first = closing.below.map_or(line.number, |below| below.0);
+            closing.below = Some((first, line.number));
             return Ok(());
         }
         if self.preamble >= PREAMBLE {
@@ -108,6 +175,30 @@ impl<'a> Pass<'a> {
             look_at_names(sheets, line, &mut self.found)?;
         }
         Ok(())
+    }
+}
+
+/// Returns the sheet that a line with a fault was meant to begin; `None` if that is not known.
+fn sheet_meant(
+    alloc: Global,
+    sheets: &Sheets,
+    line: &FileLine,
+    fault: Fault,
+) -> Result<Option<Sent>, AllocError> {
+    let names = names_of(sheets);
+    let faulty = Faulty {
+        version: sheets.version(),
+        line: line.text,
+        above: 0,
+        fault,
+        players: names.get(..sheets.seats()).unwrap_or(&names),
+    };
+    let Some(meant) = line_meant(alloc, faulty)? else {
+        return Ok(None);
+    };
+    match begun_by(sheets, meant.as_slice()) {
+        Beginning::Sheet(sent) => Ok(Some(sent)),
+        Beginning::Closing | Beginning::Other => Ok(None),
     }
 }
 

@@ -14,9 +14,10 @@ use crate::check_mail::is_mail;
 use crate::check_orders::Block;
 use crate::check_seat::has_to_order;
 use crate::check_sheets::{Head, Sent};
+use crate::sheet_like::closes;
 use desk_base::{Objection, objection_by_view, objection_to, other_president};
 use history::GameView;
-use order_grammar::{Fault, Order, Version, begins_with_word};
+use order_grammar::{Fault, Order, Version};
 use sheets::{LINES_MOST, NumberedLine, UnreadLine, is_blank, is_head_of, is_of_file};
 use std::alloc::AllocError;
 use tables::{COMPANIES, Company, PerCompany, Round};
@@ -64,12 +65,11 @@ pub(crate) fn look_at_sheet<'a>(
     Ok(())
 }
 
-/// Returns whether a sheet ends at a line, or so many of its lines came before that it is not read.
-#[tactic(auto, unfolding(sheets::specs::File::is_sheet_line))]
+/// Returns whether a sheet ends at a line, or was meant to, or so many of its lines came before that it is not read.
 fn ends_sheet(number: u32, line: &[u8]) -> bool
     ensures { result ≡ ends_sheet number line.now }
 {
-    begins_with_word(line, b"SHEET") || number > LINES_MOST
+    closes(line) || number > LINES_MOST
 }
 
 /// Adds what there is to say of a line of a sheet, if there is something.

@@ -2,10 +2,10 @@
 
 use crate::check_lines::{FileLine, FileLines};
 use crate::check_mail::is_mail;
-use crate::check_words::words_of;
+use hints::words_of;
 use order_grammar::{Fault, NAME_MOST, Order, begins_with_word, read_line};
 use sheets::{FILE_MOST, FileFault, GAME, is_blank};
-use tables::PLAYERS_LEAST;
+use tables::{PLAYERS_LEAST, PLAYERS_MOST};
 
 /// What some editors write before the first line of a text.
 const BYTE_ORDER_MARK: &[u8] = b"\xEF\xBB\xBF";
@@ -142,7 +142,7 @@ fn cause_of_players<'a>(line: Option<FileLine<'a>>) -> Cause<'a> {
 fn cause_of_names(line: &[u8]) -> Cause<'_> {
     let (words, count) = words_of(line);
     let names = match words.get(1..count) {
-        Some(names) if names.len() >= PLAYERS_LEAST => names,
+        Some(names) if (PLAYERS_LEAST..=PLAYERS_MOST).contains(&names.len()) => names,
         _ => return Cause::Number(count.saturating_sub(1)),
     };
     for (place, name) in names.iter().enumerate() {

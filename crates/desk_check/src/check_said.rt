@@ -1,38 +1,94 @@
 //! What there is to say of a line of a sheet, as text.
 
-use crate::check_found::Said;
-use crate::check_hints::push_hint;
+use crate::check_found::{Finding, Said};
+use crate::check_sheets::Sent;
 use crate::check_text::push_rule;
-use desk_base::Piece::{Count, Words};
-use desk_base::{Objection, fill, push_objection, who};
+use desk_base::Piece::{Bytes, Count, Words};
+use desk_base::{Objection, Piece, fill, push_objection, who};
+use hints::{Faulty, push_hint, sentence_of};
 use order_grammar::Fault;
+use report::name;
 use sheets::Sheets;
 use std::alloc::AllocError;
-use tables::Round;
+use tables::{PLAYERS_MOST, Round, Seat};
+
+/// Adds the code of a line's fault, what is wrong, and what to write in its place if that is known.
+pub(crate) fn push_fault(
+    out: &mut Vec<u8>,
+    sheets: &Sheets,
+    finding: &Finding,
+    fault: Fault,
+) -> Result<(), AllocError> {
+    let (code, rule) = (Words(fault.code()), Words(sentence_of(finding.text, fault)));
+    fill(out, "%: %", &[code, rule])?;
+    let names = names_of(sheets);
+    let faulty = Faulty {
+        version: sheets.version(),
+        line: finding.text,
+        above: finding.line.saturating_sub(1),
+        fault,
+        players: names.get(..sheets.seats()).unwrap_or(&names),
+    };
+    push_hint(out, faulty)
+}
+
+/// Returns the names of the players, and behind them empty ones.
+pub(crate) fn names_of<'a>(sheets: &'a Sheets) -> [&'a [u8]; 6] {
+    let mut names: [&[u8]; PLAYERS_MOST] = [b""; PLAYERS_MOST];
+    for seat in 0..PLAYERS_MOST {
+        names[seat] = name(sheets, Seat::at(seat));
+    }
+    names
+}
+
+/// Adds what there is to say of a line that was meant to begin a sheet: its fault, and what becomes
+/// of the lines below it.
+pub(crate) fn push_closing(
+    out: &mut Vec<u8>,
+    sheets: &Sheets,
+    finding: &Finding,
+    fault: Fault,
+    sent: Option<Sent>,
+    below: Option<(usize, usize)>,
+) -> Result<(), AllocError> {
+    fill(out, "it begins no sheet. ", &[])?;
+    push_fault(out, sheets, finding, fault)?;
+    let Some((first, last)) = below else {
+        return Ok(());
+    };
+    if first == last {
+        fill(out, ". Line % below it", &[Count(first)])?;
+    } else {
+        fill(out, ". Lines % to % below it", &[Count(first), Count(last)])?;
+    }
+    let Some(sent) = sent else {
+        return fill(out, ": no sheet has them", &[]);
+    };
+    let player = Bytes(name(sheets, sent.seat));
+    let words = ": looked at as part of %'s sheet for %";
+    fill(out, words, &[player, Piece::Round(sent.round)])
+}
 
 /// Adds what there is to say of a line of a sheet.
 pub(crate) fn push_said(
     out: &mut Vec<u8>,
     sheets: &Sheets,
-    line: &[u8],
+    finding: &Finding,
     round: Round,
     said: Said,
 ) -> Result<(), AllocError> {
     match said {
-        Said::Faulty(fault) => {
-            push_rule(out, "", fault.code())?;
-            push_hint(out, sheets, line, fault)
-        }
+        Said::Faulty(fault) => push_fault(out, sheets, finding, fault),
         Said::Unopened => {
-            push_rule(out, "", Fault::OutOfPlace.code())?;
+            push_rule(out, Fault::OutOfPlace.code())?;
             let head = match round {
                 Round::Opening(_) | Round::Stock(_) => "TURN",
                 Round::Operating { .. } => "COMPANY",
             };
-            fill(out, "; no % line stands above it", &[Words(head)])
+            fill(out, "; there is no % line above it", &[Words(head)])
         }
         Said::Breaks(code, reason) => {
-            push_rule(out, "", code)?;
+            push_rule(out, code)?;
             push_objection(out, sheets, reason)?;
             match reason {
                 Objection::NoTrain(..) => fill(out, " as the round begins", &[]),
@@ -40,11 +96,11 @@ pub(crate) fn push_said(
             }
         }
         Said::Presided(company, president) => {
-            let words = "% presides over %: nobody looks at these orders";
+            let words = "% presides over %: these orders are ignored";
             fill(out, words, &[who(sheets, president), Words(company.code())])
         }
         Said::Again(company, line) => {
-            let words = "the orders of % begin on line %: nobody looks at these";
+            let words = "the orders of % begin on line %: these are ignored";
             fill(out, words, &[Words(company.code()), Count(line)])
         }
     }

@@ -2,9 +2,8 @@
 //! its text, and what there is to say of it.
 
 use crate::check_found::{Change, Finding, Found, Lateness, Matter, Standing};
-use crate::check_hints::push_hint;
 use crate::check_refused::{Cause, Refusal};
-use crate::check_said::push_said;
+use crate::check_said::{push_closing, push_fault, push_said};
 use desk_base::Piece::{Bytes, Count, Cut, Words};
 use desk_base::{Piece, explain, push};
 use report::name;
@@ -87,9 +86,12 @@ fn push_matter(
 ) -> Result<(), AllocError> {
     match finding.matter {
         Matter::Unread(fault) => {
-            push_rule(out, "it is in no sheet, and is not read. ", fault.code())?;
-            push_hint(out, sheets, finding.text, fault)
+            push(out, &[Words("it belongs to no sheet and is skipped. ")])?;
+            push_fault(out, sheets, finding, fault)
         }
+        Matter::Closes { fault, sent, below } => push_closing(
+            out, sheets, finding, fault, sent, below,
+        ),
         Matter::Mail(sheet) => {
             let words = "it looks like mail, and counts as a line of the sheet of line ";
             push(out, &[Words(words), Count(sheet)])
@@ -110,7 +112,7 @@ fn push_matter(
                 Words(", which operates and whose president this is"),
             ],
         ),
-        Matter::Line(sent, said) => push_said(out, sheets, finding.text, sent.round, said),
+        Matter::Line(sent, said) => push_said(out, sheets, finding, sent.round, said),
         Matter::Tried { from, to, .. } => push(out, &[Bytes(told.get(from..to).unwrap_or(&[]))]),
         Matter::Name { seat, likeness } => {
             let name = name(sheets, seat);
@@ -119,20 +121,13 @@ fn push_matter(
     }
 }
 
-/// Adds a code, and its rule in words, behind other words.
-pub(crate) fn push_rule(
-    out: &mut Vec<u8>,
-    before: &str,
-    code: &'static str,
-) -> Result<(), AllocError> {
+/// Adds a code, and its rule in words.
+pub(crate) fn push_rule(out: &mut Vec<u8>, code: &'static str) -> Result<(), AllocError> {
     let (parted, rule) = match explain(code) {
         Some(reason) => (": ", reason.sentence()),
         None => ("", ""),
     };
-    push(
-        out,
-        &[Words(before), Words(code), Words(parted), Words(rule)],
-    )
+    push(out, &[Words(code), Words(parted), Words(rule)])
 }
 
 /// Adds what there is to say of a sheet that replaces that of a line; where the game turns there,

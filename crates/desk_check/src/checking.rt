@@ -12,6 +12,7 @@ use crate::check_pass::{Pass, pass_over};
 use crate::check_refused::refusal_of;
 use crate::check_sheets::Heads;
 use crate::check_text::{push_found, push_heading, push_refusal};
+use crate::meant::look_at_meant;
 use crate::outcome::Outcome;
 use crate::owed::push_owed;
 use crate::trials::{Reached, try_sheets};
@@ -156,6 +157,7 @@ fn look_at_game<'a>(
 {
     let game = play(alloc, sheets)?;
     look_at_rounds(alloc, file, extent, &pass.heads, &game, &mut pass.found)?;
+    look_at_meant(pass.meant.as_slice(), &game, &mut pass.found)?;
     reached_by(alloc, &game, extent.from > 1)
 }
 

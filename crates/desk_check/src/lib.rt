@@ -7,7 +7,8 @@
 //! is tested by the games of `games/desk/`.
 //!
 //! Reading order: `check_lines` (the lines of a file), `check_mail`, `check_names`, `check_found`
-//! (what is found), `check_sheets` (the SHEET lines), `check_pass` (one pass over a file),
+//! (what is found), `check_sheets` (the SHEET lines), `sheet_like` (lines that were meant as such),
+//! `check_pass` (one pass over a file), `meant` (lines below a SHEET line with a fault),
 //! `check_changed` and `check_late` (sheets that replace others), `check_early` (sheets for rounds
 //! to come), `check_refused` (refused files); then the trials: `refusals`
 //! (the lines that they refuse), `outcome` (what the last round refused), `numbered` (where those
@@ -17,10 +18,8 @@
 #![tactic(auto)]
 
 mod check_changed;
-mod check_codes;
 mod check_early;
 mod check_found;
-mod check_hints;
 mod check_late;
 mod check_lines;
 mod check_mail;
@@ -33,14 +32,15 @@ mod check_said;
 mod check_seat;
 mod check_sheets;
 mod check_text;
-mod check_words;
 mod checking;
 mod consent;
 mod forced;
+mod meant;
 mod numbered;
 mod outcome;
 mod owed;
 mod refusals;
+mod sheet_like;
 mod taken;
 mod told;
 mod trials;

@@ -4,7 +4,8 @@ ghost use Rattle.desk_check.specs.Numbered.{ends_numbered, line_at, numbered_of}
 
 use crate::check_lines::{FileLine, FileLines};
 use crate::check_sheets::Head;
-use order_grammar::{Order, Version, begins_with_word};
+use crate::sheet_like::closes;
+use order_grammar::{Order, Version};
 use sheets::{LINES_MOST, UnreadLine, is_blank};
 use std::alloc::{AllocError, Global};
 use tables::Company;
@@ -37,13 +38,12 @@ pub(crate) fn numbered_lines<'a>(
     Ok(numbered)
 }
 
-/// Returns whether a sheet ends at a line, or so many of its lines came before that no further one
+/// Returns whether a sheet ends at a line, or was meant to, or so many of its lines came before that no further one
 /// is kept.
-#[tactic(auto, unfolding(sheets::specs::File::is_sheet_line))]
 fn ends_numbered(count: usize, line: &[u8]) -> bool
     ensures { result ≡ ends_numbered count line.now }
 {
-    begins_with_word(line, b"SHEET") || count >= KEPT_MOST
+    closes(line) || count >= KEPT_MOST
 }
 
 /// Returns the line of a sheet with this number, from 1; `None` if it is not kept.

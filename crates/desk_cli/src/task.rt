@@ -474,7 +474,7 @@ fn take_company(task: &mut Task, word: &str) -> Option<&'static str> {
     task.company = read_company(word.as_bytes());
     match task.company {
         Some(_) => None,
-        None => Some("there is no such company; PRR is one"),
+        None => Some("there is no such company; the companies are PRR NYC CPR BO CO ERIE NYNH BM"),
     }
 }
 

@@ -22,8 +22,9 @@ use Rattle.order_grammar.specs.declared.condition.Condition.{Condition}
 use Rattle.order_grammar.specs.declared.condition.Condition.TheVariants as condition
 use Rattle.order_grammar.specs.declared.order.Order.{Order}
 use Rattle.order_grammar.specs.declared.order.Order.TheVariants as order
-use Rattle.purchases.specs.Train.{sells}
-use Rattle.tables.specs.Roster.{certificate_limit_of, face_of}
+use Rattle.map_tables.specs.Print.{print_of}
+use Rattle.purchases.specs.Train.{cost_of, purchase_of, sells}
+use Rattle.tables.specs.Roster.{certificate_limit_of, face_of, token_price_of}
 use Rattle.tables.specs.Train.{kinds, limit_of, stops_of}
 use Rattle.tables.specs.declared.rolling_stock.Kind.{Kind}
 use Rattle.tables.specs.declared.roster.Company.{Company}
@@ -32,6 +33,7 @@ use Rattle.tables.specs.declared.seat.Seat.{Seat}
 use Rattle.totals.specs.Bids.{bids_elsewhere_of, free_cash_of, greatest_bid_of}
 use Rattle.totals.specs.LookBack.{cash_of, cheapest_of, owner_of}
 use Rattle.totals.specs.Shares.{is_started, shares_of}
+use Rattle.totals.specs.Operating.{tokens_placed}
 use Rattle.totals.specs.Trains.{phase_of}
 
 -- of a rule of an opening, for an order of a seat about a private: its owner if it is sold, the
@@ -100,6 +102,15 @@ operating_figures events its (refusal.Train NotOnSale) = option_map figures.OnSa
 operating_figures events its (refusal.Train TrainLimit) = Some (figures.Trains (limit_of (phase_of events)))
 operating_figures events its (refusal.Private WrongPrice) = face_figures its
 operating_figures events its other = None
+
+-- what an order of a company's turn costs, if it is one that costs money: a lay the terrain of its
+-- hex, a token by how many the company has placed
+abbrev pub cost_in_turn : List Event → Company → Order → Option ℕ
+cost_in_turn events company (order.Lay lay) = Some ((print_of lay.hex).cost)
+cost_in_turn events company (order.Token place) = Some (token_price_of (tokens_placed events company))
+cost_in_turn events company (order.BuyTrain kind from) = Some (cost_of (purchase_of kind from))
+cost_in_turn events company (order.BuyOwnedPrivate private price) = Some price
+cost_in_turn events company other = None
 
 -- of a condition: the price of the company, or the phase
 abbrev pub condition_figures : List Event → Condition → Option Figures

@@ -4,7 +4,8 @@ ghost use Rattle.certs.specs.Counted.{counted_of};
 ghost use Rattle.desk_round.specs.Figures.{company_in, condition_figures, cost_of_order};
 ghost use Rattle.desk_round.specs.Figures.{face_figures, figures_of, first_sold, offered};
 ghost use Rattle.desk_round.specs.Figures.{opening_figures, operating_figures, private_in};
-ghost use Rattle.desk_round.specs.Figures.{stock_figures, stops_figures};
+ghost use Rattle.desk_round.specs.Figures.{cost_in_turn, stock_figures, stops_figures};
+ghost use Rattle.purchases.specs.Train.{cost_of, purchase_of};
 
 use certs::{Holdings, market_price, share_price};
 use desk_base::Piece::{Bytes, Count, Number, Words};
@@ -13,12 +14,15 @@ use history::{
     GameView, Holder, LayRule, OpeningRule, Party, PrivateRule, Refusal, RunRule, ShareCount,
     Shareholder, StockRule, TrainRule,
 };
-use order_grammar::{Condition, Order};
-use purchases::sells;
+use map_tables::terrain_cost;
+use order_grammar::{Condition, Order, TrainSource};
+use purchases::{purchase_of, sells};
 use report::name;
 use sheets::Sheets;
 use std::alloc::AllocError;
-use tables::{Amount, Company, Kind, Money, Private, Seat, certificate_limit, face, limit};
+use tables::{
+    Amount, Company, Kind, Money, Private, Seat, certificate_limit, face, limit, token_price,
+};
 
 /// The figures that a rule compares.
 #[derive(Clone, Copy)]
@@ -244,6 +248,32 @@ fn condition_figures(view: &GameView, condition: Condition) -> Option<Figures>
         }
         Condition::Phase(_) => Some(Figures::Phase(view.phase())),
         _ => None,
+    }
+}
+
+/// Returns what an order of a company's turn costs, in dollars; `None` if it is none that costs
+/// money.
+pub(crate) fn cost_in_turn(view: &GameView, company: Company, order: &Order) -> Option<Amount>
+    ensures { result ≡ cost_in_turn view.now.events.now company order.now }
+{
+    match order {
+        Order::Lay(lay) => Some(terrain_cost(lay.hex)),
+        Order::Token(_) => Some(token_price(view.tokens_placed(company))),
+        Order::BuyTrain { kind, from } => Some(cost_of_train(*kind, *from)),
+        Order::BuyOwnedPrivate { price, .. } => Some(*price),
+        _ => None,
+    }
+}
+
+/// Returns what a train costs where a company buys it, in dollars.
+fn cost_of_train(kind: Kind, from: TrainSource) -> Amount
+    ensures { result ≡ cost_of (purchase_of kind from) }
+{
+    match from {
+        TrainSource::Company { price, .. } => price,
+        TrainSource::Bank => purchase_of(kind, TrainSource::Bank).price(),
+        TrainSource::BankPool => purchase_of(kind, TrainSource::BankPool).price(),
+        TrainSource::Trade(traded) => purchase_of(kind, TrainSource::Trade(traded)).price(),
     }
 }
 

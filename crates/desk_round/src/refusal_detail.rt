@@ -2,7 +2,7 @@
 //! if there are several.
 
 use crate::cause::{cause_of, cause_out_of_place};
-use crate::figures::{figures_of, push_figures};
+use crate::figures::{cost_in_turn, figures_of, push_figures};
 use crate::sheet_line::{LinePlace, SheetLine};
 use crate::track::break_of;
 use crate::ways::{push_ways_to_stop, push_ways_to_tile};
@@ -20,7 +20,7 @@ use order_grammar::{Fault, Order, TrainSource};
 use report::name;
 use sheets::Sheets;
 use std::alloc::{AllocError, Global};
-use tables::{Company, Private, Round, Seat};
+use tables::{Company, Money, Private, Round, Seat};
 
 /// Where a line was ruled.
 #[derive(Clone, Copy)]
@@ -96,7 +96,7 @@ fn push_by_order(
             | Refusal::Train(TrainRule::CashTooSmall)
             | Refusal::Private(PrivateRule::CashTooSmall),
             _,
-        ) => push_cash(out, ruled),
+        ) => push_cash(out, ruled, order),
         _ => push_by_tables(alloc, out, ruled, rule, order),
     }
 }
@@ -270,18 +270,23 @@ fn colour_of(view: &GameView, hex: Hex) -> &'static str {
     }
 }
 
-/// Adds the cash of the company among whose orders the line is; of each company that the player
-/// presides over, if that is not known.
-fn push_cash(out: &mut Vec<u8>, ruled: Ruled) -> Result<(), AllocError> {
+/// Adds what an order costs, and the cash of the company among whose orders it is; the cash of each
+/// company that the player presides over, if that is not known.
+fn push_cash(out: &mut Vec<u8>, ruled: Ruled, order: &Order) -> Result<(), AllocError> {
+    if let Some(company) = ruled.company()
+        && let Some(cost) = cost_in_turn(ruled.view, company, order)
+    {
+        let cash = Number(ruled.view.cash(Party::of_company(company)));
+        let cost = Number(Money::from(cost));
+        return fill(
+            out,
+            " (it costs %, % has %)",
+            &[cost, Words(company.code()), cash],
+        );
+    }
     let (mut words, mut end) = (" (% has %", "");
     for company in &Company::ALL {
-        let is_meant = match ruled.company() {
-            Some(its) => its == *company,
-            None => {
-                ruled.view.floated(*company) && ruled.view.president(*company) == Some(ruled.seat)
-            }
-        };
-        if is_meant {
+        if ruled.view.floated(*company) && ruled.view.president(*company) == Some(ruled.seat) {
             let cash = Number(ruled.view.cash(Party::of_company(*company)));
             fill(out, words, &[Words(company.code()), cash])?;
             (words, end) = (", % has %", ")");

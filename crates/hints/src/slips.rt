@@ -1,8 +1,8 @@
 //! Words that are nearly one that is known: `C&O` for CO, `NYHN` for NYNH.
 ghost use Rattle.std.specs.Prelude.{◌≡◌, drop, option_map};
 ghost use Rattle.std.specs.Str.{str_eq_ignore_ascii_case};
-ghost use Rattle.desk_check.specs.Slip.{are_turned, differ_at_first, is_code, is_slip, is_slip_in};
-ghost use Rattle.desk_check.specs.Slip.{nearest_code, only_slip, text, texts};
+ghost use Rattle.hints.specs.Slip.{are_turned, differ_at_first, is_code, is_near, is_slip, is_slip_in};
+ghost use Rattle.hints.specs.Slip.{nearest_code, only_slip, text, texts};
 
 /// The most bytes of a word that is read as a slip in another.
 const WORD_MOST: usize = 9;
@@ -58,6 +58,13 @@ fn without_first(word: &[u8]) -> &[u8]
     word.get(1..).unwrap_or(&[])
 }
 
+/// Returns whether a word of at most nine bytes becomes a code by one slip.
+pub(crate) fn is_near(word: &[u8], code: &[u8]) -> bool
+    ensures { result ≡ is_near word.now code.now }
+{
+    word.len() <= WORD_MOST && is_slip_of(word, code)
+}
+
 /// Returns the only code that is one slip away from a word; `None` if the word is itself a code, or
 /// no code or several are one slip away, or the word has over 9 bytes.
 pub(crate) fn nearest<'a>(word: &[u8], codes: &[&'a [u8]]) -> Option<&'a [u8]>
@@ -98,7 +105,7 @@ fn is_slip_in(word: &[u8], codes: &[&[u8]]) -> bool
 }
 
 /// Returns whether a word is one of some codes.
-fn is_code(word: &[u8], codes: &[&[u8]]) -> bool
+pub(crate) fn is_code(word: &[u8], codes: &[&[u8]]) -> bool
     ensures { result ≡ is_code word.now (texts codes.now) }
 {
     match codes {

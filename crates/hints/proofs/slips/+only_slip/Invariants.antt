@@ -1,5 +1,5 @@
 use Rattle.std.proofs.Common.{length}
-use Rattle.desk_check.proofs.check_codes.+only_slip.Given as goal
+use Rattle.hints.proofs.slips.+only_slip.Given as goal
 
 abbrev pub decreases-only_slip : goal.decreases-only_slip
 decreases-only_slip l = length l.codes.now

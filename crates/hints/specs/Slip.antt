@@ -1,6 +1,6 @@
 -- A slip in a word: one letter more than in a code, one less, another letter, or two letters that
 -- have changed places. Letters of either case are equal.
-use Rattle.std.specs.Prelude.{ℕ, Bool, false, ◌&&◌, ◌||◌, if◌then◌else◌, List, [], ◌∷◌, Option, Some, None, nat_lt}
+use Rattle.std.specs.Prelude.{ℕ, Bool, false, ◌&&◌, ◌||◌, if◌then◌else◌, List, [], ◌∷◌, Option, Some, None, nat_le, nat_lt}
 use Rattle.std.specs.Prelude.{length, drop, map}
 use Rattle.std.specs.Borrow.{Bor}
 use Rattle.std.specs.Char.{eq_ignore_ascii_case}
@@ -37,6 +37,10 @@ is_slip (byte ∷ word) (letter ∷ code) =
     if eq_ignore_ascii_case byte letter
     then is_slip word code
     else differ_at_first (byte ∷ word) (letter ∷ code) || are_turned (byte ∷ word) (letter ∷ code)
+
+-- the word has at most nine bytes, and becomes the code by one slip
+abbrev pub is_near : List ℕ → List ℕ → Bool
+is_near word code = nat_le (length word) 9 && is_slip word code
 
 -- the word is one of these codes
 abbrev pub is_code : List ℕ → List (List ℕ) → Bool

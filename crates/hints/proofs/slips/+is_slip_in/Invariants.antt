@@ -1,5 +1,5 @@
 use Rattle.std.proofs.Common.{length}
-use Rattle.desk_check.proofs.check_codes.+is_slip_in.Given as goal
+use Rattle.hints.proofs.slips.+is_slip_in.Given as goal
 
 abbrev pub decreases-is_slip_in : goal.decreases-is_slip_in
 decreases-is_slip_in l = length l.codes.now

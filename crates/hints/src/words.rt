@@ -1,12 +1,11 @@
 //! The words of a line, as they are written.
 
-use tables::PLAYERS_MOST;
+/// How many words of a line are looked at.
+pub(crate) const WORDS_MOST: usize = 12;
 
-/// How many words of a line are looked at: the most of a PLAYERS line.
-pub(crate) const WORDS_MOST: usize = 1 + PLAYERS_MOST;
-
-/// Returns the first words of a line before its comment, and how many words it has there.
-pub(crate) fn words_of(line: &[u8]) -> ([&[u8]; WORDS_MOST], usize) {
+/// Returns the first words of a line before its comment, at most 12, and how many words it has
+/// there.
+pub fn words_of(line: &[u8]) -> ([&[u8]; 12], usize) {
     let mut words: [&[u8]; WORDS_MOST] = [b""; WORDS_MOST];
     let mut count = 0;
     let mut is_inside = false;
@@ -34,4 +33,9 @@ fn word_in_front(text: &[u8]) -> &[u8] {
         }
     }
     text
+}
+
+/// Returns whether a word has a digit, as numbers and places have.
+pub(crate) fn has_digit(word: &[u8]) -> bool {
+    word.iter().any(|byte| byte.is_ascii_digit())
 }

@@ -1,5 +1,5 @@
 use Rattle.std.proofs.Common.{◌≤◌}
-use Rattle.desk_check.proofs.check_words.words_of.Given as goal
+use Rattle.hints.proofs.words.words_of.Given as goal
 
 -- each word has a byte of its own
 abbrev pub invariant-loop-at : goal.invariant-loop-at

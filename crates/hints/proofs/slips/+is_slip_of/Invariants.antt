@@ -1,5 +1,5 @@
 use Rattle.std.proofs.Common.{length}
-use Rattle.desk_check.proofs.check_codes.+is_slip_of.Given as goal
+use Rattle.hints.proofs.slips.+is_slip_of.Given as goal
 
 abbrev pub decreases-is_slip_of : goal.decreases-is_slip_of
 decreases-is_slip_of l = length l.word.now

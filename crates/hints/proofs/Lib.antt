@@ -1,0 +1,1 @@
+-- The proofs of this crate stand in the folders of its functions.

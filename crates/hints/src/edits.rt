@@ -1,0 +1,329 @@
+//! Lines that are one edit away from a line, each as a whole, in upper case.
+
+use crate::slips::{is_code, is_near, nearest};
+use crate::vocabulary::{CODES, FIRSTS};
+use crate::words::has_digit;
+use std::alloc::{AllocError, Global};
+
+/// The sign > as a mail of HTML writes it.
+const HTML_SIGN: &[u8] = b"&gt;";
+
+/// Some lines, no two of which are equal.
+#[derive(Drop)]
+pub(crate) struct Edited {
+    pub(crate) alloc: Global,
+    pub(crate) lines: Vec<Vec<u8>>,
+}
+
+impl Edited {
+    /// Returns no lines yet.
+    pub(crate) fn none(alloc: Global) -> Edited {
+        Edited {
+            alloc,
+            lines: Vec::new(alloc),
+        }
+    }
+
+    /// Returns the lines as slices.
+    pub(crate) fn texts(&self) -> Result<Vec<&[u8]>, AllocError> {
+        let mut texts = Vec::new(self.alloc);
+        for line in &self.lines {
+            texts.push(line.as_slice())?;
+        }
+        Ok(texts)
+    }
+
+    /// Adds a line, unless it is there already.
+    fn add(&mut self, line: Vec<u8>) -> Result<(), AllocError> {
+        if self
+            .lines
+            .iter()
+            .any(|other| other.as_slice() == line.as_slice())
+        {
+            return Ok(());
+        }
+        self.lines.push(line)?;
+        Ok(())
+    }
+
+    /// Adds the line of some words.
+    pub(crate) fn push(&mut self, words: &[&[u8]]) -> Result<(), AllocError> {
+        let mut line = Vec::new(self.alloc);
+        for word in words {
+            push_word(&mut line, word)?;
+        }
+        self.add(line)
+    }
+
+    /// Adds the line of some words with one word in place of that at a place.
+    fn push_with(&mut self, words: &[&[u8]], place: usize, other: &[u8]) -> Result<(), AllocError> {
+        let mut line = Vec::new(self.alloc);
+        for (at, word) in words.iter().enumerate() {
+            push_word(&mut line, if at == place { other } else { word })?;
+        }
+        self.add(line)
+    }
+
+    /// Adds the lines in which one word is a word of orders that is a slip away.
+    pub(crate) fn push_respelled(&mut self, words: &[&[u8]]) -> Result<(), AllocError> {
+        for (place, word) in words.iter().enumerate() {
+            if place == 0 {
+                self.push_each_near(words, place, word, &FIRSTS)?;
+            } else if !has_digit(word) && !is_code(word, &FIRSTS) {
+                self.push_each_near(words, place, word, &CODES)?;
+            }
+        }
+        Ok(())
+    }
+
+    /// Adds the lines with one of these codes in place of a word that is a slip away from it; none
+    /// if the word is itself one of them.
+    fn push_each_near(
+        &mut self,
+        words: &[&[u8]],
+        place: usize,
+        word: &[u8],
+        codes: &[&[u8]],
+    ) -> Result<(), AllocError> {
+        if is_code(word, codes) {
+            return Ok(());
+        }
+        for code in codes {
+            if is_near(word, code) {
+                self.push_with(words, place, code)?;
+            }
+        }
+        Ok(())
+    }
+
+    /// Adds the lines of the words of a SHEET line with the name of one of these players, of whom
+    /// its own name is nearly that.
+    pub(crate) fn push_named(
+        &mut self,
+        words: &[&[u8]],
+        players: &[&[u8]],
+    ) -> Result<(), AllocError> {
+        let [_, name, ..] = words else {
+            return Ok(());
+        };
+        match player_meant(name, players) {
+            Some(player) => self.push_with(words, 1, player),
+            None => Ok(()),
+        }
+    }
+
+    /// Adds the line without the signs around its words; the line whose signs for "at least" are
+    /// words of their own, and `>=`; and the lines in which two words are joined, or one is parted.
+    pub(crate) fn push_parted(&mut self, words: &[&[u8]]) -> Result<(), AllocError> {
+        self.push_bare(words)?;
+        self.push_at_least(words)?;
+        for (place, word) in words.iter().enumerate() {
+            if let Some(next) = words.get(place.saturating_add(1)) {
+                self.push_joined(words, place, word, next)?;
+            }
+            for at in 1..word.len() {
+                self.push_split(words, place, word, at)?;
+            }
+        }
+        Ok(())
+    }
+
+    /// Adds the line of some words without the signs around them.
+    fn push_bare(&mut self, words: &[&[u8]]) -> Result<(), AllocError> {
+        let mut line = Vec::new(self.alloc);
+        for word in words {
+            push_word(&mut line, bare(word))?;
+        }
+        self.add(line)
+    }
+
+    /// Adds the line of some words in which each run of signs for "at least" is the word `>=`.
+    fn push_at_least(&mut self, words: &[&[u8]]) -> Result<(), AllocError> {
+        let mut line = Vec::new(self.alloc);
+        for word in words {
+            let (before, sign, after) = by_sign(word);
+            push_word(&mut line, before)?;
+            if !sign.is_empty() {
+                push_word(&mut line, b">=")?;
+            }
+            push_word(&mut line, after)?;
+        }
+        self.add(line)
+    }
+
+    /// Adds the line of some words in which the word at a place and the next are one.
+    fn push_joined(
+        &mut self,
+        words: &[&[u8]],
+        place: usize,
+        word: &[u8],
+        next: &[u8],
+    ) -> Result<(), AllocError> {
+        let mut joined = Vec::new(self.alloc);
+        joined.extend_from_slice(word)?;
+        joined.extend_from_slice(next)?;
+        let mut line = Vec::new(self.alloc);
+        for (at, word) in words.iter().enumerate() {
+            if at == place {
+                push_word(&mut line, joined.as_slice())?;
+            } else if at != place.saturating_add(1) {
+                push_word(&mut line, word)?;
+            }
+        }
+        self.add(line)
+    }
+
+    /// Adds the line of some words in which the word at a place is two, of which the first has this
+    /// many bytes.
+    fn push_split(
+        &mut self,
+        words: &[&[u8]],
+        place: usize,
+        word: &[u8],
+        at: usize,
+    ) -> Result<(), AllocError> {
+        let mut line = Vec::new(self.alloc);
+        for (other, whole) in words.iter().enumerate() {
+            if other == place {
+                push_word(&mut line, word.get(..at).unwrap_or(&[]))?;
+                push_word(&mut line, word.get(at..).unwrap_or(&[]))?;
+            } else {
+                push_word(&mut line, whole)?;
+            }
+        }
+        self.add(line)
+    }
+
+    /// Adds the lines in which one word stands at another place.
+    pub(crate) fn push_moved(&mut self, words: &[&[u8]]) -> Result<(), AllocError> {
+        for (from, word) in words.iter().enumerate() {
+            for to in 0..words.len() {
+                // One place forward is the next word one place back.
+                if to != from && to.saturating_add(1) != from {
+                    self.push_with_moved(words, from, to, word)?;
+                }
+            }
+        }
+        Ok(())
+    }
+
+    /// Adds the line of some words in which the word at a place stands at another.
+    fn push_with_moved(
+        &mut self,
+        words: &[&[u8]],
+        from: usize,
+        to: usize,
+        moved: &[u8],
+    ) -> Result<(), AllocError> {
+        let mut line = Vec::new(self.alloc);
+        for (at, word) in words.iter().enumerate() {
+            if at == to && to < from {
+                push_word(&mut line, moved)?;
+            }
+            if at != from {
+                push_word(&mut line, word)?;
+            }
+            if at == to && to > from {
+                push_word(&mut line, moved)?;
+            }
+        }
+        self.add(line)
+    }
+
+    /// Adds the lines in which one word is left out, the first one too if it `may_be_first`.
+    pub(crate) fn push_shortened(
+        &mut self,
+        words: &[&[u8]],
+        may_be_first: bool,
+    ) -> Result<(), AllocError> {
+        let from = if may_be_first { 0 } else { 1 };
+        for place in from..words.len() {
+            self.push_with(words, place, b"")?;
+        }
+        Ok(())
+    }
+}
+
+/// Adds a word to a line, in upper case, after a space unless it is the first; nothing if it is
+/// empty.
+pub(crate) fn push_word(line: &mut Vec<u8>, word: &[u8]) -> Result<(), AllocError> {
+    if word.is_empty() {
+        return Ok(());
+    }
+    if !line.is_empty() {
+        line.push(b' ')?;
+    }
+    for byte in word {
+        line.push(byte.to_ascii_uppercase())?;
+    }
+    Ok(())
+}
+
+/// Returns a word without the signs around it, as a colon, a comma, a full stop and quotation marks.
+fn bare(word: &[u8]) -> &[u8] {
+    let start = word.iter().position(|byte| !is_around(*byte));
+    let rest = word.get(start.unwrap_or(word.len())..).unwrap_or(&[]);
+    let end = rest.iter().rposition(|byte| !is_around(*byte));
+    rest.get(..end.map_or(0, |end| end.saturating_add(1)))
+        .unwrap_or(&[])
+}
+
+/// Returns whether a byte is a sign that may stand around a word.
+fn is_around(byte: u8) -> bool {
+    !byte.is_ascii_alphanumeric() && !is_sign(byte)
+}
+
+/// Returns whether a byte is part of a sign for "at least".
+fn is_sign(byte: u8) -> bool {
+    matches!(byte, b'<' | b'>' | b'=')
+}
+
+/// Returns a word in three: what is before a sign for "at least", the sign, and what is after it.
+/// The sign is empty if the word has none.
+fn by_sign(word: &[u8]) -> (&[u8], &[u8], &[u8]) {
+    if let Some(after) = word.strip_prefix(HTML_SIGN) {
+        return (&[], HTML_SIGN, after.strip_prefix(b"=").unwrap_or(after));
+    }
+    let start = word
+        .iter()
+        .position(|byte| is_sign(*byte))
+        .unwrap_or(word.len());
+    let (before, rest) = (
+        word.get(..start).unwrap_or(word),
+        word.get(start..).unwrap_or(&[]),
+    );
+    let end = rest
+        .iter()
+        .position(|byte| !is_sign(*byte))
+        .unwrap_or(rest.len());
+    (
+        before,
+        rest.get(..end).unwrap_or(rest),
+        rest.get(end..).unwrap_or(&[]),
+    )
+}
+
+/// Returns the player whose name a word nearly is: one slip away, or longer or shorter at its end;
+/// `None` if there is none, or there are several.
+fn player_meant<'a>(word: &[u8], players: &[&'a [u8]]) -> Option<&'a [u8]> {
+    if let Some(player) = nearest(word, players) {
+        return Some(player);
+    }
+    let mut meant = None;
+    for player in players {
+        if begins_alike(word, player) {
+            if meant.is_some() {
+                return None;
+            }
+            meant = Some(*player);
+        }
+    }
+    meant
+}
+
+/// Returns whether one of two words begins with the other, which has over one letter. Letters of
+/// either case are equal.
+fn begins_alike(word: &[u8], name: &[u8]) -> bool {
+    let shorter = word.len().min(name.len());
+    shorter > 1 && word[..shorter].eq_ignore_ascii_case(&name[..shorter])
+}
