@@ -33,7 +33,7 @@ count() {
 judge() {
   local name=$1 status=$2 wanted=$3 output=$4 errors=$5 why=
   ((status == wanted)) || why+=" its status is $status and not $wanted;"
-  cmp -s "$output" "$scratch/out" || why+=" its standard output is not what is owed;"
+  cmp -s "$output" "$scratch/out" || why+=" its standard output differs from $output;"
   case $errors in
     none) [ ! -s "$scratch/err" ] || why+=" there is text on standard error;" ;;
     some) [ -s "$scratch/err" ] || why+=" there is nothing on standard error;" ;;

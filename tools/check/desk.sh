@@ -185,7 +185,7 @@ told_games() {
 # umpire then refuses; with -a each code of an order is told.
 try_told() { take_over bench/told -p "$program" -d "$1" -r "$2" "${@:3}"; }
 
-# moves_must_fail: what is wrong by intent. Of games/first-round three players may buy CS for 40, and not DH. In
+# moves_must_fail: what is deliberately broken. Of games/first-round three players may buy CS for 40, and not DH. In
 # games/first-stock-round PRR may lay 57 on H10 in OR1.1. Before OR4.1 of the third game PRR may place a token in H10, and PRR, or BO at
 # either price, buy DH if BOB offers it.
 moves_must_fail() {
@@ -204,7 +204,7 @@ moves_must_fail() {
   sees 'the consent of another player' 3 try_moves "$(desk_but 's/ BOB OFFER PRIVATE DH / CYD OFFER PRIVATE DH /')" 1 600 "$later"
 }
 
-# told_must_fail: what is wrong by intent. In the game the order to sell is refused with S4.
+# told_must_fail: what is deliberately broken. In the game the order to sell is refused with S4.
 told_must_fail() {
   local game=games/desk/check-a-sale-into-a-full-pool.orders
   sees 'a refusal that is not told before its round' 1 try_told "$(desk_but '/ as things stand: S4: /d')" 1 "$game"

@@ -1,5 +1,5 @@
 # The part `games`: each game gives its report, its certificates, and the file of version 2 that it
-# goes over to.
+# is converted to.
 
 # play_game ORDERS: the file of orders gives its report, with status 0 or that of its file. In
 # folders whose games have certificates behind the orders, or ask for them, or go over to version 2,

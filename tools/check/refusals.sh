@@ -13,7 +13,7 @@ play_cuts() {
       "$program" report < "$scratch/cut" > "$scratch/out" 2> "$scratch/err"
       status=$? why= all=$((all + 1))
       ((status == wanted)) || why+=" its status is $status and not $wanted;"
-      [ "$(sha256sum < "$scratch/out")" = "$sum  -" ] || why+=' its standard output is not what is owed;'
+      [ "$(sha256sum < "$scratch/out")" = "$sum  -" ] || why+=' its standard output has another checksum;'
       [ ! -s "$scratch/err" ] || why+=' there is text on standard error;'
       count "$orders, cut after $bytes bytes" "${why# }"
     done

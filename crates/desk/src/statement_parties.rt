@@ -156,7 +156,7 @@ fn push_belongings(
             fill(out, "% ", &[Words(kind.code())])?;
         }
     }
-    fill(out, "of %", &[Count(game_row(&view).trains)])?;
+    fill(out, "(may have %)", &[Count(game_row(&view).trains)])?;
     let mut comma = ", ";
     for private in &Private::ALL {
         if history.owner(*private) == Some(Holder::Company(company)) {

@@ -31,7 +31,7 @@ fn main(rt: HostRuntime) -> ExitCode {
         Ok(words) => start(&rt, words.as_slice()),
         // An allocation failed: passed on.
         Err(error) if error.kind() == io::ErrorKind::OutOfMemory => fail(&rt, StreamFault::Memory),
-        Err(_) => misuse(&rt, "the command line is no text"),
+        Err(_) => misuse(&rt, "the command line is not valid text"),
     }
 }
 

@@ -264,7 +264,7 @@ fn program<'a>(alloc: Global) -> Result<Command<'a>, AllocError> {
     Ok(
         Command::new(alloc, "desk")
             .about(
-                "Tells of a game of 1830 what stands around its report: the order file on standard input",
+                "Prints what the report of a game of 1830 does not say; the order file is standard input",
             )
             .version(VERSION)
             .bin_name("desk")?
@@ -289,11 +289,11 @@ fn argument_of<'a>(alloc: Global, operand: Operand) -> Arg<'a> {
         Operand::Round => {
             Arg::new(alloc, "ROUND").help("The round, as OR2.1; the last one if none is named")
         }
-        Operand::Why => flag(alloc, "why").help("Put under each refused line what rule it broke"),
+        Operand::Why => flag(alloc, "why").help("Show below each refused line which rule it broke"),
         Operand::Before => flag(alloc, "before").help("As it stood before that round"),
-        Operand::All => flag(alloc, "all").help("Tell all that there is"),
+        Operand::All => flag(alloc, "all").help("Show everything"),
         Operand::From => Arg::new(alloc, "from").long("from").value_name("LINE").help(
-            "Tell only what begins on this line of the file or below it",
+            "Show only what begins on this line of the file or below it",
         ),
         Operand::Due => Arg::new(alloc, "due")
             .long("due")
@@ -308,7 +308,7 @@ fn argument_of<'a>(alloc: Global, operand: Operand) -> Arg<'a> {
             )
         }
         Operand::Best => {
-            flag(alloc, "best").help("Tell what the company's best runs would earn after each")
+            flag(alloc, "best").help("Show what the company's best runs would earn after each")
         }
         Operand::Drafted => {
             flag(alloc, "drafted").help(
@@ -415,7 +415,7 @@ fn take_list<'a>(
             match read_kind(word.as_bytes()) {
                 Some(kind) => task.trains.push(kind)?,
                 None => return Ok(Some(
-                    "this names no trains; 2, 3, 4, 5, 6 and D are kinds of them",
+                    "there is no such train; the kinds are 2, 3, 4, 5, 6 and D",
                 )),
             }
         }
@@ -455,7 +455,7 @@ fn take_round(task: &mut Task, word: &str) -> Option<&'static str> {
     task.round = read_round(word.as_bytes());
     match task.round {
         Some(_) => None,
-        None => Some("this names no round; PR1, SR1 and OR1.1 are names of rounds"),
+        None => Some("there is no such round; PR1, SR1 and OR1.1 are names of rounds"),
     }
 }
 
@@ -463,7 +463,7 @@ fn take_round(task: &mut Task, word: &str) -> Option<&'static str> {
 /// nothing is.
 fn take_from(task: &mut Task, word: &str) -> Option<&'static str> {
     let Ok(line) = word.parse() else {
-        return Some("behind --from the number of a line of the file is to stand");
+        return Some("--from takes the number of a line of the file");
     };
     task.from = line;
     None

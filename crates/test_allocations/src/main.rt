@@ -3,7 +3,7 @@
 //! of these:
 //!
 //! - `as owed`: it returned what is expected;
-//! - `want of memory, and as before`: an allocation failed, and what it was called on shows the
+//! - `out of memory, unchanged`: an allocation failed, and what it was called on shows the
 //!   state before the call;
 //! - `NOT AS OWED`: neither.
 //!

@@ -33,7 +33,7 @@ impl Outcome {
     pub fn text(self) -> &'static str {
         match self {
             Outcome::AsOwed => "as owed",
-            Outcome::AsBefore => "want of memory, and as before",
+            Outcome::AsBefore => "out of memory, unchanged",
             Outcome::Other => "NOT AS OWED",
         }
     }

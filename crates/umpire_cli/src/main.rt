@@ -41,13 +41,13 @@ fn words(rt: &HostRuntime) -> io::Result<Vec<String>> {
     Ok(env::args(rt)?.collect(rt.alloc())?)
 }
 
-/// Ends the program if the command line could not be read: it is no text, or an allocation failed.
+/// Ends the program if the command line could not be read: it is not valid text, or an allocation failed.
 fn no_words(rt: &HostRuntime, error: &io::Error) -> ExitCode {
     if error.kind() == io::ErrorKind::OutOfMemory {
         // An allocation failed: passed on.
         return end(rt, &Err(Fault::Memory));
     }
-    let _ = eprintln!(rt; "error: the command line is no text");
+    let _ = eprintln!(rt; "error: the command line is not valid text");
     ExitCode::from(MISUSED)
 }
 
@@ -79,11 +79,9 @@ fn command<'a>(alloc: Global) -> Result<Command<'a>, AllocError> {
         .subcommand(Command::new(alloc, "report").about("Writes the report of the order file"))?
         .subcommand(Command::new(alloc, "certs").about("Writes the certificates of its best runs"))?
         .subcommand(Command::new(alloc, "verify").about(
-            "Writes its report, if the certificates behind it show that its best runs are the best",
+            "Checks the certificates that follow, and writes the report",
         ))?
-        .subcommand(Command::new(alloc, "migrate").about(
-            "Writes the file of version 2 that it goes over to",
-        ))
+        .subcommand(Command::new(alloc, "migrate").about("Converts the file to version 2"))
 }
 
 /// Says what is wrong with the command line.
