@@ -28,8 +28,64 @@ CLAIMS = [
         'desk_moves: best_after_lay', 'desk_moves: best_after_token', 'desk_moves: trial', 'page: page')),
 ]
 
-# Examples that the crates of the rules state as laws. Those of crates/rulebook say themselves which chapter they belong to.
+# What the definitions that are hardest to read say, taken together, in the chapter that brings the first of them.
+NOTES: list[tuple[str, str]] = [
+    ('rounds: Plays', 'A game is found and not made: some number of rounds leads from before the first to its end, each by `IsRound`, '
+     'and at the end a seat has no sheet, or nothing comes next. `OneGame` and `SomeGame` below say that there is exactly one.'),
+    ('totals: last_said', '`last_said says events` is what `says` gives of the last event of which it gives anything. `now_said` is the same '
+     'for things that may also come to nothing: the last event that speaks of it may say so. `in_round` lets the event that begins a round '
+     'say so, and what is left is what was said since.'),
+    ('tables: Ends', 'What repeats until it is over: some number of steps leads there, it is over then, and after fewer it was not. '
+     '`after_turn` is one step of a round of turns: the seat takes its next written turn, or none. The next seat to the left follows, and '
+     '`turns_over` asks whether all have passed in succession.'),
+    ('turns: line_ruling', 'A ruling is made by `judged`: the first rule that is broken refuses the line, otherwise it is obeyed. `obeyed_by` '
+     'is the order that is then to be done, and `done` does it. Each round and each company ends its lines in this way.'),
+    ('privates: with_limit', 'The second limit is the greatest of those who do not win. The winner is known by the bid, since no two bids on a '
+     'private are equal.'),
+    ('operating: LinesLead', 'Line after line, each leading from the turn before it to the turn after it. A line with a fault ends in '
+     '`ReadingLeads`, one whose condition does not hold in `AskedLeads`, and an order in `OrderLeads`, by its own definition.'),
+    ('board: IsLayAnswer', '`reached` is a guess that `exact` makes right: where none of the rules before L9 is broken, it is true exactly if the '
+     'company reaches some piece of the tile. Then the answer is the first rule that is broken, or the cost. Where one of those rules is '
+     'broken, `reached` does not matter.'),
+    ('board: IsTokenAnswer', '`reached` is true exactly if the company reaches the place, where none of the rules before K5 is broken.'),
+    ('legal_runs: walk_named', 'The train begins at the stop of the first place. `leg_to` is the step or the two steps to the next place, if '
+     'there is such track, and `travelled` goes on from there. `with_leg` adds the steps to what was made so far: here a walk, in which '
+     '`taken` puts the latest step first. If a leg is missing, or the last place has no stop, there is no walk.'),
+    ('legal_runs: visited', 'A walk has its latest step first. So `visited` goes backwards: of each step the stop at which it is left, and of the '
+     'first step also the stop at which it is entered. `crossed` has the border over which each step is entered.'),
+    ('legal_runs: border_of', 'A border has one number: three times the place of a hex, and the number of its side 0, 1 or 2. At a side 3, 4 or '
+     '5 it is a border of the hex beyond. Sides at the edge of the map have numbers, too, which may be those of other borders, but no walk '
+     'crosses them.'),
+    ('operating: RunsOfTurn', 'What the trains have done in a turn: how many of each kind have run, a mark for each of the 279 numbers of borders, '
+     'and what was earned. `borders_used` is the list of the numbers that are marked.'),
+    ('purchases: lines_of', 'Which DISCARD lines are left is found by going over the events once. `Lines` is whether the seat presides then, '
+     'and its lines that are left. A round begins without any, an obeyed line is added at the end, and a train that the company gives up '
+     'while the seat presides uses up the first line of its kind.'),
+    ('order_grammar: rows_reading', 'A line is tried by all forms that begin with its first word. The nearest to an order counts: an order, then '
+     'one with a number too large (G5), then other words (G4). Without such a form it is G3.'),
+    ('report: rounds_in', 'The events are cut before each that begins a round. The list is read from its end: an event joins the round behind '
+     'it, unless that begins with a ROUND event.'),
+    ('operating: Course', 'A course leads from somewhere to somewhere else, or to a fault, and makes calls of whoever answers RUN BEST. `Then` is '
+     'one course after another, with the calls of both, and `SomeTimesThen` some number of the first before the second.'),
+    ('umpire: from_divider', 'Of all lines `CERTS 1` the last counts: the text is looked at from each of its bytes that begins a line, and what '
+     'lies further back comes first in `option_or`.'),
+]
+
+# Laws beside the definitions, which are proved, and examples that the crates of the rules state as laws. The examples of crates/rulebook
+# say themselves which chapter they belong to.
 LAWS = [
+    Law('the-game', 'a file has one game', 'rounds/specs/Play', ('OneGame', 'SomeGame'), ('one_game', 'some_game'), 'Proved'),
+    Law('companies', 'who presides', 'certs/specs/President', ('HaveAtMost', 'IsFirstWithMost', 'FirstWithMostPresides'),
+        ('first_with_most_presides',), 'Proved'),
+    Law('bids', 'who wins an auction, in other words', 'privates/specs/Auction',
+        ('EachBidder', 'BidsDiffer', 'LimitsHold', 'IsAmong', 'IsAhead', 'AreOthers', 'IsOneOf', 'NoneIsOver', 'IsGreatest', 'IsWon',
+         'AuctionIsWon'), ('auction_is_won',), 'Proved'),
+    Law('runs', 'the rules of a run and what a legal run is say the same', 'legal_runs/specs/Law',
+        ('NameLegalRun', 'LegalWhereNoRuleIsBroken', 'AreItsPlaces', 'EachLegalRunIsNamed'), ('legal_where_no_rule_is_broken', 'each_legal_run_is_named'), 'Proved'),
+    Law('best-runs', 'there is one greatest revenue', 'legal_runs/specs/Greatest', ('AGreatestExists', 'OneGreatest'),
+        ('a_greatest_exists', 'one_greatest'), 'Proved'),
+    Law('certificates', 'a certificate that is accepted shows the greatest revenue', 'certificate/specs/HoldingLaws', ('AcceptedIsGreatest',),
+        ('accepted_is_greatest',), 'Proved'),
     Law('opening-round', 'an opening round of a file', 'rounds/specs/Example', ('first_file', 'first_events', 'first_end'), ('first_example',)),
     Law('stock-round', 'a stock round of a file', 'rounds/specs/Example', ('second_file', 'second_opening', 'second_stock_round', 'second_end'),
         ('second_example',)),

@@ -21,16 +21,18 @@ class Example:
     text: str
     code: str
     path: str
+    heading: str = 'Computed'
 
 
 @dataclass(frozen=True)
 class Law:
-    """An example that a function states: definitions of a file of specs/, all of them if none is named, and the functions that say so."""
+    """What functions state: definitions of a file of specs/, all of them if none is named, and the functions that say so."""
     chapter: str
     title: str
     file: str  # as `crate/specs/File`
     definitions: tuple[str, ...]
     functions: tuple[str, ...]
+    heading: str = 'Computed'
 
 
 def read_example(path: str, text: str) -> Example | None:
@@ -58,7 +60,7 @@ def statement(part: str) -> str:
 
 
 def law_example(root: str, modules: dict[str, specs.Module], law: Law) -> Example:
-    """Returns an example that functions state."""
+    """Returns what functions state."""
     module, crate = modules[law.file], law.file.partition('/')[0]
     named = [definition for name, definition in module.definitions.items() if name in law.definitions or not law.definitions]
     parts = [''.join('-- %s\n' % line for line in one.comment) + '\n'.join(one.lines) + '\n' for one in named]
@@ -69,7 +71,8 @@ def law_example(root: str, modules: dict[str, specs.Module], law: Law) -> Exampl
         parts.append('-- it holds: %s\n%s\n' % (function, re.search(r'ensures \{ (.*?) \}', contract.text, re.S).group(1)))
     names = ' and '.join('`%s: %s`' % (crate, function) for function in law.functions)
     comment = '' if law.definitions else ' '.join(module.comment) + ' '
-    return Example(law.chapter, law.title, '%sThis is stated by %s.' % (comment, names), '\n'.join(parts), 'crates/%s.antt' % law.file)
+    says = ' '.join(sources.find_comment(root, crate, function) for function in law.functions)
+    return Example(law.chapter, law.title, '%s%s (%s)' % (comment, says, names), '\n'.join(parts), 'crates/%s.antt' % law.file, law.heading)
 
 
 def all_examples(root: str, modules: dict[str, specs.Module], laws: list[Law]) -> list[Example]:

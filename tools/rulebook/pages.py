@@ -60,8 +60,9 @@ def without_marks(text: str) -> str:
 class Book:
     """The rulebook: its chapters with the definitions that they bring."""
 
-    def __init__(self, house: House, chapters: list[Chapter], made: Shapes, order: list[str], examples: list[Example]):
-        self.house, self.chapters, self.made, self.order, self.examples = house, chapters, made, order, examples
+    def __init__(self, house: House, chapters: list[Chapter], made: Shapes, order: list[str], examples: list[Example],
+                 notes: list[tuple[str, str]]):
+        self.house, self.chapters, self.made, self.order, self.examples, self.notes = house, chapters, made, order, examples, notes
         self.kinds = {one: kind_of(house.definition(one)) for chapter in chapters for one in chapter.brings}
         self.number = {id(chapter): number for number, chapter in enumerate(chapters, 1)}
 
@@ -75,7 +76,7 @@ class Book:
         by_kind = {kind: [one for one in chapter.brings if self.kinds[one] is kind] for kind in Kind}
         if not chapter.brings:
             return text
-        text += '\n## Definitions\n\n' + wrap(self.count(by_kind))
+        text += '\n## Definitions\n\n' + wrap(self.count(by_kind)) + self.in_words(chapter)
         text += self.tables(by_kind[Kind.TABLE])
         return text + self.code('Rules', by_kind[Kind.RULE]) + self.code('Plumbing', by_kind[Kind.PLUMBING]) + self.needs(chapter)
 
@@ -96,8 +97,14 @@ class Book:
         return ('This chapter is the first that needs these: %s. `README.md` says how to read them; a file comes before those that it '
                 'uses, and a definition before those that it uses.' % ', '.join(parts))
 
+    def in_words(self, chapter: Chapter) -> str:
+        """Returns what the definitions of a chapter that are hardest to read say, taken together."""
+        here = [(name, note) for name, note in self.notes if self.made.index.named(*name.split(': ')) in chapter.brings]
+        return ''.join(['\n### In words\n\n'] * bool(here) + [wrap_item('- `%s`. %s' % (name, note)) for name, note in here])
+
     def example(self, example: Example) -> str:
-        return '\n## Computed: %s\n\n%s\n```agda\n%s```\n\n`%s`\n' % (example.title, wrap(example.text), example.code, example.path)
+        return '\n## %s: %s\n\n%s\n```agda\n%s```\n\n`%s`\n' % (
+            example.heading, example.title, wrap(example.text), example.code, example.path)
 
     def tables(self, ones: list[Name]) -> str:
         """Returns tables in their own shape: those of a file with the same cases as the columns of one table."""

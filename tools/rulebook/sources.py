@@ -108,3 +108,12 @@ def find_contract(root: str, crate: str, name: str) -> Contract | None:
     """Returns the contract of a function of a crate."""
     found = (contract(crate, file, text, name) for file, text in specs.sources(root, crate).items())
     return next((one for one in found if one), None)
+
+
+def find_comment(root: str, crate: str, name: str) -> str:
+    """Returns the doc comment of a function of a crate, on one line."""
+    for text in specs.sources(root, crate).values():
+        found = re.search(r'((?:^ *///[^\n]*\n)+)(?:^ *#\[[^\n]*\n)*^ *pub(?:\([^)]*\))? fn %s\b' % name, text, re.M)
+        if found:
+            return ' '.join(line.strip()[3:].strip() for line in found.group(1).strip().split('\n'))
+    return ''
