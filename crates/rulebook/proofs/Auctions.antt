@@ -1,5 +1,6 @@
 -- Example for the chapter `bids`: auctions.
--- BOB, at seat 1, has bid 75, and CYD, at seat 2, 80. These are the rows of the table in "The price of an auction".
+-- BOB, at seat 1, has bid 75, and CYD, at seat 2, 80. These are the rows of the table in "The price
+-- of an auction".
 use Rattle.std.proofs.Common.{◌≡◌, refl, ℕ, ℤ, pos, [], ◌∷◌}
 use Rattle.privates.specs.Auction.{auction_of}
 use Rattle.tables.specs.Seat.{seat_at}

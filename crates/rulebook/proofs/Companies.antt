@@ -1,5 +1,6 @@
 -- Example for the chapter `companies`: a president, counted certificates, and a float.
--- BOB, at seat 1, has CS and CA, and with CA a share of PRR. ANN starts PRR at 67 with two shares. BOB buys two more.
+-- BOB, at seat 1, has CS and CA, and with CA a share of PRR. ANN starts PRR at 67 with two shares.
+-- BOB buys two more.
 use Rattle.std.proofs.Common.{◌≡◌, refl, pos, true, List, [], ◌∷◌, ◌++◌}
 use Rattle.certs.specs.Counted.{counted_of}
 use Rattle.certs.specs.President.{successor_of}

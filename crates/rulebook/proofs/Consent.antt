@@ -1,5 +1,6 @@
 -- Example for the chapter `consent`: an offer, and what it is not.
--- BOB, at seat 1, has offered in OR2.1 that a 2 goes from NYC to PRR for 30. ANN, at seat 0, presides over PRR.
+-- BOB, at seat 1, has offered in OR2.1 that a 2 goes from NYC to PRR for 30. ANN, at seat 0,
+-- presides over PRR.
 use Rattle.std.proofs.Common.{◌≡◌, refl, ℕ, true, false, List, [], ◌∷◌, ◌++◌, None}
 use Rattle.events.specs.declared.event.Event.{Event}
 use Rattle.events.specs.declared.event.Event.TheVariants as event

@@ -1,6 +1,7 @@
 -- Example for the chapter `dividends`: PRR pays 30.
--- PRR is at F7, its par of 67. ANN, at seat 0, has three shares, BOB, at seat 1, two, and one is in the pool. The four of the
--- initial offering are paid nothing, and the token moves right. If PRR withholds, it moves left.
+-- PRR is at F7, its par of 67. ANN, at seat 0, has three shares, BOB, at seat 1, two, and one is in
+-- the pool. The four of the initial offering are paid nothing, and the token moves right. If PRR
+-- withholds, it moves left.
 use Rattle.std.proofs.Common.{◌≡◌, refl, List, [], ◌∷◌, ◌++◌}
 use Rattle.certs.specs.Dividend.{paid_out}
 use Rattle.events.specs.declared.event.Event.{Event}

@@ -1,7 +1,8 @@
 -- Example for the chapter `forced-purchase`: a president sells to pay for a train, and one cannot.
--- PRR must buy a train. It has 50, and a 2 costs 80. ANN, at seat 0, presides with three shares of it, and BOB, at seat 1, has
--- three, too. She has paid this much for DH in an auction, and may have bought a share of NYC, which is at A7, its par of 100.
--- In the first game she has 20 left and that share, in the second 20 and none.
+-- PRR must buy a train. It has 50, and a 2 costs 80. ANN, at seat 0, presides with three shares of
+-- it, and BOB, at seat 1, has three, too. She has paid this much for DH in an auction, and may have
+-- bought a share of NYC, which is at A7, its par of 100. In the first game she has 20 left and that
+-- share, in the second 20 and none.
 use Rattle.std.proofs.Common.{◌≡◌, refl, ℕ, Bool, true, false, List, [], ◌∷◌, ◌++◌, None, Ok}
 use Rattle.std.proofs.Common.{if◌then◌else◌}
 use Rattle.certs.specs.Sale.{is_not_held, is_over_five, must_stay, sale_judgement}
@@ -67,11 +68,12 @@ pub ann_raises :
     ∷ event.Aid (seat_at 0) Pennsylvania 30
     ∷ event.Train Pennsylvania Two seller.Bank 80
     ∷ [])
-unfolding after_forced concluded with_aid sold_singly sold_further next_to_sell falls_short lack_of cheapest first_on_sale
-    raise_rule sale_rule sale_judgement is_not_held is_over_five must_stay
+unfolding after_forced concluded with_aid sold_singly sold_further next_to_sell falls_short lack_of cheapest
+    first_on_sale raise_rule sale_rule sale_judgement is_not_held is_over_five must_stay
 ann_raises = refl
 
--- without the line she sells it all the same. Of PRR she may sell none, since BOB would then have strictly more.
+-- without the line she sells it all the same. Of PRR she may sell none, since BOB would then have
+-- strictly more.
 pub ann_must_sell :
     after_forced ann [] (game (before 479 true))
     ≡ game
@@ -82,14 +84,14 @@ pub ann_must_sell :
     ∷ event.Aid (seat_at 0) Pennsylvania 30
     ∷ event.Train Pennsylvania Two seller.Bank 80
     ∷ [])
-unfolding after_forced concluded with_aid sold_singly sold_further next_to_sell falls_short lack_of cheapest first_on_sale
-    raise_rule sale_rule sale_judgement is_not_held is_over_five must_stay
+unfolding after_forced concluded with_aid sold_singly sold_further next_to_sell falls_short lack_of cheapest
+    first_on_sale raise_rule sale_rule sale_judgement is_not_held is_over_five must_stay
 ann_must_sell = refl
 
 -- without the share she is bankrupt
 pub ann_is_bankrupt :
     after_forced ann [] (game (before 579 false))
     ≡ game (before 579 false ++ event.Forced Pennsylvania ∷ event.Bankrupt (seat_at 0) ∷ [])
-unfolding after_forced concluded with_aid sold_singly sold_further next_to_sell falls_short lack_of cheapest first_on_sale
-    raise_rule sale_rule sale_judgement is_not_held is_over_five must_stay
+unfolding after_forced concluded with_aid sold_singly sold_further next_to_sell falls_short lack_of cheapest
+    first_on_sale raise_rule sale_rule sale_judgement is_not_held is_over_five must_stay
 ann_is_bankrupt = refl

@@ -1,4 +1,5 @@
 pub mod Auctions
+pub mod BestRuns
 pub mod Companies
 pub mod Conditions
 pub mod Consent
@@ -15,10 +16,12 @@ pub mod Phases
 pub mod Priority
 pub mod Privates
 pub mod Purchases
+pub mod Reach
 pub mod Report
 pub mod Runs
 pub mod Sales
 pub mod TheGame
+pub mod Tokens
 pub mod TrainPurchases
 pub mod Trains
 pub mod VersionTwo

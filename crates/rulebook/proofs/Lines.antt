@@ -1,5 +1,6 @@
 -- Example for the chapter `lines`: what lines are.
--- A line is read in either case, with any number of spaces, and without its comment. Printed it has one spelling.
+-- A line is read in either case, with any number of spaces, and without its comment. Printed it has
+-- one spelling.
 use Rattle.std.proofs.Common.{◌≡◌, refl, [], ◌∷◌, Some, Ok, Err}
 use Rattle.std.proofs.Common.{codes}
 use Rattle.map_tables.specs.declared.hex.Hex.TheVariants.{H10, H12}

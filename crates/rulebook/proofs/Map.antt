@@ -1,6 +1,6 @@
 -- Example for the chapter `map`: neighbours.
--- The hex to the east of H10 is H12, and the one to its north-east G11. Between E7 and F8 the border is closed, and south of
--- K13 the map ends.
+-- The hex to the east of H10 is H12, and the one to its north-east G11. Between E7 and F8 the
+-- border is closed, and south of K13 the map ends.
 use Rattle.std.proofs.Common.{◌≡◌, refl, Some, None}
 use Rattle.map_tables.specs.Border.{adjacent, neighbour_of}
 use Rattle.map_tables.specs.Hex.{hex_at, hexes, index_of, site_of}

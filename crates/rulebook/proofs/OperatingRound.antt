@@ -1,8 +1,9 @@
 -- Example for the chapter `company-turn`: a small operating round, with its part of the report.
--- Only PRR operates. ANN, at seat 0, presides with four shares, BOB, at seat 1, has two and SV. PRR has its home token on
--- H12.0, tile 57 on H10 and one 2. In its turn it lays 9 on H14, places a token on H10.0, runs for 30, pays, and buys the first
--- 4, which rusts its 2. The other trains that the bank has sold went to companies that take no part: the list before the round
--- is made for this example.
+-- Only PRR operates. ANN, at seat 0, presides with four shares, BOB, at seat 1, has two and SV. PRR
+-- has its home token on H12.0, tile 57 on H10 and one 2. In its turn it lays 9 on H14, places a
+-- token on H10.0, runs for 30, pays, and buys the first 4, which rusts its 2. The other trains that
+-- the bank has sold went to companies that take no part: the list before the round is made for this
+-- example.
 use Rattle.std.proofs.Common.{◌≡◌, ◌++◌, false, refl, ℕ, List, [], ◌∷◌, Some, None, codes}
 use Rattle.std.specs.Fmt.{digits}
 use Rattle.events.specs.declared.event.Event.{Event}
@@ -144,9 +145,9 @@ game events = record { seats = 3; events = events }
 pub printed_so :
     lines_of_round file 3 before happens
     ≡ codes "ROUND OR2.1\nREVENUE SV BOB 5\nANN 2 OBEYED LAY 9 H14 1\nLAID PRR 9 H14 1 0\nANN 3 OBEYED TOKEN H10.0\nTOKEN PRR H10.0 40\nANN 4 OBEYED RUN 2 H12.0 H10.0\nRUNS PRR 30\nANN 5 OBEYED PAY\nDIVIDEND PRR ANN 12\nDIVIDEND PRR BOB 6\nMOVES PRR 71 F8\nANN 6 OBEYED TRAIN 4 BANK\nTRAIN PRR 4 BANK 300\nPHASE 4\nRUSTED PRR 2\nRUSTED NYC 2\nRUSTED NYC 2\nRUSTED NYC 2\nRUSTED CO 2\nRUSTED CO 2\nPLAYER ANN        544  3  4  0  0  0  0  0  0  0\nPLAYER BOB        657  3  2  0  0  0  0  0  0  0 SV\nPLAYER CYD        800  0  0  0  0  0  0  0  0  0\nCOMPANY PRR    250  71  4  0 2 ANN 4\nBANK  11049\n"
-unfolding digits site_of number_of_tile players_of body_of content_of version_of written_lines is_blank begins is_sheet_line
-    operating_order_of at_left at_right bank_line cash_column codes_owned company_figures company_line company_lines counted_column
-    holdings player_line player_lines shares_column trains_text
+unfolding digits site_of number_of_tile players_of body_of content_of version_of written_lines is_blank begins
+    is_sheet_line operating_order_of at_left at_right bank_line cash_column codes_owned company_figures company_line
+    company_lines counted_column holdings player_line player_lines shares_column trains_text
 printed_so = refl
 
 -- PRR under ANN, and the lines of its orders
@@ -193,8 +194,9 @@ into_city = record { link = record { hex = H10; a = AtSide East; b = AtStop Firs
 
 -- PRR reaches the track that it lays
 connected : IsConnected (position_of (with_lay (map_state_now at_first.game.events) lay)) Pennsylvania lay
-unfolding position_of tile_on index_of groups plain_hexes print_of printed_links_of printed tile_index_of hexes laid_links_of
-    laid_track_of neighbour_of adjacent hex_at site_of is_sheet_line sheet_of players_of body_of content_of version_of written_lines is_blank begins
+unfolding position_of tile_on index_of groups plain_hexes print_of printed_links_of printed tile_index_of hexes
+    laid_links_of laid_track_of neighbour_of adjacent hex_at site_of is_sheet_line sheet_of players_of body_of
+    content_of version_of written_lines is_blank begins
 connected =
     record {
       piece =
@@ -215,8 +217,9 @@ connected =
 
 -- and the city in which it places its token
 reached : IsReachedPlace (position_of (map_state_now once_laid.game.events)) Pennsylvania token_place
-unfolding position_of tile_on index_of groups plain_hexes print_of printed_links_of printed tile_index_of hexes laid_links_of
-    laid_track_of neighbour_of adjacent hex_at site_of is_sheet_line sheet_of players_of body_of content_of version_of written_lines is_blank begins
+unfolding position_of tile_on index_of groups plain_hexes print_of printed_links_of printed tile_index_of hexes
+    laid_links_of laid_track_of neighbour_of adjacent hex_at site_of is_sheet_line sheet_of players_of body_of
+    content_of version_of written_lines is_blank begins
 reached =
     record {
       stop = stop_at H10 First;
@@ -235,11 +238,12 @@ reached =
 
 -- the turn of PRR leads to what happens in the round
 turn : IsCompanyTurn file (Operating 2 1) Pennsylvania (opened file (Operating 2 1) (game before)) (game (before ++ happens))
-unfolding position_of tile_on index_of groups plain_hexes print_of printed_links_of printed tile_index_of hexes laid_links_of
-    laid_track_of neighbour_of adjacent hex_at site_of is_sheet_line sheet_of players_of body_of content_of version_of written_lines is_blank begins
-    is_cs_lay is_dh_lay is_dh_token is_lay_used is_none_left on_map_of is_colour_closed is_wrong_colour is_wrong_kind
-    loses_track has_bad_side is_blocked lay_cost_of is_token_used has_none_left has_token_in is_no_free_slot kept_at laid_by
-    token_cost_of side_towards step_between leg_to border_of borders_used tile_numbered tiles number_of_tile
+unfolding position_of tile_on index_of groups plain_hexes print_of printed_links_of printed tile_index_of hexes
+    laid_links_of laid_track_of neighbour_of adjacent hex_at site_of is_sheet_line sheet_of players_of body_of
+    content_of version_of written_lines is_blank begins is_cs_lay is_dh_lay is_dh_token is_lay_used is_none_left
+    on_map_of is_colour_closed is_wrong_colour is_wrong_kind loses_track has_bad_side is_blocked lay_cost_of
+    is_token_used has_none_left has_token_in is_no_free_slot kept_at laid_by token_cost_of side_towards step_between
+    leg_to border_of borders_used tile_numbered tiles number_of_tile
 turn =
     record {
       last = once_bought;
@@ -265,8 +269,8 @@ turn =
 
 -- and that is the round
 pub played : IsOperatingRound file (Operating 2 1) (game before) (game (before ++ happens))
-unfolding is_sheet_line sheet_of players_of body_of content_of version_of written_lines is_blank begins operating_order_of
-    hexes hex_at site_of tile_numbered tiles number_of_tile
+unfolding is_sheet_line sheet_of players_of body_of content_of version_of written_lines is_blank begins
+    operating_order_of hexes hex_at site_of tile_numbered tiles number_of_tile
 played =
     record {
       turned = game (before ++ happens);

@@ -1,5 +1,6 @@
 -- Example for the chapter `buying-privates`: PRR buys CA.
--- ANN, at seat 0, owns CA, whose face value is 160, and presides over PRR, which has 670. It is phase 3.
+-- ANN, at seat 0, owns CA, whose face value is 160, and presides over PRR, which has 670. It is
+-- phase 3.
 use Rattle.std.proofs.Common.{◌≡◌, refl, ℕ, List, [], ◌∷◌, ◌++◌, Option, Some, None}
 use Rattle.events.specs.declared.event.Event.{Event}
 use Rattle.events.specs.declared.event.Event.TheVariants as event

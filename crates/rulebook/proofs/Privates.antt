@@ -1,5 +1,6 @@
 -- Example for the chapter `privates`: the sale of CA and of BOP.
--- ANN, at seat 0, has ordered a par of 76 for BO, by a standing line that was obeyed. She buys CA, and BOP after it.
+-- ANN, at seat 0, has ordered a par of 76 for BO, by a standing line that was obeyed. She buys CA,
+-- and BOP after it.
 use Rattle.std.proofs.Common.{◌≡◌, refl, List, [], ◌∷◌, ◌++◌, Some, None}
 use Rattle.events.specs.declared.event.Event.{Event}
 use Rattle.events.specs.declared.event.Event.TheVariants as event

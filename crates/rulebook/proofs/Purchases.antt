@@ -1,6 +1,6 @@
 -- Example for the chapter `buying-shares`: purchases of three players.
--- It is the second stock round. ANN, at seat 0, has started PRR at 100 and sold a share of it in this round. BOB, at seat 1,
--- has six shares of it, and CYD, at seat 2, none.
+-- It is the second stock round. ANN, at seat 0, has started PRR at 100 and sold a share of it in
+-- this round. BOB, at seat 1, has six shares of it, and CYD, at seat 2, none.
 use Rattle.std.proofs.Common.{◌≡◌, refl, ℕ, List, [], ◌∷◌, ◌++◌, Option, Some, None}
 use Rattle.certs.specs.Purchase.{is_at_limit, is_over_six, is_second, is_short_of_cash, is_sold_out_there}
 use Rattle.certs.specs.Purchase.{purchase_judgement}

@@ -1,6 +1,7 @@
 -- Example for the chapter `report`: the report of a file, byte for byte.
--- The file is that of the chapter on opening rounds: ANN buys SV, the others pass, and PR2 is awaited.
-use Rattle.std.proofs.Common.{◌≡◌, refl, ℕ, List, codes}
+-- The file is that of the chapter on opening rounds: ANN buys SV, the others pass, and PR2 is
+-- awaited.
+use Rattle.std.proofs.Common.{refl, ℕ, List, codes}
 use Rattle.std.specs.Fmt.{digits}
 use Rattle.market.specs.OperatingOrder.{operating_order_of}
 use Rattle.report.specs.Column.{at_left, at_right}
@@ -19,9 +20,9 @@ text =
 
 -- it is the report of the file
 pub is_its_report : IsReport first_file text
-unfolding digits content_of players_of body_of version_of written_lines is_blank begins is_sheet_line sheet_of unread_of
-    header owing operating_order_of at_left at_right bank_line cash_column codes_owned company_figures company_line
-    company_lines counted_column holdings player_line player_lines shares_column trains_text
+unfolding digits content_of players_of body_of version_of written_lines is_blank begins is_sheet_line sheet_of
+    unread_of header owing operating_order_of at_left at_right bank_line cash_column codes_owned company_figures
+    company_line company_lines counted_column holdings player_line player_lines shares_column trains_text
 is_its_report = record { last = first_end; game = first_plays; is = refl }
 
 -- an empty file is refused by the line FILE REFUSED F1

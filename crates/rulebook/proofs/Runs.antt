@@ -1,6 +1,6 @@
 -- Example for the chapter `runs`: runs of 2-trains.
--- PRR has tokens on H12.0, its home, and on H16.0. The yellow cities 57 lie on H10 and H16, and straight track 9 on H14 between
--- H12 and H16. H10 and H16 are worth 20, H12 is worth 10.
+-- PRR has tokens on H12.0, its home, and on H16.0. The yellow cities 57 lie on H10 and H16, and
+-- straight track 9 on H14 between H12 and H16. H10 and H16 are worth 20, H12 is worth 10.
 use Rattle.std.proofs.Common.{◌≡◌, refl, ℕ, false, List, [], ◌∷◌, Option, Some, None}
 use Rattle.board_state.specs.MapState.{map_state_of, position_of}
 use Rattle.legal_runs.specs.Fault.{named_steps, run_fault}
@@ -77,7 +77,8 @@ unfolding position_of tile_on index_of groups plain_hexes print_of printed_links
     laid_links_of laid_track_of neighbour_of adjacent hex_at site_of side_towards step_between leg_to border_of
 border_again = refl
 
--- by all three cities it visits too many stops for a 2 (R4), and no track joins H10 and H14 directly (R3)
+-- by all three cities it visits too many stops for a 2 (R4), and no track joins H10 and H14
+-- directly (R3)
 pub three_stops : broken [] (stop H10 ∷ stop H12 ∷ through H14 ∷ stop H16 ∷ []) ≡ Some rule.WrongNumber
 unfolding position_of tile_on index_of groups plain_hexes print_of printed_links_of printed tile_index_of hexes
     laid_links_of laid_track_of neighbour_of adjacent hex_at site_of side_towards step_between leg_to border_of

@@ -1,6 +1,6 @@
 -- Example for the chapter `the-game`: what comes after a round.
--- A set of two operating rounds, as it begins in phase 3 or 4. The last two words of `following` say whether all privates are
--- sold, and whether the bank is broken.
+-- A set of two operating rounds, as it begins in phase 3 or 4. The last two words of `following`
+-- say whether all privates are sold, and whether the bank is broken.
 use Rattle.std.proofs.Common.{◌≡◌, refl, true, false}
 use Rattle.rounds.specs.Sequence.{following}
 use Rattle.rounds.specs.declared.following.Next.TheVariants as next

@@ -1,5 +1,6 @@
 -- Example for the chapter `buying-trains`: who may buy which train.
--- The bank has sold five 2s to NYC and CO. PRR has 200, ANN, at seat 0, presides over it, and nobody has made an offer.
+-- The bank has sold five 2s to NYC and CO. PRR has 200, ANN, at seat 0, presides over it, and
+-- nobody has made an offer.
 use Rattle.std.proofs.Common.{◌≡◌, refl, List, [], ◌∷◌, ◌++◌, Option, Some, None}
 use Rattle.events.specs.declared.event.Event.{Event}
 use Rattle.events.specs.declared.event.Event.TheVariants as event

@@ -1,6 +1,6 @@
 -- Example for the chapter `version-2`: a file of version 1 with an IF line.
--- The header becomes that of version 2, with what stands behind it on its line. The IF line, which is no line of version 1,
--- becomes X. All else stays.
+-- The header becomes that of version 2, with what stands behind it on its line. The IF line, which
+-- is no line of version 1, becomes X. All else stays.
 use Rattle.std.proofs.Common.{◌≡◌, refl, codes}
 use Rattle.sheets.specs.Text.{is_blank, written_lines}
 use Rattle.umpire.specs.Migrated.{ended_lines, file_in_two, is_if_line, line_in_two, migrated}
