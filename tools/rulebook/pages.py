@@ -14,7 +14,7 @@ from rulebook.reach import House, Name, Reach
 from rulebook.shapes import Shapes, cite, table
 
 MADE = '<!-- `tools/claim --write` made this page. -->\n'
-BLOCK = re.compile(r'(<!-- (rows|events|columns|chart) (\w+): ([^>]*?) -->\n).*?(<!-- end -->\n)', re.S)
+BLOCK = re.compile(r'(<!-- (rows|events|columns|chart|forms) (\w+): ([^>]*?) -->\n)(.*?)(<!-- end -->\n)', re.S)
 HEADED = re.compile(r'^Definition `(\w+): (\w+)` · function `(\w+): (\w+)` · game `([\w./-]+)`$', re.M)
 
 
@@ -29,10 +29,12 @@ def wrap_item(text: str) -> str:
 def with_blocks(page: str, made: Shapes) -> str:
     """Returns a players' page whose tables that come from definitions are made again."""
     def fresh(found: re.Match[str]) -> str:
-        head, shape, crate, rest, end = found.groups()
+        head, shape, crate, rest, inside, end = found.groups()
         if shape != 'columns':
             one = named(made.index, crate, rest)
-            made.shown |= {one} if shape == 'chart' else set()
+            made.shown |= {one} if shape in ('chart', 'forms') else set()
+            if shape == 'forms':
+                return head + made.forms_table(one, dict(re.findall(r'^\| `(.*?)` \| (.*) \|$', inside, re.M))) + end
             return head + {'rows': made.rows_table, 'events': made.events_table, 'chart': made.chart}[shape](one) + end
         parts = [part.split(' = ') for part in rest.split('; ')]
         names = [named(made.index, crate, name) for name, _ in parts[1:]]
@@ -51,7 +53,7 @@ def named(index: Index, crate: str, name: str) -> Name:
 
 def without_marks(text: str) -> str:
     """Returns a text of the players without the marks of its made tables, and with its links as they are from the rulebook."""
-    text = re.sub(r'<!-- (?:rows|events|columns|chart) .*? -->\n|<!-- end -->\n', '', text)
+    text = re.sub(r'<!-- (?:rows|events|columns|chart|forms) .*? -->\n|<!-- end -->\n', '', text)
     text = HEADED.sub(lambda found: 'Definition `%s: %s` · function `%s: %s` · game [`%s`](../../games/%s.orders), [its report]'
                       '(../../games/%s.report)' % (found.groups() + found.groups()[-1:] * 2), text)
     return re.sub(r'\]\((?!\.\./|https?:)([\w.-]+\.md)', r'](../players/\1', text)

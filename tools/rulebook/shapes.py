@@ -53,6 +53,12 @@ def table(heads: list[str], rows: list[list[str]]) -> str:
     return ''.join('| %s |\n' % ' | '.join(line) for line in lines).replace('| --- ', '|---').replace('--- |', '---|')
 
 
+# How a word of each class is written in a form, and what is repeated at its end.
+CLASSES = {'Number': 'n', 'Name': 'name', 'Round': 'round', 'Private': 'p', 'Company': 'co', 'Kind': 'kind', 'Tile': 'tile', 'Hex': 'hex',
+           'Rotation': 'rot', 'Place': 'place', 'HexDigits': 'digits'}
+TRAILING = {'Nothing': '', 'Names': ' name name name ..', 'Places': ' place place ..'}
+
+
 def folded(heads: list[str], rows: list[list[str]]) -> str:
     """Returns a table whose rows stand four beside one another where they are many and short."""
     if len(rows) <= 20 or len(heads) > 2 or max(len(cell) for row in rows for cell in row) > 24:
@@ -208,6 +214,22 @@ class Shapes:
             return '`%s`' % re.sub(r' ∷ (?!\[\])', ', ', right).replace(' ∷ []', '')
         words = [word for word in words if word not in ('Some', 'pos', 'record') and not self.follow(key, word)]
         return ', '.join('–' if word == 'None' else self.case(key, word) for word in words)
+
+    def forms(self, one: Name) -> list[str]:
+        """Returns forms of lines as they are written: the first word, what each word after it is, and what is repeated."""
+        words = self.index.named('order_grammar', 'text_of_keyword')
+        texts = {left.split('.')[-1]: TEXT.findall(right)[0] for left, right in sides(words[1], self.house.definition(words).lines)}
+        found = []
+        for first, inside, trailing in re.findall(r'row keyword\.(\w+) (\[\]|\(.*?\[\]\)) \(?trailing_class\.(\w+)',
+                                                  sides(one[1], self.house.definition(one).lines)[0][1]):
+            classes = re.findall(r'class\.(\w+)(?: keyword\.(\w+))?', inside)
+            parts = [texts[first]] + [texts[word] if word else CLASSES[kind] for kind, word in classes]
+            found.append(' '.join(parts) + TRAILING[trailing])
+        return found
+
+    def forms_table(self, one: Name, meanings: dict[str, str]) -> str:
+        """Returns the table of forms. What each means is the players' text, which stays as it is."""
+        return table(['Line', 'Meaning'], [['`%s`' % form, meanings.get(form, '?')] for form in self.forms(one)])
 
     def chart(self, one: Name) -> str:
         """Returns the chart: the price of each square, and behind it the letter of its zone, or `p` for a par value."""

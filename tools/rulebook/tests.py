@@ -220,6 +220,12 @@ class TestShapes(unittest.TestCase):
     def test_events_from_the_inside_out(self):
         self.assertEqual([step.word for step in self.shapes.steps(named('sold'))], ['SOLD', 'PAID', 'CLOSED'])
 
+    def test_forms_keep_their_meanings(self):
+        made = self.shapes
+        made.forms = lambda one: ['SELL co n', 'PAY']
+        page = '<!-- forms shop: price -->\n| `PAY` | pay it |\n<!-- end -->\n'
+        self.assertIn('| `SELL co n` | ? |\n| `PAY` | pay it |\n', pages.with_blocks(page, made))
+
     def test_repeats(self):
         one, two = self.shapes.steps(named('paid'))[0], self.shapes.steps(named('sold'))[0]
         self.assertEqual(shapes.without_repeats([one, two, one, two, one, one]), [one, two, one])
