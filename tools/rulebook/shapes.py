@@ -68,6 +68,12 @@ def folded(heads: list[str], rows: list[list[str]]) -> str:
     return table(heads * 4, [sum(beside, []) for beside in zip(*columns)])
 
 
+def stripped(term: str) -> str:
+    """Returns a term without the brackets around it."""
+    text = term.strip('() ')
+    return text + ')' * (text.count('(') - text.count(')'))
+
+
 def sentence(text: str) -> str:
     """Returns a comment as it stands in a cell: on one line, without a full stop at its end."""
     return text[:-1] if text.endswith('.') and text.count('. ') == 0 else text
@@ -124,17 +130,20 @@ class Shapes:
     def row(self, one: Name, code: str, test: str) -> Row:
         variant = self.variant(one[0], code)
         number, text = self.texts.get(variant or ('', ''), ('', code))
-        names = self.tests_in(one[0], test)
+        names, shown = [], []
+        for part in re.split(r' (?:\|\||&&) ', test.removeprefix('not ').strip() if test.startswith('not ') else test):
+            found = self.tests_in(one[0], part)
+            names += found
+            shown += [cite(name) for name in found] or ['`%s`' % stripped(part)]
         negated = 'not ' if test.startswith('not ') else ''
-        shown = [cite(name) for name in names] or ['`%s`' % test.removeprefix('not ').strip('() ')]
-        return Row(number, text, negated + ', '.join(shown), place(next(iter(names), one)))
+        return Row(number, text, negated + ', '.join(dict.fromkeys(shown)), place(next(iter(names), one)))
 
-    def tests_in(self, key: str, term: str) -> dict[Name, None]:
-        """Returns the tests in a term: what is applied first in each of its parts, or is named as a test; or else all that it names."""
-        first = {word for part in re.split(r'\|\||&&', term) for word in re.findall(r'^[\s(]*(?:not[\s(]+)?([\w.]+)', part)}
+    def tests_in(self, key: str, term: str) -> list[Name]:
+        """Returns the tests in a part of a term: what is applied first there, or is named as a test; or else all that it names."""
+        first = re.match(r'[\s(]*(?:not[\s(]+)?([\w.]+)', term)
         words = [word for word in terms.WORD.findall(term) if self.follow(key, word)]
-        kept = [word for word in words if word in first or re.match(r'(?:is|has|are|have|lacks|needs|loses)_', word)]
-        return dict.fromkeys(self.follow(key, word) for word in kept or words)
+        kept = [word for word in words if first and word == first.group(1) or re.match(r'(?:is|has|are|have|lacks|needs|loses)_', word)]
+        return [self.follow(key, word) for word in dict.fromkeys(kept or words)]
 
     def rows_table(self, one: Name) -> str:
         return table(['Code', 'Refused if', 'Test', 'Stands in'], [[row.code, row.sentence, row.test, row.place] for row in self.rows(one)])
