@@ -10,7 +10,7 @@ from rulebook import sources
 
 HEAD = re.compile(r'-- Example for the chapter `([\w-]+)`: ([^\n]*?)\n((?:--[^\n]*\n)*)')
 LONG_TEXT = re.compile(r'codes "((?:[^"\\]*\\n){4,})"')
-NAMED = re.compile(r'(abbrev )?(?:pub )?([^\W\d][\w-]*)(?= :)')
+NAMED = re.compile(r'(abbrev |unfoldable )?(pub )?([^\W\d][\w-]*)(?= :)')
 
 
 @dataclass(frozen=True)
@@ -43,18 +43,33 @@ def read_example(path: str, text: str) -> Example | None:
     chapter, title, rest = head.groups()
     words = ' '.join(line[2:].strip() for line in rest.split('\n'))
     parts = re.sub(r'^use [^\n]*\n', '', text[head.end():], flags=re.M).strip('\n').split('\n\n')
-    return Example(chapter, title.rstrip('.'), words.strip(), '\n\n'.join(statement(part) for part in parts) + '\n', path)
+    return Example(chapter, title.rstrip('.'), words.strip(), '\n\n'.join(shown_of([statement(part) for part in parts])) + '\n', path)
+
+
+def shown_of(parts: list[str]) -> list[str]:
+    """Returns the facts among the parts of an example, and the definitions that they need, in order."""
+    named = {part: found.group(1) for part in parts if (found := re.search(r'^([^\W\d][\w-]*) :', part, re.M))}
+    needed = {part for part in parts if part and not re.search(r'^%s(?: .*)? =' % re.escape(named.get(part, '=')), part, re.M)}
+    while True:
+        words = {word for part in needed for word in re.findall(r'[^\W\d][\w-]*', part)}
+        more = {part for part, name in named.items() if name in words} - needed
+        if not more:
+            return [part for part in parts if part in needed]
+        needed |= more
 
 
 def statement(part: str) -> str:
-    """Returns a definition whole, and a fact without what proves it. A text of many lines stands line by line."""
+    """Returns a definition whole, and a fact that is `pub` without what proves it; of another, a step of a proof, nothing. A text of many
+    lines stands line by line."""
     lines = LONG_TEXT.sub(lambda found: 'codes "\n%s    "' % ''.join('      %s\n' % line for line in found.group(1).split('\\n')[:-1]), part).split('\n')
     at = next((number for number, line in enumerate(lines) if not line.startswith('--')), len(lines))
     named = NAMED.match(lines[at]) if at < len(lines) else None
     if not named:
         return part
-    lines[at] = lines[at][named.start(2):]
-    proof = re.compile(r'unfolding |%s =' % re.escape(named.group(2)))
+    if not named.group(1) and not named.group(2):
+        return ''
+    lines[at] = lines[at][named.start(3):]
+    proof = re.compile(r'unfolding |%s(?: .*)? =' % re.escape(named.group(3)))
     end = next((number for number, line in enumerate(lines) if proof.match(line)), len(lines)) if not named.group(1) else len(lines)
     return '\n'.join(lines[:end])
 

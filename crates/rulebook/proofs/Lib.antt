@@ -6,6 +6,7 @@ pub mod Consent
 pub mod Dividends
 pub mod Exchange
 pub mod Forced
+pub mod GreatestRevenue
 pub mod Lines
 pub mod Map
 pub mod Market
