@@ -70,7 +70,7 @@ def read_messages(evening: Evening, messages: Iterable[Raw]) -> int:
     reader = Reader(folder, evening.programs, evening.programs.report(folder.orders))
     known = aside = 0
     for raw in messages:
-        if folder.message_with(raw.digest):
+        if raw.digest in folder.digests:
             known += 1
             continue
         aside += _read(evening, reader, raw, raw.content)
@@ -183,7 +183,7 @@ def _read(evening: Evening, reader: Reader, raw: Raw, content: bytes, is_vouched
     answers = _answers(evening, reader, reading, number, is_vouched)
     counting = tuple(it.sheet for it in reading.counting())
     record = Record(number, raw.digest, evening.time(), reading.incoming.sender, reading.incoming.subject, counting,
-                    tuple(reading.aside), tuple(it.file for it in answers))
+                    tuple(reading.aside), tuple(it.file for it in answers), raw.is_too_large)
     step = folder.step("in")
     step.put(f"{INBOX}/{number:04}.eml", content)
     step.put(f"{INBOX}/{number:04}.json", record.to_json())

@@ -46,7 +46,8 @@ class Sheet:
 
 @dataclass(frozen=True)
 class Record:
-    """What was read in a message: the sheets that count, and why others were set aside."""
+    """What was read in a message: the sheets that count, and why others were set aside. Of one that is
+    cut only the front was kept."""
 
     number: int
     digest: str
@@ -56,6 +57,7 @@ class Record:
     sheets: tuple[Sheet, ...] = ()
     aside: tuple[str, ...] = ()
     letters: tuple[str, ...] = ()
+    is_cut: bool = False
 
     def to_json(self) -> bytes:
         return _json(asdict(self))
@@ -65,7 +67,7 @@ class Record:
         whole = json.loads(text)
         sheets = tuple(Sheet(it["player"], it["round"], tuple(it["lines"])) for it in whole["sheets"])
         return cls(whole["number"], whole["digest"], whole["came"], whole["sender"], whole["subject"], sheets,
-                   tuple(whole["aside"]), tuple(whole["letters"]))
+                   tuple(whole["aside"]), tuple(whole["letters"]), whole["is_cut"])
 
 
 @dataclass(frozen=True)
@@ -112,8 +114,9 @@ class Folder:
             self.orders = (top / ORDERS).read_bytes()
         except FileNotFoundError as wrong:
             raise PostError(f"{top} is no game's folder: it has no {Path(wrong.filename).name}") from wrong
-        self.records = sorted(_read(top.glob(f"{INBOX}/*.json"), Record.from_json), key=lambda it: it.number)
-        self.rounds = sorted(_read(top.glob(f"{ROUNDS}/*-*/round.json"), Round.from_json), key=lambda it: it.number)
+        self.records: list[Record] = sorted(_read(top.glob(f"{INBOX}/*.json"), Record.from_json), key=lambda it: it.number)
+        self.digests = {it.digest for it in self.records}
+        self.rounds: list[Round] = sorted(_read(top.glob(f"{ROUNDS}/*-*/round.json"), Round.from_json), key=lambda it: it.number)
 
     def next_message(self) -> int:
         """Returns the number of the next message."""
@@ -124,20 +127,19 @@ class Folder:
         names = [it.name for it in (*self.top.glob(f"{ROUNDS}/*"), *self.top.glob(f"{UNDONE}/*"))]
         return 1 + max((int(it[1]) for it in map(ROUND_FOLDER.fullmatch, names) if it), default=0)
 
-    def message_with(self, digest: str) -> Record | None:
-        """Returns the record of a message that was read before."""
-        return next((it for it in self.records if it.digest == digest), None)
-
     def message(self, number: int) -> bytes:
         """Returns a message as it came."""
         path = self.top / INBOX / f"{number:04}.eml"
         if not path.is_file():
             raise PostError(f"there is no message {number}")
+        if any(it.is_cut for it in self.records if it.number == number):
+            raise PostError(f"message {number} had too many bytes, and is kept only in part")
         return path.read_bytes()
 
     def keep(self, record: Record) -> None:
         """Adds a record that is on the disk."""
         self.records.append(record)
+        self.digests.add(record.digest)
 
     def pending(self, round_: str) -> dict[str, Pending]:
         """Returns the sheets that count for a round: of each player the last that came."""

@@ -50,6 +50,7 @@ class Unwritten(Folder):
     def __init__(self) -> None:
         self.top = Path("nowhere")
         self.club, self.orders, self.records, self.rounds = CLUB, b"", [], []
+        self.digests = set()
 
 
 def read(content: bytes, is_vouched: bool = False) -> Reading:

@@ -16,9 +16,12 @@ from umpire_post.tests.test_threats import HEADS
 SEED = 1830
 COUNT = 1000
 SECONDS = 2
-PIECES = (b"\r", b"\n", b"\r\n\r\n", b"\0", b"\xff\xfe", b"\xef\xbb\xbf", b"=0D=0A", b"=?utf-8?q?=0A?=", b"SHEET BOB SR2\n", b"SHEET\tANN SR2\n",
-          b"From: bob@example.org\n", b"\nFrom bob@example.org Mon Nov  2 18:00:00 2026\n", b"KEY x\n", b"> ", b"-- \n", b"<blockquote>",
-          b"\xe2\x80\xa8", b"\xc5\xbfHEET ANN SR2\n", b"Content-Type: multipart/mixed; boundary=z\n", b"--z\n", b"&#13;&#10;SHEET CYD SR2")
+PIECES = (
+    b"\r", b"\n", b"\r\n\r\n", b"\0", b"\xff\xfe", b"\xef\xbb\xbf", b"\xe2\x80\xa8", b"=0D=0A", b"=?utf-8?q?=0A?=", b"> ", b"-- \n",
+    b"SHEET BOB SR2\n", b"SHEET\tANN SR2\n", b"\xc5\xbfHEET ANN SR2\n", b"&#13;&#10;SHEET CYD SR2", b"KEY x\n", b"<blockquote>",
+    b"From: bob@example.org\n", b"\nFrom bob@example.org Mon Nov  2 18:00:00 2026\n",
+    b"Content-Type: multipart/mixed; boundary=z\n", b"--z\n",
+)
 
 
 def with_bytes(chance: random.Random, content: bytearray) -> None:

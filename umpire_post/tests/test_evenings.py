@@ -8,6 +8,7 @@ from pathlib import Path
 from unittest import mock
 
 from umpire_post.disk import locked
+from umpire_post.sources import KEPT_OF_LARGE, MAX_BYTES
 from umpire_post.tests.evenings import THREE, UMPIRE, Evenings, mail, mbox
 
 EMPTY = [[f"SHEET {it} PR1"] for it in ("ANN", "BOB", "CYD")]
@@ -123,6 +124,13 @@ class In(Evenings):
         self.assertIn("ANN      sent message 2", self.post("status"))
         self.assertIn("To: ann@example.org\n", (self.game / "outbox" / "0002-answer-ANN.eml").read_text())
         self.assertIn("there is no message 7", self.post("in", "--accept", "7", status=1))
+
+    def test_a_message_of_many_bytes_is_kept_in_part_and_not_accepted(self) -> None:
+        large = mail("ANN", [*EMPTY[0], "TURN", "#" * MAX_BYTES], 1)
+        self.assertIn("bytes, and at most", self.comes(large, status=3))
+        self.assertEqual(KEPT_OF_LARGE, (self.game / "inbox" / "0001.eml").stat().st_size)
+        self.assertIn("is kept only in part", self.post("in", "--accept", "1", status=1))
+        self.assertEqual("1 read before\n", self.comes(large))
 
     def test_a_sheet_after_its_round_is_set_aside(self) -> None:
         self.post("round", "--without", "ANN", "BOB", "CYD")

@@ -76,9 +76,8 @@ class TenRounds(Evenings):
         for number, *_, text, said in told:
             if int(number) in PUT_RIGHT.get(sent.stem, ()):
                 continue
-            said = TOLD_OTHERWISE.get((sent.stem, int(number)), said)
-            # (the session's round is played by then, and that of the letter is not)
-            said = said.replace("tried alone: ", "as things stand: ")
+            # (in the session all sheets are there, and in an answer the others are still awaited)
+            said = TOLD_OTHERWISE.get((sent.stem, int(number)), said.replace("tried alone: ", "as things stand: "))
             name = whose[int(number)]
             self.assertIn(flat(said), flat(answers[ADDRESSES[name]]), f"{sent.stem} line {number}")
             others = [flat(it) for address, it in answers.items() if address != ADDRESSES[name]]

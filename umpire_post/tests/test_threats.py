@@ -67,8 +67,9 @@ class Threats(unittest.TestCase):
 
     def test_an_address_in_a_name_is_not_the_sender(self) -> None:
         self.assert_refused(message(SHEET, sender='"ann@example.org" <eve@elsewhere.example>'), "an address that is nobody's")
-        for sender in ("ann@example.org <eve@elsewhere.example>", "ann@example.org)eve@elsewhere.example", "<ann@example.org>, <eve@elsewhere.example>",
-                       '"<ann@example.org>" <eve@elsewhere.example>', "Ann", "", "<>", "@", "ann@example.org\0"):
+        for sender in ("ann@example.org <eve@elsewhere.example>", "ann@example.org)eve@elsewhere.example",
+                       "<ann@example.org>, <eve@elsewhere.example>", '"<ann@example.org>" <eve@elsewhere.example>',
+                       "Ann", "", "<>", "@", "ann@example.org\0"):
             self.assert_refused(message(SHEET, sender=sender), "not exactly one sender")
 
     def test_other_heads_make_no_sender(self) -> None:
