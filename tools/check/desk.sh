@@ -106,12 +106,18 @@ tell_beyond() {
   count "$1 findings more than are listed" "${why# }"
 }
 
+# read_facts DESK ORDERS..: the facts that this desk writes as JSON are those of its texts.
+read_facts() { take_over tools/facts-reader -r 2 "$@"; }
+
+# read_facts_of ORDERS: those of the desk that is tried, of a game that is not refused.
+read_facts_of() { [ -f "${1%.orders}.status" ] || read_facts "$desk" "$1"; }
+
 # try_every_word ORDERS: each word of the desk on the order file, with no other status than it may
 # have, and with text on standard error if it has no result, and only then.
 try_every_word() {
   local words status why=
   for words in round 'round --why' 'round OR1.1' runs 'runs SR1' state 'state SR1' 'state --before' bulletin page 'page SR1' check \
-    'check --all' 'check --from 9' 'lays PRR' 'lays PRR --drafted --lines' 'may ANN' 'may ANN --lines' 'may ANN --drafted' 'best NYC 2' \
+    'state --json' 'round --json' 'check --all' 'check --from 9' 'lays PRR' 'lays PRR --drafted --lines' 'may ANN' 'may ANN --lines' 'may ANN --drafted' 'best NYC 2' \
     trial 'hex H10'; do
     # shellcheck disable=SC2086
     "$desk" $words < "$1" > "$scratch/out" 2> "$scratch/err"
@@ -225,6 +231,7 @@ check_desk() {
   explain_codes "$(formats)"
   look_at_codes "$(formats)"
   if [ "${1:-}" = quick ]; then
+    read_facts "$desk" games/first-dividend.orders games/auctions.orders games/three-presidents-deal.orders games/a-president-is-bankrupt.orders
     try_damaged 20
     return
   fi
@@ -233,6 +240,7 @@ check_desk() {
   try_moves "$desk" 3 2000 $(moves_games)
   # shellcheck disable=SC2046
   try_told "$desk" 2 -a $(told_games)
+  side_by_side read_facts_of games/*.orders games/codes/*.orders
   side_by_side play_rounds games/*.orders
   side_by_side play_runs games/*.orders games/certificates/certs-*.orders
   has_best games/best-run-of-two-trains.orders || count 'the best runs, written out' 'there are none'
@@ -257,6 +265,8 @@ desk_must_fail() {
   sees 'a round that is not as in the report' 1 play_rounds "$wrong/$it.orders"
   moves_must_fail
   told_must_fail
+  sees 'a figure of the facts that is another' 2 read_facts "$(desk_but 's/"cash":528/"cash":529/')" games/first-dividend.orders
+  sees 'an event of the facts that is another' 2 read_facts "$(desk_but 's/"event":"PAR"/"event":"RUNS"/')" games/first-stock-round.orders
   desk=$(desk_but 's/^and 2 findings/and 3 findings/')
   sees 'a wrong number of findings' 1 tell_beyond 2
   desk=$(stub 'exit 5')

@@ -1,5 +1,5 @@
-//! A game as it stands, at its end or between two of its rounds, as text. No call reads or writes a
-//! stream.
+//! A game as it stands, at its end or between two of its rounds, as text and as JSON, and the events
+//! of a round as JSON. No call reads or writes a stream.
 //!
 //! Each figure comes from a reader of the game's list, from `desk_base`, or from `player_figures`,
 //! `earnings`, `stack` or `standing`, whose contracts define it. The games of `games/desk/` test the layout.
@@ -8,17 +8,22 @@
 //! a game do not have (`player_figures`, `earnings`, `stack`, `standing`, `state_rows`), and their
 //! layout: `lines`, `state_round`, `state_players`, `state_companies`, `state_stock`,
 //! `state_chart`, `state_map`, `whole_state` (`state`); `statement_parties`, `statement_next`,
-//! `statement` (what ends a bulletin).
+//! `statement` (what ends a bulletin). Facts for other programs: `facts`, `state_facts`,
+//! `event_facts`, `round_events` (`round_facts`).
 #![tactic(auto)]
 
 mod earnings;
+mod event_facts;
+mod facts;
 mod lines;
 mod player_figures;
+mod round_events;
 mod round_name;
 mod stack;
 mod standing;
 mod state_chart;
 mod state_companies;
+mod state_facts;
 mod state_map;
 mod state_players;
 mod state_round;
@@ -32,7 +37,8 @@ mod whole_state;
 pub use earnings::{Earnings, earnings_of};
 pub use market::operates;
 pub use player_figures::{Purse, purse_of};
+pub use round_events::round_facts;
 pub use round_name::read_round;
 pub use stack::{all_in_order, before_in_stack, company_at};
 pub use statement::statement;
-pub use whole_state::{state, state_text};
+pub use whole_state::{StateForm, state, state_text};

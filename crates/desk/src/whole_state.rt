@@ -1,4 +1,4 @@
-//! The state of a game, as text.
+//! The state of a game, as text or as JSON.
 //!
 //! Its facts come from the readers of the game's list, or from `purse`, `earnings`, `stack` and
 //! `stock_left`, whose contracts say what they are. The rest is layout.
@@ -6,9 +6,11 @@ ghost use Rattle.std.specs.Prelude.{IfErr, OnOk};
 ghost use Rattle.desk_base.specs.Refusal.{HasNoState, IsOfGame};
 ghost use Rattle.sheets.specs.File.{IsAccepted};
 
+use crate::facts::json_line;
 use crate::stack::all_in_order;
 use crate::state_chart::push_chart;
 use crate::state_companies::push_companies;
+use crate::state_facts::StateFacts;
 use crate::state_map::push_map;
 use crate::state_players::{push_owners, push_players};
 use crate::state_round::{push_awaited, push_matters};
@@ -19,68 +21,97 @@ use sheets::{Sheets, collect};
 use std::alloc::{AllocError, Global};
 use tables::{Company, Round};
 
-/// Returns the state of the game of an order file at a moment, as text. It has who owes a sheet, or
+/// The form in which a state is written.
+#[derive(Clone, Copy)]
+pub enum StateForm {
+    /// Text for people.
+    Text,
+    /// JSON for programs, in one line.
+    Json,
+}
+
+/// Returns the state of the game of an order file at a moment, in a form. It has who owes a sheet, or
 /// how the game ended; the phase, priority, the number of operating rounds of the set and the limit
 /// of certificates; players, privates, companies in operating order, trains and tiles; the stock
 /// market and the map. Lines have at most 80 columns, except that of a company with over three
-/// privates.
+/// privates. JSON has the same figures, without the pictures of the market and the map.
 ///
 /// Fails with `File` if the file is refused, with `Round` if the moment names a round that was not
 /// played, or is before the last round and none was played, and with `Memory` if allocation fails.
 #[tactic(auto, using(desk_base::proofs::Refusals::no_state_where_it_fails, desk_base::proofs::Refusals::no_state_of_game))]
-pub fn state(alloc: Global, file: &[u8], moment: Moment) -> Result<Vec<u8>, DeskFault>
+pub fn state(
+    alloc: Global,
+    file: &[u8],
+    moment: Moment,
+    form: StateForm,
+) -> Result<Vec<u8>, DeskFault>
     ensures accepted { OnOk result (IsAccepted file.now) }
     ensures fault { IfErr result (λ fault. HasNoState fault file.now) }
 {
     let sheets = collect(alloc, file)?;
-    state_at(alloc, &sheets, moment)
+    state_at(alloc, &sheets, moment, form)
 }
 
 /// Returns the state of the game of some sheets at a moment.
-fn state_at(alloc: Global, sheets: &Sheets, moment: Moment) -> Result<Vec<u8>, DeskFault>
+fn state_at(
+    alloc: Global,
+    sheets: &Sheets,
+    moment: Moment,
+    form: StateForm,
+) -> Result<Vec<u8>, DeskFault>
     ensures { IfErr result IsOfGame }
 {
     match moment {
-        Moment::Last => state_at_last(alloc, sheets),
-        Moment::After(round) => text_behind(alloc, sheets, round),
-        Moment::Before(round) => text_before(alloc, sheets, round),
+        Moment::Last => state_at_last(alloc, sheets, form),
+        Moment::After(round) => text_behind(alloc, sheets, round, form),
+        Moment::Before(round) => text_before(alloc, sheets, round, form),
         Moment::BeforeLast => {
             let last = last_round(alloc, sheets)?;
-            text_before(alloc, sheets, last)
+            text_before(alloc, sheets, last, form)
         }
     }
 }
 
 /// Returns the state of the game of some sheets after a round.
-fn text_behind(alloc: Global, sheets: &Sheets, round: Round) -> Result<Vec<u8>, DeskFault>
+fn text_behind(
+    alloc: Global,
+    sheets: &Sheets,
+    round: Round,
+    form: StateForm,
+) -> Result<Vec<u8>, DeskFault>
     ensures { IfErr result IsOfGame }
 {
     let play = play_behind(alloc, sheets, round)?;
-    text_of_play(alloc, &play)
+    text_of_play(alloc, &play, form)
 }
 
 /// Returns the state of the game of some sheets before a round.
-fn text_before(alloc: Global, sheets: &Sheets, round: Round) -> Result<Vec<u8>, DeskFault>
+fn text_before(
+    alloc: Global,
+    sheets: &Sheets,
+    round: Round,
+    form: StateForm,
+) -> Result<Vec<u8>, DeskFault>
     ensures { IfErr result IsOfGame }
 {
     let play = play_before(alloc, sheets, round)?;
-    text_of_play(alloc, &play)
+    text_of_play(alloc, &play, form)
 }
 
 /// Returns the state of the game of some sheets after the last round.
-fn state_at_last(alloc: Global, sheets: &Sheets) -> Result<Vec<u8>, DeskFault>
+fn state_at_last(alloc: Global, sheets: &Sheets, form: StateForm) -> Result<Vec<u8>, DeskFault>
     ensures { IfErr result IsOfGame }
 {
     let game = play(alloc, sheets)?;
-    Ok(state_text(alloc, &stood_at_last(&game))?)
+    Ok(state_text(alloc, &stood_at_last(&game), form)?)
 }
 
 /// Returns the state of a game that was played up to here.
-fn text_of_play(alloc: Global, play: &Play) -> Result<Vec<u8>, DeskFault>
+fn text_of_play(alloc: Global, play: &Play, form: StateForm) -> Result<Vec<u8>, DeskFault>
     ensures { IfErr result IsOfGame }
 {
     match stood_now(play) {
-        Some(stood) => Ok(state_text(alloc, &stood)?),
+        Some(stood) => Ok(state_text(alloc, &stood, form)?),
         None => Err(DeskFault::Round),
     }
 }
@@ -96,12 +127,24 @@ fn last_round(alloc: Global, sheets: &Sheets) -> Result<Round, DeskFault>
     }
 }
 
-/// Returns the state of a game at a moment, as text. Fails only if allocation fails.
-pub fn state_text(alloc: Global, stood: &Stood) -> Result<Vec<u8>, AllocError> {
+/// Returns the state of a game at a moment, in a form. Fails only if allocation fails.
+pub fn state_text(alloc: Global, stood: &Stood, form: StateForm) -> Result<Vec<u8>, AllocError> {
     let order = all_in_order(alloc, stood.history)?;
-    let mut text = Vec::new(alloc);
-    push_state(&mut text, stood, order.as_slice())?;
-    Ok(text)
+    match form {
+        StateForm::Text => {
+            let mut text = Vec::new(alloc);
+            push_state(&mut text, stood, order.as_slice())?;
+            Ok(text)
+        }
+        StateForm::Json => {
+            let facts = StateFacts {
+                alloc,
+                stood,
+                order: order.as_slice(),
+            };
+            json_line(alloc, &facts)
+        }
+    }
 }
 
 /// Adds the state of a game, with its companies in this order.

@@ -3,7 +3,7 @@
 use crate::bulletin::bulletin;
 use crate::streams::StreamFault;
 use crate::task::{Job, Task};
-use desk::state;
+use desk::{StateForm, round_facts, state};
 use desk_base::{DeskFault, Moment, Reason, all_reasons_text, explain, list_text, reason_text};
 use desk_check::{Extent, check};
 use desk_moves::{LayForm, MayForm, MovesFault, Progress, Question, answer, trial};
@@ -80,6 +80,7 @@ pub(crate) fn answer_to<'a, P: Progress>(
         why: task.why,
         before: task.before,
         due: task.due,
+        json: task.json,
     };
     answer_with(alloc, task.round.is_some(), told_of(alloc, file, asked))
 }
@@ -92,12 +93,20 @@ struct Asking<'a> {
     why: bool,
     before: bool,
     due: &'a str,
+    json: bool,
 }
 
 /// Returns the text of a word about the game of a file.
 fn told_of(alloc: Global, file: &[u8], asked: Asking) -> Result<Vec<u8>, DeskFault> {
     match asked.job {
-        Job::State => state(alloc, file, moment_of(asked)),
+        Job::State => {
+            let form = if asked.json {
+                StateForm::Json
+            } else {
+                StateForm::Text
+            };
+            state(alloc, file, moment_of(asked), form)
+        }
         Job::Runs => runs(alloc, file, asked.round),
         Job::Bulletin => bulletin(alloc, file, asked.round, asked.due),
         Job::Page => page(alloc, file, asked.round),
@@ -106,9 +115,11 @@ fn told_of(alloc: Global, file: &[u8], asked: Asking) -> Result<Vec<u8>, DeskFau
 }
 
 /// Returns the part of the report of a round, with the rules that refused lines broke where they
-/// are asked for.
+/// are asked for, or the events of the round as JSON.
 fn told_of_round(alloc: Global, file: &[u8], asked: Asking) -> Result<Vec<u8>, DeskFault> {
-    if asked.why {
+    if asked.json {
+        round_facts(alloc, file, asked.round)
+    } else if asked.why {
         round_with_rules(alloc, file, asked.round)
     } else {
         round(alloc, file, asked.round)

@@ -49,6 +49,8 @@ pub(crate) struct Task<'a> {
     pub(crate) why: bool,
     /// Whether to write the state before the round.
     pub(crate) before: bool,
+    /// Whether to write JSON.
+    pub(crate) json: bool,
     /// Whether to write all that there is.
     pub(crate) all: bool,
     /// The first line of the file that is reported.
@@ -108,6 +110,8 @@ enum Operand {
     Why,
     /// `--before`.
     Before,
+    /// `--json`.
+    Json,
     /// `--all`.
     All,
     /// `--from LINE`.
@@ -145,7 +149,7 @@ static WORDS: [Word; 12] = [
         about: "Writes a round's part of the report",
         example: "Example: desk round OR2.1 --why < our-game.orders",
         job: Job::Round,
-        operands: &[Operand::Round, Operand::Why],
+        operands: &[Operand::Round, Operand::Why, Operand::Json],
     },
     Word {
         name: "check",
@@ -173,7 +177,7 @@ static WORDS: [Word; 12] = [
         about: "Writes how the game stands: who owes a sheet, players, companies, chart and map",
         example: "Example: desk state OR2.1 < our-game.orders",
         job: Job::State,
-        operands: &[Operand::Round, Operand::Before],
+        operands: &[Operand::Round, Operand::Before, Operand::Json],
     },
     Word {
         name: "bulletin",
@@ -291,6 +295,7 @@ fn argument_of<'a>(alloc: Global, operand: Operand) -> Arg<'a> {
         }
         Operand::Why => flag(alloc, "why").help("Show below each refused line which rule it broke"),
         Operand::Before => flag(alloc, "before").help("As it stood before that round"),
+        Operand::Json => flag(alloc, "json").help("Write facts for other programs, as JSON"),
         Operand::All => flag(alloc, "all").help("Show everything"),
         Operand::From => Arg::new(alloc, "from").long("from").value_name("LINE").help(
             "Show only what begins on this line of the file or below it",
@@ -370,6 +375,7 @@ fn task_of<'a>(
         round: None,
         why: false,
         before: false,
+        json: false,
         all: false,
         from: 1,
         due: "",
@@ -434,6 +440,7 @@ fn take_operand<'a>(
     match operand {
         Operand::Why => task.why = given.get_flag("why"),
         Operand::Before => task.before = given.get_flag("before"),
+        Operand::Json => task.json = given.get_flag("json"),
         Operand::All => task.all = given.get_flag("all"),
         Operand::Lines => task.lines = given.get_flag("lines"),
         Operand::Best => task.best = given.get_flag("best"),
