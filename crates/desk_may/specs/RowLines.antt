@@ -1,8 +1,9 @@
 -- A row as a line: the order as a sheet could hold it, four spaces, and what becomes of it. That is OK with its price; the
 -- same with whose offer it takes; or the code of the rule that refuses it.
-use Rattle.std.specs.Prelude.{ℕ, List, [], ◌∷◌, ◌++◌, codes}
+use Rattle.std.specs.Prelude.{ℕ, List, [], ◌∷◌, ◌++◌, Option, codes}
 use Rattle.std.specs.Fmt.{signed_decimal}
 use Rattle.std.specs.List.{flat_map}
+use Rattle.desk_may.specs.Offerers.{offered_row}
 use Rattle.events.specs.RuleCodes.{code_of_refusal}
 use Rattle.moves.specs.declared.row.Answer.{Answer}
 use Rattle.moves.specs.declared.row.Answer.TheVariants.{Obeyed, WithConsent, Refused}
@@ -10,6 +11,7 @@ use Rattle.moves.specs.declared.row.Row.{Row}
 use Rattle.order_grammar.specs.Print.{spelling_of}
 use Rattle.order_grammar.specs.declared.order.Order.TheVariants.{Offer}
 use Rattle.report.specs.Line.{name_of}
+use Rattle.tables.specs.declared.seat.Seat.{Seat}
 
 -- what becomes of an order, in words
 abbrev pub answer_text : List ℕ → Answer → List ℕ
@@ -25,3 +27,11 @@ row_line file row = spelling_of row.order ++ codes "    " ++ answer_text file ro
 -- the lines of some rows
 abbrev pub row_lines : List ℕ → List Row → List ℕ
 row_lines file rows = flat_map (row_line file) rows
+
+-- the line of a row whose consent may come too late, by who presided over each company as the round began
+abbrev pub offered_line : List (Option Seat) → List ℕ → Row → List ℕ
+offered_line presidents file row = row_line file (offered_row presidents row)
+
+-- the lines of some
+abbrev pub offered_lines : List (Option Seat) → List ℕ → List Row → List ℕ
+offered_lines presidents file rows = flat_map (offered_line presidents file) rows

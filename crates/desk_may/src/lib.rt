@@ -7,7 +7,8 @@
 //!
 //! Reading order: `may_line` (a line), `until_then` (what comes before), `may_opening`, `may_stock`,
 //! `may_operating` (the lines of each kind of round), `must_buy` (a train that a company must buy),
-//! `offerers` (who may offer a train), `row_lines` (rows as lines), `may_lines` (the same as the lines of a sheet).
+//! `offerers` (who may offer a train), `raise_rows` (what becomes of a RAISE), `row_lines` (rows as
+//! lines), `may_lines` (the same as the lines of a sheet).
 #![tactic(auto)]
 
 mod may_line;
@@ -17,6 +18,7 @@ mod may_operating;
 mod may_stock;
 mod must_buy;
 mod offerers;
+mod raise_rows;
 mod row_lines;
 mod until_then;
 

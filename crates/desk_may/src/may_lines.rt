@@ -1,22 +1,22 @@
 //! What a player may do as the lines of a sheet, in its order: standing lines, then TURN, or COMPANY
 //! for each of the player's companies in operating order, and below each head the orders. Each is
 //! judged alone, as the first line there.
-ghost use Rattle.std.specs.Prelude.{◌≡◌, ◌++◌, IfOk, OnOk, length};
+ghost use Rattle.std.specs.Prelude.{◌≡◌, ◌++◌, [], if◌then◌else◌, IfOk, OnOk, Some, length};
+ghost use Rattle.desk_may.specs.OperatingLines.{AddsOperatingLines, AddsOrders, AddsTurn, AddsTurns};
+ghost use Rattle.desk_may.specs.OperatingLines.{company_head, private_rows_of, raise_lines, train_lines};
 ghost use Rattle.desk_may.specs.SheetLines.{turn_lines, turn_rows};
+ghost use Rattle.foresight.specs.Ahead.{withheld_in};
 ghost use Rattle.history.specs.Sound.{IsSound};
+ghost use Rattle.market.specs.OperatingOrder.{next_company};
 ghost use Rattle.sheets.specs.File.{players_of};
 
-use crate::must_buy::{held, proceeds};
-use crate::offerers::{Presidents, may_offer, presidents};
-use crate::row_lines::push_rows;
-use certs::Sale;
-use desk_base::Piece::Words;
-use desk_base::fill;
-use forced_purchase::{Operator, raise_rule};
+use crate::offerers::presidents;
+use crate::raise_rows::raise_rows;
+use crate::row_lines::{push_offered_rows, push_rows};
+use forced_purchase::Operator;
 use foresight::{Draft, OrdersAhead, RoundAhead};
-use history::{History, Refusal, TrainRule};
-use moves::{Answer, Row, opening_rows, private_rows, standing_rows, stock_rows, train_rows};
-use order_grammar::Order;
+use history::History;
+use moves::{Row, opening_rows, private_rows, standing_rows, stock_rows, train_rows};
 use sheets::Sheets;
 use std::alloc::{AllocError, Global};
 use tables::{COMPANIES, Company, Round, Seat};
@@ -69,92 +69,130 @@ pub fn push_lines_of_operating(
 ) -> Result<(), AllocError>
     requires sound { IsSound history }
     requires seats { history.seats ≡ length (players_of draft.sheets.now) }
+    ensures { OnOk result (AddsOperatingLines draft.entry.sheets.now draft.entry.drafter round
+        seat history out.old.items out.new.items) }
 {
     let standing = standing_rows(alloc, &history, seat, round)?;
     push_rows(out, draft.sheets, standing.as_slice())?;
-    let offerers = presidents(&history);
-    let mut ahead = RoundAhead::open(alloc, history, draft, round)?;
-    for _ in 0..COMPANIES {
+    let presidents = presidents(alloc, &history)?;
+    let ahead = RoundAhead::open(alloc, history, draft, round)?;
+    push_turns(alloc, out, ahead, presidents.as_slice(), seat)
+}
+
+/// Adds the orders of each company that a seat leads as its turn comes, by those who preside as the
+/// round begins.
+fn push_turns(
+    alloc: Global,
+    out: &mut Vec<u8>,
+    opened: RoundAhead,
+    presidents: &[Option<Seat>],
+    seat: Seat,
+) -> Result<(), AllocError>
+    ensures { OnOk result
+        (AddsTurns presidents.now seat opened.entry out.old.items out.new.items) }
+{
+    let mut ahead = opened;
+    let mut turns = 0;
+    while turns < COMPANIES {
         let Some(company) = ahead.next_company() else {
-            break;
+            return Ok(());
         };
-        ahead = if ahead.is_led_by(company, seat) {
-            let president = seat;
-            let orders = ahead.turn_of(Operator { company, president })?;
-            push_orders(alloc, out, orders, &offerers)?
-        } else {
-            ahead.take_turn(company)?
-        };
+        ahead = push_turn(alloc, out, ahead, company, presidents, seat)?;
+        turns += 1;
     }
     Ok(())
 }
 
+/// Adds the orders of the company that comes next, if a seat leads it. Returns the round after its
+/// turn.
+fn push_turn<'a>(
+    alloc: Global,
+    out: &mut Vec<u8>,
+    ahead: RoundAhead<'a>,
+    company: Company,
+    presidents: &[Option<Seat>],
+    seat: Seat,
+) -> Result<RoundAhead<'a>, AllocError>
+    requires { next_company ahead.game.events ≡ Some company }
+    ensures { IfOk result (λ new.
+        AddsTurn presidents.now seat company ahead.entry new out.old.items out.new.items) }
+{
+    if !ahead.is_led_by(company, seat) {
+        return ahead.take_turn(company);
+    }
+    let president = seat;
+    let orders = ahead.turn_of(Operator { company, president })?;
+    push_orders(alloc, out, orders, presidents)?.finish()
+}
+
 /// Adds the orders of a company at the head of its orders, or behind those that are drafted.
-/// Returns the round after its turn.
+/// Returns its turn once it has withheld.
 fn push_orders<'a>(
     alloc: Global,
     out: &mut Vec<u8>,
     orders: OrdersAhead<'a>,
-    offerers: &Presidents,
-) -> Result<RoundAhead<'a>, AllocError> {
-    let company = orders.by().company;
-    fill(out, "COMPANY %\n", &[Words(company.code())])?;
-    let privates = private_rows(alloc, orders.history(), company)?;
+    presidents: &[Option<Seat>],
+) -> Result<OrdersAhead<'a>, AllocError>
+    ensures lines { OnOk result
+        (AddsOrders presidents.now orders.entry out.old.items out.new.items) }
+    ensures withheld { IfOk result (λ new. new ≡ withheld_in orders.entry) }
+{
+    push_head(out, orders.by().company)?;
+    let privates = privates_of(alloc, &orders)?;
     // A company withholds before it buys a train.
-    let (orders, due) = orders.withheld()?.must_buy()?;
-    let trains = train_rows(alloc, orders.history(), company)?;
-    let trains = as_offered(alloc, trains.as_slice(), offerers)?;
-    push_rows(out, orders.sheets(), trains.as_slice())?;
+    let orders = orders.withheld()?;
+    push_trains(alloc, out, &orders, presidents)?;
     push_rows(out, orders.sheets(), privates.as_slice())?;
+    let (orders, due) = orders.must_buy()?;
+    push_raises_if(alloc, out, &orders, due)?;
+    Ok(orders)
+}
+
+/// Adds the head of a company's orders.
+fn push_head(out: &mut Vec<u8>, company: Company) -> Result<(), AllocError>
+    ensures { OnOk result (out.new.items ≡ out.old.items ++ company_head company) }
+{
+    out.extend_from_slice(b"COMPANY ")?;
+    out.extend_from_slice(company.code().as_bytes())?;
+    out.push(b'\n')?;
+    Ok(())
+}
+
+/// Returns the rows of the privates that a company may buy, and may not.
+fn privates_of(alloc: Global, orders: &OrdersAhead) -> Result<Vec<Row>, AllocError>
+    ensures { IfOk result (λ rows.
+        rows.items ≡ private_rows_of orders.now.turn.game orders.now.by.company) }
+{
+    private_rows(alloc, orders.history(), orders.by().company)
+}
+
+/// Adds the lines of the trains that a company may buy, and may not.
+fn push_trains(
+    alloc: Global,
+    out: &mut Vec<u8>,
+    orders: &OrdersAhead,
+    presidents: &[Option<Seat>],
+) -> Result<(), AllocError>
+    ensures { OnOk result (out.new.items ≡ out.old.items
+        ++ train_lines presidents.now orders.now) }
+{
+    let trains = train_rows(alloc, orders.history(), orders.by().company)?;
+    push_offered_rows(out, orders.sheets(), trains.as_slice(), presidents)
+}
+
+/// Adds the RAISE lines of a company, if it must buy a train.
+fn push_raises_if(
+    alloc: Global,
+    out: &mut Vec<u8>,
+    orders: &OrdersAhead,
+    due: bool,
+) -> Result<(), AllocError>
+    ensures { OnOk result (out.new.items ≡ out.old.items
+        ++ (if due then raise_lines orders.now else [])) }
+{
     if due {
         let raises = raise_rows(alloc, orders.history(), orders.by())?;
         push_rows(out, orders.sheets(), raises.as_slice())?;
     }
-    orders.finish()
-}
-
-/// Returns rows in which no train needs an offer that comes too late. An OFFER is ruled as the round
-/// begins: whoever presides over the seller since then has no offer that is obeyed.
-fn as_offered(alloc: Global, rows: &[Row], offerers: &Presidents) -> Result<Vec<Row>, AllocError> {
-    let mut offered = Vec::new(alloc);
-    for row in rows {
-        let answer = match row.answer {
-            Answer::WithConsent { giver, offer, .. } if !may_offer(offerers, giver, offer) => {
-                Answer::Refused(Refusal::Train(TrainRule::NoConsent))
-            }
-            answer => answer,
-        };
-        offered.push(Row {
-            order: row.order.duplicate(),
-            answer,
-        })?;
-    }
-    Ok(offered)
-}
-
-/// Returns the RAISE lines of a president whose company must buy a train, of one share to all that
-/// they have of each company.
-fn raise_rows(alloc: Global, history: &History, by: Operator) -> Result<Vec<Row>, AllocError> {
-    let mut rows = Vec::new(alloc);
-    for company in &Company::ALL {
-        for shares in 1..=held(history, by, *company) {
-            let company = *company;
-            let answer = answer_to_raise(history, by, Sale { company, shares });
-            rows.push(Row {
-                order: Order::Raise { company, shares },
-                answer,
-            })?;
-        }
-    }
-    Ok(rows)
-}
-
-/// Returns what becomes of a RAISE as the first, where a train must be bought.
-fn answer_to_raise(history: &History, by: Operator, sale: Sale) -> Answer {
-    match raise_rule(history, by, None, sale, true) {
-        Some(rule) => Answer::Refused(rule),
-        None => Answer::Obeyed {
-            price: proceeds(history, sale),
-        },
-    }
+    Ok(())
 }

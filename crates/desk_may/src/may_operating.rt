@@ -2,7 +2,7 @@
 //! orders, or behind those that the player has drafted.
 use crate::may_line::{push_may, push_may_not, push_note_column};
 use crate::must_buy::push_end_of_turn;
-use crate::offerers::{Presidents, presidents};
+use crate::offerers::{led_it, presidents};
 use crate::until_then::{SAID, push_until_then};
 use desk_base::Piece::{Bytes, Column, Count, Number, Words};
 use desk_base::{fill, push};
@@ -22,7 +22,7 @@ use tables::{COMPANIES, Company, Kind, Money, Private, Seat, face, limit};
 struct Buyer<'a> {
     alloc: Global,
     /// Who presided as the round began.
-    offerers: &'a Presidents,
+    offerers: &'a [Option<Seat>],
     sheets: &'a Sheets<'a>,
     history: &'a History,
     by: Operator,
@@ -40,7 +40,7 @@ pub fn push_of_operating(
     from: usize,
     seat: Seat,
 ) -> Result<(), AllocError> {
-    let offerers = presidents(ahead.history());
+    let offerers = presidents(alloc, ahead.history())?;
     let mut ahead = ahead;
     for _ in 0..COMPANIES {
         let Some(company) = ahead.next_company() else {
@@ -49,7 +49,7 @@ pub fn push_of_operating(
         ahead = if ahead.is_led_by(company, seat) {
             let president = seat;
             let orders = ahead.turn_of(Operator { company, president })?;
-            push_turn(alloc, out, orders, &offerers, from)?
+            push_turn(alloc, out, orders, offerers.as_slice(), from)?
         } else {
             ahead.take_turn(company)?
         };
@@ -91,7 +91,7 @@ fn push_turn<'a>(
     alloc: Global,
     out: &mut Vec<u8>,
     orders: OrdersAhead<'a>,
-    offerers: &Presidents,
+    offerers: &[Option<Seat>],
     from: usize,
 ) -> Result<RoundAhead<'a>, AllocError> {
     let mut privates = Vec::new(alloc);
@@ -109,7 +109,7 @@ fn push_turn<'a>(
 
 impl<'a> Buyer<'a> {
     /// Returns the company whose turn this is.
-    fn of(alloc: Global, orders: &'a OrdersAhead, offerers: &'a Presidents) -> Buyer<'a> {
+    fn of(alloc: Global, orders: &'a OrdersAhead, offerers: &'a [Option<Seat>]) -> Buyer<'a> {
         Buyer {
             alloc,
             offerers,
@@ -138,8 +138,12 @@ impl Buyer<'_> {
         let TrainSeller::Company(seller) = purchase.from else {
             return true;
         };
-        let president = self.history.now().president(seller);
-        president == Some(self.by.president) || president == self.offerers[seller.index()]
+        match self.history.now().president(seller) {
+            Some(president) if president != self.by.president => {
+                led_it(self.offerers, seller, president)
+            }
+            _ => true,
+        }
     }
 
     /// Adds the privates that the company may buy, and those that it may not.

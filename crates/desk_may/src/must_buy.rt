@@ -2,8 +2,9 @@
 //! president may sell for it, and what happens otherwise.
 
 use crate::may_line::push_may;
+use crate::raise_rows::brought_by;
 use crate::until_then::{SAID, push_events};
-use certs::{Sale, market_price};
+use certs::Sale;
 use desk_base::Piece::{Bytes, Column, Number, Words};
 use desk_base::{fill, push};
 use forced_purchase::{Operator, cheapest, falls_short, lack, sale_rule};
@@ -155,7 +156,7 @@ fn raised_at_most(history: &History, by: Operator) -> Money {
     for company in &Company::ALL {
         let mut most = 0;
         for shares in 1..=held(history, by, *company) {
-            if let Some(brought) = brought_by(history, by, *company, shares) {
+            if let Some(brought) = price_brought(history, by, *company, shares) {
                 most = brought.max(most);
             }
         }
@@ -165,31 +166,30 @@ fn raised_at_most(history: &History, by: Operator) -> Money {
 }
 
 /// Returns how many shares of a company a president has.
-pub(crate) fn held(history: &History, by: Operator, company: Company) -> Amount {
+fn held(history: &History, by: Operator, company: Company) -> Amount {
     let shares = history.shares(company, Shareholder::Seat(by.president));
     Amount::try_from(shares).unwrap_or(0)
 }
 
 /// Returns what a sale to pay for a train brings, in dollars; `None` if a rule refuses it.
-fn brought_by(history: &History, by: Operator, company: Company, shares: Amount) -> Option<Money> {
+fn price_brought(
+    history: &History,
+    by: Operator,
+    company: Company,
+    shares: Amount,
+) -> Option<Money> {
     let sale = Sale { company, shares };
     match sale_rule(history, by, sale) {
         Some(_) => None,
-        None => Some(proceeds(history, sale)),
+        None => Some(brought_by(&history.now(), sale)),
     }
-}
-
-/// Returns what the shares of a sale bring, in dollars.
-pub(crate) fn proceeds(history: &History, sale: Sale) -> Money {
-    let price = Money::from(market_price(&history.now(), sale.company));
-    price.saturating_mul(Money::from(sale.shares))
 }
 
 /// Adds each RAISE that would be obeyed, with what it brings.
 fn push_raises(out: &mut Vec<u8>, history: &History, by: Operator) -> Result<(), AllocError> {
     for company in &Company::ALL {
         for shares in 1..=held(history, by, *company) {
-            if let Some(brought) = brought_by(history, by, *company, shares) {
+            if let Some(brought) = price_brought(history, by, *company, shares) {
                 let order = Order::Raise {
                     company: *company,
                     shares,

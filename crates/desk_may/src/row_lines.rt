@@ -1,30 +1,56 @@
 //! Rows as lines: each order as a sheet could hold it, four spaces, and what becomes of it.
 ghost use Rattle.std.specs.Prelude.{◌≡◌, ◌++◌, OnOk};
-ghost use Rattle.desk_may.specs.RowLines.{answer_text, row_line, row_lines};
+ghost use Rattle.desk_may.specs.RowLines.{answer_text, offered_lines, row_line, row_lines};
 
+use crate::offerers::as_offered;
 use moves::{Answer, Row};
 use order_grammar::{Order, print_number, print_order};
 use report::name;
 use sheets::Sheets;
 use std::alloc::AllocError;
+use tables::Seat;
 
 /// Adds the lines of some rows. Fails only if allocation fails.
 pub(crate) fn push_rows(out: &mut Vec<u8>, sheets: &Sheets, rows: &[Row]) -> Result<(), AllocError>
     ensures { OnOk result (out.new.items ≡ out.old.items ++ row_lines sheets.now rows.now) }
 {
     for row in rows {
-        push_row(out, sheets, row)?;
+        push_row(out, sheets, &row.order, row.answer)?;
     }
     Ok(())
 }
 
-/// Adds the line of a row.
-fn push_row(out: &mut Vec<u8>, sheets: &Sheets, row: &Row) -> Result<(), AllocError>
-    ensures { OnOk result (out.new.items ≡ out.old.items ++ row_line sheets.now row.now) }
+/// Adds the lines of some rows in which no train needs an offer that comes too late, by those who
+/// preside as the round begins. Fails only if allocation fails.
+pub(crate) fn push_offered_rows(
+    out: &mut Vec<u8>,
+    sheets: &Sheets,
+    rows: &[Row],
+    presidents: &[Option<Seat>],
+) -> Result<(), AllocError>
+    ensures { OnOk result (out.new.items ≡ out.old.items
+        ++ offered_lines presidents.now sheets.now rows.now) }
 {
-    print_order(out, &row.order)?;
+    for row in rows {
+        let answer = as_offered(presidents, row.answer);
+        push_row(out, sheets, &row.order, answer)?;
+    }
+    Ok(())
+}
+
+/// Adds the line of an order, with what becomes of it.
+fn push_row(
+    out: &mut Vec<u8>,
+    sheets: &Sheets,
+    order: &Order,
+    answer: Answer,
+) -> Result<(), AllocError>
+    ensures { OnOk result (out.new.items ≡ out.old.items
+        ++ row_line sheets.now (record { order = order.now; answer = answer })) }
+{
+    print_order(out, order)?;
     out.extend_from_slice(b"    ")?;
-    push_answer(out, sheets, row.answer)?;
+    push_answer(out, sheets, answer)?;
     out.push(b'\n')?;
     Ok(())
 }

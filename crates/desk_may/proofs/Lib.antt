@@ -1,0 +1,2 @@
+-- What the proofs of the lines of an operating round share.
+pub mod OperatingLemmas
