@@ -8,7 +8,7 @@
 //! a game do not have (`player_figures`, `earnings`, `stack`, `standing`, `state_rows`), and their
 //! layout: `lines`, `state_round`, `state_players`, `state_companies`, `state_stock`,
 //! `state_chart`, `state_map`, `whole_state` (`state`); `statement_parties`, `statement_next`,
-//! `statement` (what ends a bulletin). Facts for other programs: `facts`, `state_facts`,
+//! `whole_statement` (what ends a bulletin). Facts for other programs: `facts`, `state_facts`,
 //! `event_facts`, `round_events` (`round_facts`).
 #![tactic(auto)]
 
@@ -29,10 +29,10 @@ mod state_players;
 mod state_round;
 mod state_rows;
 mod state_stock;
-mod statement;
 mod statement_next;
 mod statement_parties;
 mod whole_state;
+mod whole_statement;
 
 pub use earnings::{Earnings, earnings_of};
 pub use market::operates;
@@ -40,5 +40,5 @@ pub use player_figures::{Purse, purse_of};
 pub use round_events::round_facts;
 pub use round_name::read_round;
 pub use stack::{all_in_order, before_in_stack, company_at};
-pub use statement::statement;
 pub use whole_state::{StateForm, state, state_text};
+pub use whole_statement::statement;

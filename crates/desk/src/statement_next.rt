@@ -2,7 +2,7 @@
 
 use crate::standing::rank_of;
 use crate::state_rows::game_row;
-use crate::statement::VALUES;
+use crate::whole_statement::VALUES;
 use desk_base::Piece::{Bytes, Column, Count, Cut, Right, Words};
 use desk_base::{Piece, Stood, fill, owes, push, push_wrapped};
 use market::operates;

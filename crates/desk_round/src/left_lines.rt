@@ -63,18 +63,18 @@ impl Left<'_> {
     /// Adds the lines that were not taken up, of which there are this many, and below those of each
     /// turn or of the orders for a company why not. Lines that are not kept are counted.
     pub(crate) fn push_lines(&self, out: &mut Vec<u8>, count: u32) -> Result<(), AllocError> {
-        let mut turn = 0;
-        let mut told = 0;
+        let mut turn: usize = 0;
+        let mut told: u32 = 0;
         let mut open = None;
         for line in self.lines.iter().filter(|line| line.is_of(self.seat)) {
             if line.is_head {
                 self.push_cause(out, open, turn)?;
                 open = None;
-                turn += 1;
+                turn = turn.saturating_add(1);
             } else if self.ruled.binary_search(&line.number()).is_err() {
                 push_line(out, line)?;
                 open = Some(line.place);
-                told += 1;
+                told = told.saturating_add(1);
             }
         }
         self.push_cause(out, open, turn)?;

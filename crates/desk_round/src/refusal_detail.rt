@@ -273,20 +273,27 @@ fn colour_of(view: &GameView, hex: Hex) -> &'static str {
 /// Adds what an order costs, and the cash of the company among whose orders it is; the cash of each
 /// company that the player presides over, if that is not known.
 fn push_cash(out: &mut Vec<u8>, ruled: Ruled, order: &Order) -> Result<(), AllocError> {
-    if let Some(company) = ruled.company()
-        && let Some(cost) = cost_in_turn(ruled.view, company, order)
-    {
-        let cash = Number(ruled.view.cash(Party::of_company(company)));
-        let cost = Number(Money::from(cost));
-        return fill(
-            out,
-            " (it costs %, % has %)",
-            &[cost, Words(company.code()), cash],
-        );
+    let Some(company) = ruled.company() else {
+        return push_cash_of_all(out, ruled);
+    };
+    let cash = Number(ruled.view.cash(Party::of_company(company)));
+    let code = Words(company.code());
+    match cost_in_turn(ruled.view, company, order) {
+        Some(cost) => {
+            let cost = Number(Money::from(cost));
+            fill(out, " (it costs %, % has %)", &[cost, code, cash])
+        }
+        None => fill(out, " (% has %)", &[code, cash]),
     }
+}
+
+/// Adds the cash of each company that the player presides over.
+fn push_cash_of_all(out: &mut Vec<u8>, ruled: Ruled) -> Result<(), AllocError> {
     let (mut words, mut end) = (" (% has %", "");
     for company in &Company::ALL {
-        if ruled.view.floated(*company) && ruled.view.president(*company) == Some(ruled.seat) {
+        let is_meant = ruled.view.floated(*company)
+            && ruled.view.president(*company) == Some(ruled.seat);
+        if is_meant {
             let cash = Number(ruled.view.cash(Party::of_company(*company)));
             fill(out, words, &[Words(company.code()), cash])?;
             (words, end) = (", % has %", ")");
