@@ -20,7 +20,8 @@ APART = re.compile(r'\b(?:None|Some|Ok|Err)\b')
 NOTHING = re.compile(r'None|\[\]|false|0|pos 0|⊥|Unit \{0\}|Err \w+')
 PLUMBING_NAMES = re.compile(r'same_\w+|(?:\w+_)?index_of(?:_\w+)?')
 # What the tests below would take for something else.
-RULES = {'Ends', 'first_broken'}
+RULES = {'Ends', 'first_broken', 'limit_from', 'least_over', 'same_offer', 'same_terms', 'rusts_at', 'leg_from', 'leg_over', 'made_along',
+         'travelled', 'arrived', 'fault_of_standing', 'AreListed'}
 TABLES = {'text_of_pay_rule'}
 RULES_OF_ALL = {'tables/specs/Turns', 'turns/specs/RoundOfTurns', 'turns/specs/Ruling', 'sheets/specs/Taken', 'umpire/specs/Verify'}
 
