@@ -1,4 +1,6 @@
 """The definitions of crates/*/specs, for tools/names and tools/claim."""
+from __future__ import annotations
+
 import glob
 import os
 import re
