@@ -1,26 +1,38 @@
 # The part `page`: the page of a game, byte for byte and read back as a picture.
 
-# The games whose pages are read: the first round, a long one of each kind, six players, and the ends.
-read_games=(first-round three-companies-build presidents-run-their-best to-the-first-diesel to-the-first-diesel-of-four
-  ninety-five-tiles conditions three-presidents-deal stock-round-of-six broken-bank-by-a-dividend)
+# The games whose pages are read: the first round, one whose lines have all signs of a page, a long one of each kind, six
+# players, and the ends.
+read_games=(first-round signs-of-a-page presidents-run-their-best three-companies-build to-the-first-diesel
+  to-the-first-diesel-of-four ninety-five-tiles conditions three-presidents-deal stock-round-of-six broken-bank-by-a-dividend
+  a-president-is-bankrupt)
 
-# play_page FILE: the page is what `desk page` writes. NAME.words has the game and the round, where the name is not the game.
+# style_of: the style of a page, and unstyled: the page without it.
+style_of() { sed -n '/<style>$/,/^<\/style>/{/<style>$/d;/^<\/style>/d;p}'; }
+unstyled() { sed '/<style>$/,/^<\/style>/{/<style>$/p;/^<\/style>/p;d}'; }
+
+# play_page FILE: the page is what `desk page` writes, with the style that all pages have. NAME.words has the game and the
+# round, where the name is not the game.
 play_page() {
   local name=${1%.html} orders words=
   orders=games/${name##*/}.orders
   [ ! -f "$name.words" ] || { read -r orders words < "$name.words" && orders=games/$orders.orders; }
   # shellcheck disable=SC2086
-  "$desk" page $words < "$orders" > "$scratch/out" 2> "$scratch/err"
-  judge "$name" $? 0 "$1" none
+  "$desk" page $words < "$orders" > "$scratch/page" 2> "$scratch/err"
+  unstyled < "$scratch/page" > "$scratch/out"
+  cmp -s games/page/style.css <(style_of < "$scratch/page") || echo 'another style' >> "$scratch/err"
+  judge "$name" "$(($(wc -c < "$scratch/page") == 0))" 0 "$1" none
 }
 
 # told_of GAME FOLDER: what the desk tells of a game: its page, its state, and the runs of its last operating round.
 told_of() {
-  local orders=games/$1.orders round
+  local orders=games/$1.orders round word
   round=$(awk '/^ROUND OR/ { round = $2 } END { print round }' "games/$1.report")
   mkdir -p "$2"
+  cp "$orders" "$2/orders" && cp "games/$1.report" "$2/report"
   "$desk" page < "$orders" > "$2/page" 2> "$scratch/err" || return
-  "$desk" state < "$orders" > "$2/state" 2> "$scratch/err" || return
+  for word in state round bulletin; do
+    "$desk" "$word" < "$orders" > "$2/$word" 2> "$scratch/err" || return
+  done
   : > "$2/runs"
   [ -z "$round" ] || "$desk" runs "$round" < "$orders" > "$2/runs" 2> "$scratch/err"
 }
@@ -28,7 +40,7 @@ told_of() {
 # read_page NAME FOLDER: a page shows the state and the runs beside it.
 read_page() {
   local why=
-  tools/page-reader "$2/page" "$2/state" "$2/runs" > "$2/wrong" 2>&1 || why="it is not what the desk tells: $(head -n 3 "$2/wrong")"
+  tools/page-reader "$2/page" "$2" > "$2/wrong" 2>&1 || why="it is not what the desk tells: $(head -n 3 "$2/wrong")"
   count "the page of $1" "$why"
 }
 
@@ -66,7 +78,7 @@ check_page() {
 # turned_page SCRIPT: a page that a script of sed has turned, beside the state and the runs of its game.
 turned_page() {
   mkdir -p "$scratch/turned"
-  cp "$scratch/right/state" "$scratch/right/runs" "$scratch/turned"
+  cp "$scratch"/right/* "$scratch/turned"
   sed -e "$1" "$scratch/right/page" > "$scratch/turned/page"
   cmp -s "$scratch/right/page" "$scratch/turned/page" && : > "$scratch/turned/page"
   read_page 'what is turned' "$scratch/turned"
@@ -91,5 +103,13 @@ page_must_fail() {
   sees 'a token of another company' 1 turned_page 's/href="#tM" x="0" y="0"/href="#tP" x="0" y="0"/'
   sees 'a label of another tile' 1 turned_page '0,/>57\/5</s//>57\/4</'
   sees 'a route that goes another way' 1 turned_page 's/class="rc" d="M728 332/class="rc" d="M728 333/'
+  sees 'a route off its lane' 1 turned_page 's/\(class="rc" d="M728 332C[-0-9 ]* \)\([0-9]*\) \([0-9]*\)C/\1\2 1\3C/'
+  sees 'a sum of another run' 1 turned_page '0,/>290<\/text>/s//>280<\/text>/'
+  sees 'a closed border that is not told' 1 turned_page 's/; closed border at side 5//'
+  sees 'a token that is not marked as moved' 1 turned_page '0,/<use href="#nm"[^>]*>/s///'
+  sees 'a revenue of another round' 1 turned_page '/id="revenue"/,$s/>OR11.2<\/th>/>OR11.4<\/th>/'
+  sees 'a revenue that was not withheld' 1 turned_page '0,/<td class="num">170 w<\/td>/s//<td class="num">170<\/td>/'
+  sees 'a bulletin that says another thing' 1 turned_page 's/DIVIDENDS DAN 290/DIVIDENDS DAN 291/'
+  sees 'a checksum of another file' 1 turned_page 's/CRC-32 ./CRC-32 /'
   rm -rf "$scratch/right" "$scratch/turned"
 }

@@ -1,6 +1,5 @@
 //! What is written for a task, and the status with which the program ends.
 
-use crate::bulletin::bulletin;
 use crate::streams::StreamFault;
 use crate::task::{Job, Task};
 use desk::{StateForm, round_facts, state};
@@ -8,7 +7,7 @@ use desk_base::{DeskFault, Moment, Reason, all_reasons_text, explain, list_text,
 use desk_check::{Extent, check};
 use desk_moves::{LayForm, MayForm, MovesFault, Progress, Question, answer, trial};
 use desk_round::{round, round_with_rules, runs};
-use page::{page, tile_sheet};
+use page::{bulletin, page, tile_sheet};
 use report::refusal_text;
 use std::alloc::{AllocError, Global};
 use tables::Round;

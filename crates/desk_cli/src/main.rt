@@ -2,12 +2,11 @@
 //! each writes text to standard output: `round` a round's part of the report, ready to be mailed;
 //! `state` how the game stands.
 //!
-//! Reading order: `task` (the command line), `streams` (standard input and output), `bulletin`,
+//! Reading order: `task` (the command line), `streams` (standard input and output),
 //! `answers` (what is written, and the status), `waiting` (what is said while that takes long), `version`.
 #![tactic(auto)]
 
 mod answers;
-mod bulletin;
 mod streams;
 mod task;
 mod version;

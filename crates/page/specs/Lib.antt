@@ -1,1 +1,3 @@
-pub mod ShownRuns
+pub mod Checksum
+pub mod Rank
+pub mod Revenue

@@ -1,16 +1,16 @@
 //! The tables of companies, privates and trains.
 
 use crate::players_part::put_privates;
-use crate::scene::Scene;
-use crate::table_forms::{
-    NOTHING, begin_row, begin_table, put_caption, put_company, put_head, put_number, put_row_head,
-};
 use desk::{before_in_stack, earnings_of, operates};
 use desk_base::{tokens_left, trains_left};
-use history::{GameView, Holder, Party};
-use map_tables::{home, private_hexes};
-use picture::PagePiece::{Count, Hex, Letter, Name, Number, Place, Round, Words};
-use picture::{Tag, Writer};
+use history::{GameView, Holder, Party, Shareholder};
+use map_tables::{Hex, home, private_hexes};
+use page_map::Scene;
+use picture::PagePiece::{Count, Hex as Hexed, Letter, Name, Number, Place, Round, Words};
+use picture::{
+    NOTHING, Tag, Writer, begin_row, begin_table, city_name, put_caption, put_company, put_head,
+    put_number, put_row_head,
+};
 use privates::price_of;
 use tables::{Company, Kind, Money, Private, Seat, face, price, revenue, rusts, train};
 
@@ -71,20 +71,35 @@ fn put_row(out: &mut Writer, scene: &Scene, company: Company) {
     if operates(&view, company) {
         put_treasury(out, scene, company);
     } else {
-        let words = if view.is_started(company) {
-            "not floated"
-        } else {
-            "not started"
-        };
         out.element(Tag::Cell, &[]);
         out.element(Tag::Cell, &[]);
         out.element(Tag::Cell, &[]);
-        out.element(Tag::Cell, &[Words(words)]);
+        put_waiting(out, scene, company);
     }
     put_places(out, scene, company);
     put_number(out, tokens_left(&view, company) as Money);
     put_privates(out, scene, Holder::Company(company));
     out.end();
+}
+
+/// The most shares in the initial offering with which a company floats.
+const FLOATS_AT: Money = 4;
+
+/// Adds a cell for a company that does not operate: how many more shares must be sold before it
+/// floats, or that it is not started.
+fn put_waiting(out: &mut Writer, scene: &Scene, company: Company) {
+    let offered = scene.history.shares(company, Shareholder::InitialOffering);
+    if !scene.history.now().is_started(company) {
+        out.element(Tag::Cell, &[Words("not started")]);
+    } else if offered > FLOATS_AT {
+        let more = Number(offered - FLOATS_AT);
+        out.element(
+            Tag::Cell,
+            &[Words("not floated, "), more, Words(" shares to go")],
+        );
+    } else {
+        out.element(Tag::Cell, &[Words("not floated")]);
+    }
 }
 
 /// Adds the price of a company's share, its square, and the place of its token there.
@@ -148,13 +163,23 @@ fn put_places(out: &mut Writer, scene: &Scene, company: Company) {
     for token in scene.history.tokens() {
         if token.1 == company {
             out.put(&[Words(before), Place(token.0)]);
-            before = " ";
+            put_city(out, token.0.hex);
+            before = ", ";
         }
     }
     if before.is_empty() {
-        out.put(&[Words("home "), Place(home(company).place())]);
+        let place = home(company).place();
+        out.put(&[Words("home "), Place(place)]);
+        put_city(out, place.hex);
     }
     out.end();
+}
+
+/// Adds the name of the city of a hex, if it has one.
+fn put_city(out: &mut Writer, hex: Hex) {
+    if let Some(name) = city_name(hex) {
+        out.put(&[Words(" "), Words(name)]);
+    }
 }
 
 /// Adds who owns each private, with its price and the bids on it while it is unsold.
@@ -202,7 +227,7 @@ fn put_hexes(out: &mut Writer, private: Private) {
     out.within();
     let mut before = "";
     for hex in private_hexes(private) {
-        out.put(&[Words(before), Hex(*hex)]);
+        out.put(&[Words(before), Hexed(*hex)]);
         before = " ";
     }
     out.end();

@@ -2,16 +2,17 @@
 
 ghost use Rattle.std.specs.Prelude.{◌<◌};
 
-use crate::scene::Scene;
-use crate::table_forms::{
-    NOTHING, begin_head, begin_heading, begin_row, begin_table, end_head, put_caption, put_heading,
-    put_number, put_row_head, put_some, put_token,
-};
-use desk::purse_of;
+use crate::result_part::{rank_of, worths_of};
+use desk::{Purse, purse_of};
 use history::{Holder, Shareholder};
-use picture::PagePiece::{Name, Number, Words};
-use picture::{Tag, Writer};
-use tables::{Company, Money, Private, Seat, price};
+use page_map::Scene;
+use picture::PagePiece::{Count, Name, Number, Words};
+use picture::{
+    NOTHING, Tag, Writer, begin_head, begin_heading, begin_row, begin_table, end_head, put_caption,
+    put_heading, put_number, put_row_head, put_some, put_token,
+};
+use rounds::End;
+use tables::{Company, Money, Private, Seat, certificate_limit, price};
 
 /// Adds what each player has, and the shares of each company by their holders.
 pub(crate) fn put_players(out: &mut Writer, scene: &Scene) {
@@ -35,7 +36,7 @@ pub(crate) fn put_players(out: &mut Writer, scene: &Scene) {
 fn put_headings(out: &mut Writer) {
     begin_head(out);
     put_heading(out, "", &[Words("Player")]);
-    for &word in &["Cash", "Free", "Certs", "Worth"] {
+    for &word in &["Cash", "Free", "Certificates", "Worth", "Rank"] {
         put_heading(out, "num", &[Words(word)]);
     }
     for &company in &Company::ALL {
@@ -55,7 +56,8 @@ fn put_player(out: &mut Writer, scene: &Scene, seat: Seat)
 {
     let view = scene.history.now();
     let purse = purse_of(scene.history, seat);
-    let mark = if view.priority() == seat {
+    let is_awaited = matches!(scene.end, End::Awaiting(_));
+    let mark = if is_awaited && view.priority() == seat {
         " &#9654;"
     } else {
         ""
@@ -63,14 +65,7 @@ fn put_player(out: &mut Writer, scene: &Scene, seat: Seat)
     begin_row(out, "");
     let name = scene.name(seat);
     put_row_head(out, &[Name(name), Words(mark)]);
-    for &figure in &[
-        purse.cash,
-        purse.free,
-        Money::from(purse.certificates),
-        purse.worth,
-    ] {
-        put_number(out, figure);
-    }
+    put_figures(out, scene, &purse);
     for &company in &Company::ALL {
         let shares = scene.history.shares(company, Shareholder::Seat(seat));
         if view.president(company) == Some(seat) {
@@ -88,6 +83,25 @@ fn put_player(out: &mut Writer, scene: &Scene, seat: Seat)
         out.element(Tag::Cell, &[Words(NOTHING)]);
     }
     out.end();
+}
+
+/// Adds the cells with what a player has, and their rank.
+fn put_figures(out: &mut Writer, scene: &Scene, purse: &Purse) {
+    put_number(out, purse.cash);
+    put_number(out, purse.free);
+    let most = certificate_limit(scene.history.seats());
+    out.element_as(
+        Tag::Cell,
+        "num",
+        &[
+            Number(Money::from(purse.certificates)),
+            Words(" of "),
+            Count(most),
+        ],
+    );
+    put_number(out, purse.worth);
+    let rank = rank_of(&worths_of(scene)[..scene.seats], purse.worth);
+    out.element_as(Tag::Cell, "num", &[Count(rank)]);
 }
 
 /// Adds a cell with the privates that a player or a company owns.
@@ -127,7 +141,7 @@ fn put_places(out: &mut Writer, scene: &Scene) {
     for (words, figure) in rows {
         begin_row(out, "sum");
         put_row_head(out, &[Words(words)]);
-        for _ in 0..4 {
+        for _ in 0..5 {
             out.element(Tag::Cell, &[]);
         }
         for &company in &Company::ALL {

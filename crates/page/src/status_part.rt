@@ -1,16 +1,28 @@
 //! The head of a page: whose game it is, what comes next, and how it stands in short.
 
-use crate::scene::Scene;
-use history::Party;
-use picture::PagePiece::{Name, Number, Round, Words};
+use crate::phases_part::colours_of;
+use desk::operates;
+use desk_base::trains_left;
+use history::{History, Party};
+use page_map::Scene;
+use picture::PagePiece::{Checksum, Count, Name, Number, Round as Named, Words};
 use picture::{Attr, PagePiece, Tag, Writer};
 use rounds::End;
-use tables::{Kind, Money, Seat, certificate_limit, limit};
+use tables::{Company, Kind, Money, Round, Seat, certificate_limit, limit, train};
+
+/// The order file that a page is of.
+#[derive(Clone, Copy)]
+pub(crate) struct Source {
+    /// How many lines it has.
+    pub(crate) lines: usize,
+    /// The checksum of its bytes.
+    pub(crate) checksum: u32,
+}
 
 /// Adds the title of the page, in the head and above its body: the round that was played last.
 pub(crate) fn put_title(out: &mut Writer, scene: &Scene, tag: Tag) {
     match scene.history.now().round() {
-        Some(round) => out.element(tag, &[Words("1830: after "), Round(round)]),
+        Some(round) => out.element(tag, &[Words("1830: after "), Named(round)]),
         None => out.element(tag, &[Words("1830: before PR1")]),
     }
 }
@@ -27,16 +39,31 @@ pub(crate) fn put_players(out: &mut Writer, scene: &Scene) {
     out.end();
 }
 
-/// The sections that the head links to.
-const LINKS: [(&str, &str); 7] = [
+/// The sections and tables that the head links to.
+const LINKS: [(&str, &str); 13] = [
+    ("#bulletin", "Bulletin"),
     ("#map", "Map"),
+    ("#routes", "Routes"),
     ("#chart", "Chart"),
     ("#history", "History"),
     ("#players", "Players"),
     ("#companies", "Companies"),
+    ("#revenue", "Revenue"),
+    ("#privates", "Privates"),
+    ("#trains", "Trains"),
+    ("#phases", "Phases"),
     ("#tiles", "Tiles"),
-    ("#laid", "Laid"),
+    ("#hexes", "Hexes"),
 ];
+
+/// Adds a link past the head, for a keyboard and a screen reader.
+pub(crate) fn put_skip(out: &mut Writer) {
+    out.begin_as(Tag::Anchor, "skip");
+    out.value(Attr::Href, &[Words("#map")]);
+    out.within();
+    out.put(&[Words("Skip to the map")]);
+    out.end();
+}
 
 /// Adds the links to the sections.
 pub(crate) fn put_links(out: &mut Writer) {
@@ -52,18 +79,19 @@ pub(crate) fn put_links(out: &mut Writer) {
     out.end();
 }
 
-/// Adds how the game stands in short.
-pub(crate) fn put_status(out: &mut Writer, scene: &Scene) {
+/// Adds how the game stands in short, with the file's number of lines and its checksum.
+pub(crate) fn put_status(out: &mut Writer, scene: &Scene, order: &[Company], source: Source) {
     let history = scene.history;
     let phase = history.phase();
     out.begin_as(Tag::Listing, "status");
     put_next(out, scene);
     match history.now().round() {
-        Some(round) => put_item(out, "Last round", &[Round(round)]),
+        Some(round) => put_item(out, "Last round", &[Named(round)]),
         None => put_item(out, "Last round", &[Words("none")]),
     }
     put_words(out, "Phase", phase.code());
     put_words(out, "Tiles", colours_of(phase));
+    put_next_train(out, history);
     let trains = limit(phase) as Money;
     put_count(out, "Trains of a company", trains, " at most");
     let words = if scene.in_set == 1 {
@@ -72,20 +100,70 @@ pub(crate) fn put_status(out: &mut Writer, scene: &Scene) {
         " operating rounds"
     };
     put_count(out, "Set", Money::from(scene.in_set), words);
-    put_name(out, "Priority", scene.name(history.now().priority()));
+    if let End::Awaiting(round) = scene.end {
+        put_name(out, "Priority", scene.name(history.now().priority()));
+        put_turns(out, scene, order, round);
+    }
     put_count(out, "Bank", history.cash(Party::Bank), "");
     let certificates = certificate_limit(history.seats()) as Money;
     put_count(out, "Certificates", certificates, " at most");
+    let lines = [
+        Count(source.lines),
+        Words(" lines, CRC-32 "),
+        Checksum(source.checksum),
+    ];
+    put_item(out, "Order file", &lines);
     out.end();
 }
 
-/// Returns the colours of the tiles that may be laid in a phase.
-fn colours_of(phase: Kind) -> &'static str {
-    match phase {
-        Kind::Two => "yellow",
-        Kind::Three | Kind::Four => "yellow, green",
-        Kind::Five | Kind::Six | Kind::Diesel => "yellow, green, brown",
+/// Adds the train that the bank sells next, with its price and how many are left.
+fn put_next_train(out: &mut Writer, history: &History) {
+    for &kind in &Kind::ALL {
+        let left = trains_left(&history.now(), kind);
+        if left != Some(0) {
+            let code = Words(kind.code());
+            let price = Number(Money::from(train(kind).price));
+            match left {
+                Some(left) => {
+                    let words = [
+                        code,
+                        Words(" for "),
+                        price,
+                        Words(", "),
+                        Count(left),
+                        Words(" left"),
+                    ];
+                    put_item(out, "Next train", &words);
+                }
+                None => put_item(out, "Next train", &[code, Words(" for "), price]),
+            }
+            return;
+        }
     }
+}
+
+/// Adds the order of the turns of the next round: the companies that operate, or the players.
+fn put_turns(out: &mut Writer, scene: &Scene, order: &[Company], round: Round) {
+    out.begin(Tag::Item);
+    out.element(Tag::Small, &[Words("Order of turns")]);
+    out.begin(Tag::Bold);
+    out.within();
+    let view = scene.history.now();
+    if let Round::Operating { .. } = round {
+        for company in order {
+            if operates(&view, *company) {
+                out.put(&[Words(" "), Words(company.code())]);
+            }
+        }
+    } else {
+        let mut seat = view.priority();
+        for _ in 0..scene.seats {
+            out.put(&[Words(" "), Name(scene.name(seat))]);
+            seat = seat.left(scene.seats);
+        }
+    }
+    out.end();
+    out.end();
 }
 
 /// Adds an item of the list.
@@ -123,7 +201,7 @@ fn put_next(out: &mut Writer, scene: &Scene) {
     out.element(Tag::Small, &[Words(words)]);
     out.put(&[Words(" ")]);
     match (round, scene.end) {
-        (Some(round), _) => out.element(Tag::Bold, &[Round(round)]),
+        (Some(round), _) => out.element(Tag::Bold, &[Named(round)]),
         (None, End::Bankrupt) => out.element(Tag::Bold, &[Words("by a bankruptcy")]),
         (None, _) => out.element(Tag::Bold, &[Words("by the broken bank")]),
     }

@@ -5,6 +5,8 @@
 pub(crate) const STYLE: &str = "\n\
     :root{--P:#1f7a3d;--N:#3a3a3c;--C:#c8102e;--B:#0a57a4;--O:#5fb4dc;--E:#e6c700;\
     --H:#f0913a;--M:#7a3b8f;\n\
+    --lP:#1f7a3d;--lN:#3a3a3c;--lC:#c8102e;--lB:#0a57a4;--lO:#2d7ea3;--lE:#857000;\
+    --lH:#b35a0c;--lM:#7a3b8f;\n\
     --ink:#111;--paper:#fff;--rule:#bbb;--soft:#555;--band:#f1f1ee;color-scheme:light dark}\n\
     @media screen and (prefers-color-scheme:dark){:root{--ink:#eee;--paper:#1b1c1e;\
     --rule:#555;--soft:#aaa;--band:#2a2b2e}}\n\
@@ -15,11 +17,13 @@ pub(crate) const STYLE: &str = "\n\
     h1{font-size:25px;margin:0}h2{font-size:19px;margin:18px 0 6px}\
     h2 small,caption small{font-weight:normal;font-size:13px;color:var(--soft)}\n\
     .who{margin:0;font-weight:bold}nav{margin-left:auto}nav a{color:inherit;margin-left:10px}\n\
+    .skip{position:absolute;left:-999px}.skip:focus{left:16px}\
+    section:focus-visible,a:focus-visible{outline:3px solid #1668b8}\n\
     .status{display:flex;flex-wrap:wrap;gap:6px 22px;margin:8px 0;padding:0;list-style:none}\
     .status small{display:block;font-size:12px;color:var(--soft)}\n\
     .status .next{border:2px solid var(--ink);padding:0 8px}\n\
-    svg.map,svg.chart{display:block;width:100%;height:auto;background:#fff;\
-    border:1px solid var(--rule)}\n\
+    svg.map,svg.chart,.key{display:block;width:100%;height:auto;background:#fff;\
+    border:1px solid var(--rule)}.key{display:none}\n\
     table{border-collapse:collapse;margin:12px 0 18px}.wide{width:100%}\
     caption{text-align:left;font-weight:bold;font-size:17px;padding:2px 0}\n\
     th,td{border-bottom:1px solid var(--rule);padding:3px 8px;text-align:left;\
@@ -62,8 +66,13 @@ pub(crate) const STYLE: &str = "\n\
     .wb{stroke:#fff;stroke-width:6;stroke-dasharray:5 5}\n\
     .leg{fill:#fff;stroke:#000;stroke-width:2}.tick{stroke:#000;stroke-width:9}\
     .big{font-size:22px;font-weight:bold}\n\
-    .ra,.rb,.rc{fill:none;stroke-linejoin:round}.ra{stroke:#000;stroke-width:10}\
-    .rb{stroke:#fff;stroke-width:8}.rc{stroke-width:8}\n\
+    .ra,.rb,.rc{fill:none;stroke-linejoin:round}.ra{stroke:#000;stroke-width:9}\
+    .rb{stroke:#fff;stroke-width:7}.rc{stroke-width:7}.tk{stroke:#000;stroke-width:5}\
+    .tw{stroke:#fff;stroke-width:2}\n\
+    .sa,.sc{fill:none}.sa{stroke:#000;stroke-width:9}.sc{stroke-width:7}\n\
+    #nh,#nt,#nm,.ne,.mv{fill:none;stroke:#e0007a}#nh{stroke-width:5}\
+    #nw{fill:none;stroke:#fff;stroke-width:9}#nt,.ne{stroke-width:4}\
+    #nm,.mv{stroke-width:3}.mh{fill:#e0007a}\n\
     #sq{stroke:#777}.cw{fill:#fff}.chart .cy{fill:#fff1a8}.chart .co{fill:#f7b267}\
     .chart .cb{fill:#c08457}\n\
     .lg{font-size:16px}.tag{fill:#fff;stroke:#000}\
@@ -72,23 +81,39 @@ pub(crate) const STYLE: &str = "\n\
     .zl{font-size:11px;font-weight:bold}.b0{font-size:13px;font-weight:bold}\n\
     .plot{display:block;width:100%;max-width:1000px;height:auto;background:#fff;\
     border:1px solid var(--rule)}\n\
-    .grid{fill:none;stroke:#ccc}.axis{text-anchor:end;font-size:13px}.when{font-size:12px}\
+    .phase{fill:none;stroke:#777;stroke-dasharray:2 3}.grid{fill:none;stroke:#ccc}.axis{text-anchor:end;font-size:13px}.when{font-size:12px}\
     .ser{fill:none;stroke-width:3;stroke-linejoin:round}\
     .lead{fill:none;stroke:#777;stroke-width:1}\
     .name{text-anchor:start;font-size:14px;font-weight:bold}\n\
     #figures td{text-align:right;font-variant-numeric:tabular-nums}.sheet td{padding:2px}\n\
+    .told{white-space:pre-wrap;font:13px/1.35 ui-monospace,Consolas,'Liberation Mono',monospace}\
+    .hexes{margin:0;padding:0;list-style:none;columns:22em;column-gap:24px}\
+    .hexes li{break-inside:avoid;padding:2px 0;border-bottom:1px solid var(--rule)}\
+    li:target{background:#ffe45c;color:#000}\n\
     @media screen{section{overflow-x:auto}svg.map,svg.chart{min-width:900px}\
-    .plot{min-width:560px}}\n\
+    .plot{min-width:560px}th[scope=row]{position:sticky;left:0;background:var(--paper)}\
+    .sum th[scope=row]{background:var(--band)}}\n\
+    @media screen and (max-width:700px){.on{display:none}.key{display:block}\
+    nav{margin-left:0}nav a{display:inline-block;margin:0 10px 6px 0}\
+    #runs thead{display:none}#runs tr{display:block;border-bottom:2px solid var(--rule);\
+    padding:4px 0}#runs th,#runs td{display:inline-block;border:0;padding:1px 6px}\
+    #runs .way{display:block}.told{font-size:11px}}\n\
     @page{size:A4 landscape;margin:8mm}\n\
     @media print{body{max-width:none;padding:0;font-size:11px;\
     -webkit-print-color-adjust:exact;print-color-adjust:exact}nav{display:none}\n\
+    .skip,.empty,.key{display:none}h2,h3,caption,thead{break-after:avoid}\n\
     h1{font-size:18px}h2{font-size:15px;margin:4px 0}caption{font-size:14px}\
     #map h2{display:none}\n\
-    header,.status{float:left;clear:left;width:33mm;border:0;display:block}\
+    header,.status,#result{float:left;clear:left;width:33mm;border:0;display:block}\
+    #result caption small{display:none}#result td,#result th{padding:1px 3px}\
     .status{margin:8px 0}.status li{margin:0 0 7px}\n\
-    #routes,#history,#tables,#tiles,#figures{break-before:page}.plot{height:74mm;width:auto}\
+    #routes,#history,#tables,#tiles,#figures,#green,#brown{break-before:page}.told,.hexes{columns:2;\
+    font-size:9px}.plot{height:74mm;width:auto}\
     tr,li,svg{break-inside:avoid}th,td{padding:1px 6px}table{margin:4px 0 8px}\n\
     svg.map{width:auto;height:191mm;margin-left:36mm;border:0}\
     #map table,#map p,#chart{clear:both}svg.chart{width:auto;height:128mm}\n\
     .tiles{gap:4px}.tiles li,.tile{width:78px}.tile{height:80px}.laid{gap:0 10px}\
-    .laid li{min-width:66px}}\n";
+    .laid li{min-width:66px}\n\
+    .sheet thead{display:none}.sheet tbody{display:grid;grid-template-columns:1fr 1fr}\
+    .sheet tr{display:flex;align-items:center}.sheet th{width:52px}\
+    .sheet .tile{width:64px;height:66px}}\n";

@@ -4,26 +4,39 @@ ghost use Rattle.desk_base.specs.Refusal.{HasNoState, IsOfGame};
 ghost use Rattle.picture.specs.Reading.{IsWellFormed};
 ghost use Rattle.sheets.specs.File.{IsAccepted};
 
-use crate::chart_part::put_chart;
+use crate::bulletin_part::{bulletin_text, put_bulletin};
+use crate::checksum::{checksum, line_count};
 use crate::companies_part::{put_companies, put_owners, put_trains};
-use crate::history_part::put_history;
-use crate::map_part::put_map;
+use crate::phases_part::put_phases;
 use crate::players_part::put_players;
-use crate::route_lines::put_table;
-use crate::routes::{Routes, last_routes};
-use crate::scene::Scene;
-use crate::status_part;
+use crate::result_part::put_result;
+use crate::revenue_part::put_revenue;
+use crate::status_part::{self, Source};
 use crate::style::STYLE;
-use crate::tiles_part::{begin_section, put_laid, put_tiles_left};
-use crate::worth_history::{Entry, play_to, thinned};
-use desk::all_in_order;
+use crate::worth_history::{play_to, thinned};
+use desk::{all_in_order, before_in_stack};
 use desk_base::{DeskFault, stood_now};
+use history::History;
+use page_charts::{ChartToken, ChartTokens, Entry, Players, put_chart, put_history};
+use page_map::{
+    Scene, begin_map, end_map, moved_in_last_round, put_hexes, put_key, put_labels, put_laid,
+    put_tiles_left, square_before_round,
+};
+use page_routes::{Routes, last_routes, put_lines, put_table, put_tags};
 use picture::PagePiece::{Round as Named, Words};
-use picture::{Attr, Tag, Writer};
+use picture::{Tag, Writer, begin_plain_section, begin_section};
 use rounds::Play;
 use sheets::{Sheets, collect};
 use std::alloc::{AllocError, Global};
-use tables::{Company, Round};
+use tables::{COMPANIES, Company, Round};
+
+/// What a page tells of the order file beside its game.
+#[derive(Clone, Copy)]
+struct Told<'a> {
+    source: Source,
+    /// The bulletin of the round.
+    bulletin: &'a [u8],
+}
 
 /// Returns the page of the game of an order file after a round, or after the last one if none is
 /// named: map, routes, stock chart, history, tables and tiles, as one file of HTML.
@@ -37,58 +50,112 @@ pub fn page(alloc: Global, file: &[u8], asked: Option<Round>) -> Result<Vec<u8>,
     ensures fault { IfErr result (λ fault. HasNoState fault file.now) }
 {
     let sheets = collect(alloc, file)?;
-    page_of(alloc, &sheets, asked)
+    let bulletin = bulletin_text(alloc, file, asked)?;
+    let told = Told {
+        source: Source {
+            lines: line_count(file),
+            checksum: checksum(file),
+        },
+        bulletin: bulletin.as_slice(),
+    };
+    page_of(alloc, &sheets, told, asked)
 }
 
 /// Returns the page of the game of some sheets.
-fn page_of(alloc: Global, sheets: &Sheets, asked: Option<Round>) -> Result<Vec<u8>, DeskFault>
+fn page_of(
+    alloc: Global,
+    sheets: &Sheets,
+    told: Told,
+    asked: Option<Round>,
+) -> Result<Vec<u8>, DeskFault>
     ensures well_formed { IfOk result (λ page. IsWellFormed page.items) }
     ensures fault { IfErr result IsOfGame }
 {
     let played = play_to(alloc, sheets, asked)?;
-    page_of_play(alloc, &played.play, played.entries.as_slice())
+    page_of_play(alloc, &played.play, told, played.entries.as_slice())
 }
 
 /// Returns the page of a game that was played up to here, with how it stood after each round.
-fn page_of_play(alloc: Global, play: &Play, entries: &[Entry]) -> Result<Vec<u8>, DeskFault>
+fn page_of_play(
+    alloc: Global,
+    play: &Play,
+    told: Told,
+    entries: &[Entry],
+) -> Result<Vec<u8>, DeskFault>
     ensures well_formed { IfOk result (λ page. IsWellFormed page.items) }
     ensures fault { IfErr result IsOfGame }
 {
     match stood_now(play) {
-        Some(stood) => Ok(page_text(alloc, &Scene::of(&stood), entries)?),
+        Some(stood) => Ok(page_text(alloc, &Scene::of(&stood), told, entries)?),
         None => Err(DeskFault::Round),
     }
 }
 
 /// Returns the page of what a scene shows, with how the game stood after each round.
-fn page_text(alloc: Global, scene: &Scene, entries: &[Entry]) -> Result<Vec<u8>, AllocError>
+fn page_text(
+    alloc: Global,
+    scene: &Scene,
+    told: Told,
+    entries: &[Entry],
+) -> Result<Vec<u8>, AllocError>
     ensures { IfOk result (λ page. IsWellFormed page.items) }
 {
-    let routes = last_routes(alloc, scene.history)?;
-    let order = all_in_order(alloc, scene.history)?;
+    let history = scene.history;
+    let routes = last_routes(alloc, history)?;
+    let order = all_in_order(alloc, history)?;
     let entries = thinned(alloc, entries)?;
     let mut out = Writer::page(alloc);
-    begin_page(&mut out, scene);
+    begin_page(&mut out, scene, order.as_slice(), told.source);
+    put_result(&mut out, scene);
     put_map_section(alloc, &mut out, scene, &routes)?;
+    put_bulletin(&mut out, history.now().round(), told.bulletin);
     begin_section(&mut out, "chart", "Stock chart", "");
-    put_chart(&mut out, &scene.history.now());
+    put_chart(&mut out, &tokens_of(history));
     out.end();
-    put_history(&mut out, scene, entries.as_slice());
-    put_tables(&mut out, scene, order.as_slice());
-    put_tiles_left(&mut out, scene.history);
-    put_laid(&mut out, scene.history);
+    put_history(&mut out, &players_of(scene), entries.as_slice());
+    put_tables(alloc, &mut out, scene, order.as_slice())?;
+    put_tiles_left(&mut out, history);
+    put_laid(&mut out, history);
+    put_hexes(&mut out, scene);
     out.finish()
 }
 
-/// Adds what stands before the map.
-fn begin_page(out: &mut Writer, scene: &Scene) {
+/// Returns who plays.
+fn players_of<'a>(scene: &Scene<'a>) -> Players<'a> {
+    Players {
+        names: scene.names,
+        seats: scene.seats,
+    }
+}
+
+/// Returns the tokens on the stock chart, in the order of the roster.
+fn tokens_of(history: &History) -> ChartTokens {
+    let view = history.now();
+    let mut tokens = [None; COMPANIES];
+    for &company in &Company::ALL {
+        if let Some(square) = view.square(company) {
+            tokens[company.index()] = Some(ChartToken {
+                company,
+                square,
+                place: before_in_stack(&view, square, company),
+                is_new: moved_in_last_round(history.events(), company),
+                from: square_before_round(history.events(), company),
+            });
+        }
+    }
+    tokens
+}
+
+/// Adds what stands before the sections.
+fn begin_page(out: &mut Writer, scene: &Scene, order: &[Company], source: Source) {
     status_part::put_title(out, scene, Tag::Title);
     out.element(Tag::Style, &[Words(STYLE)]);
     out.end();
     out.begin(Tag::Body);
+    status_part::put_skip(out);
     put_head(out, scene);
     out.begin(Tag::Main);
-    status_part::put_status(out, scene);
+    status_part::put_status(out, scene, order, source);
 }
 
 /// Adds what stands above the sections.
@@ -107,26 +174,40 @@ fn put_map_section(
     scene: &Scene,
     routes: &Routes,
 ) -> Result<(), AllocError> {
-    out.begin(Tag::Section);
-    out.value(Attr::Id, &[Words("map")]);
+    begin_plain_section(out, "map", "Map and routes");
     match routes.round {
         Some(round) => out.element(Tag::H2, &[Words("Map and the routes of "), Named(round)]),
         None => out.element(Tag::H2, &[Words("Map")]),
     }
-    put_map(alloc, out, scene, routes)?;
-    put_table(out, routes);
+    begin_map(out, scene, routes.round);
+    put_lines(out, scene.history, routes);
+    put_labels(out, scene);
+    put_tags(alloc, out, scene.history, routes)?;
+    end_map(out);
+    put_key(out);
+    out.end();
+    begin_plain_section(out, "routes", "Routes");
+    put_table(alloc, out, scene.history, routes)?;
     out.end();
     Ok(())
 }
 
-/// Adds the tables.
-fn put_tables(out: &mut Writer, scene: &Scene, order: &[Company]) {
+/// Adds the tables. Fails only if allocation fails.
+fn put_tables(
+    alloc: Global,
+    out: &mut Writer,
+    scene: &Scene,
+    order: &[Company],
+) -> Result<(), AllocError> {
     begin_section(out, "tables", "Tables", "");
     put_players(out, scene);
     put_companies(out, scene, order);
+    put_revenue(alloc, out, scene.history)?;
     out.begin_as(Tag::Division, "pair");
     put_owners(out, scene);
     put_trains(out, scene);
+    put_phases(out, scene.history);
     out.end();
     out.end();
+    Ok(())
 }

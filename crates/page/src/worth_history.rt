@@ -6,22 +6,12 @@ ghost use Rattle.desk_base.specs.Refusal.{IsOfGame};
 use best_run::Search;
 use desk_base::DeskFault;
 use history::History;
+use page_charts::Entry;
 use report::player_worth;
 use rounds::{Play, Step};
 use sheets::Sheets;
 use std::alloc::{AllocError, Global};
-use tables::{Amount, COMPANIES, Company, Money, PLAYERS_MOST, PerCompany, Round, Seat, price};
-
-/// How a game stood after a round.
-#[derive(Clone, Copy)]
-pub(crate) struct Entry {
-    pub(crate) round: Round,
-    /// What the players were worth, by their seats.
-    pub(crate) worths: [Money; PLAYERS_MOST],
-    /// The prices of the companies' shares, in the order of the roster; `None` before a company is
-    /// started.
-    pub(crate) prices: PerCompany<Option<Amount>>,
-}
+use tables::{COMPANIES, Company, PLAYERS_MOST, Round, Seat, price};
 
 /// A game that is played up to a round, with how it stood after each.
 #[derive(Drop)]
@@ -98,6 +88,7 @@ fn entry_of(history: &History, round: Round) -> Entry {
         round,
         worths,
         prices,
+        phase: history.phase(),
     }
 }
 

@@ -6,7 +6,7 @@ use Rattle.picture.specs.Reading.{Read, read_at, reading, step, between, naming,
 use Rattle.picture.specs.Tags.{name_of_tag}
 use Rattle.picture.specs.Written.{open_names, read_by, is_plain, is_apart}
 use Rattle.picture.specs.declared.tag.Tag.{Tag}
-use Rattle.picture.specs.declared.tag.Tag.TheVariants.{Html, Head, Title, Style, Body, Header, H1, H2, H3, Paragraph, Nav, Anchor, Main, Listing, Item, Small, Bold, Section, Svg, Desc, Defs, Path, Circle, Group, Text, TextSpan, Use, Polyline, Table, Caption, TableHead, TableBody, Row, Heading, Cell, Division, Span}
+use Rattle.picture.specs.declared.tag.Tag.TheVariants.{Html, Head, Title, Style, Body, Header, H1, H2, H3, Paragraph, Nav, Anchor, Main, Listing, Item, Small, Bold, Section, Svg, Desc, Defs, Path, Circle, Group, Text, TextSpan, Use, Polyline, Table, Caption, TableHead, TableBody, Row, Heading, Cell, Division, Span, Preformatted}
 use Rattle.picture.specs.declared.writer.WriterPlace.{WriterPlace}
 use Rattle.picture.specs.declared.writer.WriterPlace.TheVariants.{Between, Naming, Valued}
 
@@ -54,6 +54,7 @@ named_by Heading names = refl
 named_by Cell names = refl
 named_by Division names = refl
 named_by Span names = refl
+named_by Preformatted names = refl
 
 -- behind the name in a start tag
 pub begun : (text : List ℕ) (names : List (List ℕ)) (tag : Tag) → reading text ≡ read_at names between →
@@ -103,6 +104,7 @@ closing_by Heading names = refl
 closing_by Cell names = refl
 closing_by Division names = refl
 closing_by Span names = refl
+closing_by Preformatted names = refl
 
 -- behind an end tag
 pub closed_text : (text : List ℕ) (names : List (List ℕ)) (tag : Tag) → reading text ≡ read_at (name_of_tag tag ∷ names) between →

@@ -2,8 +2,8 @@
 use Rattle.std.specs.Prelude.{ℕ, Bool, List, ◌||◌, bytes_eq, codes}
 use Rattle.picture.specs.declared.tag.Tag.{Tag}
 use Rattle.picture.specs.declared.tag.Attr.{Attr}
-use Rattle.picture.specs.declared.tag.Tag.TheVariants.{Html, Head, Title, Style, Body, Header, H1, H2, H3, Paragraph, Nav, Anchor, Main, Listing, Item, Small, Bold, Section, Svg, Desc, Defs, Path, Circle, Group, Text, TextSpan, Use, Polyline, Table, Caption, TableHead, TableBody, Row, Heading, Cell, Division, Span}
-use Rattle.picture.specs.declared.tag.Attr.TheVariants.{Class, Id, Href, X, Y, D, R, Fill, Stroke, StrokeWidth, Dash, Points, Transform, ViewBox, Role, Scope, Hidden, Width, Height, Xmlns}
+use Rattle.picture.specs.declared.tag.Tag.TheVariants.{Html, Head, Title, Style, Body, Header, H1, H2, H3, Paragraph, Nav, Anchor, Main, Listing, Item, Small, Bold, Section, Svg, Desc, Defs, Path, Circle, Group, Text, TextSpan, Use, Polyline, Table, Caption, TableHead, TableBody, Row, Heading, Cell, Division, Span, Preformatted}
+use Rattle.picture.specs.declared.tag.Attr.TheVariants.{Class, Id, Href, X, Y, D, R, Fill, Stroke, StrokeWidth, Dash, Points, Transform, ViewBox, Role, Scope, Hidden, Width, Height, Xmlns, TabIndex, Label}
 
 -- the name of an element
 abbrev pub name_of_tag : Tag → List ℕ
@@ -44,6 +44,7 @@ name_of_tag Heading = codes "th"
 name_of_tag Cell = codes "td"
 name_of_tag Division = codes "div"
 name_of_tag Span = codes "span"
+name_of_tag Preformatted = codes "pre"
 
 -- whether an element of this name has a start tag alone: two of those at the head of a page
 abbrev pub is_void : List ℕ → Bool
@@ -71,3 +72,5 @@ opening_of Hidden = codes " aria-hidden=\""
 opening_of Width = codes " width=\""
 opening_of Height = codes " height=\""
 opening_of Xmlns = codes " xmlns=\""
+opening_of TabIndex = codes " tabindex=\""
+opening_of Label = codes " aria-label=\""

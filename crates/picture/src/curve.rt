@@ -18,6 +18,8 @@ pub enum Way {
     Arc { radius: i32, clockwise: bool },
     /// Towards this point first, and from there to the end.
     Towards(Point),
+    /// Towards the first point at first, and at last from the second to the end.
+    Between(Point, Point),
 }
 
 /// A link as a curve.

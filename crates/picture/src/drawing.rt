@@ -17,6 +17,8 @@ pub enum Marker {
     Free,
     /// A token.
     Token(Company),
+    /// A token that was placed in the last round.
+    NewToken(Company),
     /// Nothing yet: the slot is kept for the home token of this company.
     Kept(Company),
 }
@@ -82,6 +84,14 @@ pub fn put_way(out: &mut Writer, way: Way, to: Point) {
     match way {
         Way::Line => out.put(&[Words("L"), To(to)]),
         Way::Towards(by) => out.put(&[Words("Q"), To(by), Words(gap(to)), To(to)]),
+        Way::Between(first, second) => out.put(&[
+            Words("C"),
+            To(first),
+            Words(gap(second)),
+            To(second),
+            Words(gap(to)),
+            To(to),
+        ]),
         Way::Arc { radius, clockwise } => out.put(&[
             Words("A"),
             At(radius),
@@ -152,6 +162,10 @@ fn draw_slot(out: &mut Writer, place: Point, marker: Marker) {
     match marker {
         Marker::Free => {}
         Marker::Token(company) => out.token("#t", company, place),
+        Marker::NewToken(company) => {
+            out.token("#t", company, place);
+            out.sign("#nt", place);
+        }
         Marker::Kept(company) => out.token("#r", company, place),
     }
 }

@@ -51,6 +51,11 @@ impl Writer {
         self.end();
     }
 
+    /// Adds words that begin at a point.
+    pub fn words_at(&mut self, place: Point, words: &'static str) {
+        self.label("st", place, &[Words(words)]);
+    }
+
     /// Adds a sign at a point, by its reference.
     pub fn sign(&mut self, sign: &'static str, place: Point) {
         self.begin(Tag::Use);

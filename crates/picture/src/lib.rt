@@ -18,23 +18,38 @@
 #![tactic(auto)]
 
 mod bend;
+mod city_names;
+mod closed_borders;
 mod curve;
 mod drawing;
 mod elements;
 mod labels;
+mod lanes;
+pub mod laws;
+mod livery;
 mod look;
 mod piece;
 mod point;
 mod strands;
+mod table_forms;
 mod tag;
 mod writer;
 
 pub use bend::{Bend, bend_between};
+pub use city_names::city_name;
+pub use closed_borders::closed_sides;
 pub use curve::{Curve, Curves, Way, towards, track_of, way_across};
 pub use drawing::{Marker, draw_stops, draw_track, put_way};
 pub use labels::{cost_point, kind_point, private_point, value_point};
+pub use lanes::{LANES_MOST, lane_shift};
+pub use livery::{Livery, livery_of};
 pub use look::{Look, Shade, Stops};
 pub use piece::PagePiece;
-pub use point::{Point, Ring, border_point, on_ring};
+pub use point::{Point, Ring, border_point, centre, on_ring};
+pub use table_forms::{
+    NOTHING, begin_head, begin_heading, begin_plain_section, begin_row, begin_section, begin_table,
+    end_head, put_caption, put_company, put_head, put_heading, put_number, put_row_head, put_some,
+    put_token,
+};
 pub use tag::{Attr, Tag};
 pub use writer::Writer;

@@ -1,10 +1,12 @@
 //! What shows in a hex: its links, its stops, and where each stop is.
-ghost use Rattle.std.specs.Prelude.{◌≡◌};
+ghost use Rattle.std.specs.Prelude.{◌≡◌, ◌<◌};
 ghost use Rattle.map_tables.specs.Lay.{laid_links_of};
+ghost use Rattle.map_tables.specs.OnMap.{links_on};
 ghost use Rattle.map_tables.specs.Print.{printed_links_of};
 
 use crate::bend::{Bend, bend_between};
 use crate::point::{Point, Ring, on_ring};
+use board_state::tile_on;
 use map_tables::{
     Colour, Hex, HexKind, Lay, Link, Links, Side, StopNumber, TileKind, TileNo, TrackEnd, hex_kind,
     laid_links, printed_colour, printed_links, printed_slots, printed_stops, printed_value, tile,
@@ -55,6 +57,17 @@ const SLOT: Point = Point { x: 15, y: 0 };
 const PAST: Point = Point { x: 0, y: -22 };
 
 impl Look {
+    /// Returns what shows in a hex where these tiles lie: the tile that was laid there last, or the
+    /// print.
+    pub fn on(lays: &[Lay], hex: Hex) -> Look
+        ensures { result.links.items ≡ links_on lays.now hex }
+    {
+        match tile_on(lays, hex) {
+            Some(lay) => Look::laid(lay),
+            None => Look::printed(hex),
+        }
+    }
+
     /// Returns what a tile shows on its hex.
     pub fn laid(lay: Lay) -> Look
         ensures { result.links.items ≡ laid_links_of lay }
@@ -206,29 +219,70 @@ impl Look {
         }
     }
 
-    /// Returns where the number of a city is, in a hex of two.
-    pub(crate) fn number_place(&self, stop: StopNumber) -> Point {
+    /// Returns where the number of a city is, in a hex of two: clear of track, tokens and labels.
+    pub fn number_place(&self, stop: StopNumber) -> Point {
         match self.bend_at(stop) {
             Some(Bend::Sharp(corner)) if self.slots == 2 => on_ring(Ring::SharpNumber, corner),
-            _ => beside(self.place(stop), self.place(stop.other())),
+            _ => self.place(stop).plus(CLOCK[self.number_hour(stop)]),
         }
+    }
+
+    /// Returns in which of the twelve directions the number of a city lies.
+    fn number_hour(&self, stop: StopNumber) -> usize
+        ensures { result < 12 }
+    {
+        let (hours, own, turns) = match self.lay {
+            Some(lay) => (
+                tile_hours(lay.tile),
+                if lay.swap { stop.other() } else { stop },
+                lay.rot.turns(),
+            ),
+            None => (printed_hours(self.hex), stop, 0),
+        };
+        let hour = match own {
+            StopNumber::First => hours.0,
+            StopNumber::Second => hours.1,
+        };
+        (usize::from(hour) + 2 * turns) % CLOCK.len()
     }
 }
 
-/// Returns the point beside a city that is away from the other one.
-fn beside(place: Point, other: Point) -> Point {
-    let away = place.minus(other);
-    let x = if away.x > 9 {
-        12
-    } else if away.x < -9 {
-        -12
-    } else {
-        0
-    };
-    place.plus(Point {
-        x,
-        y: if away.y < 0 { -12 } else { 12 },
-    })
+/// The points 17 from a city in twelve directions, from the right on clockwise.
+const CLOCK: [Point; 12] = [
+    Point { x: 17, y: 0 },
+    Point { x: 15, y: 8 },
+    Point { x: 8, y: 15 },
+    Point { x: 0, y: 17 },
+    Point { x: -8, y: 15 },
+    Point { x: -15, y: 8 },
+    Point { x: -17, y: 0 },
+    Point { x: -15, y: -8 },
+    Point { x: -8, y: -15 },
+    Point { x: 0, y: -17 },
+    Point { x: 8, y: -15 },
+    Point { x: 15, y: -8 },
+];
+
+/// Returns in which of the twelve directions the numbers of stop 0 and stop 1 of a tile lie at
+/// rotation 0. They were found as those that are farthest from track, slots, value, kind, name and
+/// the sides of the hex, in the worst of the six rotations.
+fn tile_hours(tile: TileNo) -> (u8, u8) {
+    match tile {
+        TileNo::T54 => (11, 3),
+        TileNo::T64 => (1, 4),
+        TileNo::T65 | TileNo::T67 => (7, 4),
+        TileNo::T66 => (7, 2),
+        TileNo::T68 => (7, 9),
+        _ => (10, 2),
+    }
+}
+
+/// Returns the same of a printed hex.
+fn printed_hours(hex: Hex) -> (u8, u8) {
+    match hex {
+        Hex::G19 => (4, 10),
+        _ => (8, 10),
+    }
 }
 
 /// Returns the side from which a link leads to a stop; `None` where it does not.

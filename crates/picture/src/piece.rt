@@ -1,7 +1,9 @@
 //! What a writer puts into a page beside tags.
 ghost use Rattle.std.specs.Prelude.{◌≡◌, ◌++◌, filter, true};
+ghost use Rattle.std.specs.List.{flat_map};
 ghost use Rattle.std.specs.Char.{is_ascii_alphanumeric};
-ghost use Rattle.picture.specs.Written.{is_apart};
+ghost use Rattle.picture.specs.Escaped.{escape_of, escaped};
+ghost use Rattle.picture.specs.Written.{is_apart, plain_of};
 
 use crate::point::Point;
 use crate::writer::Writer;
@@ -32,6 +34,11 @@ pub enum PagePiece<'a> {
     Hex(Hex),
     /// A place: `H12.0`.
     Place(Place),
+    /// A text of any bytes. Those that have a meaning in a page are written as references, so that
+    /// the usual reading gives the text.
+    Text(&'a [u8]),
+    /// A number in eight hexadecimal digits.
+    Checksum(u32),
 }
 
 /// Adds a piece where a writer is.
@@ -48,13 +55,66 @@ pub(crate) fn put_piece(out: &mut Writer, piece: PagePiece) {
         PagePiece::Round(round) => put_round(out, round),
         PagePiece::Hex(hex) => put_bytes(out, hex.text().as_slice()),
         PagePiece::Place(place) => put_bytes(out, place.text().as_slice()),
+        PagePiece::Text(text) => put_text(out, text),
+        PagePiece::Checksum(number) => put_checksum(out, number),
     }
 }
 
-/// Adds bytes of constant words or of digits.
-fn put_bytes(out: &mut Writer, bytes: &[u8]) {
+/// Adds bytes of constant words or of digits, but for those that have a meaning in tags.
+#[tactic(auto, using(crate::proofs::TextLemmas::pieces_step))]
+fn put_bytes(out: &mut Writer, bytes: &[u8])
+    ensures spot { is_apart out.old.spot ≡ true → is_apart out.new.spot ≡ true }
+    ensures before { out.new.fault ≡ None → out.old.fault ≡ None }
+    ensures added { is_apart out.old.spot ≡ true → out.new.fault ≡ None →
+        out.new.text.items ≡ out.old.text.items ++ flat_map plain_of bytes.now }
+{
     for byte in bytes {
         out.put_byte(*byte);
+    }
+}
+
+/// Adds a text of any bytes.
+#[tactic(auto, using(crate::proofs::TextLemmas::pieces_step))]
+fn put_text(out: &mut Writer, text: &[u8])
+    requires { is_apart out.old.spot ≡ true }
+    ensures { out.new.fault ≡ None →
+        out.new.text.items ≡ out.old.text.items ++ escaped text.now }
+{
+    for byte in text {
+        put_escaped(out, *byte);
+    }
+}
+
+/// Adds a byte of a text; one that has a meaning in a page as a reference.
+fn put_escaped(out: &mut Writer, byte: u8)
+    requires { is_apart out.old.spot ≡ true }
+    ensures spot { is_apart out.new.spot ≡ true }
+    ensures before { out.new.fault ≡ None → out.old.fault ≡ None }
+    ensures added { out.new.fault ≡ None →
+        out.new.text.items ≡ out.old.text.items ++ escape_of byte }
+{
+    match byte {
+        b'&' => put_bytes(out, b"&amp;"),
+        b'<' => put_bytes(out, b"&lt;"),
+        b'>' => put_bytes(out, b"&gt;"),
+        b'"' => put_bytes(out, b"&quot;"),
+        _ => out.put_byte(byte),
+    }
+}
+
+/// Adds a number in eight hexadecimal digits.
+fn put_checksum(out: &mut Writer, number: u32) {
+    for byte in number.to_be_bytes() {
+        put_digit(out, byte / 16);
+        put_digit(out, byte % 16);
+    }
+}
+
+/// Adds a hexadecimal digit.
+fn put_digit(out: &mut Writer, digit: u8) {
+    let digits = b"0123456789abcdef";
+    if let Some(digit) = digits.get(usize::from(digit)) {
+        out.put_byte(*digit);
     }
 }
 

@@ -2,7 +2,7 @@
 ghost use Rattle.std.specs.Prelude.{◌≡◌};
 ghost use Rattle.picture.specs.Points.{border_point};
 
-use map_tables::{PerSide, Side};
+use map_tables::{Hex, PerSide, Side};
 
 /// A point of a picture. A side of a hex is 60 long; `x` grows to the right and `y` downwards.
 #[derive(Clone, Copy, Default)]
@@ -29,6 +29,23 @@ impl Point {
             x: self.x.saturating_sub(other.x),
             y: self.y.saturating_sub(other.y),
         }
+    }
+
+    /// Returns the point this many times as far from the centre.
+    pub fn times(self, count: i32) -> Point {
+        Point {
+            x: self.x.saturating_mul(count),
+            y: self.y.saturating_mul(count),
+        }
+    }
+
+    /// Returns the point this many twentieths of the way to another, in whole numbers.
+    pub fn towards(self, other: Point, twentieths: i32) -> Point {
+        let way = other.minus(self);
+        self.plus(Point {
+            x: way.x.saturating_mul(twentieths) / 20,
+            y: way.y.saturating_mul(twentieths) / 20,
+        })
     }
 
     /// Returns the point this far below it.
@@ -117,4 +134,12 @@ pub fn on_ring(ring: Ring, side: Side) -> Point {
         Ring::Digit => &DIGIT,
     };
     points[side.number()]
+}
+
+/// Returns the centre of a hex on the map.
+pub fn centre(hex: Hex) -> Point {
+    Point {
+        x: 52 * i32::from(hex.column()),
+        y: 90 * (i32::from(hex.row()) - 65) + 62,
+    }
 }

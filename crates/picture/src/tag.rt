@@ -42,6 +42,7 @@ pub enum Tag {
     Cell,
     Division,
     Span,
+    Preformatted,
 }
 
 /// What stands in a start tag before a value.
@@ -67,6 +68,8 @@ pub enum Attr {
     Width,
     Height,
     Xmlns,
+    TabIndex,
+    Label,
 }
 
 impl Tag {
@@ -112,6 +115,7 @@ impl Tag {
             Tag::Cell => "td",
             Tag::Division => "div",
             Tag::Span => "span",
+            Tag::Preformatted => "pre",
         }
     }
 
@@ -147,6 +151,8 @@ impl Attr {
             Attr::Width => " width=\"",
             Attr::Height => " height=\"",
             Attr::Xmlns => " xmlns=\"",
+            Attr::TabIndex => " tabindex=\"",
+            Attr::Label => " aria-label=\"",
         }
     }
 }

@@ -1,2 +1,0 @@
--- What the proofs of a page share.
-mod Steps

@@ -1,0 +1,51 @@
+//! Which file a page is of: how many lines it has, and a checksum of its bytes.
+ghost use Rattle.std.specs.Prelude.{◌≡◌};
+ghost use Rattle.page.specs.Checksum.{after_bit, after_byte, checksum_of};
+
+/// The polynomial of the checksum, its bits in the order in which they are used.
+const POLYNOMIAL: u32 = 0xedb8_8320;
+
+/// Returns the checksum of 32 bits of a text that other programs name `crc32`: the cyclic
+/// redundancy check of gzip, PNG and Ethernet.
+pub(crate) fn checksum(text: &[u8]) -> u32
+    ensures { result ≡ checksum_of text.now }
+{
+    let mut rest: u32 = 0xffff_ffff;
+    for byte in text {
+        rest = after_byte(rest, *byte);
+    }
+    rest ^ 0xffff_ffff
+}
+
+/// Returns the remainder after a byte, by that before it.
+fn after_byte(rest: u32, byte: u8) -> u32
+    ensures { result ≡ after_byte rest byte }
+{
+    let rest = rest ^ u32::from(byte);
+    let rest = after_bit(after_bit(after_bit(after_bit(rest))));
+    after_bit(after_bit(after_bit(after_bit(rest))))
+}
+
+/// Returns the remainder after a bit.
+fn after_bit(rest: u32) -> u32
+    ensures { result ≡ after_bit rest }
+{
+    if rest % 2 == 1 {
+        (rest / 2) ^ POLYNOMIAL
+    } else {
+        rest / 2
+    }
+}
+
+/// Returns how many lines a text has; an end without a line feed counts as one.
+pub(crate) fn line_count(text: &[u8]) -> usize {
+    let mut count: usize = 0;
+    let mut is_begun = false;
+    for byte in text {
+        if !is_begun {
+            count = count.saturating_add(1);
+        }
+        is_begun = *byte != b'\n';
+    }
+    count
+}

@@ -1,0 +1,234 @@
+//! The stock chart.
+ghost use Rattle.std.specs.Prelude.{pos, negsuc, ◌≤ℤ◌};
+
+use picture::PagePiece::{At, Letter, Number, Point as To, Words};
+use picture::{Attr, Point, Tag, Writer};
+use tables::{
+    CHART_COLUMNS_END, CHART_ROWS, Company, Money, PerCompany, Square, Zone, par_square, price,
+    square, zone,
+};
+
+/// The token of a company on the chart.
+#[derive(Clone, Copy)]
+pub struct ChartToken {
+    pub company: Company,
+    pub square: Square,
+    /// How many tokens of the square came there before it.
+    pub place: usize,
+    /// Whether it was moved in the last round, or came to the chart.
+    pub is_new: bool,
+    /// Where it was before that round, if it was on the chart.
+    pub from: Option<Square>,
+}
+
+/// The tokens on the chart, in the order of the roster; `None` of a company that is not started.
+pub type ChartTokens = PerCompany<Option<ChartToken>>;
+
+/// The width of a square.
+const WIDTH: i32 = 60;
+
+/// The height of a square.
+const HEIGHT: i32 = 56;
+
+/// The lines below the chart: how far down each is, and its words.
+const LEGEND: [(i32, &str); 7] = [
+    (0, "pays: right, at the end of its row up"),
+    (20, "withholds: left, at the end of its row down"),
+    (40, "sold: down, a square for each share; sold out: up"),
+    (
+        68,
+        "p a par value; y yellow: its shares do not count against the limit of certificates",
+    ),
+    (
+        88,
+        "o orange: nor against the limit of six shares; b brown: and a player may buy several \
+            in one turn",
+    ),
+    (116, "On a square the earliest token comes first."),
+    (
+        136,
+        "ringed: moved in the last round; the arrow comes from where it was",
+    ),
+];
+
+/// Adds the stock chart with the tokens.
+pub fn put_chart(out: &mut Writer, tokens: &ChartTokens) {
+    out.begin_as(Tag::Svg, "chart");
+    out.value(Attr::ViewBox, &[Words("-27 -21 1169 639")]);
+    out.value(Attr::Role, &[Words("img")]);
+    out.element(Tag::Title, &[Words("Stock chart")]);
+    out.element(
+        Tag::Desc,
+        &[Words(
+            "Prices from row A down to K, columns 1 to 19, with the tokens of the companies in their \
+                order. The table of companies names the squares.",
+        )],
+    );
+    for column in 1..CHART_COLUMNS_END {
+        let x = WIDTH * i32::from(column) - 30;
+        out.label("b0", Point { x, y: -6 }, &[At(i32::from(column))]);
+    }
+    for row in 0..CHART_ROWS {
+        put_row(out, tokens, row);
+    }
+    for token in tokens.iter().flatten() {
+        put_arrow(out, tokens, token);
+    }
+    out.begin_at(Point { x: 452, y: 470 });
+    for &(y, words) in &LEGEND {
+        out.words_at(Point { x: 0, y }, words);
+    }
+    out.end();
+    out.end();
+}
+
+/// Adds a row with its letter.
+fn put_row(out: &mut Writer, tokens: &ChartTokens, row: u8) {
+    let y = HEIGHT * i32::from(row) + 33;
+    out.label(
+        "b0",
+        Point { x: -13, y },
+        &[Letter(row.saturating_add(b'A'))],
+    );
+    for column in 1..CHART_COLUMNS_END {
+        if let Some(square) = square(row, column) {
+            put_square(out, tokens, square);
+        }
+    }
+    out.put(&[Words("\n")]);
+}
+
+/// Adds a square with its tokens.
+fn put_square(out: &mut Writer, tokens: &ChartTokens, square: Square) {
+    let corner = corner_of(square);
+    let is_par = is_par_square(square);
+    let (class, mark) = match zone(square) {
+        Zone::White if is_par => ("cw", " p"),
+        Zone::White => ("cw", ""),
+        Zone::Yellow => ("cy", " y"),
+        Zone::Orange => ("co", " o"),
+        Zone::Brown => ("cb", " b"),
+    };
+    out.begin(Tag::Use);
+    out.value(Attr::Href, &[Words("#sq")]);
+    out.value(Attr::Class, &[Words(class)]);
+    out.place_at(corner);
+    out.end();
+    if is_par {
+        out.sign("#par", corner);
+    }
+    put_price(out, corner, square, mark);
+    put_stack(out, tokens, square);
+}
+
+/// Adds the price of a square, with the mark after it.
+fn put_price(out: &mut Writer, corner: Point, square: Square, mark: &'static str) {
+    out.begin_as(Tag::Text, "pr");
+    out.place_at(corner.plus(Point { x: 8, y: 17 }));
+    out.within();
+    out.put(&[Number(Money::from(price(square)))]);
+    if !mark.is_empty() {
+        out.element_as(Tag::TextSpan, "zl", &[Words(mark)]);
+    }
+    out.end();
+}
+
+/// Returns whether a square is that of a par value.
+fn is_par_square(square: Square) -> bool {
+    matches!(par_square(price(square)), Some(par) if par == square)
+}
+
+/// Returns the upper left corner of a square.
+fn corner_of(square: Square) -> Point {
+    Point {
+        x: WIDTH * (i32::from(square.column) - 1),
+        y: HEIGHT * i32::from(square.row),
+    }
+}
+
+/// Returns the token of a square before which this many came there.
+fn token_at(tokens: &ChartTokens, square: Square, place: usize) -> Option<&ChartToken> {
+    tokens
+        .iter()
+        .flatten()
+        .find(|token| token.square == square && token.place == place)
+}
+
+/// Returns where a token lies: in rows of four, closer together where there are more than three.
+fn place_of(tokens: &ChartTokens, token: &ChartToken) -> Point {
+    let step = if token_at(tokens, token.square, 3).is_some() {
+        13
+    } else {
+        19
+    };
+    let number = token.place.min(Company::ALL.len()) as i32;
+    corner_of(token.square).plus(Point {
+        x: 11 + step * (number % 4),
+        y: 30 + 16 * (number / 4),
+    })
+}
+
+/// Adds the tokens of a square: the earlier lies above, so that it is drawn later.
+fn put_stack(out: &mut Writer, tokens: &ChartTokens, square: Square) {
+    for place in (0..Company::ALL.len()).rev() {
+        if let Some(token) = token_at(tokens, square, place) {
+            let at = place_of(tokens, token);
+            out.token("#m", token.company, at);
+            if token.is_new {
+                out.sign("#nm", at);
+            }
+        }
+    }
+}
+
+/// Adds an arrow to a token that was moved in the last round, from the square where it was.
+fn put_arrow(out: &mut Writer, tokens: &ChartTokens, token: &ChartToken) {
+    let Some(from) = token.from else {
+        return;
+    };
+    if !token.is_new || from == token.square {
+        return;
+    }
+    let across = sign_of(i32::from(token.square.column) - i32::from(from.column));
+    let down = sign_of(i32::from(token.square.row) - i32::from(from.row));
+    let start = corner_of(from).plus(Point { x: 30, y: 36 });
+    let tip = place_of(tokens, token).minus(Point {
+        x: 10 * across,
+        y: 10 * down,
+    });
+    out.path("mv", &[Words("M"), To(start), Words("L"), To(tip)]);
+    let back = tip.minus(Point {
+        x: 9 * across,
+        y: 9 * down,
+    });
+    let half = Point {
+        x: -5 * down,
+        y: 5 * across,
+    };
+    out.path(
+        "mh",
+        &[
+            Words("M"),
+            To(tip),
+            Words("L"),
+            To(back.plus(half)),
+            Words("L"),
+            To(back.minus(half)),
+            Words("z"),
+        ],
+    );
+}
+
+/// Returns 1 for a number above 0, -1 for one below, and 0 for 0.
+fn sign_of(number: i32) -> i32
+    ensures least { negsuc 0 ≤ℤ result }
+    ensures most { result ≤ℤ pos 1 }
+{
+    if number > 0 {
+        1
+    } else if number < 0 {
+        -1
+    } else {
+        0
+    }
+}

@@ -1,0 +1,14 @@
+//! The charts of a page: the stock chart with its tokens, and lines of what the players were worth
+//! and what the shares cost, round by round, with a table of the figures.
+//!
+//! Both are drawn from plain values: `ChartToken`, `Entry`. Who makes these says where they come
+//! from. How they are laid out is tested by the pages of `games/page/`.
+//!
+//! Reading order: `chart_part`, `history_part`.
+#![tactic(auto)]
+
+mod chart_part;
+mod history_part;
+
+pub use chart_part::{ChartToken, ChartTokens, put_chart};
+pub use history_part::{Entry, Players, put_history};

@@ -1,0 +1,33 @@
+//! The map of a game as a picture: its grounds, track, stops and labels, each hex in words, and the
+//! tiles that are left.
+//!
+//! The routes lie between the track and the stops, and are no part of this crate. What a page shows
+//! is a `Scene`, which has of the sheets the names of the players alone; so no other byte of a sheet
+//! gets in. The track of a hex is that of the tile that lies there, or of the print. What is marked
+//! as new is what the events of the last round laid and placed.
+//!
+//! The definitions, in `specs/`: `News` (what the last round laid, placed and moved), `TokensShown`
+//! (the tokens of a stop).
+//!
+//! Reading order: `scene` (what a page shows), `tokens` (what lies in slots), `news`, `hex_words`
+//! (a hex in words), `signs`, `legend`, `map_part`, `tiles_part`.
+#![tactic(auto)]
+
+mod hex_words;
+mod legend;
+mod map_part;
+mod news;
+mod scene;
+mod signs;
+mod tiles_part;
+mod tokens;
+
+pub use hex_words::put_hexes;
+pub use legend::put_key;
+pub use map_part::{begin_map, end_map, put_labels};
+pub use news::{
+    laid_in_last_round, moved_in_last_round, placed_in_last_round, square_before_round,
+};
+pub use scene::Scene;
+pub use signs::put_signs;
+pub use tiles_part::{TILE_COLOURS, put_laid, put_tile, put_tiles_left};

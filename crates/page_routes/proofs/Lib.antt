@@ -1,0 +1,3 @@
+-- What the proofs of the routes share.
+mod LaneLemmas
+mod Steps

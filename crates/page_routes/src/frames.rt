@@ -1,0 +1,114 @@
+//! What the picture of the map takes up with what is to be read: stops, values, names, and the
+//! legend.
+
+use board_state::same_hex;
+use history::History;
+use map_tables::{Hex, StopNumber, private_hexes, terrain_cost};
+use picture::{Look, Point, Stops, centre, cost_point, kind_point, private_point, value_point};
+use std::alloc::{AllocError, Global};
+use tables::Private;
+
+/// A part of the map, between its upper left and its lower right corner.
+#[derive(Clone, Copy)]
+pub(crate) struct Frame {
+    pub(crate) from: Point,
+    pub(crate) to: Point,
+}
+
+impl Frame {
+    /// Returns the frame this far to both sides of a point, and above and below it.
+    pub(crate) fn around(place: Point, across: i32, down: i32) -> Frame {
+        let half = Point { x: across, y: down };
+        Frame {
+            from: place.minus(half),
+            to: place.plus(half),
+        }
+    }
+
+    /// Returns whether it has a part in common with another.
+    pub(crate) fn meets(self, other: Frame) -> bool {
+        self.from.x < other.to.x
+            && other.from.x < self.to.x
+            && self.from.y < other.to.y
+            && other.from.y < self.to.y
+    }
+}
+
+/// What the legend of the map takes up.
+const LEGEND: [Frame; 3] = [
+    Frame {
+        from: Point { x: 20, y: 0 },
+        to: Point { x: 300, y: 244 },
+    },
+    Frame {
+        from: Point { x: 1052, y: 664 },
+        to: Point { x: 1302, y: 1040 },
+    },
+    Frame {
+        from: Point { x: 840, y: 884 },
+        to: Point { x: 1040, y: 1040 },
+    },
+];
+
+/// Returns what the map takes up with what is to be read. Fails only if allocation fails.
+pub(crate) fn obstacles(alloc: Global, history: &History) -> Result<Vec<Frame>, AllocError> {
+    let mut frames = Vec::new(alloc);
+    for frame in &LEGEND {
+        frames.push(*frame)?;
+    }
+    for &hex in &Hex::ALL {
+        add_frames(&mut frames, &Look::on(history.lays(), hex))?;
+    }
+    Ok(frames)
+}
+
+/// Adds what a hex takes up with what is to be read.
+fn add_frames(frames: &mut Vec<Frame>, look: &Look) -> Result<(), AllocError> {
+    let middle = centre(look.hex);
+    frames.push(Frame::around(middle.down(-49), 14, 7))?;
+    if look.lay.is_some() {
+        frames.push(Frame::around(middle.down(48), 18, 7))?;
+    } else if terrain_cost(look.hex) > 0 {
+        frames.push(Frame::around(middle.plus(cost_point(look.hex)), 15, 14))?;
+    }
+    if let Stops::Area = look.stops {
+        frames.push(Frame::around(middle, 36, 32))?;
+    }
+    if let Some(place) = value_point(look) {
+        frames.push(Frame::around(middle.plus(place), 12, 12))?;
+    }
+    if let Some(place) = kind_point(look) {
+        frames.push(Frame::around(middle.plus(place), 14, 9))?;
+    }
+    add_stops(frames, look, middle)?;
+    for &private in &Private::ALL {
+        for its in private_hexes(private) {
+            if same_hex(*its, look.hex) {
+                let place = middle.plus(private_point(private, look.hex));
+                frames.push(Frame::around(place, 16, 9))?;
+            }
+        }
+    }
+    Ok(())
+}
+
+/// Adds what the stops of a hex take up.
+fn add_stops(frames: &mut Vec<Frame>, look: &Look, middle: Point) -> Result<(), AllocError> {
+    let stops = [StopNumber::First, StopNumber::Second];
+    for stop in stops.iter().take(look.count) {
+        match look.stops {
+            Stops::Area => {}
+            Stops::Towns => frames.push(Frame::around(middle.plus(look.place(*stop)), 9, 9))?,
+            Stops::Cities => {
+                let (first, second) = look.slot_places(*stop);
+                frames.push(Frame::around(middle.plus(first), 16, 16))?;
+                frames.push(Frame::around(middle.plus(second), 16, 16))?;
+                if look.count > 1 {
+                    let place = middle.plus(look.number_place(*stop));
+                    frames.push(Frame::around(place, 9, 9))?;
+                }
+            }
+        }
+    }
+    Ok(())
+}

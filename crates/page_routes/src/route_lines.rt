@@ -1,0 +1,224 @@
+//! The lines of the routes on the map: each from its first stop over its borders to its last, in a
+//! lane of its own where others share a border.
+ghost use Rattle.std.specs.Prelude.{◌≤◌, length};
+
+use crate::lanes::{Border, shift_at};
+use crate::routes::{Route, Routes, Visit, stop_point};
+use history::History;
+use map_tables::Side;
+use picture::PagePiece::{Number, Place, Point as To, Words};
+use picture::{
+    Attr, Bend, Look, Point, Tag, Way, Writer, bend_between, border_point, centre, put_way, towards,
+};
+use tables::Money;
+
+/// A run as it is drawn, among those that share its borders.
+#[derive(Clone, Copy)]
+struct Course<'a> {
+    history: &'a History,
+    routes: &'a [Route],
+    turned: &'a [Border],
+    /// The number of the run, from 0.
+    number: usize,
+    ghost listed: { number ≤ length routes.now },
+}
+
+/// Adds the lines of the routes.
+pub fn put_lines(out: &mut Writer, history: &History, shown: &Routes) {
+    let routes = shown.routes.as_slice();
+    for (number, route) in routes.iter().enumerate() {
+        let course = Course {
+            history,
+            routes,
+            turned: shown.turned.as_slice(),
+            number,
+        };
+        out.begin(Tag::Group);
+        put_title(out, route);
+        for class in ["ra", "rb", "rc"] {
+            out.begin_as(Tag::Path, class);
+            course.put_data(out, route);
+            if class == "rc" {
+                out.line_colour(route.company);
+                out.line_dash(route.company);
+            }
+            out.end();
+        }
+        course.put_ticks(out, route);
+        out.end();
+    }
+}
+
+/// Adds a title that says a route.
+fn put_title(out: &mut Writer, route: &Route) {
+    out.begin(Tag::Title);
+    out.within();
+    let code = Words(route.company.code());
+    out.put(&[code, Words(" "), Words(route.kind.code()), Words("-train:")]);
+    for visit in &route.visits {
+        out.put(&[Words(" "), Place(visit.place)]);
+    }
+    out.put(&[Words(", "), Number(Money::from(route.sum))]);
+    out.end();
+}
+
+impl Course<'_> {
+    /// Returns how far from the middle of its border the run crosses it by a side of the hex of a
+    /// visit.
+    fn shift(&self, visit: &Visit, side: Side) -> Point {
+        shift_at(self.routes, self.turned, self.number, visit.place.hex, side)
+    }
+
+    /// Returns the point of the map at which the run crosses the border at a side of the hex of a
+    /// visit.
+    fn crossing(&self, visit: &Visit, side: Side) -> Point {
+        centre(visit.place.hex)
+            .plus(border_point(side))
+            .plus(self.shift(visit, side))
+    }
+
+    /// Adds the data of the line: from its first stop over each border, and by each stop, to its
+    /// last.
+    fn put_data(&self, out: &mut Writer, route: &Route) {
+        out.attr(Attr::D);
+        let mut came = None;
+        for (number, visit) in route.visits.iter().enumerate() {
+            match (stop_point(self.history, visit.place), came) {
+                (Some(place), _) if number == 0 => out.put(&[Words("M"), To(place)]),
+                (Some(place), Some(side)) => {
+                    let (first, last) = self.between(visit, side, place);
+                    put_way(out, Way::Between(first, last), place);
+                }
+                _ => {}
+            }
+            if let Some(side) = visit.leaves {
+                put_way(
+                    out,
+                    self.departure(visit, came, side),
+                    self.crossing(visit, side),
+                );
+            }
+            came = match visit.leaves {
+                Some(side) => Some(side.facing()),
+                None => None,
+            };
+        }
+    }
+
+    /// Returns the points between which the line goes from a side to the place of a stop. It stays
+    /// beside the track as far as it crosses the border beside the middle, until near the stop.
+    fn between(&self, visit: &Visit, side: Side, place: Point) -> (Point, Point) {
+        let hex = visit.place.hex;
+        let by = match visit.place.stop {
+            Some(stop) => towards(&Look::on(self.history.lays(), hex), side, stop),
+            None => Point::CENTRE,
+        };
+        let by = centre(hex).plus(by);
+        let shift = self.shift(visit, side);
+        (
+            self.crossing(visit, side).towards(by.plus(shift), 13),
+            place.towards(by, 13).plus(shift).plus(shift),
+        )
+    }
+
+    /// Returns the way on to the next border, from a stop or from the border over which the run
+    /// came.
+    fn departure(&self, visit: &Visit, came: Option<Side>, side: Side) -> Way {
+        match (stop_point(self.history, visit.place), came) {
+            (Some(place), _) => {
+                let (first, last) = self.between(visit, side, place);
+                Way::Between(last, first)
+            }
+            (None, Some(from)) => self.way_through(visit, from, side),
+            (None, None) => Way::Line,
+        }
+    }
+
+    /// Returns the way through a hex without a stop, from the border at a side to that at another.
+    /// It leaves each of them towards the centre of the hex.
+    fn way_through(&self, visit: &Visit, from: Side, to: Side) -> Way {
+        let twentieths = match bend_between(from, to) {
+            Bend::Straight => return Way::Line,
+            Bend::Gentle(_) => 11,
+            Bend::Sharp(_) => 14,
+        };
+        let middle = centre(visit.place.hex);
+        Way::Between(
+            self.crossing(visit, from).towards(middle, twentieths),
+            self.crossing(visit, to).towards(middle, twentieths),
+        )
+    }
+
+    /// Adds a tick at each border for each train of the company that ran before this one.
+    fn put_ticks(&self, out: &mut Writer, route: &Route) {
+        let count = trains_before(self.routes, self.number, route);
+        if count == 0 {
+            return;
+        }
+        for class in ["tk", "tw"] {
+            out.begin_as(Tag::Path, class);
+            out.attr(Attr::D);
+            for visit in &route.visits {
+                if let Some(side) = visit.leaves {
+                    put_ticks_at(out, self.crossing(visit, side), side, count);
+                }
+            }
+            out.end();
+        }
+    }
+}
+
+/// The most ticks that stand at a border.
+const TICKS_MOST: usize = 7;
+
+/// Returns how many of the runs before one are of its company, up to `TICKS_MOST`.
+pub(crate) fn trains_before(routes: &[Route], number: usize, route: &Route) -> usize
+    ensures { result ≤ 7 }
+{
+    let mut count: usize = 0;
+    for other in routes.iter().take(number) {
+        if other.company == route.company {
+            count = count.saturating_add(1);
+        }
+    }
+    count.min(TICKS_MOST)
+}
+
+/// Adds some ticks across a line where it crosses a border at a side, beside one another along the
+/// line.
+fn put_ticks_at(out: &mut Writer, place: Point, side: Side, count: usize)
+    requires { count ≤ 7 }
+{
+    let (across, down, on) = match side {
+        Side::West | Side::East => (0, 4, Point { x: 3, y: 0 }),
+        Side::SouthWest | Side::NorthEast => (4, 2, Point { x: 2, y: -3 }),
+        Side::NorthWest | Side::SouthEast => (-4, 2, Point { x: 2, y: 3 }),
+    };
+    for number in 0..count {
+        let half_steps = (2 * number + 1) as i32 - count as i32;
+        let middle = place.plus(on.times(half_steps));
+        put_tick(out, middle, Point { x: across, y: down });
+    }
+}
+
+/// Adds a tick about a point, as far as another point lies from the centre to both sides.
+fn put_tick(out: &mut Writer, middle: Point, half: Point) {
+    out.put(&[
+        Words("M"),
+        To(middle.minus(half)),
+        Words("L"),
+        To(middle.plus(half)),
+    ]);
+}
+
+/// Adds ticks across a level line at a point.
+pub(crate) fn put_sample_ticks(out: &mut Writer, place: Point, count: usize)
+    requires { count ≤ 7 }
+{
+    for class in ["tk", "tw"] {
+        out.begin_as(Tag::Path, class);
+        out.attr(Attr::D);
+        put_ticks_at(out, place, Side::East, count);
+        out.end();
+    }
+}
