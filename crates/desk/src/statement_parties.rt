@@ -45,7 +45,7 @@ pub(crate) fn push_players_moved(
     stood: &Stood,
     before: &GameView,
 ) -> Result<(), AllocError> {
-    let most = Count(game_row(&stood.history.now()).certificates);
+    let most = game_row(&stood.history.now()).certificates;
     fill(
         out,
         "\nPLAYER    BEFORE    CASH    FREE     CERTS   WORTH  PRIVATES\n",
@@ -64,8 +64,15 @@ pub(crate) fn push_players_moved(
             ],
         )?;
         push(out, &[Right(MONEY, purse.cash), Right(MONEY, purse.free)])?;
-        let counted = Right(CERTIFICATES, purse.certificates);
-        fill(out, "% of %%", &[counted, most, Right(MONEY, purse.worth)])?;
+        fill(
+            out,
+            "% of %%",
+            &[
+                Right(CERTIFICATES, purse.certificates),
+                Count(most),
+                Right(MONEY, purse.worth),
+            ],
+        )?;
         push_privates(out, stood.history, Holder::Seat(seat), PRIVATES)?;
     }
     Ok(())
@@ -114,16 +121,29 @@ fn push_figures(
     push(out, &[Words(company.code()), Column(PRESIDENT), president])?;
     push_square(out, BEFORE, before.square(company))?;
     push_square(out, NOW, row.square)?;
-    if !row.operates {
-        return Ok(());
+    if row.operates {
+        push_money(out, stood.history, row.cash, company)?;
     }
-    push(out, &[Column(CASH), Right(MONEY, row.cash)])?;
-    let earnings = earnings_of(stood.history.events(), company);
-    let Some(round) = earnings.round else {
-        return Ok(());
-    };
-    let dollars = Right(MONEY, earnings.dollars as Money);
-    push(out, &[dollars, Column(ROUND), Piece::Round(round)])
+    Ok(())
+}
+
+/// Adds a company's cash, and its last revenue with the round that it is of.
+fn push_money(
+    out: &mut Vec<u8>,
+    history: &History,
+    cash: Money,
+    company: Company,
+) -> Result<(), AllocError> {
+    push(out, &[Column(CASH), Right(MONEY, cash)])?;
+    let earnings = earnings_of(history.events(), company);
+    if let Some(round) = earnings.round {
+        let dollars = earnings.dollars as Money;
+        push(
+            out,
+            &[Right(MONEY, dollars), Column(ROUND), Piece::Round(round)],
+        )?;
+    }
+    Ok(())
 }
 
 /// Adds the price of a square, with its name, at a column; `-` if there is none.
@@ -157,11 +177,14 @@ fn push_belongings(
         }
     }
     fill(out, "(may have %)", &[Count(game_row(&view).trains)])?;
-    let mut comma = ", ";
+    push_codes(out, history, company)
+}
+
+/// Adds the codes of the privates that a company owns.
+fn push_codes(out: &mut Vec<u8>, history: &History, company: Company) -> Result<(), AllocError> {
     for private in &Private::ALL {
         if history.owner(*private) == Some(Holder::Company(company)) {
-            fill(out, "%%", &[Words(comma), Words(private.code())])?;
-            comma = " ";
+            fill(out, " %", &[Words(private.code())])?;
         }
     }
     Ok(())

@@ -63,9 +63,14 @@ pub fn turns(alloc: Global, game: &Game, asked: Option<Round>) -> Result<Vec<u8>
         round,
         lines: lines.as_slice(),
     };
-    let mut out = Vec::new(alloc);
-    fill(&mut out, "ROUND %\n", &[Piece::Round(round)])?;
-    telling.push_groups(&mut out, text.as_slice())?;
+    Ok(told(telling, text.as_slice())?)
+}
+
+/// Returns the turns of a round whose part of the report is this text.
+fn told<'a>(telling: Telling<'a>, text: &[u8]) -> Result<Vec<u8>, AllocError> {
+    let mut out = Vec::new(telling.alloc);
+    fill(&mut out, "ROUND %\n", &[Piece::Round(telling.round)])?;
+    telling.push_groups(&mut out, text)?;
     Ok(out)
 }
 
