@@ -116,8 +116,9 @@ read_facts_of() { [ -f "${1%.orders}.status" ] || read_facts "$desk" "$1"; }
 # have, and with text on standard error if it has no result, and only then.
 try_every_word() {
   local words status why=
-  for words in round 'round --why' 'round OR1.1' runs 'runs SR1' state 'state SR1' 'state --before' bulletin page 'page SR1' check \
-    'state --json' 'round --json' 'check --all' 'check --from 9' 'lays PRR' 'lays PRR --drafted --lines' 'may ANN' 'may ANN --lines' 'may ANN --drafted' 'best NYC 2' \
+  for words in round 'round --why' 'round --json' 'round OR1.1' runs 'runs SR1' state 'state SR1' 'state --before' 'state --json' \
+    bulletin 'bulletin --due Sunday' page 'page SR1' check 'check --all' 'check --from 9' 'lays PRR' 'lays PRR --drafted --lines' \
+    'may ANN' 'may ANN --lines' 'may ANN --drafted' 'best NYC 2' \
     trial 'hex H10'; do
     # shellcheck disable=SC2086
     "$desk" $words < "$1" > "$scratch/out" 2> "$scratch/err"

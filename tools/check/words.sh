@@ -15,7 +15,7 @@ try_words() {
 try_desk_words() {
   local words status
   for words in '' nonsense ROUND 'round extra' 'round OR2' 'round OR1.9' 'round OR99999.3' 'runs PR1 PR2' 'state SR1' 'check PR1' \
-    'check --from' 'check --from x' 'explain Z9' '--why' 'state SR1 --before' 'bulletin SR1' 'runs --before' 'page SR1' 'page --before' lays 'lays XYZ' \
+    'check --from' 'check --from x' 'explain Z9' '--why' 'state SR1 --before' 'bulletin SR1' 'bulletin --due' 'runs --before' 'page SR1' 'page --before' lays 'lays XYZ' \
     'lays PRR' 'lays PRR --after OR9.1' 'lays PRR --after X1' may 'may NOBODY' 'may ANN BOB' best 'best PRR 7' 'best PRR 2' \
     'trial NOBODY' 'trial ANN' 'trial --after PR1' hex 'hex Z9' 'hex H10 H12' 'hex H10 --after SR1'; do
     # shellcheck disable=SC2086
