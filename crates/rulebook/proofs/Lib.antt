@@ -21,6 +21,7 @@ pub mod Reach
 pub mod Report
 pub mod Runs
 pub mod Sales
+pub mod Streams
 pub mod TheGame
 pub mod Tokens
 pub mod TrainPurchases

@@ -14,7 +14,7 @@ use Rattle.sheets.specs.File.{begins, body_of, content_of, is_sheet_line, player
 use Rattle.sheets.specs.Text.{is_blank, written_lines}
 
 -- the text
-abbrev text : List ℕ
+abbrev pub text : List ℕ
 text =
     codes "GAME 1830 1\nPLAYERS ANN BOB CYD\nROUND PR1\nANN 2 OBEYED BUY SV\nSOLD SV ANN 20\nBOB PASSES\nCYD PASSES\nANN PASSES\nREVENUE SV ANN 5\nPLAYER ANN        785  1  0  0  0  0  0  0  0  0 SV\nPLAYER BOB        800  0  0  0  0  0  0  0  0  0\nPLAYER CYD        800  0  0  0  0  0  0  0  0  0\nBANK   9615\nAWAITING PR2 ANN BOB CYD\n"
 
