@@ -14,7 +14,8 @@ HEADED = re.compile(r'Definition `(\w+): (\w+)` · function `(\w+): (\w+)` · ga
 
 @dataclass
 class Chapter:
-    """A chapter: its file and its title, the sections of the players' pages that it has, and more definitions that it brings."""
+    """A chapter: its file and its title, the sections of the players' pages that it has (or, where it has none, a
+    text of its own), and more definitions that it brings."""
     file: str
     title: str
     sections: list[tuple[str, str]]
@@ -86,7 +87,9 @@ def fill(chapters: list[Chapter], pages: dict[str, str], index: Index, contracts
     home: dict[Name, Chapter] = {}
     for chapter in chapters:
         parts = [(heading, section(pages[page], heading)) for page, heading in chapter.sections]
-        chapter.text = '\n'.join(part if number == 0 else '### %s\n\n%s' % (heading.rstrip(':'), part) for number, (heading, part) in enumerate(parts))
+        if parts:
+            chapter.text = '\n'.join(part if number == 0 else '### %s\n\n%s' % (heading.rstrip(':'), part)
+                                     for number, (heading, part) in enumerate(parts))
         for root in chapter.roots:
             one = index.named(*root.split(': '))
             if one is None:

@@ -107,7 +107,8 @@ def chapters() -> list[Chapter]:
         return Chapter(file, headings[0], [('rules.md', heading) for heading in headings], roots.split(', ') if roots else [], files.split())
 
     def other(file: str, title: str, page: str, *headings: str, roots: str = '', files: str = '') -> Chapter:
-        return Chapter(file, title, [(page, heading) for heading in headings], roots.split(', ') if roots else [], files.split())
+        text = '' if headings else '[`%s`](%s) says what each word prints. Here is what that rests on.\n' % (page, page)
+        return Chapter(file, title, [(page, heading) for heading in headings], roots.split(', ') if roots else [], files.split(), text)
 
     return [
         rules('the-game', 'The game', files='rounds/Play rounds/Sequence report/EndWorth'),

@@ -79,7 +79,7 @@ class Book:
         if not chapter.brings:
             return text
         text += '\n## Definitions\n\n' + wrap(self.count(by_kind)) + self.in_words(chapter)
-        text += self.tables(by_kind[Kind.TABLE])
+        text += self.tables(by_kind[Kind.TABLE], chapter.text)
         return text + self.code('Rules', by_kind[Kind.RULE]) + self.code('Plumbing', by_kind[Kind.PLUMBING]) + self.needs(chapter)
 
     def needs(self, chapter: Chapter) -> str:
@@ -108,11 +108,13 @@ class Book:
         return '\n## %s: %s\n\n%s\n```agda\n%s```\n\n`%s`\n' % (
             example.heading, example.title, wrap(example.text), example.code, example.path)
 
-    def tables(self, ones: list[Name]) -> str:
+    def tables(self, ones: list[Name], above: str) -> str:
         """Returns tables in their own shape: those of a file with the same cases as the columns of one table."""
         text = '\n### Tables\n' if ones else ''
-        here = [one for one in ones if one in self.made.shown]
-        text += '\n' + wrap('The text above has these as tables: %s.' % ', '.join(cite(one) for one in here)) if here else ''
+        shown = [one for one in ones if one in self.made.shown]
+        here = [one for one in shown if re.search(r'<!-- \w+ [^>]*\b%s\b' % one[1], above)]
+        for where, names in (('The text above', here), ('Another chapter', [one for one in shown if one not in here])):
+            text += '\n' + wrap('%s has these as tables: %s.' % (where, ', '.join(cite(one) for one in names))) if names else ''
         grouped: dict[tuple[str, tuple[str, ...]], list[Name]] = {}
         for one in [one for one in ones if one not in self.made.shown]:
             cases = tuple(left for left, _ in shapes.sides(one[1], self.house.definition(one).lines))

@@ -3,6 +3,7 @@ pub mod BestRuns
 pub mod Companies
 pub mod Conditions
 pub mod Consent
+pub mod Desk
 pub mod Dividends
 pub mod Exchange
 pub mod Forced
