@@ -1,6 +1,6 @@
 //! Which file a page is of: how many lines it has, and a checksum of its bytes.
 ghost use Rattle.std.specs.Prelude.{◌≡◌};
-ghost use Rattle.page.specs.Checksum.{after_bit, after_byte, checksum_of};
+ghost use Rattle.page.specs.Checksum.{after_bit, after_byte, checksum_of, line_count};
 
 /// The polynomial of the checksum, its bits in the order in which they are used.
 const POLYNOMIAL: u32 = 0xedb8_8320;
@@ -38,12 +38,14 @@ fn after_bit(rest: u32) -> u32
 }
 
 /// Returns how many lines a text has; an end without a line feed counts as one.
-pub(crate) fn line_count(text: &[u8]) -> usize {
-    let mut count: usize = 0;
+pub(crate) fn line_count(text: &[u8]) -> usize
+    ensures { result ≡ line_count text.now }
+{
+    let mut count = 0;
     let mut is_begun = false;
     for byte in text {
         if !is_begun {
-            count = count.saturating_add(1);
+            count += 1;
         }
         is_begun = *byte != b'\n';
     }
