@@ -33,5 +33,5 @@ mod words;
 pub use fault::{MovesFault, NoAnswer};
 pub use progress::Progress;
 pub use questions::{LayForm, MayForm, Question, answer};
-pub use trials::{Trial, trial};
+pub use trials::{TrialRound, trial};
 pub use words::{read_company, read_hex, read_kind};

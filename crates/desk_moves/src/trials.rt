@@ -14,7 +14,7 @@ use tables::{Round, Seat};
 
 /// A file to be played one round on.
 #[derive(Drop)]
-pub struct Trial {
+pub struct TrialRound {
     /// The order file, with an empty sheet at its end for each player who owes one.
     pub file: TrialFile,
     /// The round that those sheets are for.
@@ -25,14 +25,14 @@ pub struct Trial {
 /// is awaited, and that round. If players are named, they must be all who owe one. The error is the
 /// fault of the file, that the game is over, that nobody has a name, that somebody who is not named
 /// owes a sheet, or `Memory`.
-pub fn trial(alloc: Global, file: &[u8], players: &[&str]) -> Result<Trial, MovesFault>
+pub fn trial(alloc: Global, file: &[u8], players: &[&str]) -> Result<TrialRound, MovesFault>
     ensures { IfOk result (λ trial. trial.file.bytes.items ≡ tried_file file.now trial.round) }
 {
     let sheets = collect(alloc, file)?;
     let round = round_to_try(alloc, &sheets, players)?;
     let mut file = TrialFile::begin(alloc, file)?;
     file.put_all(&sheets, round)?;
-    Ok(Trial { file, round })
+    Ok(TrialRound { file, round })
 }
 
 /// Returns the round that is awaited, where each name is a player's, and those who owe a sheet for
