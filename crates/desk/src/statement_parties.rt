@@ -1,7 +1,7 @@
 //! What the players and the companies have after a round, beside what they had before it.
 
 use crate::earnings::earnings_of;
-use crate::player_figures::purse_of;
+use crate::player_figures::{Purse, purse_of};
 use crate::state_players::push_privates;
 use crate::state_rows::{company_row, game_row};
 use desk_base::Piece::{Bytes, Column, Count, Number, Right, Words};
@@ -61,21 +61,27 @@ pub(crate) fn push_players_moved(
                 Bytes(name(stood.sheets, seat)),
                 Column(8),
                 Right(MONEY, had),
+                Right(MONEY, purse.cash),
+                Right(MONEY, purse.free),
             ],
         )?;
-        push(out, &[Right(MONEY, purse.cash), Right(MONEY, purse.free)])?;
-        fill(
-            out,
-            "% of %%",
-            &[
-                Right(CERTIFICATES, purse.certificates),
-                Count(most),
-                Right(MONEY, purse.worth),
-            ],
-        )?;
+        push_counted(out, purse, most)?;
         push_privates(out, stood.history, Holder::Seat(seat), PRIVATES)?;
     }
     Ok(())
+}
+
+/// Adds how many certificates of a player count, of how many, and what the player is worth.
+fn push_counted(out: &mut Vec<u8>, purse: Purse, most: usize) -> Result<(), AllocError> {
+    fill(
+        out,
+        "% of %%",
+        &[
+            Right(CERTIFICATES, purse.certificates),
+            Count(most),
+            Right(MONEY, purse.worth),
+        ],
+    )
 }
 
 /// Adds what each of some companies has, in this order: president, price before the round and after
