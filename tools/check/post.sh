@@ -1,7 +1,7 @@
 # The part `post`: a game by mail, from the inbox to the outbox.
 
-# The modules of umpire_post/tests, the longest first.
-post_modules=(test_killed test_ten_rounds test_six_rounds test_evenings test_delivery test_damaged test_threats test_messages)
+# The modules of umpire_post/tests, the longest first, and the parts of one.
+post_modules=(test_killed.Rounds test_killed.Steps test_ten_rounds test_six_rounds test_evenings test_delivery test_damaged test_threats test_messages)
 
 # run_tests TESTS [FOLDER]: runs tests of umpire_post in a folder that has it, this one where none is
 # named, by the programs that are tried, and counts each test.
@@ -23,7 +23,7 @@ has_all_modules() {
   local path name
   for path in umpire_post/tests/test_*.py; do
     name=${path##*/} name=${name%.py}
-    count "$name" "$([[ " ${post_modules[*]} " == *" $name "* ]] || echo 'no part of the check runs it')"
+    count "$name" "$([[ " ${post_modules[*]} " == *" $name"[\ .]* ]] || echo 'no part of the check runs it')"
   done
 }
 
@@ -54,12 +54,24 @@ wrong_post() {
   echo "$wrong"
 }
 
-post_must_fail() {
-  sees 'a post that takes sheets from anybody' 1 run_tests test_messages "$(wrong_post 's/player not in reading.senders/False/' reading.py)"
-  sees 'a post that shows the key' 1 run_tests test_threats.Threats.test_a_key_among_the_orders_is_not_put_into_the_file \
-    "$(wrong_post 's/elif player.key and any(/elif False and any(/' reading.py)"
-  sees 'a step that is not finished' 1 run_tests test_killed.Killed.test_undo "$(wrong_post 's/yield finish(top)/yield None/' disk.py)"
-  sees 'a letter that is sent twice' 1 run_tests test_killed.Killed.test_send \
-    "$(wrong_post 's/handed = path.with_suffix(HANDED_OVER)/handed = path/; s/_move(path, handed)/pass/' delivery.py)"
-  sees 'another letter' 1 run_tests test_six_rounds "$(wrong_post '0,/It counts/s//It counted/' tests/six-rounds.outbox)"
+# sees_wrong_post WHAT: the tests see one way in which a post is wrong.
+sees_wrong_post() {
+  case $1 in
+    anybody)
+      sees 'a post that takes sheets from anybody' 1 run_tests test_messages \
+        "$(wrong_post 's/player not in reading.senders/False/' reading.py)"
+      ;;
+    key)
+      sees 'a post that shows the key' 1 run_tests test_threats.Threats.test_a_key_among_the_orders_is_not_put_into_the_file \
+        "$(wrong_post 's/elif player.key and any(/elif False and any(/' reading.py)"
+      ;;
+    step) sees 'a step that is not finished' 1 run_tests test_killed.Steps.test_undo "$(wrong_post 's/yield finish(top)/yield None/' disk.py)" ;;
+    twice)
+      sees 'a letter that is sent twice' 1 run_tests test_killed.Rounds.test_send \
+        "$(wrong_post 's/handed = path.with_suffix(HANDED_OVER)/handed = path/; s/_move(path, handed)/pass/' delivery.py)"
+      ;;
+    letter) sees 'another letter' 1 run_tests test_six_rounds "$(wrong_post '0,/It counts/s//It counted/' tests/six-rounds.outbox)" ;;
+  esac
 }
+
+post_must_fail() { side_by_side sees_wrong_post letter twice step key anybody; }

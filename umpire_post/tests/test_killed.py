@@ -99,13 +99,15 @@ def tree(top: Path) -> dict[str, bytes]:
 
 
 class Killed(Evenings):
+    """A test that kills a command."""
+
     def setUp(self) -> None:
         super().setUp()
         known = mock.patch.object(secrets, "token_hex", lambda _: MARK)
         known.start()
         self.addCleanup(known.stop)
 
-    def look_at(self, words: Sequence[str], looks: Callable[[dict[str, bytes], dict[str, bytes]], None] | None = None) -> None:
+    def look_at(self, words: Sequence[str]) -> None:
         """Kills a command at each write. Run again, it must leave what it leaves when nothing happens."""
         before = self.place / "before"
         if self.game.exists():
@@ -134,6 +136,8 @@ class Killed(Evenings):
         path.write_bytes(mbox([mail(name, lines, at) for at, (name, lines) in enumerate(sheets)]))
         return path
 
+
+class Steps(Killed):
     def test_new(self) -> None:
         self.look_at(["new", str(self.game), "--umpire", UMPIRE, *THREE])
 
@@ -142,6 +146,18 @@ class Killed(Evenings):
         self.look_at(["in", str(self.game), str(self.came())])
         self.assertEqual(3 * 2, len(self.names("inbox")))
 
+    def test_undo(self) -> None:
+        self.begun()
+        run(["round", str(self.game), "--without", "ANN", "BOB", "CYD"])
+        run(["round", str(self.game), "--without", "ANN", "BOB", "CYD"])
+        self.look_at(["undo", str(self.game)])
+
+    def test_status_that_reminds(self) -> None:
+        self.begun()
+        self.look_at(["status", str(self.game), "--remind"])
+
+
+class Rounds(Killed):
     def test_round(self) -> None:
         self.begun()
         run(["in", str(self.game), str(self.came())])
@@ -154,16 +170,6 @@ class Killed(Evenings):
         path.write_bytes(mbox([mail(it, [f"SHEET {it} PR1", f"SHEET {it} PR2"], at) for at, it in enumerate(names)]))
         run(["in", str(self.game), str(path)])
         self.look_at(["round", str(self.game)])
-
-    def test_undo(self) -> None:
-        self.begun()
-        run(["round", str(self.game), "--without", "ANN", "BOB", "CYD"])
-        run(["round", str(self.game), "--without", "ANN", "BOB", "CYD"])
-        self.look_at(["undo", str(self.game)])
-
-    def test_status_that_reminds(self) -> None:
-        self.begun()
-        self.look_at(["status", str(self.game), "--remind"])
 
     def test_send(self) -> None:
         """No letter is lost or sent twice: if nobody knows whether it was, the umpire is told."""
