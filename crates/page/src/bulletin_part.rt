@@ -1,13 +1,14 @@
 //! The bulletin of a round: its turns as its players read them, and a statement of how they stand
 //! after it; and the same on a page.
+ghost use Rattle.rounds.specs.Play.{IsTheGame};
 
 use desk::statement;
 use desk_base::DeskFault;
 use desk_round::turns;
 use picture::PagePiece::{Round as Named, Text, Words};
 use picture::{Tag, Writer, begin_section};
-use rounds::play;
-use sheets::collect;
+use rounds::{Game, play};
+use sheets::{Sheets, collect};
 use std::alloc::{AllocError, Global};
 use tables::Round;
 
@@ -21,9 +22,31 @@ pub fn bulletin(
     due: &str,
 ) -> Result<Vec<u8>, DeskFault> {
     let sheets = collect(alloc, file)?;
-    let game = play(alloc, &sheets)?;
-    let mut text = turns(alloc, &game, asked)?;
-    let stated = statement(alloc, &game, asked, due)?;
+    bulletin_by(alloc, &sheets, asked, due)
+}
+
+/// Returns the bulletin of a round of the game of some sheets.
+fn bulletin_by(
+    alloc: Global,
+    sheets: &Sheets,
+    asked: Option<Round>,
+    due: &str,
+) -> Result<Vec<u8>, DeskFault> {
+    let game = play(alloc, sheets)?;
+    bulletin_of(alloc, &game, asked, due)
+}
+
+/// Returns the bulletin of a round of a game: its turns, and then the statement.
+fn bulletin_of(
+    alloc: Global,
+    game: &Game,
+    asked: Option<Round>,
+    due: &str,
+) -> Result<Vec<u8>, DeskFault>
+    requires { IsTheGame game.now }
+{
+    let mut text = turns(alloc, game, asked)?;
+    let stated = statement(alloc, game, asked, due)?;
     text.extend_from_slice(stated.as_slice())?;
     Ok(text)
 }
