@@ -40,7 +40,7 @@ def chunks(path: Path) -> Iterator[tuple[str, list[str], int]]:
 
 def flat(text: str) -> str:
     """Returns a text on one line. Lines that a finding cites have other numbers in an answer."""
-    return re.sub(r"\bon line \d+\b", "on line N", " ".join(text.split()))
+    return re.sub(r"\b(on line|Lines) \d+( to \d+)?\b", r"\1 N", " ".join(text.split()))
 
 
 class TenRounds(Evenings):
