@@ -16,7 +16,7 @@ from umpire_post.programs import Programs, Report
 from umpire_post.sheets import MAX_SHEETS, Found, InMessage, find_sheets
 from umpire_post.text import Lines, lines_of
 
-LINE = re.compile(r"\bline (\d+)\b")
+CITED = re.compile(r"\b([Ll]ine|Lines) (\d+)(?: to (\d+))?\b")  # lines of the file
 
 
 @dataclass(frozen=True)
@@ -165,10 +165,10 @@ def findings_in(sheet: Sheet, found: Found, orders: bytes, programs: Programs) -
     numbers = {first + at: number for at, (number, _) in enumerate(found.numbered())}
 
     def named(cited: re.Match[str]) -> str:
-        number = numbers.get(int(cited[1]))
-        return f"line {number}" if number else cited[0]
+        own = [numbers.get(int(it)) for it in cited.groups()[1:] if it]
+        return f"{cited[1]} {' to '.join(map(str, own))}" if all(own) else cited[0]
 
     for it in programs.findings(with_sheets(orders, [sheet]), first):
         number = numbers.get(it.line)
-        said = LINE.sub(named, it.said)
+        said = CITED.sub(named, it.said)
         yield f"line {number} | {said}" if number else said
