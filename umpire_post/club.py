@@ -117,7 +117,7 @@ def club_text(club: Club) -> str:
         "# port = 587",
         '# tls = "starttls"  # or "tls" from the start, or "none"',
         '# user = "umpire"',
-        '# password_file = "/home/umpire/.smtp-password"',
+        '# password_file = "/etc/umpire/smtp-password"',
         "",
         "[texts]",
         f"greeting = {json.dumps(club.greeting)}",

@@ -42,7 +42,7 @@ from_there() {
 
 # has_pages ROOT: manual pages and completions, and no path of this machine in any text.
 has_pages() {
-  local name page word why
+  local name page word why kit
   for name in umpire desk post; do
     page=umpire
     [ "$name" = umpire ] || page=umpire-$name
@@ -54,7 +54,8 @@ has_pages() {
     why=$(bash -c ". '$1/usr/share/bash-completion/completions/$page'; COMP_WORDS=($page '') COMP_CWORD=1; _$name; echo \${#COMPREPLY[@]}" 2>&1)
     count "the completions of $page in the package" "$([ "$why" = "$(words_of "$name" | wc -l)" ] || echo "there are $why")"
   done
-  count 'paths in the package' "$(grep -rlI -e "$top" -e '/opt/rattle' "$1/usr/share" "$1/usr/bin/umpire-post" | head -n 3)"
+  kit=$(dirname "$(rt doc)")
+  count 'paths in the package' "$(grep -rlI -e "$top" -e "$kit" "$1/usr/share" "$1/usr/bin/umpire-post" | head -n 3)"
   count 'the licence in the package' "$(grep -q 'No licence is given' "$1/usr/share/doc/umpire/copyright" || echo 'it does not say that none is given')"
 }
 
