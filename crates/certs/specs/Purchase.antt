@@ -79,7 +79,7 @@ abbrev pub in_zone : (Zone → Bool) → Option Square → Bool
 in_zone holds None = false
 in_zone holds (Some square) = holds (zone_of square)
 
--- no share is where one is to be bought
+-- no share is left where one is to be bought
 unfoldable pub is_sold_out_there : List Event → Purchase → Bool
 is_sold_out_there events (Par company price) = false
 is_sold_out_there events (Share company from) = lt_z (shares_of events company (place_of_source from)) (pos 1)

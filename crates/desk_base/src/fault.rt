@@ -1,3 +1,5 @@
+//! Why the desk returns no text: a refused file, a round that is not played, or a failed
+//! allocation.
 ghost use Rattle.std.specs.Prelude.{◌≡◌};
 ghost use Rattle.desk_base.specs.Fault.{fault_of_file};
 ghost use Rattle.desk_base.specs.declared.fault.DeskFault.TheVariants.{Memory};

@@ -17,9 +17,9 @@ pub enum Objection {
     Nothing,
     /// The orders above it have passed its step.
     Passed,
-    /// No RUN stands above it.
+    /// There is no RUN above it.
     NoRun,
-    /// RUN BEST stands above it.
+    /// There is a RUN BEST above it.
     Best,
     /// It names no stop of this hex where one is to stand.
     Stops(Hex),
@@ -60,8 +60,8 @@ pub fn push_objection(
     match reason {
         Objection::Nothing => Ok(()),
         Objection::Passed => fill(out, "; the orders above it have passed its step", &[]),
-        Objection::NoRun => fill(out, "; no valid RUN stands above it", &[]),
-        Objection::Best => fill(out, "; RUN BEST stands above it", &[]),
+        Objection::NoRun => fill(out, "; there is no valid RUN above it", &[]),
+        Objection::Best => fill(out, "; there is a RUN BEST above it", &[]),
         Objection::Stops(hex) => push_stops(out, hex),
         Objection::NoCity(hex) => fill(out, "; % has no city", &[Bytes(hex.text().as_slice())]),
         Objection::Apart(hex, other) => push_apart(out, hex, other),

@@ -28,7 +28,7 @@ text_of_opening_rule opening.NotCheapest =
     (codes "it buys a private that is not the cheapest unsold")
 text_of_opening_rule opening.BidTooLow =
     rule_text (codes "A4")
-    (codes "it bids under 5 above the face value, or under 5 above a bid that stands")
+    (codes "it bids under 5 above the face value, or under 5 above an earlier bid")
 text_of_opening_rule opening.CashTooSmall =
     rule_text (codes "A5")
     (codes "it costs more than your cash less your bids on other privates")
@@ -47,7 +47,7 @@ sentence_of_opening_rule rule = (text_of_opening_rule rule).sentence
 abbrev pub text_of_stock_rule : StockRule → RuleText
 text_of_stock_rule stock.NotOfStock =
     rule_text (codes "S1")
-    (codes "the line is none of PAR, BUY of a share, SELL and EXCHANGE; or the RAISE is not needed")
+    (codes "the line is not PAR, BUY of a share, SELL or EXCHANGE; or the RAISE is not needed")
 text_of_stock_rule stock.SaleInFirstRound = rule_text (codes "S2") (codes "it sells in SR1")
 text_of_stock_rule stock.NotHeld = rule_text (codes "S3") (codes "it sells nothing, or more than you hold")
 text_of_stock_rule stock.PoolFull =
@@ -58,7 +58,7 @@ text_of_stock_rule stock.PresidentMustStay =
     (codes "you preside, would keep under two shares, and nobody else has two to take the president's "
     ++ codes "certificate; or a RAISE would move the presidency of the company that operates")
 text_of_stock_rule stock.SoldInRound = rule_text (codes "S6") (codes "you have sold shares of the company in this round")
-text_of_stock_rule stock.NoneThere = rule_text (codes "S7") (codes "no share is where you buy")
+text_of_stock_rule stock.NoneThere = rule_text (codes "S7") (codes "that place has no share left")
 text_of_stock_rule stock.NoParValue = rule_text (codes "S8") (codes "it names no par value")
 text_of_stock_rule stock.WrongStart =
     rule_text (codes "S9")
@@ -87,7 +87,7 @@ sentence_of_stock_rule rule = (text_of_stock_rule rule).sentence
 abbrev pub text_of_pay_rule : PayRule → RuleText
 text_of_pay_rule pay_rule.NothingToPay =
     rule_text (codes "D1")
-    (codes "the company has paid or withheld; or PAY stands where it has earned nothing")
+    (codes "the company has paid or withheld; or it is PAY, and nothing was earned")
 
 -- the code of a rule of dividends
 abbrev pub code_of_pay_rule : PayRule → List ℕ

@@ -1,3 +1,5 @@
+//! What became of a line: its order was obeyed or refused, or it has a fault. The rules of play
+//! that a refusal may name are here, with their codes and sentences.
 ghost use Rattle.std.specs.Prelude.{◌≡◌, MatchOption};
 ghost use Rattle.events.specs.RuleCodes.{code_of_opening_rule, code_of_pay_rule, code_of_private_rule, code_of_refusal};
 ghost use Rattle.events.specs.RuleCodes.{code_of_stock_rule, code_of_train_rule, sentence_of_opening_rule};
@@ -137,7 +139,7 @@ static OPENING_RULES: [RuleRow<OpeningRule>; OpeningRule::BidForCheapest as usiz
         names no par value",
     Sold: "A2", "the private is sold",
     NotCheapest: "A3", "it buys a private that is not the cheapest unsold",
-    BidTooLow: "A4", "it bids under 5 above the face value, or under 5 above a bid that stands",
+    BidTooLow: "A4", "it bids under 5 above the face value, or under 5 above an earlier bid",
     CashTooSmall: "A5", "it costs more than your cash less your bids on other privates",
     TurnUsed: "A6", "you have bought or bid in this turn",
     BidForCheapest: "A7", "it bids on the cheapest private",
@@ -219,7 +221,7 @@ pub enum StockRule {
 static STOCK_RULES: [RuleRow<StockRule>; StockRule::NoExchange as usize + 1] =
     rule_rows! { StockRule
     NotOfStock: "S1",
-        "the line is none of PAR, BUY of a share, SELL and EXCHANGE; or the RAISE is not needed",
+        "the line is not PAR, BUY of a share, SELL or EXCHANGE; or the RAISE is not needed",
     SaleInFirstRound: "S2", "it sells in SR1",
     NotHeld: "S3", "it sells nothing, or more than you hold",
     PoolFull: "S4", "it would bring the pool over five shares of the company",
@@ -228,7 +230,7 @@ static STOCK_RULES: [RuleRow<StockRule>; StockRule::NoExchange as usize + 1] =
         president's certificate; or a RAISE would move the presidency of the company that \
         operates",
     SoldInRound: "S6", "you have sold shares of the company in this round",
-    NoneThere: "S7", "no share is where you buy",
+    NoneThere: "S7", "that place has no share left",
     NoParValue: "S8", "it names no par value",
     WrongStart: "S9", "it starts a company that is started, or buys or sells of one that is not",
     CashTooSmall: "S10", "it costs more than your cash",
@@ -287,7 +289,7 @@ pub enum PayRule {
 /// The rules of dividends, in the order of their codes.
 static PAY_RULES: [RuleRow<PayRule>; PayRule::NothingToPay as usize + 1] = rule_rows! { PayRule
     NothingToPay: "D1",
-        "the company has paid or withheld; or PAY stands where it has earned nothing",
+        "the company has paid or withheld; or it is PAY, and nothing was earned",
 };
 
 impl PayRule {
@@ -354,7 +356,7 @@ static TRAIN_RULES: [RuleRow<TrainRule>; TrainRule::NoDiscard as usize + 1] = ru
         "the train to be traded in is not the company's, or no 4, 5 or 6, or not for a D",
     NoDiscard: "T7",
         "DISCARD of a company over which you did not preside as the round began, or of a train \
-        that it had not",
+        that it did not have",
 };
 
 impl TrainRule {
