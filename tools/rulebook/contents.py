@@ -94,13 +94,6 @@ LAWS = [
     Law('certificates', 'a tree and its marks', 'certificate/specs/Example', (), ('worked_tree', 'worked_marks')),
 ]
 
-# Definitions that have no comment yet: a comment is a change of its crate, which is then proved again.
-WITHOUT_COMMENT = {
-    ('certificate/specs/Digits', 'digit_of'), ('desk_check/specs/Found', 'finding'), ('picture/specs/Reading', 'read_at'),
-    ('picture/specs/Reading', 'step'),
-}
-
-
 def chapters() -> list[Chapter]:
     """Returns the chapters, empty."""
     def rules(file: str, *headings: str, roots: str = '', files: str = '') -> Chapter:

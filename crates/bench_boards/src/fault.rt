@@ -1,3 +1,5 @@
+//! Why a greatest revenue is not printed, and the status that the program then ends with.
+
 use board::BoardFault;
 use certificate::RunnerFault;
 use std::alloc::AllocError;

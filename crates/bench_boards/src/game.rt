@@ -1,3 +1,6 @@
+//! A board read line by line: its phase, a company with its trains, and the tiles and tokens that
+//! lie. It gives the greatest revenue of those trains.
+
 use crate::fault::LinesFault;
 use best_run::Search;
 use board::Board;

@@ -1,3 +1,6 @@
+//! The marks that show a greatest revenue, measured: how many there are, how long it takes to write
+//! and to check them, and whether the check accepts them.
+
 use crate::fault::LinesFault;
 use crate::game::BoardLines;
 use best_run::best;

@@ -1,3 +1,5 @@
+//! A runner that keeps what it finds: the best runs of each call, with the marks by which a reader
+//! checks them.
 ghost use Rattle.std.specs.Prelude.{◌≡◌, [], false, IfOk, OnErr};
 ghost use Rattle.best_run.specs.Keeping.{KeepsBest, KeepsOne};
 ghost use Rattle.legal_runs.specs.Set.{IsGreatestMoney};

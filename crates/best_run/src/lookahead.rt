@@ -1,3 +1,5 @@
+//! What lies ahead of a run: the stops that it may still reach, how many these are and what they
+//! are worth. The search uses it to bound what the run may still earn.
 ghost use Rattle.std.specs.Prelude.{◌≡◌, ◌<◌, ◌≤◌, List, true, false, get_or, replicate};
 ghost use Rattle.search_task.specs.declared.task.Node.{Node};
 ghost use Rattle.best_run.specs.Ahead.{IsWorth, WidensAt, WidensBack, WidensBy, WidensFrom, leads_on};

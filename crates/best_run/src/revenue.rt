@@ -1,3 +1,6 @@
+//! The best of a company's trains on a network: the greatest revenue, with runs that earn it and
+//! marks that show it. The search solves for the last trains first, which bounds what they earn
+//! after others.
 ghost use Rattle.std.specs.Prelude.{◌≡◌, ◌-◌, ◌<◌, ◌≤◌, IfOk, length};
 ghost use Rattle.best_run.specs.Revenue.{IsBest};
 ghost use Rattle.search_task.specs.Fit.{IsFit};

@@ -1,3 +1,4 @@
+//! A runner that searches for the greatest revenue and keeps nothing.
 ghost use Rattle.std.specs.Prelude.{◌≡◌, IfOk, false};
 ghost use Rattle.legal_runs.specs.Set.{IsGreatestMoney};
 

@@ -1,3 +1,5 @@
+//! The search itself. It tries all ways to run or pass the trains, and leaves out those that can
+//! earn no more than what has been found, or that were tried before.
 ghost use Rattle.std.specs.Prelude.{◌≡◌, ◌+◌, ◌<◌, ◌≤◌, true, false, IsTrue, length};
 ghost use Rattle.best_run.specs.Ahead.{IsInVain};
 ghost use Rattle.best_run.specs.Extend.{MayExtend};

@@ -1,3 +1,5 @@
+//! The states of the search: the trains assigned so far, and a run that has begun. Each has the
+//! moves that lead on from it, and can be compared with another to see whether it does as well.
 ghost use Rattle.std.specs.Prelude.{◌≡◌, ◌+◌, ◌-◌, ◌*◌, ◌^◌, ◌<◌, ◌≤◌, IsTrue, false, length, true};
 ghost use Rattle.search_task.specs.Fit.{BordersFit, IsFit};
 ghost use Rattle.best_run.specs.Memo.{Dominates, DominatesRun, IsBarred, TurnsAs};

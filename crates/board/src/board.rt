@@ -1,3 +1,4 @@
+//! The board: the tiles and tokens that lie on the map in a phase, kept as lists and in an index.
 ghost use Rattle.std.specs.Prelude.{◌≡◌, [], None, IfErr, IfOk, IsOk, OnErr, OnOk, length, unwrap_or};
 ghost use Rattle.board_state.specs.Fit.{board_fault_of};
 ghost use Rattle.board_state.specs.MapState.{map_state_of, with_lay, with_token};

@@ -1,3 +1,4 @@
+//! A board as it would be after one more lay, to see what a company would then reach.
 ghost use Rattle.board_state.specs.MapState.{with_lay};
 
 use crate::board::Board;

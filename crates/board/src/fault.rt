@@ -1,3 +1,4 @@
+//! Why a tile or a token has no cost: the first rule that it breaks, or a failed allocation.
 ghost use Rattle.std.specs.Prelude.{◌≡◌};
 ghost use Rattle.board.specs.declared.fault.LayFault.TheVariants as lay_fault;
 ghost use Rattle.board.specs.declared.fault.TokenFault.TheVariants as token_fault;

@@ -1,3 +1,4 @@
+//! The index of a board, which finds a tile, its links and the tokens at a stop at once.
 ghost use Rattle.std.specs.Prelude.{◌≡◌, ◌+◌, ◌^◌, ◌<◌, [], Some, None, false, map, slice_index_or, slice_set};
 ghost use Rattle.board.specs.Index.{IsIndex, counting, holding, holder_order};
 ghost use Rattle.board.specs.KeptLinks.{held};

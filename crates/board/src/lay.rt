@@ -1,3 +1,4 @@
+//! The rules by which a company lays a tile, and what the lay costs.
 ghost use Rattle.std.specs.Prelude.{◌≡◌, ◌⊎◌, ◌↔◌, ◌≤◌, ◌<◌, Err, None, IsTrue, count_by};
 ghost use Rattle.std.specs.List.{list_any};
 ghost use Rattle.board_state.specs.MapState.{position_of, with_lay};

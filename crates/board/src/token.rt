@@ -1,3 +1,4 @@
+//! The rules by which a company places a token, and what the token costs.
 ghost use Rattle.std.specs.Prelude.{◌≡◌, ◌⊎◌, ◌↔◌, Err, None, Some, IsTrue};
 ghost use Rattle.board_state.specs.MapState.{position_of};
 ghost use Rattle.board.specs.TokenRules.{IsReachedPlace, IsTokenOutcome, has_none_left, has_token_in, is_full_at};

@@ -1,3 +1,4 @@
+//! What the rules of lays and tokens need to know of a turn: its steps, and the company that asks.
 ghost use Rattle.std.specs.Prelude.{◌≡◌};
 ghost use Rattle.board.specs.Turn.{place_of_step};
 

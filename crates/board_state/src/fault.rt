@@ -1,3 +1,4 @@
+//! Why some tiles and tokens cannot lie on the map.
 ghost use Rattle.std.specs.Prelude.{◌≡◌};
 ghost use Rattle.board_state.specs.declared.fault.BoardFault.TheVariants.{Memory};
 

@@ -1,3 +1,5 @@
+//! The rules of what may lie on the map: tiles on hexes of their kind, track that leads to no bad
+//! side, and tokens in slots of their own.
 ghost use Rattle.std.specs.Prelude.{◌≡◌};
 ghost use Rattle.std.specs.List.{list_any};
 ghost use Rattle.board_state.specs.Fit.{board_fault_of};

@@ -1,3 +1,4 @@
+//! The map state as plain lists of tiles and tokens, which are searched for what lies on a hex.
 ghost use Rattle.std.specs.Prelude.{◌≡◌, None, IfErr, IfOk, IsOk, unwrap_or};
 ghost use Rattle.board_state.specs.Fit.{board_fault_of};
 ghost use Rattle.board_state.specs.MapState.{map_state_of};

@@ -1,3 +1,6 @@
+//! Facts of hexes and stops, read from lists of tiles and tokens: the tile on a hex, the slots of a
+//! stop, and the tokens that name it. With them come the tests of whether two hexes, stops or
+//! companies are one.
 ghost use Rattle.std.specs.Prelude.{◌≡◌};
 ghost use Rattle.std.specs.List.{count_by};
 ghost use Rattle.map_tables.specs.declared.place.Place.{Place};

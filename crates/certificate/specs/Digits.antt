@@ -42,10 +42,11 @@ bits_of_digits text = flat_map bits_of_digit text
 abbrev pub lower_digits : List ℕ
 lower_digits = codes "0123456789abcdef"
 
--- the digit of four bits
+-- a bit as a number: 1 if it is set
 abbrev pub bit_number : Bool → ℕ
 bit_number bit = if bit then 1 else 0
 
+-- the digit of four bits, the highest first
 abbrev pub digit_of : Bool → Bool → Bool → Bool → ℕ
 digit_of a b c d = get_or lower_digits (8 * bit_number a + 4 * bit_number b + 2 * bit_number c + bit_number d) 0
 

@@ -1,3 +1,5 @@
+//! A list of bits, packed eight to a byte, which takes hexadecimal digits, and a reader of its
+//! bits, which prints them as such digits.
 ghost use Rattle.std.specs.Prelude.{◌≡◌, ◌↔◌, ◌*◌, ◌+◌, ◌≤◌, true, Err, OnOk, OnErr, IfErr, IfOk, IsTrue, MatchOption, []};
 ghost use Rattle.std.specs.Prelude.{◌∷◌, ◌++◌, take, drop, get_or, false};
 ghost use Rattle.certificate.specs.Digits.{bits_of, bits_of_digit, bits_of_digits, digits_of, has_other};

@@ -1,3 +1,5 @@
+//! One group of a text of certificates: a claim and its marks, with the round and company.
+
 use crate::bits::Bits;
 use legal_runs::Claim;
 use tables::{Company, Round};

@@ -1,3 +1,5 @@
+//! The shares of every company by who holds them, as a table that is read from a game. A transfer
+//! moves shares within it.
 ghost use Rattle.std.specs.Prelude.{◌≡◌, ◌≤ℤ◌, pos};
 ghost use Rattle.certs.specs.ShareRow.{AreBounded};
 ghost use Rattle.tables.specs.declared.roster.Company.{Company};

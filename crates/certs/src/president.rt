@@ -1,3 +1,4 @@
+//! Who presides over a company, and who succeeds its president once another player has more shares.
 ghost use Rattle.std.specs.Prelude.{◌≡◌, ℤ};
 ghost use Rattle.certs.specs.President.{better_of, presiding_in, seat_shares, seat_shares_of, successor, successor_of};
 ghost use Rattle.tables.specs.declared.roster.Company.{Company};

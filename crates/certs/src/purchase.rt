@@ -1,3 +1,4 @@
+//! The rules by which a player buys a share or a president's certificate, and what it costs.
 ghost use Rattle.std.specs.Prelude.{◌≡◌, ◌≤◌, ◌+ℤ◌, pos, unwrap_or};
 ghost use Rattle.std.specs.Int.Signed.{le_z};
 ghost use Rattle.certs.specs.Counted.{counted_of};
@@ -62,7 +63,7 @@ fn broken_by(
     }
 }
 
-/// Returns whether no share is where one is to be bought.
+/// Returns whether no share is left where one is to be bought.
 #[tactic(auto, unfolding(crate::specs::Purchase::is_sold_out_there))]
 fn is_sold_out_there(now: &GameView, purchase: Purchase) -> bool
     ensures { result ≡ is_sold_out_there now.now.events.now purchase }

@@ -1,3 +1,4 @@
+//! The rules by which a player sells shares, in a stock round or to pay for a train.
 ghost use Rattle.std.specs.Prelude.{◌≡◌, ◌^◌, ◌≤ℤ◌, ◌+ℤ◌, pos};
 ghost use Rattle.certs.specs.Purchase.{allowed};
 ghost use Rattle.certs.specs.Sale.{another_has, is_first_stock, is_not_held, is_over_five, kept_after, none_is_left};

@@ -1,3 +1,5 @@
+//! What a player buys or sells in one deal: a president's certificate, a share, or a block of
+//! shares.
 ghost use Rattle.std.specs.Prelude.{◌≡◌};
 ghost use Rattle.certs.specs.Purchase.{company_of, shares_bought};
 

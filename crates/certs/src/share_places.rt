@@ -1,3 +1,5 @@
+//! The shares of one company as a row: the initial offering, the bank pool and six players. Shares
+//! move from one place of the row to another.
 ghost use Rattle.std.specs.Prelude.{◌≡◌, ◌<◌, ◌≤ℤ◌, pos, slice_index_or};
 ghost use Rattle.certs.specs.ShareRow.{IsBounded, IsMoved, IsTaken, index_of};
 ghost use Rattle.events.specs.declared.event.Shareholder.{Shareholder};

@@ -1,3 +1,4 @@
+//! Why a question about moves has no answer, with the sentence that tells the player so.
 ghost use Rattle.std.specs.Prelude.{◌≡◌};
 ghost use Rattle.desk_base.specs.declared.fault.DeskFault.TheVariants.{Memory};
 ghost use Rattle.desk_base.specs.Fault.{fault_of_file};

@@ -1,3 +1,5 @@
+//! The events of a game, and the aspects of each: what it pays, which shares or trains it moves,
+//! what it says of privates and companies, and who acts.
 ghost use Rattle.std.specs.Prelude.{◌≡◌};
 ghost use Rattle.events.specs.Event.{actor_of, bidding_of, floated_by, office_of, operated_by, ownership_of, par_set};
 ghost use Rattle.events.specs.Event.{party_at, party_of_company, party_of_seller, payment_of, phase_set};

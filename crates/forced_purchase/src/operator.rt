@@ -1,3 +1,5 @@
+//! A company with its president, who gives its orders.
+
 use tables::{Company, Seat};
 
 /// A company, and the seat that gives its orders.

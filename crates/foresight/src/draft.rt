@@ -1,3 +1,5 @@
+//! The sheet that is looked at for the round that comes, if any, and the orders in it that are
+//! ruled ahead of play.
 ghost use Rattle.std.specs.Prelude.{◌≡◌, ◌≤◌, [], IfOk, OnOk, if◌then◌else◌};
 ghost use Rattle.foresight.specs.Draft.{after_standing_of, file_of, is_drafters, opened_ahead, orders_of};
 ghost use Rattle.forced_purchase.specs.Raise.{raises_in};

@@ -1,3 +1,6 @@
+//! A company's turn in an operating round that comes, at the head of its orders or behind those
+//! that are drafted. From there the company may withhold, be found to need a train, or finish its
+//! turn.
 ghost use Rattle.std.specs.Prelude.{◌≡◌, ◌↔◌, IfOk, IsTrue};
 ghost use Rattle.board_state.specs.MapState.{position_of};
 ghost use Rattle.foresight.specs.Ahead.{HasEnded, withheld_in};

@@ -1,3 +1,4 @@
+//! An operating round that comes, played turn by turn up to the orders of a company.
 ghost use Rattle.std.specs.Prelude.{◌≡◌, IfOk, Some, length, true};
 ghost use Rattle.foresight.specs.Ahead.{HasTurn, IsBehindDraft, opened_state};
 ghost use Rattle.foresight.specs.Orders.{IsAhead, IsLed};

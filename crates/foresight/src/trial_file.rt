@@ -1,3 +1,4 @@
+//! The order files that trials play: a copy of the order file, with empty sheets added at its end.
 ghost use Rattle.std.specs.Prelude.{◌≡◌, ◌++◌, IfOk, OnOk, take};
 ghost use Rattle.foresight.specs.TrialFile.{IsBegun, alone_file, empty_sheet, empty_sheets, has_open_line};
 ghost use Rattle.foresight.specs.TrialFile.{is_among, sheet_if, tried_file, with_line_end};

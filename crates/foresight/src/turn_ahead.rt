@@ -1,3 +1,4 @@
+//! An opening or a stock round that comes, up to a seat's first turn.
 ghost use Rattle.std.specs.Prelude.{◌≡◌, ◌≤◌, ◌<◌, IfOk};
 ghost use Rattle.foresight.specs.Turn.{IsAtTurn};
 ghost use Rattle.history.specs.Sound.{IsSound};

@@ -1,3 +1,5 @@
+//! The game as one value: its seats and its events, with totals beside them that answer at once
+//! what the list says.
 ghost use Rattle.std.specs.Prelude.{◌≡◌, ◌↔◌, ◌≤◌, ◌<◌, ◌++◌, IsTrue, IsOk, MatchResult, OnOk, OnErr, option_map, pos};
 ghost use Rattle.std.specs.Prelude.{is_some, slice_get, vec_capacity, vec_len, []};
 ghost use Rattle.std.specs.List.{cons_option};

@@ -1,3 +1,4 @@
+//! The check of a run that is written out: what the run earns, or the first rule that it breaks.
 ghost use Rattle.std.specs.Prelude.{◌≡◌, ◌↔◌, IfOk, IfErr, IsOk, None, Some, pos};
 ghost use Rattle.legal_runs.specs.Fault.{named_steps, run_fault};
 ghost use Rattle.legal_runs.specs.Law.{NameLegalRun};

@@ -1,3 +1,4 @@
+//! A claim: a revenue of a company's trains, and the runs that are said to earn it.
 ghost use Rattle.std.specs.Prelude.{◌≡◌, [], ◌∷◌, ◌++◌, OnOk, OnErr};
 
 use map_tables::Run;

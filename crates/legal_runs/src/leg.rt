@@ -1,3 +1,5 @@
+//! The leg by which a train goes from one written place to the next, found in the track of both
+//! hexes.
 ghost use Rattle.std.specs.List.{list_any};
 ghost use Rattle.std.specs.Prelude.{◌≡◌, ◌<◌, IfSome, find};
 ghost use Rattle.map_tables.specs.Border.{neighbour_of};

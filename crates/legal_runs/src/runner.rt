@@ -1,3 +1,5 @@
+//! Runners, which find the greatest revenue of a company's trains: their trait, and why they may
+//! return none.
 ghost use Rattle.std.specs.Prelude.{◌≡◌, Bool, true, List, Result, IfOk, IfErr, ℤ};
 ghost use Rattle.legal_runs.specs.Set.{IsGreatestMoney};
 ghost use Rattle.legal_runs.specs.declared.runner.RunnerFault.{RunnerFault};

@@ -1,3 +1,5 @@
+//! The tally of a run, kept step by step: the stops that it visits, what they are worth, and the
+//! borders that it crosses. At the end it gives the first rule that the run breaks.
 ghost use Rattle.std.specs.Prelude.{◌≡◌, ◌+◌, ◌*◌, ◌<◌, ◌≤◌};
 ghost use Rattle.legal_runs.specs.Fault.{has_token, is_full, is_wrong_number};
 ghost use Rattle.legal_runs.specs.Named.{with_leg};

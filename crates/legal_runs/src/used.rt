@@ -1,3 +1,4 @@
+//! The borders that a company's trains have already used in its turn.
 ghost use Rattle.std.specs.Prelude.{◌≡◌, ◌<◌, true, false, get_or, replicate, set, IfSome, count_by, not};
 ghost use Rattle.legal_runs.specs.TwoTrain.{crossing};
 

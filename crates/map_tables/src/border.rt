@@ -1,3 +1,4 @@
+//! The hexes at the sides of each hex, with those across a closed border or without them.
 ghost use Rattle.std.specs.Prelude.{◌≡◌};
 ghost use Rattle.map_tables.specs.Border.{adjacent, neighbour_of};
 

@@ -1,3 +1,4 @@
+//! The hexes of the map, each named by the letter of its row and the number of its column.
 ghost use Rattle.std.specs.Prelude.{◌≡◌, ◌<◌, ◌≤◌};
 ghost use Rattle.map_tables.specs.Guess.{first_at, guess_at};
 ghost use Rattle.map_tables.specs.Hex.{column_of, hex_at, index_of, row_of, same_hex};

@@ -1,3 +1,5 @@
+//! Where each company places its home token, and on which hexes no tile is laid while a player owns
+//! a private.
 ghost use Rattle.std.specs.Prelude.{◌≡◌};
 ghost use Rattle.map_tables.specs.Home.{hexes_of_private, home_of};
 

@@ -1,3 +1,4 @@
+//! A tile as it lies on a hex, or is to be laid there, and the links that it gives the hex.
 ghost use Rattle.std.specs.Prelude.{◌≡◌, ◌≤◌, length};
 ghost use Rattle.map_tables.specs.Lay.{laid_links_of, laid_track_of};
 

@@ -1,3 +1,4 @@
+//! Stops, and places as orders name them. A stop that lies in two hexes has one name.
 ghost use Rattle.std.specs.Prelude.{◌≡◌, ◌<◌, None};
 ghost use Rattle.map_tables.specs.declared.hex.Hex.TheVariants.{A9};
 ghost use Rattle.map_tables.specs.Place.{joined_stop_of, other_stop, place_of, stop_index_of, stop_of};

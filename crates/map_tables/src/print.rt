@@ -1,3 +1,5 @@
+//! What is printed on each hex of the map: the tiles that it takes, what its terrain costs, its
+//! colour, its stops and its track.
 ghost use Rattle.std.specs.Prelude.{◌≡◌};
 ghost use Rattle.map_tables.specs.Print.{print_of, printed_links_of};
 ghost use Rattle.map_tables.specs.PrintedHex.{print_seen};

@@ -1,3 +1,4 @@
+//! The rules that a lay, a token or a run may break, each with its code and its sentence.
 ghost use Rattle.std.specs.Prelude.{◌≡◌};
 ghost use Rattle.map_tables.specs.RuleCodes.{code_of_lay_rule, code_of_run_rule, code_of_token_rule};
 ghost use Rattle.map_tables.specs.RuleCodes.{sentence_of_lay_rule, sentence_of_run_rule, sentence_of_token_rule};

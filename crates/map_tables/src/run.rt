@@ -1,3 +1,4 @@
+//! The run of a train, as the places to which it comes.
 ghost use Rattle.std.specs.Prelude.{
   ◌≡◌,
   ◌≤◌,

@@ -1,3 +1,4 @@
+//! The six sides of a hex, and how far a tile is turned.
 ghost use Rattle.std.specs.Prelude.{◌≡◌, ◌<◌};
 ghost use Rattle.map_tables.specs.Side.{facing_of, number_of, rotation_of, turned_side, turns_of};
 

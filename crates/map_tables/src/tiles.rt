@@ -1,3 +1,5 @@
+//! The tiles by number: how many there are of each, its colour, its kind and its track. The colours
+//! of hexes are here too.
 ghost use Rattle.std.specs.Prelude.{◌≡◌, ◌<◌, ◌≤◌, length};
 ghost use Rattle.map_tables.specs.Tile.{entry, entry_of, number_of_tile, stops_of_kind, tile_index_of, tile_numbered};
 ghost use Rattle.map_tables.specs.Tile.{tile_track_of};

@@ -1,3 +1,4 @@
+//! The square to which a token moves from another: right, left, up, or down by some squares.
 ghost use Rattle.std.specs.Prelude.{◌≡◌};
 ghost use Rattle.market.specs.Moves.{above, at_left, at_right, below, down_of, fallen, square_left_of, right_of, up_of};
 

@@ -1,3 +1,4 @@
+//! The token of a company moves over the chart, and each move to another square is recorded.
 ghost use Rattle.std.specs.Prelude.{◌≡◌, OnOk};
 ghost use Rattle.market.specs.Moves.{fallen, square_left_of, right_of, up_of};
 ghost use Rattle.market.specs.Token.{moved_to, with_move};

@@ -1,3 +1,4 @@
+//! Something that may be done, with its price, and how it is added to a list.
 ghost use Rattle.std.specs.Prelude.{◌≡◌, ◌++◌, ◌∷◌, [], OnOk};
 
 use std::alloc::AllocError;

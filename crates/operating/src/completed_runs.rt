@@ -1,3 +1,5 @@
+//! What the trains of a company have done in its turn: how many have run, which borders they have
+//! crossed and what they have earned.
 ghost use Rattle.std.specs.Prelude.{◌≡◌};
 
 use history::TrainCount;

@@ -1,3 +1,4 @@
+//! How far a company's turn has come: the first step that it may still take, and what it has done.
 ghost use Rattle.std.specs.Prelude.{◌≡◌, ◌≤◌};
 ghost use Rattle.operating.specs.Progress.{at_start, best_done, has_any_run, is_past_pay};
 ghost use Rattle.operating.specs.Progress.{is_past_runs, is_unpaid, lay_done, pay_done, run_done};

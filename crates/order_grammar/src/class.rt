@@ -1,3 +1,4 @@
+//! The classes of words, and how a word reads as a text of each.
 ghost use Rattle.std.specs.Prelude.{◌≡◌};
 ghost use Rattle.std.specs.List.{list_all};
 ghost use Rattle.order_grammar.specs.Class.{

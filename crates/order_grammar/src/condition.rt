@@ -1,3 +1,5 @@
+//! The versions of order files, and the condition that a line of version 2 may put before its
+//! order.
 ghost use Rattle.std.specs.Prelude.{◌≡◌};
 ghost use Rattle.order_grammar.specs.Condition.{
   condition_if_read,

@@ -1,3 +1,4 @@
+//! The faults for which a line is obeyed in no game, each with its code and its sentence.
 ghost use Rattle.std.specs.Prelude.{◌≡◌};
 ghost use Rattle.order_grammar.specs.Fault.{code_of, sentence_of};
 ghost use Rattle.tables.specs.RuleTexts.{ListsEachRule};

@@ -1,3 +1,4 @@
+//! The table of the forms of lines, and how the words of a line are read by it.
 ghost use Rattle.std.specs.Prelude.{◌≡◌, ◌≤◌, IsTrue, map};
 ghost use Rattle.std.specs.List.{list_all};
 ghost use Rattle.order_grammar.specs.Form.{

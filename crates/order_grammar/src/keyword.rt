@@ -1,3 +1,4 @@
+//! The literal words of lines: which one a word spells, and how each is printed.
 ghost use Rattle.std.specs.Prelude.{◌≡◌};
 ghost use Rattle.order_grammar.specs.Keyword.{beginning_with, keyword_of, spelt_of, text_of_keyword};
 ghost use Rattle.order_grammar.specs.Words.{raised};

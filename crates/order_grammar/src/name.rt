@@ -1,3 +1,4 @@
+//! The names of players, and which words spell one.
 ghost use Rattle.std.specs.Bool.{OnTrue};
 ghost use Rattle.std.specs.Prelude.{◌≡◌, ◌≤◌, [], None, Some, if◌then◌else◌, length};
 ghost use Rattle.order_grammar.specs.Name.{is_name};

@@ -1,3 +1,5 @@
+//! Orders: what a line of an order file or of a certificate says, and how the values of its words
+//! make it.
 ghost use Rattle.std.specs.Prelude.{◌≡◌, false};
 ghost use Rattle.order_grammar.specs.Family.{IsOfAmount, IsOfCertificate, IsOfFile, IsOfOne, IsOfTrains};
 ghost use Rattle.order_grammar.specs.Order.{keyword_of_source, order_from, put_if, text_of_source};

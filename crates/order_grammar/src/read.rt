@@ -1,3 +1,5 @@
+//! How a line of an order file or of a certificate is read: into its order, its condition and its
+//! words, or its fault.
 ghost use Rattle.std.specs.Prelude.{◌≡◌, ◌≤◌, IfOk, IfSome, None, is_some, length};
 ghost use Rattle.std.specs.List.{list_all, position_or_len};
 ghost use Rattle.order_grammar.specs.Condition.{put_ordered};

@@ -1,3 +1,4 @@
+//! The short form of orders, for all orders of play but a run through places.
 ghost use Rattle.std.specs.Prelude.{◌≡◌, false, MatchOption};
 ghost use Rattle.order_grammar.specs.Short.{has_short_form, order_in_short};
 

@@ -1,3 +1,4 @@
+//! The words of a line, each with its place. They end where the line's comment begins.
 ghost use Rattle.std.specs.Bool.{OnTrue};
 ghost use Rattle.std.specs.Prelude.{◌≡◌, ◌≤◌, [], IfSome, false, length, take};
 ghost use Rattle.order_grammar.specs.Token.{GivesWord};

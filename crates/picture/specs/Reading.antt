@@ -27,6 +27,7 @@ pub record Read : Type 0 where
   pub open_names : List (List ℕ)
   pub spot : WriterPlace
 
+-- what is found with these open elements, at this place
 abbrev pub read_at : List (List ℕ) → WriterPlace → Read
 read_at names spot = record { open_names = names; spot = spot }
 
@@ -73,6 +74,7 @@ step_at names ending byte = if byte == 62 then read_at names between else read_a
 step_at names (closing name) byte = if byte == 62 then closed names name else read_at names (closing (name ++ byte ∷ []))
 step_at names lost byte = read_at names lost
 
+-- what is found one byte further on
 abbrev pub step : Read → ℕ → Read
 step read byte = step_at read.open_names read.spot byte
 

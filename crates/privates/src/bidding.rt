@@ -1,3 +1,4 @@
+//! The auction of a private: which bidder wins it, and what the winner pays.
 ghost use Rattle.std.specs.Prelude.{◌≡◌, ◌≤◌, ◌+ℤ◌, length, pos};
 ghost use Rattle.std.specs.Int.{int_max, int_min};
 ghost use Rattle.privates.specs.Auction.{BidsDiffer, LimitsHold, ahead, auction_of, greater_of, highest_bid, limit_by};

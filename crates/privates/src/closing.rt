@@ -1,3 +1,5 @@
+//! The end of an opening round that leaves a private unsold: the price of SV falls, or, if SV is
+//! sold, each sold private pays its revenue.
 ghost use Rattle.std.specs.Prelude.{◌≡◌, ◌≢◌, ◌<◌, ◌≤◌, ◌-◌, OnOk, false};
 ghost use Rattle.events.specs.declared.event.Event.TheVariants as event;
 ghost use Rattle.totals.specs.LookBack.{is_sold, priority_of, sv_price_of, with_event};

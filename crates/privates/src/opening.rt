@@ -1,3 +1,4 @@
+//! An opening round, which is a round of turns with rules of its own.
 ghost use Rattle.std.specs.Prelude.{◌≡◌, IfOk, false, length, refl};
 ghost use Rattle.history.specs.Sound.{IsSound};
 ghost use Rattle.privates.specs.Keeping.{begins as begins_underway, leaves as leaves_underway};

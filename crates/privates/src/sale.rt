@@ -1,3 +1,4 @@
+//! The sale of a private, with what comes with it, and the sales of other privates that follow.
 ghost use Rattle.std.specs.Prelude.{◌≡◌, ◌≤◌, ◌<◌, OnOk, Some, length, map, pos};
 ghost use Rattle.std.specs.Int.RustNames.{unsigned_abs};
 ghost use Rattle.events.specs.declared.event.Event.TheVariants as event;

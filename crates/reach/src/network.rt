@@ -1,3 +1,4 @@
+//! The trait of whatever keeps the tiles and tokens on the map, as a search asks for them.
 ghost use Rattle.std.specs.Prelude.{◌≡◌, ◌↔◌, IsTrue};
 ghost use Rattle.reach.specs.Lawful.{IsLawful};
 ghost use Rattle.reach.specs.Position.{HasToken, IsFull, Position, is_red, links_of, value_of};

@@ -1,3 +1,4 @@
+//! The stops and links that a company reaches, as lists.
 ghost use Rattle.std.specs.Prelude.{◌≡◌, IsTrue, ◌↔◌, IfOk};
 ghost use Rattle.reach.specs.Position.{IsAmong};
 ghost use Rattle.reach.specs.Reached.{IsReach};

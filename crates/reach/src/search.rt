@@ -1,3 +1,5 @@
+//! The search for all that a company reaches: from its tokens it follows the links, and marks each
+//! end of a hex at which a walk arrives.
 ghost use Rattle.std.specs.Prelude.{◌≡◌, ◌<◌, ◌≤◌, ◌↔◌, IsTrue, OnOk, [], false, true, length, slice_index_or};
 ghost use Rattle.std.specs.Prelude.{replicate};
 ghost use Rattle.map_tables.specs.Hex.{index_of};

@@ -1,3 +1,4 @@
+//! The ends in hexes between which a walk goes, and the links that it takes as its steps.
 ghost use Rattle.std.specs.Prelude.{◌≡◌};
 ghost use Rattle.map_tables.specs.declared.hex.Hex.TheVariants.{A9};
 ghost use Rattle.map_tables.specs.declared.side.Side.TheVariants.{SouthWest};

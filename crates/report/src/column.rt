@@ -1,3 +1,4 @@
+//! Texts and numbers in columns, filled up with spaces.
 ghost use Rattle.std.specs.Prelude.{◌≡◌, ◌++◌, OnOk, replicate};
 ghost use Rattle.report.specs.Column.{Adds, at_left, at_right};
 

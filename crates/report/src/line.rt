@@ -1,3 +1,4 @@
+//! The events of a game, each as a line of the report.
 ghost use Rattle.std.specs.Prelude.{◌≡◌, ◌∷◌, [], OnOk, codes, decimal};
 ghost use Rattle.report.specs.Column.{Adds};
 ghost use Rattle.report.specs.Line.{event_line, exchange_line, holder_text, lay_line, line_of, name_of, ruled_line};

@@ -1,3 +1,5 @@
+//! The report part by part, as the game is played: the header, the text of each round, and what
+//! follows the rounds.
 ghost use Rattle.report.specs.Column.{Adds};
 ghost use Rattle.report.specs.Parts.{end_text_of, next_text_of, outcome_text_of};
 ghost use Rattle.report.specs.Report.{header, unread_lines};

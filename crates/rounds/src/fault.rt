@@ -1,3 +1,4 @@
+//! Why a game was not played: an allocation failed, or the runner refused a company.
 ghost use Rattle.std.specs.Prelude.{◌≡◌};
 ghost use Rattle.rounds.specs.Faults.{fault_in_turn};
 ghost use Rattle.rounds.specs.declared.fault.PlayFault.TheVariants.{Memory};

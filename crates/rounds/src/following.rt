@@ -1,3 +1,5 @@
+//! What comes after a round: another round, or the end of the game.
+
 use tables::Round;
 
 /// What comes after a round.

@@ -1,3 +1,4 @@
+//! A game that was played to its end or as far as its sheets go, and why play stopped.
 ghost use Rattle.std.specs.Prelude.{◌≡◌, IfErr, IfOk, length, true};
 ghost use Rattle.history.specs.Sound.{IsSound};
 ghost use Rattle.operating.specs.Calls.{Makes};

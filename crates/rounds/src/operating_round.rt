@@ -1,3 +1,5 @@
+//! An operating round: the standing lines, the revenues of the privates, and then the turn of each
+//! company in operating order.
 ghost use Rattle.std.specs.Prelude.{◌≡◌, ◌++◌, [], IfErr, IfOk, OnOk, length, true};
 ghost use Rattle.totals.specs.Shares.{is_floated};
 ghost use Rattle.history.specs.Sound.{IsSound};

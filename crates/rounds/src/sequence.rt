@@ -1,3 +1,4 @@
+//! The sequence of rounds: which round comes after another, and when the game is over.
 ghost use Rattle.std.specs.Prelude.{◌≡◌, ◌≤◌};
 ghost use Rattle.rounds.specs.Sequence.{following, turn_in_set};
 ghost use Rattle.sheets.specs.Laws.{number_of};

@@ -1,3 +1,4 @@
+//! A game that is played a round at a time.
 ghost use Rattle.std.specs.Prelude.{◌≡◌, ◌≤◌, IfErr, IfOk, MatchOption, Ok, Some, false, length, option_map, true};
 ghost use Rattle.std.specs.Option.{ForSome};
 ghost use Rattle.history.specs.Sound.{IsSound};

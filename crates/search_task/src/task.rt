@@ -1,3 +1,5 @@
+//! What a search works on: the spots of the map as a company sees them, the segments and legs that
+//! lead from them, and the trains.
 ghost use Rattle.std.specs.Prelude.{◌≡◌};
 
 use crate::bit_set::BitPlace;

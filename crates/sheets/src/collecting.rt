@@ -1,3 +1,5 @@
+//! Collects the sheets of an order file, line by line, from what follows its players line. It also
+//! keeps the fault of each line that is in no sheet.
 ghost use Rattle.std.specs.Prelude.{is_some, ◌≡◌, false, ℕ, ◌+◌, ◌<◌, ◌≤◌, List, [], ◌∷◌, ◌++◌, length, IfOk, Ok, OnOk};
 ghost use Rattle.std.specs.Prelude.{IfErr, MatchOption, MatchResult, option_map};
 ghost use Rattle.std.specs.HashMap.{get};

@@ -1,3 +1,4 @@
+//! The faults for which an order file is refused as a whole, each with its code and its sentence.
 ghost use Rattle.std.specs.Prelude.{◌≡◌};
 ghost use Rattle.sheets.specs.File.{code_of_fault, sentence_of_fault};
 ghost use Rattle.sheets.specs.declared.fault.FileFault.TheVariants.{Memory};

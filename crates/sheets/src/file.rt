@@ -1,3 +1,5 @@
+//! An order file: its version, its players and their sheets, found by seat and round. `collect`
+//! keeps the sheets of a file; `examine` keeps none and returns only its version.
 ghost use Rattle.std.specs.Prelude.{◌≡◌, ℕ, ◌≤◌, List, length, MatchResult, IfOk, OnOk, option_copied, option_map};
 ghost use Rattle.std.specs.Prelude.{slice_get, is_none, is_some, Err};
 ghost use Rattle.order_grammar.specs.Line.{reading_of};

@@ -1,3 +1,4 @@
+//! The sheet that is open while a file is collected.
 ghost use Rattle.std.specs.Prelude.{◌≤◌, length};
 ghost use Rattle.sheets.specs.Limits.{file_most};
 

@@ -1,3 +1,6 @@
+//! The parts of a sheet, as the rounds take it up: the lines before its first head, and then those
+//! that each head opens. In opening and stock rounds a TURN line is a head, in operating rounds a
+//! COMPANY line.
 ghost use Rattle.std.specs.Bool.{OnTrue};
 ghost use Rattle.std.specs.Prelude.{◌≡◌, [], IfSome, Ok, true};
 ghost use Rattle.order_grammar.specs.declared.order.Order.TheVariants.{Company as CompanyOrder, Turn as TurnOrder};

@@ -1,3 +1,4 @@
+//! Orders that no part of a sheet has a place for, and the fault of a line where no order has one.
 ghost use Rattle.std.specs.Prelude.{◌≡◌, Err};
 ghost use Rattle.sheets.specs.Part.{line_unread};
 ghost use Rattle.sheets.specs.Place.{has_no_place, is_of_file, placed};

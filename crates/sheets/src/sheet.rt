@@ -1,3 +1,5 @@
+//! A sheet and its lines, numbered. A line may be kept as it is written, and is read by the version
+//! of its file.
 ghost use Rattle.std.specs.Prelude.{◌≡◌, ◌≤◌, [], length, IfOk, MatchResult, Ok, Err};
 ghost use Rattle.order_grammar.specs.Version.{ordered_of};
 ghost use Rattle.order_grammar.specs.Words.{AreWordsOf};

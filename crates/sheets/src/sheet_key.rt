@@ -1,3 +1,5 @@
+//! The key by which the sheets of a file are kept.
+
 use tables::{Round, Seat};
 
 /// Whose sheet for which round.

@@ -1,3 +1,4 @@
+//! The lines of a text, taken one at a time, and which of them are blank.
 ghost use Rattle.std.specs.Prelude.{◌≡◌, ◌<◌, ℕ, List, [], ◌∷◌, ◌≢◌, EachIndex, IfSome, MatchOption, length};
 ghost use Rattle.std.specs.Prelude.{slice_index};
 ghost use Rattle.sheets.specs.Text.{BeginsWith, IsFirstLine, IsNewline, is_blank, lines_from, lines_of, rest_of};

@@ -1,3 +1,4 @@
+//! The end of a stock round: the companies that are sold out move up on the chart.
 ghost use Rattle.std.specs.Prelude.{◌≡◌, OnOk};
 ghost use Rattle.history.specs.Sound.{IsSound};
 ghost use Rattle.stock_round.specs.Closing.{all_risen, closed, is_sold_out, risen};

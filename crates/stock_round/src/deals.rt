@@ -1,3 +1,4 @@
+//! What a seat has bought and sold in its turn; a seat that has done neither passes.
 ghost use Rattle.std.specs.Prelude.{◌≡◌};
 ghost use Rattle.stock_round.specs.Deals.{has_acted, with_purchase, with_sale};
 

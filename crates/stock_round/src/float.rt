@@ -1,3 +1,5 @@
+//! How a company floats: when few enough of its shares are left in the initial offering, the bank
+//! pays it its capital.
 ghost use Rattle.std.specs.Prelude.{◌≡◌, OnOk, true, unwrap_or};
 ghost use Rattle.totals.specs.Shares.{par_of};
 ghost use Rattle.history.specs.Sound.{IsSound};

@@ -1,3 +1,4 @@
+//! A stock round as a round of turns, and the call that plays it.
 ghost use Rattle.std.specs.Prelude.{◌≡◌, IfOk, length, refl};
 ghost use Rattle.history.specs.Sound.{IsSound};
 ghost use Rattle.sheets.specs.File.{players_of};

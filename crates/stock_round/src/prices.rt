@@ -1,3 +1,4 @@
+//! What a share of a started company costs, and the company's par value.
 ghost use Rattle.std.specs.Prelude.{◌≡◌, ◌≤◌, unwrap_or};
 ghost use Rattle.certs.specs.Purchase.{share_price_of};
 ghost use Rattle.totals.specs.Shares.{par_of};

@@ -1,3 +1,5 @@
+//! The standing lines of a sheet for a stock round. Each has a fault, since no order has a place
+//! among them.
 ghost use Rattle.std.specs.Prelude.{◌≡◌, OnOk};
 ghost use Rattle.history.specs.Sound.{IsSound};
 ghost use Rattle.sheets.specs.Part.{line_unread};

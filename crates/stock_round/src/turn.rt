@@ -1,3 +1,5 @@
+//! The lines of a written turn of a stock round: which orders have a place in it, by which rules
+//! they are judged, and what they do.
 ghost use Rattle.std.specs.Prelude.{◌≡◌, ◌≤◌, ◌<◌, OnOk, IfOk};
 ghost use Rattle.history.specs.Sound.{IsSound};
 ghost use Rattle.sheets.specs.Part.{line_unread};

@@ -1,3 +1,5 @@
+//! The chart of the stock market: the price and the zone of each square, and the squares of the par
+//! values.
 ghost use Rattle.std.specs.Prelude.{◌≡◌, IfSome, true};
 ghost use Rattle.tables.specs.Chart.{entry_at, entry_in, is_on_chart, par_square_of, price_of, row_at, square_at};
 ghost use Rattle.tables.specs.Chart.{zone_of};

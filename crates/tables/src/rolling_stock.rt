@@ -1,3 +1,5 @@
+//! The kinds of trains: their prices, how many there are, how far they run and when they rust. A
+//! kind is also a phase, with its limit of trains and its number of operating rounds.
 ghost use Rattle.std.specs.Prelude.{◌≡◌, ◌<◌, codes};
 ghost use Rattle.tables.specs.Train.{code_of_kind, limit_of, index_of_kind, rounds_in_set_of, rusting_of, stops_of};
 ghost use Rattle.tables.specs.Train.{same_kind, trains_of};

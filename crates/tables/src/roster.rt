@@ -1,3 +1,5 @@
+//! The eight companies and the six privates, with their codes, shares, tokens, face values and
+//! revenues.
 ghost use Rattle.std.specs.Prelude.{◌≡◌, ◌<◌, codes};
 ghost use Rattle.tables.specs.Roster.{code_of_company, code_of_private, face_of, index_of_company};
 ghost use Rattle.tables.specs.Roster.{index_of_private, letter_of_company};

@@ -1,3 +1,4 @@
+//! The rounds of a game and the order in which they come.
 ghost use Rattle.std.specs.Prelude.{◌≡◌, ◌<◌, ◌^◌};
 ghost use Rattle.tables.specs.Round.{is_before, rank_of, stock_rank};
 

@@ -1,3 +1,5 @@
+//! Tables of rules: the first rule of an order that is broken, and the code and the sentence of
+//! each rule.
 ghost use Rattle.std.specs.Prelude.{◌≡◌, ℕ, All, List, MatchOption};
 ghost use Rattle.tables.specs.RuleTexts.{HasCode, HasNotCode, ListsEachRule};
 

@@ -1,3 +1,5 @@
+//! Seats and money: who sits at whose left, what the players and the bank begin with, and how many
+//! certificates a player may hold.
 ghost use Rattle.std.specs.Prelude.{◌≡◌, ◌<◌, ◌≤◌, pos};
 ghost use Rattle.std.specs.Int.RustNames.{unsigned_abs};
 ghost use Rattle.tables.specs.Roster.{bank_start_of, certificate_limit_of, start_money_of};

@@ -1,3 +1,5 @@
+//! Squares and zones of the stock market.
+
 /// A square of the stock market, by its row from 0 (the printed A) downwards and its column from 1.
 #[derive(Clone, Copy, Debug, PartialEq, Eq)]
 pub struct Square {

@@ -1,3 +1,5 @@
+//! The calls that the program can make, with their names, and what it writes before and after one.
+
 use crate::fault::OutcomeFault;
 use std::rt::Runtime;
 

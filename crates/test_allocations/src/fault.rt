@@ -1,3 +1,5 @@
+//! Why the program prints no outcome of a call, and the status with which it then ends.
+
 use std::alloc::AllocError;
 use std::io;
 use thiserror::Error;

@@ -1,3 +1,5 @@
+//! The outcomes of a call, and how they are printed.
+
 /// What became of a call.
 #[derive(Clone, Copy, Debug, PartialEq, Eq)]
 pub enum Outcome {

@@ -1,3 +1,6 @@
+//! Tests of whole runs over readers and writers: how much is read, when something is written, and
+//! what a failed read or write stops.
+
 use crate::devices::{any_write_may_fail, reads_that_may_fail, writes};
 use crate::support::{AfterEnd, Call, Endless, FIRST, FIRST_REPORT, Sink, Source, outcome_by};
 use sheets::FileFault;

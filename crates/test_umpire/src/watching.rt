@@ -1,3 +1,5 @@
+//! Tests of watched readers and writers: they pass each call on and remember a failure.
+
 use crate::support::{FIRST, Sink, Source};
 use std::io;
 use std::io::{Read, Write};

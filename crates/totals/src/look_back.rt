@@ -1,3 +1,5 @@
+//! A view of a game as it stood after some of its events. Here are its readers of cash, of the
+//! owners of privates, of the round, and of who has priority.
 ghost use Rattle.std.specs.Prelude.{◌≡◌, MatchOption, None, Some, [], length};
 ghost use Rattle.std.specs.Borrow.{Bor};
 ghost use Rattle.std.specs.Option.{ForSome};

@@ -1,3 +1,4 @@
+//! The owners of the privates, kept up to date an event at a time.
 ghost use Rattle.std.specs.Prelude.{◌≡◌};
 ghost use Rattle.std.specs.Option.{option_or};
 ghost use Rattle.events.specs.Event.{ownership_of};

@@ -1,3 +1,4 @@
+//! The accounts of the bank, the players and the companies, and payments between them.
 ghost use Rattle.std.specs.Prelude.{◌≡◌, ◌↔◌, ◌+ℤ◌, FitsSigned, IsErr, OnErr, OnOk, true};
 ghost use Rattle.std.specs.Int.{w128};
 ghost use Rattle.events.specs.declared.event.Holder.TheVariants as holder;

@@ -1,3 +1,5 @@
+//! A whole round of turns, from its ROUND event through the turns of the seats to the count of
+//! lines that were not taken up.
 ghost use Rattle.std.specs.Prelude.{◌≡◌, ◌<◌, ◌≤◌, ◌++◌, [], All, IfOk, OnOk, length, map};
 ghost use Rattle.std.specs.List.{range_with_len};
 ghost use Rattle.events.specs.declared.event.Event.TheVariants as event;

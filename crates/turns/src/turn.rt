@@ -1,3 +1,4 @@
+//! The turn of a seat, in which the lines of its next written turn are ruled.
 ghost use Rattle.std.specs.Prelude.{◌≡◌, ◌≤◌, ◌<◌, OnOk, IfOk, drop};
 ghost use Rattle.sheets.specs.Part.{written_turns_of};
 ghost use Rattle.tables.specs.Turns.{next_written_turn};

@@ -1,3 +1,4 @@
+//! Gathers short texts, so that they are written in long pieces.
 ghost use Rattle.std.specs.Io.KnownBytes.{Appends};
 ghost use Rattle.std.specs.Prelude.{◌≡◌, ◌++◌, [], false, IfErr, OnErr, OnOk};
 ghost use Rattle.umpire.specs.Failure.{AppendsPrefix};

@@ -1,3 +1,4 @@
+//! The faults that stop the umpire, with the exit status and the word for standard error.
 ghost use Rattle.std.specs.Prelude.{◌≡◌};
 ghost use Rattle.umpire.specs.Fault.{status_of, word_of};
 ghost use Rattle.umpire.specs.declared.fault.Fault.TheVariants.{Memory};

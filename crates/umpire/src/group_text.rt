@@ -1,3 +1,4 @@
+//! Writes the text of certificates: its first line, and the CERT, CLAIM and MARKS lines of a group.
 ghost use Rattle.std.specs.Prelude.{◌≡◌, ◌++◌, OnOk, drop};
 ghost use Rattle.std.specs.List.{flat_map};
 ghost use Rattle.umpire.specs.Written.{claim_line, claim_text, marks_line, order_line};

@@ -1,3 +1,4 @@
+//! Reads the groups of a text of certificates one at a time, each from its CERT line to the next.
 ghost use Rattle.std.specs.Prelude.{◌≡◌, [], ◌∷◌, IfOk, MatchOption, OnOk};
 ghost use Rattle.umpire.specs.Groups.{begins_group, group_begun, group_behind, group_if, groups_of, second_of_words};
 ghost use Rattle.umpire.specs.Groups.{with_line, with_marks, with_run};

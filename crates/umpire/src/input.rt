@@ -1,3 +1,5 @@
+//! Reads the input piece by piece, up to a limit: an order file is read no further than the first
+//! byte past its greatest size.
 ghost use Rattle.std.specs.Io.KnownBytes.{Consumes};
 ghost use Rattle.std.specs.Prelude.{◌≡◌, false, IfOk, IfErr, OnOk, IfSome};
 ghost use Rattle.umpire.specs.Failure.{TakesAtMost, TakesWithin};

@@ -1,3 +1,5 @@
+//! Splits the input of a check of certificates into the order file and the text of the certificates
+//! after it.
 ghost use Rattle.std.specs.Prelude.{◌≡◌, true, None, Some, MatchOption};
 ghost use Rattle.umpire.specs.InputSplit.{certificates_of, from_divider, is_divider, order_file_of, without_newline};
 

@@ -1,3 +1,5 @@
+//! Migrates an order file to version 2: it gets the header of that version. A line that would
+//! become a condition gets an X before it, so that it still has a fault.
 ghost use Rattle.order_grammar.specs.Words.{before_comment, is_printable};
 ghost use Rattle.std.specs.Io.KnownBytes.{Appends};
 ghost use Rattle.std.specs.List.{list_all};

@@ -1,3 +1,4 @@
+//! The umpire's program: it reads an order file, plays its game and writes the report as it goes.
 ghost use Rattle.report.specs.Report.{header};
 ghost use Rattle.rounds.specs.Steps.{ComesNearer, IsUnbroken, StepLeads, started};
 ghost use Rattle.sheets.specs.File.{IsAccepted};

@@ -1,3 +1,4 @@
+//! Refuses an order file: writes the one line that says why.
 ghost use Rattle.report.specs.Report.{refusal_line};
 ghost use Rattle.std.specs.Io.KnownBytes.{Appends};
 ghost use Rattle.std.specs.Prelude.{◌≡◌, false, IfErr, OnErr, OnOk};

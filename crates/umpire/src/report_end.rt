@@ -1,3 +1,4 @@
+//! Writes the end of a report: the unread lines, a part of them at a time, and why play stopped.
 ghost use Rattle.report.specs.Parts.{end_text_of};
 ghost use Rattle.report.specs.Report.{unread_lines};
 ghost use Rattle.rounds.specs.Steps.{HasEnded};
