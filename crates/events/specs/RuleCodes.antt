@@ -115,7 +115,7 @@ text_of_train_rule train_rule.NoTradeIn =
 text_of_train_rule train_rule.NoDiscard =
     rule_text (codes "T7")
     (codes "DISCARD of a company over which you did not preside as the round began, or of a train that "
-    ++ codes "it had not")
+    ++ codes "it did not have")
 
 -- the code of a rule of trains
 abbrev pub code_of_train_rule : TrainRule → List ℕ
