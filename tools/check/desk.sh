@@ -241,6 +241,7 @@ check_desk() {
   try_moves "$desk" 3 2000 $(moves_games)
   # shellcheck disable=SC2046
   try_told "$desk" 2 -a $(told_games)
+  try_told "$desk" 0 games/a-slip-of-each-code.orders
   side_by_side read_facts_of games/*.orders games/codes/*.orders
   side_by_side play_rounds games/*.orders
   side_by_side play_runs games/*.orders games/certificates/certs-*.orders
