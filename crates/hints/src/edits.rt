@@ -1,4 +1,6 @@
 //! Lines that are one edit away from a line, each as a whole, in upper case.
+ghost use Rattle.std.specs.Prelude.{◌≡◌, OnOk};
+ghost use Rattle.hints.specs.Words.{with_word};
 
 use crate::slips::{is_code, is_near, nearest};
 use crate::vocabulary::{CODES, FIRSTS};
@@ -246,7 +248,9 @@ impl Edited {
 
 /// Adds a word to a line, in upper case, after a space unless it is the first; nothing if it is
 /// empty.
-pub(crate) fn push_word(line: &mut Vec<u8>, word: &[u8]) -> Result<(), AllocError> {
+pub(crate) fn push_word(line: &mut Vec<u8>, word: &[u8]) -> Result<(), AllocError>
+    ensures { OnOk result (line.new.items ≡ with_word line.old.items word.now) }
+{
     if word.is_empty() {
         return Ok(());
     }

@@ -1,4 +1,7 @@
 //! What to write in place of a line with a fault, if that is known.
+ghost use Rattle.std.specs.Prelude.{◌≡◌, IfOk, IfSome, true};
+ghost use Rattle.hints.specs.Choice.{is_order};
+ghost use Rattle.hints.specs.Meant.{IsMeant};
 
 use crate::choice::only_order;
 use crate::completed::{Completed, begins_with_place, is_condition_alone};
@@ -56,7 +59,10 @@ pub fn push_hint(out: &mut Vec<u8>, faulty: Faulty) -> Result<(), AllocError> {
 
 /// Returns the whole line that was meant by a line with a fault, in upper case; `None` if that is
 /// not known. Fails only if allocation fails.
-pub fn line_meant(alloc: Global, faulty: Faulty) -> Result<Option<Vec<u8>>, AllocError> {
+pub fn line_meant(alloc: Global, faulty: Faulty) -> Result<Option<Vec<u8>>, AllocError>
+    ensures { IfOk result (λ meant. IfSome meant (λ line.
+        is_order faulty.entry.version line.items ≡ true)) }
+{
     match meant_by(alloc, faulty)? {
         Meant::Line(line) => Ok(Some(line)),
         Meant::Completed(_) | Meant::Unknown => Ok(None),
@@ -118,7 +124,9 @@ fn push_meant(out: &mut Vec<u8>, faulty: Faulty) -> Result<(), AllocError> {
 }
 
 /// Returns what was meant by a line with a fault.
-fn meant_by(alloc: Global, faulty: Faulty) -> Result<Meant, AllocError> {
+fn meant_by(alloc: Global, faulty: Faulty) -> Result<Meant, AllocError>
+    ensures { IfOk result (IsMeant faulty.entry.version) }
+{
     let clean = without_strays(alloc, faulty.line)?;
     let (words, count) = words_of(clean.as_slice());
     let Some(words) = words.get(..count) else {
@@ -143,7 +151,9 @@ fn meant_by(alloc: Global, faulty: Faulty) -> Result<Meant, AllocError> {
 /// Returns what was meant by words that spell no order: with one of them respelled, completed, with
 /// words parted otherwise, with one at another place, or without one. The first of these of which
 /// there is an order decides.
-fn meant_by_words(alloc: Global, faulty: Faulty, words: &[&[u8]]) -> Result<Meant, AllocError> {
+fn meant_by_words(alloc: Global, faulty: Faulty, words: &[&[u8]]) -> Result<Meant, AllocError>
+    ensures { IfOk result (IsMeant faulty.entry.version) }
+{
     let mut respelled = Edited::none(alloc);
     respelled.push_respelled(words)?;
     respelled.push_named(words, faulty.players)?;
@@ -170,7 +180,10 @@ fn meant_by_words(alloc: Global, faulty: Faulty, words: &[&[u8]]) -> Result<Mean
 }
 
 /// Returns the only one of some lines that is an order; `Unknown` if none is, or several are.
-fn only_of(version: Version, edited: &Edited) -> Result<Meant, AllocError> {
+#[tactic(auto, using(crate::proofs::ChoiceLemmas::only_one_is_order))]
+fn only_of(version: Version, edited: &Edited) -> Result<Meant, AllocError>
+    ensures { IfOk result (IsMeant version) }
+{
     let lines = edited.texts()?;
     match only_order(version, lines.as_slice()) {
         Some(line) => Ok(Meant::Line(Vec::from_slice(edited.alloc, line)?)),

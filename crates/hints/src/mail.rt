@@ -1,4 +1,6 @@
 //! What mail and editors put into a line.
+ghost use Rattle.std.specs.Prelude.{◌≡◌, IfOk, map};
+ghost use Rattle.hints.specs.Mail.{clean};
 
 use order_grammar::is_printable;
 use std::alloc::{AllocError, Global};
@@ -55,10 +57,19 @@ pub(crate) fn has_quoted_sign(line: &[u8]) -> bool {
 }
 
 /// Returns a line with a space in place of each stray byte. Fails only if allocation fails.
-pub(crate) fn without_strays(alloc: Global, line: &[u8]) -> Result<Vec<u8>, AllocError> {
-    let mut clean = Vec::new(alloc);
+pub(crate) fn without_strays(alloc: Global, line: &[u8]) -> Result<Vec<u8>, AllocError>
+    ensures { IfOk result (λ clean_line. clean_line.items ≡ map clean line.now) }
+{
+    let mut cleaned = Vec::new(alloc);
     for byte in line {
-        clean.push(if is_printable(*byte) { *byte } else { b' ' })?;
+        cleaned.push(clean(*byte))?;
     }
-    Ok(clean)
+    Ok(cleaned)
+}
+
+/// Returns a byte, or a space in place of a stray one.
+fn clean(byte: u8) -> u8
+    ensures { result ≡ clean byte }
+{
+    if is_printable(byte) { byte } else { b' ' }
 }
