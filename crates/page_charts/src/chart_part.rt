@@ -1,8 +1,8 @@
 //! The stock chart.
 ghost use Rattle.std.specs.Prelude.{pos, negsuc, ◌≤ℤ◌};
 
-use picture::PagePiece::{At, Letter, Number, Point as To, Words};
-use picture::{Attr, Point, Tag, Writer};
+use markup::PagePiece::{At, Letter, Number, Point as To, Words};
+use markup::{Attr, Point, Tag, Writer};
 use tables::{
     CHART_COLUMNS_END, CHART_ROWS, Company, Money, PerCompany, Square, Zone, par_square, price,
     square, zone,

@@ -1,9 +1,9 @@
 //! What each player was worth and what each share cost, round by round: two charts of lines, and a
 //! table.
-ghost use Rattle.std.specs.Prelude.{IfSome, ◌≤◌, ◌<◌};
+ghost use Rattle.std.specs.Prelude.{IfSome, ◌≡◌, ◌≤◌, ◌<◌, ◌≤ℤ◌, pos};
 
-use picture::PagePiece::{Count, Name, Number, Round as Named, Words};
-use picture::{
+use markup::PagePiece::{Count, Name, Number, Round as Named, Words};
+use markup::{
     Attr, NOTHING, Point, Tag, Writer, begin_head, begin_row, begin_section, begin_table, end_head,
     put_caption, put_heading, put_row_head,
 };
@@ -202,7 +202,10 @@ fn value_of(entry: &Entry, series: Series) -> Option<usize>
 
 /// Returns a sum of dollars, or the nearest one that a chart shows.
 fn within(sum: Money) -> usize
-    ensures { result ≤ 1000000 }
+    ensures most { result ≤ 1000000 }
+    ensures same { pos 0 ≤ℤ sum → sum ≤ℤ pos 1000000 → pos result ≡ sum }
+    ensures low { sum ≤ℤ pos 0 → result ≡ 0 }
+    ensures high { pos 1000000 ≤ℤ sum → result ≡ 1000000 }
 {
     if sum < 0 {
         0

@@ -1,2 +1,3 @@
+pub mod ClosedWords
 pub mod News
 pub mod TokensShown

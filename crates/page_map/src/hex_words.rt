@@ -1,15 +1,21 @@
 //! A hex in words.
+ghost use Rattle.std.specs.Prelude.{◌≡◌, ◌++◌, ◌&&◌, is_some};
+ghost use Rattle.markup.specs.Written.{closing_of};
+ghost use Rattle.markup.specs.declared.writer.WriterPlace.TheVariants.{Between};
+ghost use Rattle.page_map.specs.ClosedWords.{has_closed_side, side_named, side_word, with_closed_sides};
+ghost use Rattle.page_map.specs.News.{in_last_round, is_lay_on};
 
 use crate::news::laid_in_last_round;
 use crate::scene::Scene;
 use crate::tokens::{is_kept, private_in, tokens_at};
 use history::Holder;
 use map_tables::{
-    Hex, HexKind, Link, Stop, StopNumber, TileKind, TrackEnd, hex_kind, printed_value,
+    Hex, HexKind, Link, Side, Stop, StopNumber, TileKind, TrackEnd, hex_kind, printed_value,
     terrain_cost, tile,
 };
-use picture::PagePiece::{Count, Hex as Named, Number, Place, Words};
-use picture::{Attr, Look, Shade, Stops, Tag, Writer, begin_section, city_name, closed_sides};
+use markup::PagePiece::{Count, Hex as Named, Number, Place, Words};
+use markup::{Attr, Tag, Writer, begin_section};
+use picture::{Look, Shade, Stops, city_name, is_closed_side};
 use tables::{Company, Money, Private};
 
 /// Adds what shows in a hex, in words.
@@ -35,18 +41,66 @@ pub fn put_words(out: &mut Writer, scene: &Scene, look: &Look) {
 }
 
 /// Returns whether the tile that shows in a hex was laid in the last round.
-pub(crate) fn is_new(scene: &Scene, look: &Look) -> bool {
+pub(crate) fn is_new(scene: &Scene, look: &Look) -> bool
+    ensures { result ≡ (is_some look.now.lay
+        && in_last_round (is_lay_on look.now.hex) scene.now.history.now.events) }
+{
     look.lay.is_some() && laid_in_last_round(scene.history.events(), look.hex)
 }
 
-/// Adds the sides of a hex whose borders are closed.
-fn put_closed(out: &mut Writer, hex: Hex) {
-    let mut before = "; closed border at side ";
-    for (side, is_closed) in closed_sides(hex).iter().enumerate() {
-        if *is_closed {
-            out.put(&[Words(before), Count(side)]);
-            before = " ";
-        }
+/// Adds the sides of a hex whose borders are closed, if there are some.
+fn put_closed(out: &mut Writer, hex: Hex)
+    ensures { out.new.fault ≡ None → out.new.text.items
+        ≡ with_closed_sides (out.old.text.items ++ closing_of out.old.spot) hex }
+{
+    out.within();
+    if has_closed_side(hex) {
+        out.words("; closed border at side");
+        put_closed_side(out, hex, Side::SouthWest);
+        put_closed_side(out, hex, Side::West);
+        put_closed_side(out, hex, Side::NorthWest);
+        put_closed_side(out, hex, Side::NorthEast);
+        put_closed_side(out, hex, Side::East);
+        put_closed_side(out, hex, Side::SouthEast);
+    }
+}
+
+/// Returns whether some border of a hex to another hex is closed.
+fn has_closed_side(hex: Hex) -> bool
+    ensures { result ≡ has_closed_side hex }
+{
+    is_closed_side(hex, Side::SouthWest)
+        || is_closed_side(hex, Side::West)
+        || is_closed_side(hex, Side::NorthWest)
+        || is_closed_side(hex, Side::NorthEast)
+        || is_closed_side(hex, Side::East)
+        || is_closed_side(hex, Side::SouthEast)
+}
+
+/// Adds the number of a side behind a space, if its border is closed.
+fn put_closed_side(out: &mut Writer, hex: Hex, side: Side)
+    requires { out.old.spot ≡ Between }
+    ensures spot { out.new.spot ≡ Between }
+    ensures before { out.new.fault ≡ None → out.old.fault ≡ None }
+    ensures added { out.new.fault ≡ None →
+        out.new.text.items ≡ out.old.text.items ++ side_named hex side }
+{
+    if is_closed_side(hex, side) {
+        out.words(side_word(side));
+    }
+}
+
+/// Returns the number of a side behind a space.
+fn side_word(side: Side) -> &'static str
+    ensures { result.now ≡ side_word side }
+{
+    match side {
+        Side::SouthWest => " 0",
+        Side::West => " 1",
+        Side::NorthWest => " 2",
+        Side::NorthEast => " 3",
+        Side::East => " 4",
+        Side::SouthEast => " 5",
     }
 }
 
@@ -208,7 +262,7 @@ fn put_private(out: &mut Writer, scene: &Scene, private: Private) {
             Words("; barred by "),
             Words(private.code()),
             Words(" of "),
-            picture::PagePiece::Name(scene.name(seat)),
+            markup::PagePiece::Name(scene.name(seat)),
         ]),
         Some(Holder::Company(_)) => {}
         None if !view.is_sold(private) => {

@@ -1,8 +1,8 @@
 //! The legend of the map: the sides, the signs and the companies.
 
 use map_tables::PerSide;
-use picture::PagePiece::{Count, Words};
-use picture::{Attr, Point, Tag, Writer};
+use markup::PagePiece::{Count, Words};
+use markup::{Attr, Point, Tag, Writer};
 use tables::Company;
 
 /// The numbers of the sides in the legend: a tick and where the number stands.

@@ -8,10 +8,11 @@ use crate::signs::put_signs;
 use crate::tokens::{markers_in, private_in};
 use history::Holder;
 use map_tables::{Hex, Lay, printed_value, terrain_cost};
-use picture::PagePiece::{Count, Hex as Hexed, Number, Round as Named, Words};
+use markup::PagePiece::{Count, Hex as Hexed, Number, Round as Named, Words};
+use markup::{Attr, Point, Tag, Writer};
 use picture::{
-    Attr, Look, Point, Shade, Stops, Tag, Writer, centre, cost_point, draw_stops, draw_track,
-    kind_point, private_point, value_point,
+    Look, Shade, Stops, centre, cost_point, draw_stops, draw_track, kind_point, private_point,
+    value_point,
 };
 use tables::{Kind, Money, Private, Round};
 
@@ -245,7 +246,7 @@ fn put_private(
     let corner = place.minus(Point { x: half, y: 8 });
     out.path(
         around,
-        &[Words("M"), picture::PagePiece::Point(corner), Words(rest)],
+        &[Words("M"), markup::PagePiece::Point(corner), Words(rest)],
     );
     out.label(within, place.down(4), &[Words(private.code())]);
 }

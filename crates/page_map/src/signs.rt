@@ -1,7 +1,7 @@
 //! The signs that pictures of a page refer to.
 
-use picture::PagePiece::{At, Words};
-use picture::{Attr, PagePiece, Tag, Writer, livery_of};
+use markup::PagePiece::{At, Words};
+use markup::{Attr, PagePiece, Tag, Writer, livery_of};
 use tables::Company;
 
 /// The rim of a hex, open where its name and its tile stand.

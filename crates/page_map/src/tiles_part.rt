@@ -3,11 +3,9 @@ use crate::map_part::{put_rim, put_shade, put_value};
 use desk_base::{tile_on, tiles_left};
 use history::History;
 use map_tables::{Colour, Hex, Lay, Rotation, Side, TileNo, TrackEnd, tile};
-use picture::PagePiece::{Count, Hex as Named, Number, Words};
-use picture::{
-    Attr, Look, Marker, Ring, Tag, Writer, begin_section, city_name, draw_stops, draw_track,
-    on_ring,
-};
+use markup::PagePiece::{Count, Hex as Named, Number, Words};
+use markup::{Attr, Tag, Writer, begin_section};
+use picture::{Look, Marker, Ring, city_name, draw_stops, draw_track, on_ring};
 use tables::Money;
 
 /// The colours of tiles in the order in which phases bring them.

@@ -1,6 +1,6 @@
 //! What lies in the slots of cities, and the privates of hexes.
 ghost use Rattle.std.specs.Prelude.{◌≡◌, ◌<◌, ◌≤◌, ◌+◌, ◌++◌, length};
-ghost use Rattle.page_map.specs.TokensShown.{token_there, tokens_there};
+ghost use Rattle.page_map.specs.TokensShown.{marker_of, token_there, tokens_there};
 
 use crate::news::placed_in_last_round;
 use arrayvec::ArrayVec;
@@ -45,11 +45,7 @@ fn markers_at(history: &History, stop: Stop, slots: u8) -> [Marker; 2] {
     let mut markers = [Marker::Free, Marker::Free];
     let tokens = tokens_at(history, stop);
     for (marker, company) in markers.iter_mut().zip(tokens.as_slice()) {
-        *marker = if placed_in_last_round(history.events(), stop, *company) {
-            Marker::NewToken(*company)
-        } else {
-            Marker::Token(*company)
-        };
+        *marker = marker_of(history, stop, *company);
     }
     let last = if slots > 1 { 1 } else { 0 };
     for &company in &Company::ALL {
@@ -58,6 +54,17 @@ fn markers_at(history: &History, stop: Stop, slots: u8) -> [Marker; 2] {
         }
     }
     markers
+}
+
+/// Returns the token of a company at a stop, as one that was placed in the last round if it was.
+fn marker_of(history: &History, stop: Stop, company: Company) -> Marker
+    ensures { result ≡ marker_of history.now.events stop company }
+{
+    if placed_in_last_round(history.events(), stop, company) {
+        Marker::NewToken(company)
+    } else {
+        Marker::Token(company)
+    }
 }
 
 /// Returns the companies that have a token at a stop, in the order of the roster.

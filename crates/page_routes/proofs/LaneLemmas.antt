@@ -6,7 +6,7 @@ use Rattle.std.proofs.lemmas.List.Sums.{count_by_more_yes, sum_by-take-le}
 use Rattle.std.proofs.lemmas.Option.{get_or_from_slice_get, slice_get_within}
 use Rattle.map_tables.specs.declared.side.Side.{Side}
 use Rattle.picture.specs.Lanes.{lane_shift}
-use Rattle.picture.specs.declared.point.Point.{Point}
+use Rattle.markup.specs.declared.point.Point.{Point}
 use Rattle.page_routes.specs.Lanes.{RunsHaveTheirLanes, counted_from, crosses, is_among, lane_of, lanes_before, lanes_of, shift_of}
 use Rattle.page_routes.specs.declared.lanes.Border.{Border}
 use Rattle.page_routes.specs.declared.routes.Route.{Route}

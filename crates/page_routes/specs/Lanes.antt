@@ -10,7 +10,7 @@ use Rattle.map_tables.specs.declared.hex.Hex.{Hex}
 use Rattle.map_tables.specs.declared.side.Side.{Side}
 use Rattle.map_tables.specs.declared.side.Side.TheVariants.{SouthWest, West, NorthWest, NorthEast, East, SouthEast}
 use Rattle.picture.specs.Lanes.{lane_shift}
-use Rattle.picture.specs.declared.point.Point.{Point}
+use Rattle.markup.specs.declared.point.Point.{Point}
 use Rattle.page_routes.specs.declared.lanes.Border.{Border}
 use Rattle.page_routes.specs.declared.routes.Route.{Route}
 use Rattle.page_routes.specs.declared.routes.Visit.{Visit}

@@ -4,7 +4,8 @@
 use board_state::same_hex;
 use history::History;
 use map_tables::{Hex, StopNumber, private_hexes, terrain_cost};
-use picture::{Look, Point, Stops, centre, cost_point, kind_point, private_point, value_point};
+use markup::Point;
+use picture::{Look, Stops, centre, cost_point, kind_point, private_point, value_point};
 use std::alloc::{AllocError, Global};
 use tables::Private;
 

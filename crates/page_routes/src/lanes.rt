@@ -5,7 +5,8 @@ ghost use Rattle.page_routes.specs.Lanes.{border_at, crosses, crosses_at, is_amo
 use crate::routes::{Route, Visit};
 use board_state::same_hex;
 use map_tables::{Hex, Side, neighbour};
-use picture::{Point, border_point, centre, lane_shift};
+use markup::Point;
+use picture::{border_point, centre, lane_shift};
 use std::alloc::{AllocError, Global};
 
 /// A border between two hexes, by a side of one of them.

@@ -6,10 +6,9 @@ use crate::lanes::{Border, shift_at};
 use crate::routes::{Route, Routes, Visit, stop_point};
 use history::History;
 use map_tables::Side;
-use picture::PagePiece::{Number, Place, Point as To, Words};
-use picture::{
-    Attr, Bend, Look, Point, Tag, Way, Writer, bend_between, border_point, centre, put_way, towards,
-};
+use markup::PagePiece::{Number, Place, Point as To, Words};
+use markup::{Attr, Point, Tag, Writer};
+use picture::{Bend, Look, Way, bend_between, border_point, centre, put_way, towards};
 use tables::Money;
 
 /// A run as it is drawn, among those that share its borders.

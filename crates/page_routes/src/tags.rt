@@ -7,8 +7,8 @@ use crate::lanes::{Crossing, crossings_of};
 use crate::routes::{Route, Routes, stop_point};
 use history::History;
 use map_tables::Place;
-use picture::PagePiece::{At, Number, Point as To, Words};
-use picture::{Point, Writer};
+use markup::PagePiece::{At, Number, Point as To, Words};
+use markup::{Point, Writer};
 use std::alloc::{AllocError, Global};
 use tables::{Amount, Money};
 

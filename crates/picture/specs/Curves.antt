@@ -4,7 +4,7 @@ use Rattle.map_tables.specs.declared.track.TrackEnd.TheVariants.{Side, Stop}
 use Rattle.map_tables.specs.declared.place.StopNumber.TheVariants.{First, Second}
 use Rattle.map_tables.specs.declared.track.Link.{Link}
 use Rattle.picture.specs.declared.curve.Curve.{Curve}
-use Rattle.picture.specs.declared.point.Point.{Point}
+use Rattle.markup.specs.declared.point.Point.{Point}
 use Rattle.picture.specs.Points.{border_point}
 
 -- the point of an end, where stop 0 and stop 1 of the hex have these places

@@ -3,7 +3,7 @@
 use Rattle.std.specs.Prelude.{ℕ, ◌+◌, ◌*◌, ℤ, pos, negsuc, ◌-ℤ◌, ◌*ℤ◌, int_div, leb, Bool, if◌then◌else◌}
 use Rattle.map_tables.specs.declared.side.Side.{Side}
 use Rattle.map_tables.specs.declared.side.Side.TheVariants.{SouthWest, West, NorthWest, NorthEast, East, SouthEast}
-use Rattle.picture.specs.declared.point.Point.{Point}
+use Rattle.markup.specs.declared.point.Point.{Point}
 use Rattle.picture.specs.Points.{point_at}
 
 -- so many parts of ten, or of two, of a number of half steps, rounded towards 0

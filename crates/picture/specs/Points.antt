@@ -3,7 +3,7 @@
 use Rattle.std.specs.Prelude.{ℤ, pos, negsuc}
 use Rattle.map_tables.specs.declared.side.Side.{Side}
 use Rattle.map_tables.specs.declared.side.Side.TheVariants.{SouthWest, West, NorthWest, NorthEast, East, SouthEast}
-use Rattle.picture.specs.declared.point.Point.{Point}
+use Rattle.markup.specs.declared.point.Point.{Point}
 
 -- the point at these whole numbers
 abbrev pub point_at : ℤ → ℤ → Point

@@ -4,9 +4,10 @@ ghost use Rattle.picture.specs.Curves.{end_point, ends_of_curve, ends_of_link};
 
 use crate::bend::{Bend, bend_between, is_clockwise};
 use crate::look::Look;
-use crate::point::{Point, Ring, border_point, on_ring};
+use crate::point::{Ring, border_point, on_ring};
 use arrayvec::ArrayVec;
 use map_tables::{LINKS_MOST, Link, Side, StopNumber, TrackEnd};
+use markup::Point;
 
 /// How a curve goes from its first point to its last.
 #[derive(Clone, Copy, Default)]

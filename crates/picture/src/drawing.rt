@@ -2,12 +2,10 @@
 
 use crate::curve::{Curve, Way, track_of};
 use crate::look::{Look, Stops};
-use crate::piece::PagePiece::{At, Count, Point as To, Words};
-use crate::point::Point;
 use crate::strands::strands;
-use crate::tag::{Attr, Tag};
-use crate::writer::Writer;
 use map_tables::{ENDS, Link, StopNumber};
+use markup::PagePiece::{At, Count, Point as To, Words};
+use markup::{Attr, Point, Tag, Writer};
 use tables::Company;
 
 /// What lies in a slot of a city.

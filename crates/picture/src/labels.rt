@@ -1,8 +1,9 @@
 //! Where a hex has room for a label.
 
 use crate::look::Look;
-use crate::point::{Point, Ring, on_ring};
+use crate::point::{Ring, on_ring};
 use map_tables::{Hex, Side, TileNo};
+use markup::Point;
 use tables::Private;
 
 /// Returns the place of a label in the corner of this number; `None` if it is none.

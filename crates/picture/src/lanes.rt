@@ -2,8 +2,8 @@
 ghost use Rattle.std.specs.Prelude.{◌≡◌, ◌≤◌, ◌≤ℤ◌, pos, negsuc};
 ghost use Rattle.picture.specs.Lanes.{across, along_side, back, down, lane_shift, tenths, upright};
 
-use crate::point::Point;
 use map_tables::Side;
+use markup::Point;
 
 /// The most lanes that a border is divided into.
 pub const LANES_MOST: usize = 99;

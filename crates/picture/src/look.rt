@@ -1,16 +1,17 @@
 //! What shows in a hex: its links, its stops, and where each stop is.
 ghost use Rattle.std.specs.Prelude.{◌≡◌, ◌<◌};
 ghost use Rattle.map_tables.specs.Lay.{laid_links_of};
-ghost use Rattle.map_tables.specs.OnMap.{links_on};
+ghost use Rattle.map_tables.specs.OnMap.{links_on, tile_on};
 ghost use Rattle.map_tables.specs.Print.{printed_links_of};
 
 use crate::bend::{Bend, bend_between};
-use crate::point::{Point, Ring, on_ring};
+use crate::point::{Ring, on_ring};
 use board_state::tile_on;
 use map_tables::{
     Colour, Hex, HexKind, Lay, Link, Links, Side, StopNumber, TileKind, TileNo, TrackEnd, hex_kind,
     laid_links, printed_colour, printed_links, printed_slots, printed_stops, printed_value, tile,
 };
+use markup::Point;
 use tables::Amount;
 
 /// The ground of a hex: the colour of its tile or of its print.
@@ -60,7 +61,8 @@ impl Look {
     /// Returns what shows in a hex where these tiles lie: the tile that was laid there last, or the
     /// print.
     pub fn on(lays: &[Lay], hex: Hex) -> Look
-        ensures { result.links.items ≡ links_on lays.now hex }
+        ensures links { result.links.items ≡ links_on lays.now hex }
+        ensures lay { result.lay ≡ tile_on lays.now hex }
     {
         match tile_on(lays, hex) {
             Some(lay) => Look::laid(lay),
@@ -70,7 +72,8 @@ impl Look {
 
     /// Returns what a tile shows on its hex.
     pub fn laid(lay: Lay) -> Look
-        ensures { result.links.items ≡ laid_links_of lay }
+        ensures links { result.links.items ≡ laid_links_of lay }
+        ensures lay { result.lay ≡ Some lay }
     {
         let entry = tile(lay.tile);
         Look {
@@ -87,7 +90,8 @@ impl Look {
 
     /// Returns what is printed on a hex.
     pub fn printed(hex: Hex) -> Look
-        ensures { result.links.items ≡ printed_links_of hex }
+        ensures links { result.links.items ≡ printed_links_of hex }
+        ensures lay { result.lay ≡ None }
     {
         let slots = printed_slots(hex);
         let (shade, stops) = match hex_kind(hex) {

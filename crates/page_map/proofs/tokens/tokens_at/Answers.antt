@@ -1,5 +1,5 @@
 use Rattle.std.proofs.Common.{[], arith}
-use Rattle.picture.proofs.TextLemmas.{pieces_step}
+use Rattle.markup.proofs.TextLemmas.{pieces_step}
 use Rattle.page_map.specs.TokensShown.{token_there}
 use Rattle.tables.specs.Roster.{companies}
 use Rattle.page_map.proofs.tokens.tokens_at.Goals as goal

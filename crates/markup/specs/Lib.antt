@@ -1,0 +1,5 @@
+-- What is written of elements, and what a reader finds.
+pub mod Escaped
+pub mod Tags
+pub mod Reading
+pub mod Written

@@ -1,0 +1,158 @@
+//! The elements of a page, and what may stand in their start tags.
+ghost use Rattle.std.specs.Prelude.{◌≡◌};
+ghost use Rattle.markup.specs.Tags.{name_of_tag, opening_of};
+
+/// An element, by what its tag means.
+#[derive(Clone, Copy)]
+pub enum Tag {
+    Html,
+    Head,
+    Title,
+    Style,
+    Body,
+    Header,
+    H1,
+    H2,
+    H3,
+    Paragraph,
+    Nav,
+    Anchor,
+    Main,
+    Listing,
+    Item,
+    Small,
+    Bold,
+    Section,
+    Svg,
+    Desc,
+    Defs,
+    Path,
+    Circle,
+    Group,
+    Text,
+    TextSpan,
+    Use,
+    Polyline,
+    Table,
+    Caption,
+    TableHead,
+    TableBody,
+    Row,
+    Heading,
+    Cell,
+    Division,
+    Span,
+    Preformatted,
+}
+
+/// What stands in a start tag before a value.
+#[derive(Clone, Copy)]
+pub enum Attr {
+    Class,
+    Id,
+    Href,
+    X,
+    Y,
+    D,
+    R,
+    Fill,
+    Stroke,
+    StrokeWidth,
+    Dash,
+    Points,
+    Transform,
+    ViewBox,
+    Role,
+    Scope,
+    Hidden,
+    Width,
+    Height,
+    Xmlns,
+    TabIndex,
+    Label,
+}
+
+impl Tag {
+    /// Returns the name that stands in its tags.
+    pub(crate) fn name(self) -> &'static str
+        ensures { result.now ≡ name_of_tag self }
+    {
+        match self {
+            Tag::Html => "html",
+            Tag::Head => "head",
+            Tag::Title => "title",
+            Tag::Style => "style",
+            Tag::Body => "body",
+            Tag::Header => "header",
+            Tag::H1 => "h1",
+            Tag::H2 => "h2",
+            Tag::H3 => "h3",
+            Tag::Paragraph => "p",
+            Tag::Nav => "nav",
+            Tag::Anchor => "a",
+            Tag::Main => "main",
+            Tag::Listing => "ul",
+            Tag::Item => "li",
+            Tag::Small => "small",
+            Tag::Bold => "b",
+            Tag::Section => "section",
+            Tag::Svg => "svg",
+            Tag::Desc => "desc",
+            Tag::Defs => "defs",
+            Tag::Path => "path",
+            Tag::Circle => "circle",
+            Tag::Group => "g",
+            Tag::Text => "text",
+            Tag::TextSpan => "tspan",
+            Tag::Use => "use",
+            Tag::Polyline => "polyline",
+            Tag::Table => "table",
+            Tag::Caption => "caption",
+            Tag::TableHead => "thead",
+            Tag::TableBody => "tbody",
+            Tag::Row => "tr",
+            Tag::Heading => "th",
+            Tag::Cell => "td",
+            Tag::Division => "div",
+            Tag::Span => "span",
+            Tag::Preformatted => "pre",
+        }
+    }
+
+    /// Returns whether its start tag may end it too, as an element of a picture without children.
+    pub(crate) fn is_sole(self) -> bool {
+        matches!(self, Tag::Path | Tag::Circle | Tag::Use | Tag::Polyline)
+    }
+}
+
+impl Attr {
+    /// Returns what stands in front of its value: a space, its name, `=` and a quotation mark.
+    pub(crate) fn opening(self) -> &'static str
+        ensures { result.now ≡ opening_of self }
+    {
+        match self {
+            Attr::Class => " class=\"",
+            Attr::Id => " id=\"",
+            Attr::Href => " href=\"",
+            Attr::X => " x=\"",
+            Attr::Y => " y=\"",
+            Attr::D => " d=\"",
+            Attr::R => " r=\"",
+            Attr::Fill => " fill=\"",
+            Attr::Stroke => " stroke=\"",
+            Attr::StrokeWidth => " stroke-width=\"",
+            Attr::Dash => " stroke-dasharray=\"",
+            Attr::Points => " points=\"",
+            Attr::Transform => " transform=\"",
+            Attr::ViewBox => " viewBox=\"",
+            Attr::Role => " role=\"",
+            Attr::Scope => " scope=\"",
+            Attr::Hidden => " aria-hidden=\"",
+            Attr::Width => " width=\"",
+            Attr::Height => " height=\"",
+            Attr::Xmlns => " xmlns=\"",
+            Attr::TabIndex => " tabindex=\"",
+            Attr::Label => " aria-label=\"",
+        }
+    }
+}

@@ -1,0 +1,256 @@
+//! A writer of elements.
+ghost use Rattle.std.specs.Prelude.{◌≡◌, ◌++◌, ◌-◌, [], ◌∷◌, IfOk, length, true};
+ghost use Rattle.std.specs.List.{flat_map};
+ghost use Rattle.markup.specs.Escaped.{escaped};
+ghost use Rattle.markup.specs.Reading.{IsWellFormed};
+ghost use Rattle.markup.specs.Written.{IsRead, closing_of, is_apart, is_plain, plain_of};
+ghost use Rattle.markup.specs.declared.writer.WriterPlace.TheVariants.{Between};
+
+use crate::piece::{PagePiece, put_bytes, put_piece, put_text};
+use crate::tag::{Attr, Tag};
+use std::alloc::{AllocError, Global};
+
+/// What stands at the head of each page, within which its title and style are written.
+const PROLOGUE: &str = "<!DOCTYPE html>\n<html lang=\"en\">\n<head>\n<meta charset=\"utf-8\">\n\
+    <meta name=\"viewport\" content=\"width=device-width, initial-scale=1\">\n";
+
+/// Where a writer is.
+#[derive(Clone, Copy)]
+pub enum WriterPlace {
+    /// Between tags.
+    Between,
+    /// Behind the name in the start tag of this element.
+    Naming(Tag),
+    /// In a value of that start tag.
+    Valued(Tag),
+}
+
+/// A writer of a page. It keeps the elements that are open, so that each is ended, the innermost
+/// first. Once an allocation has failed it writes nothing more, and `finish` returns the error.
+#[derive(Drop)]
+pub struct Writer {
+    text: Vec<u8>,
+    /// The open elements whose start tags have ended.
+    stack: Vec<Tag>,
+    spot: WriterPlace,
+    fault: Option<AllocError>,
+    ghost read: { IsRead text.items stack.items spot fault },
+}
+
+impl Writer {
+    /// Returns a writer of a page, in its head.
+    pub fn page(alloc: Global) -> Writer {
+        let mut text = Vec::new(alloc);
+        let mut stack = Vec::new(alloc);
+        let mut fault = None;
+        add(&mut text, &mut fault, PROLOGUE);
+        keep(&mut stack, &mut fault, Tag::Html);
+        keep(&mut stack, &mut fault, Tag::Head);
+        Writer {
+            text,
+            stack,
+            spot: WriterPlace::Between,
+            fault,
+        }
+    }
+
+    /// Begins an element in the innermost one that is open.
+    #[tactic(auto, using(crate::proofs::ReadLemmas::begun))]
+    pub fn begin(&mut self, tag: Tag) {
+        self.within();
+        add(&mut self.text, &mut self.fault, "<");
+        add(&mut self.text, &mut self.fault, tag.name());
+        self.spot = WriterPlace::Naming(tag);
+    }
+
+    /// Begins a value in the start tag of the element that was begun last. It does nothing where
+    /// that tag has ended.
+    pub fn attr(&mut self, attr: Attr) {
+        match self.spot {
+            WriterPlace::Between => {}
+            WriterPlace::Naming(tag) => {
+                add(&mut self.text, &mut self.fault, attr.opening());
+                self.spot = WriterPlace::Valued(tag);
+            }
+            WriterPlace::Valued(_) => {
+                add(&mut self.text, &mut self.fault, "\"");
+                add(&mut self.text, &mut self.fault, attr.opening());
+            }
+        }
+    }
+
+    /// Ends the start tag in which the writer is, if it is in one: what follows is a child.
+    pub fn within(&mut self)
+        ensures spot { self.new.spot ≡ Between }
+        ensures before { self.new.fault ≡ None → self.old.fault ≡ None }
+        ensures added { self.new.fault ≡ None →
+            self.new.text.items ≡ self.old.text.items ++ closing_of self.old.spot }
+    {
+        match self.spot {
+            WriterPlace::Between => {}
+            WriterPlace::Naming(tag) => {
+                add(&mut self.text, &mut self.fault, ">");
+                keep(&mut self.stack, &mut self.fault, tag);
+            }
+            WriterPlace::Valued(tag) => {
+                add(&mut self.text, &mut self.fault, "\">");
+                keep(&mut self.stack, &mut self.fault, tag);
+            }
+        }
+        self.spot = WriterPlace::Between;
+    }
+
+    /// Adds pieces to the value in which the writer is, or else to the children of the innermost
+    /// open element.
+    pub fn put(&mut self, pieces: &[PagePiece]) {
+        for piece in pieces {
+            put_piece(self, *piece);
+        }
+    }
+
+    /// Adds words to the children of the innermost open element, but for signs that have a meaning
+    /// in tags.
+    pub fn words(&mut self, words: &'static str)
+        ensures spot { self.new.spot ≡ Between }
+        ensures before { self.new.fault ≡ None → self.old.fault ≡ None }
+        ensures added { self.new.fault ≡ None → self.new.text.items
+            ≡ self.old.text.items ++ closing_of self.old.spot ++ flat_map plain_of words.now }
+    {
+        self.within();
+        put_bytes(self, words.as_bytes());
+    }
+
+    /// Adds a text of any bytes to the children of the innermost open element. Signs that have a
+    /// meaning in a page are written as references, so that the usual reading gives the text.
+    pub fn text(&mut self, text: &[u8])
+        ensures spot { self.new.spot ≡ Between }
+        ensures before { self.new.fault ≡ None → self.old.fault ≡ None }
+        ensures added { self.new.fault ≡ None → self.new.text.items
+            ≡ self.old.text.items ++ closing_of self.old.spot ++ escaped text.now }
+    {
+        self.within();
+        put_text(self, text);
+    }
+
+    /// Adds a byte where the writer is, unless it is one that has a meaning in tags.
+    pub(crate) fn put_byte(&mut self, byte: u8)
+        ensures spot { is_apart self.new.spot ≡ true }
+        ensures same { is_apart self.old.spot ≡ true → self.new.spot ≡ self.old.spot }
+        ensures before { self.new.fault ≡ None → self.old.fault ≡ None }
+        ensures added { is_apart self.old.spot ≡ true → self.new.fault ≡ None →
+            self.new.text.items ≡ self.old.text.items ++ plain_of byte }
+    {
+        self.settle();
+        if is_plain(byte) && self.fault.is_none() {
+            self.push_plain(byte);
+        }
+    }
+
+    /// Ends a start tag that has no values so far, if the writer is in one.
+    pub(crate) fn settle(&mut self)
+        ensures spot { is_apart self.new.spot ≡ true }
+        ensures same_spot { is_apart self.old.spot ≡ true → self.new.spot ≡ self.old.spot }
+        ensures same { is_apart self.old.spot ≡ true → self.new.text.items ≡ self.old.text.items }
+        ensures before { self.new.fault ≡ None → self.old.fault ≡ None }
+    {
+        if let WriterPlace::Naming(_) = self.spot {
+            self.within();
+        }
+    }
+
+    /// Adds a byte that has no meaning in tags.
+    #[tactic(auto, using(crate::proofs::ReadLemmas::plain_kept))]
+    fn push_plain(&mut self, byte: u8)
+        requires apart { is_apart self.old.spot ≡ true }
+        requires plain { is_plain byte ≡ true }
+        ensures spot { self.new.spot ≡ self.old.spot }
+        ensures before { self.new.fault ≡ None → self.old.fault ≡ None }
+        ensures added { self.new.fault ≡ None →
+            self.new.text.items ≡ self.old.text.items ++ byte ∷ [] }
+    {
+        if let Err(error) = self.text.push(byte) {
+            // An allocation failed: passed on.
+            self.fault = Some(AllocError::from(error));
+        }
+    }
+
+    /// Ends the innermost open element.
+    pub fn end(&mut self) {
+        match self.spot {
+            WriterPlace::Naming(tag) if tag.is_sole() => {
+                add(&mut self.text, &mut self.fault, "/>");
+                self.spot = WriterPlace::Between;
+            }
+            WriterPlace::Valued(tag) if tag.is_sole() => {
+                add(&mut self.text, &mut self.fault, "\"/>");
+                self.spot = WriterPlace::Between;
+            }
+            _ => {
+                self.within();
+                self.close();
+            }
+        }
+    }
+
+    /// Writes the end tag of the innermost element whose start tag has ended, if there is one.
+    #[tactic(auto, using(crate::proofs::ReadLemmas::closed_by))]
+    fn close(&mut self)
+        requires { self.old.spot ≡ Between }
+        ensures spot { self.new.spot ≡ Between }
+        ensures fewer { length self.new.stack.items ≡ length self.old.stack.items - 1 }
+    {
+        if let Some(tag) = self.stack.pop() {
+            add(&mut self.text, &mut self.fault, "</");
+            add(&mut self.text, &mut self.fault, tag.name());
+            add(&mut self.text, &mut self.fault, ">");
+        }
+    }
+
+    /// Ends all that is open. Returns the page, or the error if an allocation has failed.
+    pub fn finish(self) -> Result<Vec<u8>, AllocError>
+        ensures { IfOk result (λ page. IsWellFormed page.items) }
+    {
+        let mut writer = self;
+        writer.within();
+        while !writer.stack.is_empty() {
+            writer.close();
+        }
+        let Writer { text, fault, .. } = writer;
+        match fault {
+            None => Ok(text),
+            Some(error) => Err(error),
+        }
+    }
+}
+
+/// Adds words to a text, unless an allocation has failed before.
+fn add(text: &mut Vec<u8>, fault: &mut Option<AllocError>, words: &str)
+    ensures before { fault.new ≡ None → fault.old ≡ None }
+    ensures added { fault.new ≡ None → text.new.items ≡ text.old.items ++ words.now }
+{
+    if fault.is_none() {
+        if let Err(error) = text.extend_from_slice(words.as_bytes()) {
+            *fault = Some(error);
+        }
+    }
+}
+
+/// Adds an element to those that are open, unless an allocation has failed before.
+fn keep(stack: &mut Vec<Tag>, fault: &mut Option<AllocError>, tag: Tag)
+    ensures before { fault.new ≡ None → fault.old ≡ None }
+    ensures kept { fault.new ≡ None → stack.new.items ≡ stack.old.items ++ tag ∷ [] }
+{
+    if fault.is_none() {
+        if let Err(error) = stack.push(tag) {
+            // An allocation failed: passed on.
+            *fault = Some(AllocError::from(error));
+        }
+    }
+}
+
+/// Returns whether a byte has no meaning in tags: it is no `<` and no quotation mark.
+fn is_plain(byte: u8) -> bool
+    ensures { result ≡ is_plain byte }
+{
+    byte != b'<' && byte != b'"'
+}

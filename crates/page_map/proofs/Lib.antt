@@ -1,0 +1,2 @@
+-- What the proofs of a map share.
+pub mod ClosedLemmas

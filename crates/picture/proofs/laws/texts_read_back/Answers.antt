@@ -1,5 +1,0 @@
-use Rattle.picture.proofs.TextLemmas.{reads_back}
-use Rattle.picture.proofs.laws.texts_read_back.Goals as goal
-
-pub returns : goal.returns
-returns c = reads_back
