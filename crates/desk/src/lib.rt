@@ -40,5 +40,6 @@ pub use player_figures::{Purse, purse_of};
 pub use round_events::round_facts;
 pub use round_name::read_round;
 pub use stack::{all_in_order, before_in_stack, company_at};
+pub use standing::{rank_of, worths_of};
 pub use whole_state::{StateForm, state, state_text};
 pub use whole_statement::statement;

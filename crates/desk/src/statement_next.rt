@@ -1,12 +1,12 @@
 //! What comes after a round: the next one, with its order and who owes a sheet for it, or the result.
 
-use crate::standing::rank_of;
+use crate::standing::{rank_of, worths_of};
 use crate::state_rows::game_row;
 use crate::whole_statement::VALUES;
 use desk_base::Piece::{Bytes, Column, Count, Cut, Right, Words};
 use desk_base::{Piece, Stood, fill, owes, push, push_wrapped};
 use market::operates;
-use report::{name, player_worth};
+use report::name;
 use rounds::End;
 use std::alloc::{AllocError, Global};
 use tables::{Company, Round, Seat};
@@ -101,14 +101,14 @@ fn push_owed(
 /// worth the same have the same rank, and come in the order of their seats.
 fn push_result(out: &mut Vec<u8>, stood: &Stood, why: &str) -> Result<(), AllocError> {
     fill(out, "\nTHE END: %\nRESULT        WORTH\n", &[Words(why)])?;
-    let view = stood.history.now();
     let seats = stood.sheets.seats();
+    let worths = worths_of(stood.history, seats);
+    let worths = &worths[..seats];
     for rank in 1..=seats {
-        for seat in 0..seats {
-            let seat = Seat::at(seat);
-            if rank_of(&view, seats, seat) == rank {
-                let worth = Right(8, player_worth(&view, seat));
-                let player = Bytes(name(stood.sheets, seat));
+        for (number, worth) in worths.iter().enumerate() {
+            if rank_of(worths, *worth) == rank {
+                let player = Bytes(name(stood.sheets, Seat::at(number)));
+                let worth = Right(8, *worth);
                 push(out, &[Count(rank), Words("  "), player, Column(11), worth])?;
                 fill(out, "\n", &[])?;
             }

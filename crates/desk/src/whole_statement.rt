@@ -2,9 +2,6 @@
 //!
 //! Its figures come from the rows of a state, and the ranks of the result from `standing`. The rest
 //! is layout.
-ghost use Rattle.std.specs.Prelude.{IfErr};
-ghost use Rattle.desk_base.specs.Refusal.{IsOfGame};
-ghost use Rattle.rounds.specs.Play.{IsTheGame};
 
 use crate::stack::all_in_order;
 use crate::state_companies::{push_all_shares, push_all_tokens};
@@ -15,61 +12,20 @@ use crate::state_stock::push_laid;
 use crate::statement_next::push_next;
 use crate::statement_parties::{push_companies_moved, push_players_moved};
 use desk_base::Piece::{Column, Count, Number, Words};
-use desk_base::{
-    DeskFault, Piece, Stood, fill, play_behind, push, push_wrapped, stood_at_last, stood_now,
-    view_behind,
-};
+use desk_base::{Piece, Stood, fill, push, push_wrapped, view_behind};
 use history::{Event, History, Party, Walk};
 use purchases::sells;
-use rounds::Game;
-use sheets::Sheets;
 use std::alloc::{AllocError, Global};
-use tables::{Amount, Company, Kind, Money, Round};
+use tables::{Amount, Company, Kind, Money};
 
 /// The column of the values of the head.
 pub(crate) const VALUES: usize = 18;
 
-/// Returns the statement of a game after a round, after the last that was played if none is named,
-/// in lines of at most 80 columns. It has what each player and each started company has, beside
-/// what they had before the round; shares, trains, tokens and tiles; what comes next, and who owes a
-/// sheet for it, `due` then if that is not empty; and the result once the game is over.
-///
-/// Fails with `Round` if the round was not played, or none was, and with `Memory` if allocation
-/// fails.
-pub fn statement(
-    alloc: Global,
-    game: &Game,
-    asked: Option<Round>,
-    due: &str,
-) -> Result<Vec<u8>, DeskFault>
-    requires { IsTheGame game.now }
-    ensures { IfErr result IsOfGame }
-{
-    let last = game.history().now().round();
-    match asked {
-        Some(round) if last != asked => statement_behind(alloc, game.sheets(), round, due),
-        _ => Ok(statement_text(alloc, &stood_at_last(game), due)?),
-    }
-}
-
-/// Returns the statement of the game of some sheets after a round.
-fn statement_behind(
-    alloc: Global,
-    sheets: &Sheets,
-    round: Round,
-    due: &str,
-) -> Result<Vec<u8>, DeskFault>
-    ensures { IfErr result IsOfGame }
-{
-    let play = play_behind(alloc, sheets, round)?;
-    match stood_now(&play) {
-        Some(stood) => Ok(statement_text(alloc, &stood, due)?),
-        None => Err(DeskFault::Round),
-    }
-}
-
-/// Returns the statement of a game at a moment. Fails only if allocation fails.
-fn statement_text(alloc: Global, stood: &Stood, due: &str) -> Result<Vec<u8>, AllocError> {
+/// Returns the statement of a game at a moment between two rounds, in lines of at most 80 columns. It
+/// has what each player and each started company has, beside what they had before the last round;
+/// shares, trains, tokens and tiles; what comes next, and who owes a sheet for it, `due` then if that
+/// is not empty; and the result once the game is over. Fails only if allocation fails.
+pub fn statement(alloc: Global, stood: &Stood, due: &str) -> Result<Vec<u8>, AllocError> {
     let order = all_in_order(alloc, stood.history)?;
     let mut text = Vec::new(alloc);
     push_statement(alloc, &mut text, stood, order.as_slice(), due)?;

@@ -3,7 +3,10 @@ pub mod Cause
 pub mod Change
 pub mod Done
 pub mod Figures
+pub mod Groups
 pub mod Played
 pub mod Refused
 pub mod RoundPart
+pub mod RunsRound
+pub mod Track
 pub mod Why

@@ -1,21 +1,22 @@
 //! The turns of a round for its players: whose turn it was, what each had before and after, and what
 //! each line brought.
+ghost use Rattle.std.specs.Prelude.{◌≡◌, IfErr, OnOk, true};
+ghost use Rattle.desk_round.specs.Played.{HasNoTurns, was_played};
 
 use crate::changes::{push_change, push_changes};
 use crate::groups::{Group, Whose, groups_of};
 use crate::left_lines::{Left, Presided, ruled_in};
+use crate::played::was_played;
 use crate::refusal_detail::Ruled;
-use crate::round_part::{round_asked, text_of};
 use crate::sheet_line::{SheetLine, find_line, lines_of};
 use crate::train_runs::push_ran;
 use crate::why::{FAULTY_COLUMNS, push_rule};
 use desk_base::Piece::{Bytes, Column, Cut, Number, Right, Words};
 use desk_base::{DeskFault, Piece, fill, push, push_wrapped, push_wrapped_lines, view_behind, who};
-use history::{Event, GameView, Holder, PackedRuling, Ruling, Verdict, Walk};
+use history::{Event, GameView, History, Holder, PackedRuling, Ruling, Verdict, Walk};
 use order_grammar::{print_condition, print_order};
-use report::name;
-use rounds::Game;
-use sheets::first_line;
+use report::{name, push_event};
+use sheets::Sheets;
 use std::alloc::{AllocError, Global};
 use tables::{Amount, Company, Money, Round, Seat};
 
@@ -29,7 +30,8 @@ const NAMED: usize = 17;
 #[derive(Clone, Copy)]
 struct Telling<'a> {
     alloc: Global,
-    game: &'a Game<'a>,
+    sheets: &'a Sheets<'a>,
+    history: &'a History,
     round: Round,
     /// The lines of the sheets for it.
     lines: &'a [SheetLine<'a>],
@@ -48,38 +50,45 @@ struct Course<'a> {
     passed: Vec<u8>,
 }
 
-/// Returns the turns of a round of a game, of the last that was played if none is named, as its
-/// players read them, in lines of at most 80 columns. Fails with `Round` if the round is not
-/// played, or none is, and with `Memory` if allocation fails.
-pub fn turns(alloc: Global, game: &Game, asked: Option<Round>) -> Result<Vec<u8>, DeskFault> {
-    let Some(round) = round_asked(game, asked) else {
+/// Returns the turns of a round of the game of some sheets as their players read them, in lines of at
+/// most 80 columns. What happened after the round, if the game has gone on, changes nothing. Fails
+/// with `Round` if the round was not played, and with `Memory` if allocation fails.
+pub fn turns(
+    alloc: Global,
+    sheets: &Sheets,
+    history: &History,
+    round: Round,
+) -> Result<Vec<u8>, DeskFault>
+    ensures played { OnOk result (was_played history.now.events round ≡ true) }
+    ensures fault { IfErr result (HasNoTurns history.now.events round) }
+{
+    if !was_played(history.events(), round) {
         return Err(DeskFault::Round);
-    };
-    let text = text_of(alloc, game, Some(round))?;
-    let lines = lines_of(alloc, game.sheets(), round)?;
+    }
+    let lines = lines_of(alloc, sheets, round)?;
     let telling = Telling {
         alloc,
-        game,
+        sheets,
+        history,
         round,
         lines: lines.as_slice(),
     };
-    Ok(told(telling, text.as_slice())?)
+    Ok(told(telling)?)
 }
 
-/// Returns the turns of a round whose part of the report is this text.
-fn told<'a>(telling: Telling<'a>, text: &[u8]) -> Result<Vec<u8>, AllocError> {
+/// Returns the turns of a round.
+fn told(telling: Telling) -> Result<Vec<u8>, AllocError> {
     let mut out = Vec::new(telling.alloc);
     fill(&mut out, "ROUND %\n", &[Piece::Round(telling.round)])?;
-    telling.push_groups(&mut out, text)?;
+    telling.push_groups(&mut out)?;
     Ok(out)
 }
 
 impl Telling<'_> {
-    /// Adds the groups of a round's events, whose lines in the report are these, behind the line of
-    /// the round. Turns that are nothing but passes are on one line as long as they follow each
-    /// other.
-    fn push_groups(&self, out: &mut Vec<u8>, text: &[u8]) -> Result<(), AllocError> {
-        let events = self.game.history().events();
+    /// Adds the groups of a round's events. Turns that are nothing but passes are on one line as
+    /// long as they follow each other.
+    fn push_groups(&self, out: &mut Vec<u8>) -> Result<(), AllocError> {
+        let events = self.history.events();
         let groups = groups_of(self.alloc, self.lines, events, self.round)?;
         let mut course = Course {
             before: Walk::along(events),
@@ -87,14 +96,12 @@ impl Telling<'_> {
             presided: Vec::new(self.alloc),
             passed: Vec::new(self.alloc),
         };
-        let mut rest = behind_line(text);
         for group in &groups {
             if let Some(seat) = group.pass(events) {
                 self.push_pass(&mut course.passed, seat)?;
-                rest = behind_line(rest);
             } else {
                 push_passes(out, &mut course.passed)?;
-                rest = self.push_group(out, &mut course, group, rest)?;
+                self.push_group(out, &mut course, group)?;
             }
         }
         push_passes(out, &mut course.passed)
@@ -103,25 +110,20 @@ impl Telling<'_> {
     /// Adds a player to those who have passed in a row.
     fn push_pass(&self, passed: &mut Vec<u8>, seat: Seat) -> Result<(), AllocError> {
         let comma = if passed.is_empty() { "" } else { ", " };
-        push(
-            passed,
-            &[Words(comma), Bytes(name(self.game.sheets(), seat))],
-        )
+        push(passed, &[Words(comma), Bytes(name(self.sheets, seat))])
     }
 
-    /// Adds a group, whose lines in the report begin this text: whose turn it is, with what that
-    /// party had before and after, its events, and whose cash changed beside. Returns the text
-    /// behind these lines.
-    fn push_group<'t>(
+    /// Adds a group: whose turn it is, with what that party had before and after, its events, and
+    /// whose cash changed beside.
+    fn push_group(
         &self,
         out: &mut Vec<u8>,
         course: &mut Course,
         group: &Group,
-        text: &'t [u8],
-    ) -> Result<&'t [u8], AllocError> {
+    ) -> Result<(), AllocError> {
         let mut told = Vec::new(self.alloc);
-        let rest = self.push_events(&mut told, course, group, text)?;
-        let (sheets, seats) = (self.game.sheets(), self.game.history().seats());
+        self.push_events(&mut told, course, group)?;
+        let (sheets, seats) = (self.sheets, self.history.seats());
         let before = view_behind(&mut course.before, group.from, seats);
         let after = view_behind(&mut course.now, group.to, seats);
         if let Whose::Company(company) = group.whose {
@@ -131,31 +133,24 @@ impl Telling<'_> {
         self.push_whose(out, &after, group.whose)?;
         push_change(out, group.whose, &before, &after)?;
         fill(out, "\n%", &[Bytes(told.as_slice())])?;
-        push_changes(self.alloc, out, sheets, group.whose, &before, &after)?;
-        Ok(rest)
+        push_changes(self.alloc, out, sheets, group.whose, &before, &after)
     }
 
-    /// Adds the events of a group, whose lines in the report begin this text. Returns the text
-    /// behind these.
-    fn push_events<'t>(
+    /// Adds the events of a group.
+    fn push_events(
         &self,
         out: &mut Vec<u8>,
         course: &mut Course,
         group: &Group,
-        text: &'t [u8],
-    ) -> Result<&'t [u8], AllocError> {
-        let events = self.game.history().events();
-        let mut rest = text;
+    ) -> Result<(), AllocError> {
+        let events = self.history.events();
         let mut dividends = Vec::new(self.alloc);
         for passed in group.from..group.to {
-            let line = first_line(rest).map_or(rest, |first| first.line);
-            rest = behind_line(rest);
             if let Some(event) = events.get(passed) {
-                self.push_event(out, course, passed, event, line, &mut dividends)?;
+                self.push_event(out, course, passed, event, &mut dividends)?;
             }
         }
-        self.push_dividends(out, &mut dividends)?;
-        Ok(rest)
+        self.push_dividends(out, &mut dividends)
     }
 
     /// Adds whose turn a group is of, on a new line.
@@ -167,22 +162,21 @@ impl Telling<'_> {
     ) -> Result<(), AllocError> {
         match whose {
             Whose::Nobody => fill(out, "\nTHE BANK", &[]),
-            Whose::Seat(seat) => fill(out, "\n%", &[Bytes(name(self.game.sheets(), seat))]),
+            Whose::Seat(seat) => fill(out, "\n%", &[Bytes(name(self.sheets, seat))]),
             Whose::Company(company) => {
-                let president = who(self.game.sheets(), view.president(company));
+                let president = who(self.sheets, view.president(company));
                 fill(out, "\n% (%)", &[Words(company.code()), president])
             }
         }
     }
 
-    /// Adds an event, whose line in the report is this. Dividends are kept, to be on one line.
+    /// Adds an event. Dividends are kept, to be on one line.
     fn push_event(
         &self,
         out: &mut Vec<u8>,
         course: &mut Course,
         passed: usize,
         event: &Event,
-        line: &[u8],
         dividends: &mut Vec<u8>,
     ) -> Result<(), AllocError> {
         if let Event::Dividend { holder, amount, .. } = event {
@@ -190,19 +184,26 @@ impl Telling<'_> {
         }
         self.push_dividends(out, dividends)?;
         if let Event::Ruled { seat, line, ruling } = event {
-            let view = view_behind(&mut course.now, passed, self.game.history().seats());
+            let view = view_behind(&mut course.now, passed, self.history.seats());
             return self.push_ruled(out, &view, *seat, *line, ruling);
         }
-        push(out, &[Column(BROUGHT)])?;
-        push_wrapped(out, BROUGHT, line)?;
+        self.push_reported(out, event)?;
         match event {
             Event::Runs { company, .. } => {
-                let view = view_behind(&mut course.now, passed, self.game.history().seats());
+                let view = view_behind(&mut course.now, passed, self.history.seats());
                 self.push_stops(out, &view, *company)
             }
             Event::Left { seat, lines } => self.push_left(out, course, *seat, *lines),
             _ => Ok(()),
         }
+    }
+
+    /// Adds the line that an event has in the report.
+    fn push_reported(&self, out: &mut Vec<u8>, event: &Event) -> Result<(), AllocError> {
+        let mut line = Vec::new(self.alloc);
+        push_event(&mut line, self.sheets, event)?;
+        push(out, &[Column(BROUGHT)])?;
+        push_wrapped(out, BROUGHT, line.as_slice().trim_ascii())
     }
 
     /// Adds the lines of a sheet that were not taken up, this many, and why not.
@@ -213,11 +214,11 @@ impl Telling<'_> {
         seat: Seat,
         count: u32,
     ) -> Result<(), AllocError> {
-        let events = self.game.history().events();
+        let events = self.history.events();
         let ruled = ruled_in(self.alloc, events, self.round, seat)?;
         let left = Left {
             alloc: self.alloc,
-            sheets: self.game.sheets(),
+            sheets: self.sheets,
             lines: self.lines,
             ruled: ruled.as_slice(),
             presided: course.presided.as_slice(),
@@ -236,7 +237,7 @@ impl Telling<'_> {
         let comma = if dividends.is_empty() { "" } else { ", " };
         let amount = Number(Money::from(amount));
         let holder = match holder {
-            Holder::Seat(seat) => Bytes(name(self.game.sheets(), seat)),
+            Holder::Seat(seat) => Bytes(name(self.sheets, seat)),
             Holder::Company(company) => Words(company.code()),
         };
         push(dividends, &[Words(comma), holder, Words(" "), amount])
@@ -284,7 +285,7 @@ impl Telling<'_> {
             return Ok(());
         }
         let ruled = Ruled {
-            sheets: self.game.sheets(),
+            sheets: self.sheets,
             lines: self.lines,
             view,
             round: self.round,
@@ -341,9 +342,4 @@ fn last_ruled(events: &[Event]) -> Option<&Event> {
         .iter()
         .rev()
         .find(|event| matches!(event, Event::Ruled { .. }))
-}
-
-/// Returns a text without its first line.
-fn behind_line(text: &[u8]) -> &[u8] {
-    first_line(text).map_or(text, |first| first.rest)
 }

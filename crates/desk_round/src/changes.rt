@@ -57,8 +57,12 @@ fn change_of(before: Money, after: Money) -> Option<Change>
 
 /// Returns whether bids tie cash of a seat in one of two states of a game.
 fn has_bids(before: &GameView, after: &GameView, seat: Seat) -> bool {
-    let party = Party::of_seat(seat);
-    before.free_cash(seat) != before.cash(party) || after.free_cash(seat) != after.cash(party)
+    ties_cash(before, seat) || ties_cash(after, seat)
+}
+
+/// Returns whether bids tie cash of a seat.
+fn ties_cash(view: &GameView, seat: Seat) -> bool {
+    view.free_cash(seat) != view.cash(Party::of_seat(seat))
 }
 
 /// Adds what a turn's own party had before and after it: its cash, of a player with bids the cash

@@ -1,4 +1,6 @@
 //! The events of a round in groups: each belongs to the turn of a company, of a player, or to none.
+ghost use Rattle.std.specs.Prelude.{◌≡◌, ◌++◌, OnOk};
+ghost use Rattle.desk_round.specs.Groups.{any_group, pass_of};
 
 use crate::sheet_line::{SheetLine, find_line};
 use history::Event;
@@ -30,8 +32,10 @@ pub(crate) struct Group {
 impl Group {
     /// Returns the seat whose turn it is, if the turn is nothing but a pass, among the events of
     /// the game.
-    pub(crate) fn pass(&self, events: &[Event]) -> Option<Seat> {
-        if self.from.saturating_add(1) != self.to {
+    pub(crate) fn pass(&self, events: &[Event]) -> Option<Seat>
+        ensures { result ≡ pass_of self.now events.now }
+    {
+        if self.to.saturating_sub(self.from) != 1 {
             return None;
         }
         match events.get(self.from) {
@@ -87,7 +91,9 @@ pub(crate) fn groups_of(
 }
 
 /// Adds a group, if there is one.
-fn push_any(groups: &mut Vec<Group>, group: Option<Group>) -> Result<(), AllocError> {
+fn push_any(groups: &mut Vec<Group>, group: Option<Group>) -> Result<(), AllocError>
+    ensures { OnOk result (groups.new.items ≡ groups.old.items ++ any_group group) }
+{
     if let Some(group) = group {
         groups.push(group)?;
     }

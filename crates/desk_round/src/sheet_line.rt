@@ -1,6 +1,6 @@
 //! The lines of the sheets for a round, by their numbers: their text, and where each stands.
-ghost use Rattle.std.specs.Prelude.{IfSome};
-ghost use Rattle.desk_round.specs.Why.{IsLineOf};
+ghost use Rattle.std.specs.Prelude.{◌≡◌, ◌==◌, IfSome};
+ghost use Rattle.desk_round.specs.Why.{IsLineOf, company_at};
 
 use order_grammar::Order;
 use sheets::{Sheets, UnreadLine};
@@ -28,12 +28,16 @@ pub struct SheetLine<'a> {
 
 impl SheetLine<'_> {
     /// Returns whether the line is in the sheet of a seat.
-    pub(crate) fn is_of(&self, seat: Seat) -> bool {
-        self.seat == seat
+    pub(crate) fn is_of(&self, seat: Seat) -> bool
+        ensures { result ≡ (self.now.seat.0 == seat.0) }
+    {
+        self.seat.index() == seat.index()
     }
 
     /// Returns its number in its sheet.
-    pub(crate) fn number(&self) -> u32 {
+    pub(crate) fn number(&self) -> u32
+        ensures { result ≡ self.now.number }
+    {
         self.number
     }
 }
@@ -51,7 +55,9 @@ pub enum LinePlace {
 
 impl LinePlace {
     /// Returns the company among whose orders the line is; `None` if it is among none.
-    pub fn company(self) -> Option<Company> {
+    pub fn company(self) -> Option<Company>
+        ensures { result ≡ company_at self }
+    {
         match self {
             LinePlace::Orders(company) => Some(company),
             LinePlace::Standing | LinePlace::Turn => None,

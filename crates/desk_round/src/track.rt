@@ -1,4 +1,6 @@
 //! Where the track of a run breaks, and over which borders a tile or a stop would be reached.
+ghost use Rattle.std.specs.Prelude.{◌≡◌, ◌∷◌, []};
+ghost use Rattle.desk_round.specs.Track.{hex_behind};
 
 use board::Board;
 use desk_base::side_towards;
@@ -46,12 +48,16 @@ fn is_linked(board: &Board, hex: Hex, one: TrackEnd, other: TrackEnd) -> bool {
 
 /// Returns the hexes from which track leads over a border to a link; `None` if no hex lies, or the
 /// link does not end there.
-pub(crate) fn hexes_behind(hex: Hex, link: &Link) -> [Option<Hex>; 2] {
+pub(crate) fn hexes_behind(hex: Hex, link: &Link) -> [Option<Hex>; 2]
+    ensures { result ≡ hex_behind hex link.now.a ∷ hex_behind hex link.now.b ∷ [] }
+{
     [hex_behind(hex, link.a), hex_behind(hex, link.b)]
 }
 
 /// Returns the hex behind an end of track in a hex.
-fn hex_behind(hex: Hex, end: TrackEnd) -> Option<Hex> {
+fn hex_behind(hex: Hex, end: TrackEnd) -> Option<Hex>
+    ensures { result ≡ hex_behind hex end }
+{
     match end {
         TrackEnd::Side(side) => neighbour(hex, side),
         TrackEnd::Stop(_) => None,

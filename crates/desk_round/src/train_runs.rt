@@ -1,5 +1,8 @@
 //! What the trains of each company ran in a round, stop by stop.
+ghost use Rattle.std.specs.Prelude.{◌≡◌};
+ghost use Rattle.desk_round.specs.RunsRound.{last_with_runs, round_of_runs, seen_then};
 
+use crate::played::was_played;
 use crate::round_texts::{Told, tell};
 use desk_base::Piece::{Number, Words};
 use desk_base::{DeskFault, Piece, best_at, board_at, fill, push, push_run, view_behind};
@@ -32,20 +35,62 @@ pub(crate) fn runs_of(
 
 /// Returns the named round if it is played; if none is named, the last in which a company ran, or
 /// the last that was played if none ran. Fails with `Round` otherwise.
-fn round_with_runs(events: &[Event], asked: Option<Round>) -> Result<Round, DeskFault> {
-    let mut begun = Err(DeskFault::Round);
-    let mut last = Err(DeskFault::Round);
-    for event in events {
+fn round_with_runs(events: &[Event], asked: Option<Round>) -> Result<Round, DeskFault>
+    ensures { result ≡ round_of_runs events.now asked }
+{
+    match asked {
+        Some(round) if was_played(events, round) => Ok(round),
+        Some(_) => Err(DeskFault::Round),
+        None => match last_with_runs(events) {
+            Some(round) => Ok(round),
+            None => Err(DeskFault::Round),
+        },
+    }
+}
+
+/// The rounds that have been seen on the way through the events of a game.
+#[derive(Clone, Copy)]
+struct Seen {
+    /// The last that has begun.
+    begun: Option<Round>,
+    /// The last in which a company ran.
+    ran: Option<Round>,
+}
+
+impl Seen {
+    /// Returns the rounds that have been seen after one more event.
+    fn then(self, event: &Event) -> Seen
+        ensures { result ≡ seen_then self event.now }
+    {
         match event {
-            Event::Round(round) if asked == Some(*round) => return Ok(*round),
-            Event::Round(round) => begun = Ok(*round),
-            Event::Runs { .. } => last = begun,
-            _ => {}
+            Event::Round(round) => Seen {
+                begun: Some(*round),
+                ..self
+            },
+            Event::Runs { .. } => Seen {
+                ran: self.begun,
+                ..self
+            },
+            _ => self,
         }
     }
-    match asked {
-        Some(_) => Err(DeskFault::Round),
-        None => last.or(begun),
+}
+
+/// Returns the last round of a game in which a company ran, or the last that was played if none
+/// ran; `None` if none was played.
+fn last_with_runs(events: &[Event]) -> Option<Round>
+    ensures { result ≡ last_with_runs events.now }
+{
+    let mut seen = Seen {
+        begun: None,
+        ran: None,
+    };
+    for event in events {
+        seen = seen.then(event);
+    }
+    match seen.ran {
+        Some(round) => Some(round),
+        None => seen.begun,
     }
 }
 

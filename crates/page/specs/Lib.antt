@@ -1,3 +1,3 @@
+pub mod ChartToken
 pub mod Checksum
-pub mod Rank
 pub mod Revenue

@@ -1,14 +1,14 @@
 //! The sheet of all tiles.
 ghost use Rattle.std.specs.Prelude.{IfOk};
-ghost use Rattle.picture.specs.Reading.{IsWellFormed};
+ghost use Rattle.markup.specs.Reading.{IsWellFormed};
 
 use crate::style::STYLE;
 use map_tables::{Colour, Rotation, TileNo, tile};
-use page_map::{TILE_COLOURS, put_signs, put_tile};
-use picture::PagePiece::{Number, Words};
-use picture::{
+use markup::PagePiece::{Number, Words};
+use markup::{
     Attr, Tag, Writer, begin_row, begin_section, begin_table, put_caption, put_head, put_row_head,
 };
+use page_map::{TILE_COLOURS, put_signs, put_tile};
 use std::alloc::{AllocError, Global};
 use tables::Money;
 

@@ -1,26 +1,34 @@
 //! The bulletin of a round: its turns as its players read them, and a statement of how they stand
 //! after it; and the same on a page.
+ghost use Rattle.std.specs.Prelude.{IfErr, OnOk};
+ghost use Rattle.desk_base.specs.Refusal.{HasNoState, IsOfGame};
 ghost use Rattle.rounds.specs.Play.{IsTheGame};
+ghost use Rattle.sheets.specs.File.{IsAccepted};
 
 use desk::statement;
-use desk_base::DeskFault;
+use desk_base::{DeskFault, Stood, play_behind, stood_at_last, stood_now};
 use desk_round::turns;
-use picture::PagePiece::{Round as Named, Text, Words};
-use picture::{Tag, Writer, begin_section};
-use rounds::{Game, play};
+use markup::PagePiece::{Round as Named, Words};
+use markup::{Tag, Writer, begin_section};
+use rounds::{Game, Play, play};
 use sheets::{Sheets, collect};
 use std::alloc::{AllocError, Global};
 use tables::Round;
 
 /// Returns the bulletin of a round of the game of a file, of the last that was played if none is
 /// named, in lines of at most 80 columns. `due` says when the next sheets are due; it may be empty.
-/// Fails with `File` if the file is refused, and with `Round` if the round is not played.
+/// Fails with `File` if the file is refused, with `Round` if the round is not played or none is, and
+/// with `Memory` if allocation fails.
+#[tactic(auto, using(desk_base::proofs::Refusals::no_state_where_it_fails, desk_base::proofs::Refusals::no_state_of_game))]
 pub fn bulletin(
     alloc: Global,
     file: &[u8],
     asked: Option<Round>,
     due: &str,
-) -> Result<Vec<u8>, DeskFault> {
+) -> Result<Vec<u8>, DeskFault>
+    ensures accepted { OnOk result (IsAccepted file.now) }
+    ensures fault { IfErr result (λ fault. HasNoState fault file.now) }
+{
     let sheets = collect(alloc, file)?;
     bulletin_by(alloc, &sheets, asked, due)
 }
@@ -31,34 +39,70 @@ fn bulletin_by(
     sheets: &Sheets,
     asked: Option<Round>,
     due: &str,
-) -> Result<Vec<u8>, DeskFault> {
-    let game = play(alloc, sheets)?;
-    bulletin_of(alloc, &game, asked, due)
+) -> Result<Vec<u8>, DeskFault>
+    ensures { IfErr result IsOfGame }
+{
+    match asked {
+        Some(round) => bulletin_behind(alloc, sheets, round, due),
+        None => bulletin_at_last(alloc, sheets, due),
+    }
 }
 
-/// Returns the bulletin of a round of a game: its turns, and then the statement.
-fn bulletin_of(
+/// Returns the bulletin of a round of the game of some sheets.
+fn bulletin_behind(
     alloc: Global,
-    game: &Game,
-    asked: Option<Round>,
+    sheets: &Sheets,
+    round: Round,
     due: &str,
 ) -> Result<Vec<u8>, DeskFault>
-    requires { IsTheGame game.now }
+    ensures { IfErr result IsOfGame }
 {
-    let mut text = turns(alloc, game, asked)?;
-    let stated = statement(alloc, game, asked, due)?;
-    text.extend_from_slice(stated.as_slice())?;
+    let play = play_behind(alloc, sheets, round)?;
+    bulletin_of_play(alloc, &play, due)
+}
+
+/// Returns the bulletin of the last round of a game that was played up to here.
+fn bulletin_of_play(alloc: Global, play: &Play, due: &str) -> Result<Vec<u8>, DeskFault>
+    ensures { IfErr result IsOfGame }
+{
+    match stood_now(play) {
+        Some(stood) => bulletin_of(alloc, &stood, due),
+        None => Err(DeskFault::Round),
+    }
+}
+
+/// Returns the bulletin of the last round of the game of some sheets.
+fn bulletin_at_last(alloc: Global, sheets: &Sheets, due: &str) -> Result<Vec<u8>, DeskFault>
+    ensures { IfErr result IsOfGame }
+{
+    let game = play(alloc, sheets)?;
+    bulletin_of_game(alloc, &game, due)
+}
+
+/// Returns the bulletin of the last round of a game.
+fn bulletin_of_game(alloc: Global, game: &Game, due: &str) -> Result<Vec<u8>, DeskFault>
+    requires { IsTheGame game.now }
+    ensures { IfErr result IsOfGame }
+{
+    bulletin_of(alloc, &stood_at_last(game), due)
+}
+
+/// Returns the bulletin of the last round of a game at a moment: its turns, and then the statement.
+/// Fails with `Round` if no round has been played.
+pub(crate) fn bulletin_of(alloc: Global, stood: &Stood, due: &str) -> Result<Vec<u8>, DeskFault>
+    ensures { IfErr result IsOfGame }
+{
+    let Some(round) = stood.history.now().round() else {
+        return Err(DeskFault::Round);
+    };
+    let mut text = turns(alloc, stood.sheets, stood.history, round)?;
+    text.extend_from_slice(statement(alloc, stood, due)?.as_slice())?;
     Ok(text)
 }
 
-/// Returns the bulletin of a round of a file that is accepted, or of the last one; no text where no
-/// round is played. Fails only if allocation fails.
-pub(crate) fn bulletin_text(
-    alloc: Global,
-    file: &[u8],
-    asked: Option<Round>,
-) -> Result<Vec<u8>, AllocError> {
-    match bulletin(alloc, file, asked, "") {
+/// Returns that bulletin; no text if no round has been played. Fails only if allocation fails.
+pub(crate) fn bulletin_text(alloc: Global, stood: &Stood) -> Result<Vec<u8>, AllocError> {
+    match bulletin_of(alloc, stood, "") {
         Ok(text) => Ok(text),
         // An allocation failed: passed on.
         Err(DeskFault::Memory) => Err(AllocError),
@@ -82,7 +126,6 @@ pub(crate) fn put_bulletin(out: &mut Writer, round: Option<Round>, text: &[u8]) 
 /// Adds a text as it is printed.
 fn put_told(out: &mut Writer, text: &[u8]) {
     out.begin_as(Tag::Preformatted, "told");
-    out.within();
-    out.put(&[Text(text)]);
+    out.text(text);
     out.end();
 }

@@ -5,12 +5,13 @@ use desk::{before_in_stack, earnings_of, operates};
 use desk_base::{tokens_left, trains_left};
 use history::{GameView, Holder, Party, Shareholder};
 use map_tables::{Hex, home, private_hexes};
-use page_map::Scene;
-use picture::PagePiece::{Count, Hex as Hexed, Letter, Name, Number, Place, Round, Words};
-use picture::{
-    NOTHING, Tag, Writer, begin_row, begin_table, city_name, put_caption, put_company, put_head,
-    put_number, put_row_head,
+use markup::PagePiece::{Count, Hex as Hexed, Letter, Name, Number, Place, Round, Words};
+use markup::{
+    NOTHING, Tag, Writer, begin_row, begin_table, put_caption, put_company, put_head, put_number,
+    put_row_head,
 };
+use page_map::Scene;
+use picture::city_name;
 use privates::price_of;
 use tables::{Company, Kind, Money, Private, Seat, face, price, revenue, rusts, train};
 

@@ -3,13 +3,13 @@
 //! with no script and nothing from elsewhere.
 //!
 //! `page` makes it from the bytes of an order file, and `tile_sheet` makes the page of all tiles. A
-//! page is well-formed: `picture` says how a reader finds it so. The only text of a sheet in it is
+//! page is well-formed: `markup` says how a reader finds it so. The only text of a sheet in it is
 //! that of the bulletin, which is escaped. The map is from `page_map`, the routes are from
 //! `page_routes`, and the charts from `page_charts`. How a page is laid out is tested by the pages
 //! of `games/page/`.
 //!
-//! The definitions, in `specs/`: `Checksum` (of the bytes of a file), `Rank` (of a player),
-//! `Revenue` (what a company earned in a round).
+//! The definitions, in `specs/`: `Checksum` (of the bytes of a file), `Revenue` (what a company
+//! earned in a round).
 //!
 //! Reading order: `worth_history` (the game round by round), `checksum`, `style`, `bulletin_part`,
 //! `phases_part`, `result_part`, `players_part`, `companies_part`, `revenue_part`, `status_part`,

@@ -1,8 +1,8 @@
 //! The phases, each with what it brings.
 
 use history::History;
-use picture::PagePiece::{Count, Number, Words};
-use picture::{Tag, Writer, begin_row, begin_table, put_caption, put_head, put_row_head};
+use markup::PagePiece::{Count, Number, Words};
+use markup::{Tag, Writer, begin_row, begin_table, put_caption, put_head, put_row_head};
 use tables::{Kind, Money, limit, rounds_in_set, rusts, same_kind};
 
 /// Returns the colours of the tiles that may be laid in a phase.

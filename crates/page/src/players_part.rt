@@ -2,15 +2,14 @@
 
 ghost use Rattle.std.specs.Prelude.{◌<◌};
 
-use crate::result_part::{rank_of, worths_of};
-use desk::{Purse, purse_of};
+use desk::{Purse, purse_of, rank_of, worths_of};
 use history::{Holder, Shareholder};
-use page_map::Scene;
-use picture::PagePiece::{Count, Name, Number, Words};
-use picture::{
+use markup::PagePiece::{Count, Name, Number, Words};
+use markup::{
     NOTHING, Tag, Writer, begin_head, begin_heading, begin_row, begin_table, end_head, put_caption,
     put_heading, put_number, put_row_head, put_some, put_token,
 };
+use page_map::Scene;
 use rounds::End;
 use tables::{Company, Money, Private, Seat, certificate_limit, price};
 
@@ -100,7 +99,8 @@ fn put_figures(out: &mut Writer, scene: &Scene, purse: &Purse) {
         ],
     );
     put_number(out, purse.worth);
-    let rank = rank_of(&worths_of(scene)[..scene.seats], purse.worth);
+    let worths = worths_of(scene.history, scene.seats);
+    let rank = rank_of(&worths[..scene.seats], purse.worth);
     out.element_as(Tag::Cell, "num", &[Count(rank)]);
 }
 

@@ -3,8 +3,8 @@ ghost use Rattle.std.specs.Prelude.{◌≡◌, ◌+◌, ◌<◌, ◌≤◌, ◌^
 ghost use Rattle.page.specs.Revenue.{revenue_in, revenue_then};
 
 use history::{Event, History};
-use picture::PagePiece::{Number, Round as Named, Words};
-use picture::{
+use markup::PagePiece::{Number, Round as Named, Words};
+use markup::{
     Attr, NOTHING, Tag, Writer, begin_head, begin_heading, begin_row, begin_table, end_head,
     put_caption, put_heading, put_row_head, put_token,
 };
@@ -113,10 +113,8 @@ pub(crate) fn put_revenue(
 ) -> Result<(), AllocError> {
     let spans = operating_rounds(alloc, history.events())?;
     if spans.is_empty() {
-        out.begin(Tag::Paragraph);
-        out.value(Attr::Id, &[Words("revenue")]);
-        out.within();
-        out.put(&[Words("No operating round has been played.")]);
+        begin_table(out, "revenue", "wide");
+        put_caption(out, "No operating round has been played.", "");
         out.end();
         return Ok(());
     }

@@ -4,9 +4,9 @@ use crate::phases_part::colours_of;
 use desk::operates;
 use desk_base::trains_left;
 use history::{History, Party};
+use markup::PagePiece::{Checksum, Count, Name, Number, Round as Named, Words};
+use markup::{Attr, PagePiece, Tag, Writer};
 use page_map::Scene;
-use picture::PagePiece::{Checksum, Count, Name, Number, Round as Named, Words};
-use picture::{Attr, PagePiece, Tag, Writer};
 use rounds::End;
 use tables::{Company, Kind, Money, Round, Seat, certificate_limit, limit, train};
 

@@ -91,6 +91,7 @@ pub(crate) const STYLE: &str = "\n\
     .hexes li{break-inside:avoid;padding:2px 0;border-bottom:1px solid var(--rule)}\
     li:target{background:#ffe45c;color:#000}\n\
     @media screen{section{overflow-x:auto}svg.map,svg.chart{min-width:900px}\
+    #ranks{min-width:min(31em,100%)}\
     .plot{min-width:560px}th[scope=row]{position:sticky;left:0;background:var(--paper)}\
     .sum th[scope=row]{background:var(--band)}}\n\
     @media screen and (max-width:700px){.on{display:none}.key{display:block}\

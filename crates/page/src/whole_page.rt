@@ -1,7 +1,8 @@
 //! The page of a game.
-ghost use Rattle.std.specs.Prelude.{IfErr, IfOk, OnOk};
+ghost use Rattle.std.specs.Prelude.{◌≡◌, IfErr, IfOk, OnOk};
 ghost use Rattle.desk_base.specs.Refusal.{HasNoState, IsOfGame};
-ghost use Rattle.picture.specs.Reading.{IsWellFormed};
+ghost use Rattle.markup.specs.Reading.{IsWellFormed};
+ghost use Rattle.page.specs.ChartToken.{chart_token};
 ghost use Rattle.sheets.specs.File.{IsAccepted};
 
 use crate::bulletin_part::{bulletin_text, put_bulletin};
@@ -15,16 +16,16 @@ use crate::status_part::{self, Source};
 use crate::style::STYLE;
 use crate::worth_history::{play_to, thinned};
 use desk::{all_in_order, before_in_stack};
-use desk_base::{DeskFault, stood_now};
+use desk_base::{DeskFault, Stood, stood_now};
 use history::History;
+use markup::PagePiece::{Round as Named, Words};
+use markup::{Tag, Writer, begin_plain_section, begin_section};
 use page_charts::{ChartToken, ChartTokens, Entry, Players, put_chart, put_history};
 use page_map::{
     Scene, begin_map, end_map, moved_in_last_round, put_hexes, put_key, put_labels, put_laid,
     put_tiles_left, square_before_round,
 };
 use page_routes::{Routes, last_routes, put_lines, put_table, put_tags};
-use picture::PagePiece::{Round as Named, Words};
-use picture::{Tag, Writer, begin_plain_section, begin_section};
 use rounds::Play;
 use sheets::{Sheets, collect};
 use std::alloc::{AllocError, Global};
@@ -50,45 +51,58 @@ pub fn page(alloc: Global, file: &[u8], asked: Option<Round>) -> Result<Vec<u8>,
     ensures fault { IfErr result (λ fault. HasNoState fault file.now) }
 {
     let sheets = collect(alloc, file)?;
-    let bulletin = bulletin_text(alloc, file, asked)?;
-    let told = Told {
-        source: Source {
-            lines: line_count(file),
-            checksum: checksum(file),
-        },
-        bulletin: bulletin.as_slice(),
+    let source = Source {
+        lines: line_count(file),
+        checksum: checksum(file),
     };
-    page_of(alloc, &sheets, told, asked)
+    page_of(alloc, &sheets, source, asked)
 }
 
 /// Returns the page of the game of some sheets.
 fn page_of(
     alloc: Global,
     sheets: &Sheets,
-    told: Told,
+    source: Source,
     asked: Option<Round>,
 ) -> Result<Vec<u8>, DeskFault>
     ensures well_formed { IfOk result (λ page. IsWellFormed page.items) }
     ensures fault { IfErr result IsOfGame }
 {
     let played = play_to(alloc, sheets, asked)?;
-    page_of_play(alloc, &played.play, told, played.entries.as_slice())
+    page_of_play(alloc, &played.play, source, played.entries.as_slice())
 }
 
 /// Returns the page of a game that was played up to here, with how it stood after each round.
 fn page_of_play(
     alloc: Global,
     play: &Play,
-    told: Told,
+    source: Source,
     entries: &[Entry],
 ) -> Result<Vec<u8>, DeskFault>
     ensures well_formed { IfOk result (λ page. IsWellFormed page.items) }
     ensures fault { IfErr result IsOfGame }
 {
     match stood_now(play) {
-        Some(stood) => Ok(page_text(alloc, &Scene::of(&stood), told, entries)?),
+        Some(stood) => Ok(page_of_stood(alloc, &stood, source, entries)?),
         None => Err(DeskFault::Round),
     }
+}
+
+/// Returns the page of a game at a moment, with how it stood after each round.
+fn page_of_stood(
+    alloc: Global,
+    stood: &Stood,
+    source: Source,
+    entries: &[Entry],
+) -> Result<Vec<u8>, AllocError>
+    ensures { IfOk result (λ page. IsWellFormed page.items) }
+{
+    let bulletin = bulletin_text(alloc, stood)?;
+    let told = Told {
+        source,
+        bulletin: bulletin.as_slice(),
+    };
+    page_text(alloc, &Scene::of(stood), told, entries)
 }
 
 /// Returns the page of what a scene shows, with how the game stood after each round.
@@ -130,20 +144,26 @@ fn players_of<'a>(scene: &Scene<'a>) -> Players<'a> {
 
 /// Returns the tokens on the stock chart, in the order of the roster.
 fn tokens_of(history: &History) -> ChartTokens {
-    let view = history.now();
     let mut tokens = [None; COMPANIES];
     for &company in &Company::ALL {
-        if let Some(square) = view.square(company) {
-            tokens[company.index()] = Some(ChartToken {
-                company,
-                square,
-                place: before_in_stack(&view, square, company),
-                is_new: moved_in_last_round(history.events(), company),
-                from: square_before_round(history.events(), company),
-            });
-        }
+        tokens[company.index()] = token_of(history, company);
     }
     tokens
+}
+
+/// Returns the token of a company on the stock chart, if it is there.
+fn token_of(history: &History, company: Company) -> Option<ChartToken>
+    ensures { result ≡ chart_token history.now.events company }
+{
+    let view = history.now();
+    let square = view.square(company)?;
+    Some(ChartToken {
+        company,
+        square,
+        place: before_in_stack(&view, square, company),
+        is_new: moved_in_last_round(history.events(), company),
+        from: square_before_round(history.events(), company),
+    })
 }
 
 /// Adds what stands before the sections.
