@@ -10,7 +10,7 @@
 //! `migrating` (a file that migrates to version 2, over them),
 //! `watching` (a reader or writer that remembers a failure), `texts` (reports), `sequence` (the
 //! rounds after the bank is broken), `refusing` (a runner that refuses), `stepping` (a game a round
-//! at a time).
+//! at a time), `lanes` (runs over one border, on a page).
 #![tactic(auto)]
 
 #[cfg(test)]
@@ -19,6 +19,8 @@ mod certifying;
 mod devices;
 #[cfg(test)]
 mod examples;
+#[cfg(test)]
+mod lanes;
 #[cfg(test)]
 mod migrating;
 #[cfg(test)]
