@@ -38,6 +38,8 @@ const NOTHING_PLAYED: &str = "no round is played yet";
 pub(crate) struct Answer<'a> {
     /// What is written to standard output.
     pub(crate) text: Vec<u8>,
+    /// Of whom the note is said, if of anybody.
+    pub(crate) names: Option<Vec<u8>>,
     /// What is said on standard error; nothing where it is empty.
     pub(crate) note: &'static str,
     /// Of what it is said.
@@ -214,13 +216,18 @@ fn moves_answered<'a>(
     match told {
         Ok(text) => Ok(answered(text, "", WRITTEN)),
         Err(MovesFault::Desk(fault)) => answer_with(alloc, is_named, Err(fault)),
-        Err(MovesFault::Asked(why)) => Ok(answered(Vec::new(alloc), why.sentence(), MISUSED)),
+        Err(MovesFault::Asked(why)) => {
+            let mut answer = answered(Vec::new(alloc), why.sentence(), MISUSED);
+            answer.names = why.into_names();
+            Ok(answer)
+        }
     }
 }
 
 /// Returns an `Answer` with this text, this note on standard error, and this status.
 fn answered<'a>(text: Vec<u8>, note: &'static str, status: u8) -> Answer<'a> {
     Answer {
+        names: None,
         text,
         note,
         about: "",
@@ -258,12 +265,11 @@ fn explained<'a>(alloc: Global, task: &Task<'a>) -> Result<Answer<'a>, StreamFau
         }
     }
     match unknown {
-        Some(code) => Ok(Answer {
-            text,
-            note: "there is no such code: ",
-            about: code,
-            status: MISUSED,
-        }),
+        Some(code) => {
+            let mut answer = answered(text, "there is no such code: ", MISUSED);
+            answer.about = code;
+            Ok(answer)
+        }
         None => Ok(answered(text, "", WRITTEN)),
     }
 }

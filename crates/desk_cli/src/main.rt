@@ -75,7 +75,11 @@ fn perform(rt: &HostRuntime, task: &Task) -> Result<u8, StreamFault> {
     let answer = answer_to(rt.alloc(), file.as_slice(), task, &mut waiting)?;
     write_text(io::writer(rt), answer.text.as_slice())?;
     if !answer.note.is_empty() {
-        let _ = eprintln!(rt; "desk: {}{}", answer.note, answer.about);
+        let names = match &answer.names {
+            Some(names) => str::from_utf8(names.as_slice()).unwrap_or(""),
+            None => "",
+        };
+        let _ = eprintln!(rt; "desk: {names}{}{}", answer.note, answer.about);
     }
     Ok(answer.status)
 }

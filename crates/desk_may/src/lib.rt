@@ -2,15 +2,19 @@
 //! might expect and may not, with the rule that forbids it, and a train that a company of theirs
 //! must buy.
 //!
-//! Each line is made from a list of `moves`, or from the call that rules such an order, at the head
-//! of the player's turn or of their company's orders (`foresight`).
+//! Each line is made from a row of `moves`, at the head of the player's turn or of their company's
+//! orders (`foresight`), and from what is told of that row. What is told is proved; how it is printed
+//! is tested.
 //!
-//! Reading order: `may_line` (a line), `until_then` (what comes before), `may_opening`, `may_stock`,
+//! Reading order: `told` (what is told of an order), `teller` (of each row), `opening_told`,
+//! `stock_told`, `company_told` (of the rows of each kind of turn), `told_rows` (rows with what is
+//! told of them); `may_line` (a line), `until_then` (what comes before), `may_opening`, `may_stock`,
 //! `may_operating` (the lines of each kind of round), `must_buy` (a train that a company must buy),
 //! `offerers` (who may offer a train), `raise_rows` (what becomes of a RAISE), `row_lines` (rows as
 //! lines), `may_lines` (the same as the lines of a sheet).
 #![tactic(auto)]
 
+mod company_told;
 mod may_line;
 mod may_lines;
 mod may_opening;
@@ -18,8 +22,13 @@ mod may_operating;
 mod may_stock;
 mod must_buy;
 mod offerers;
+mod opening_told;
 mod raise_rows;
 mod row_lines;
+mod stock_told;
+mod teller;
+mod told;
+mod told_rows;
 mod until_then;
 
 pub use may_lines::{push_lines_of_operating, push_lines_of_turn};

@@ -1,11 +1,15 @@
 //! A line of what a player may do, or may not.
 
-use desk_base::Piece::{Column, Number, Right, Words};
-use desk_base::{Reason, fill, push, push_wrapped};
+use crate::told::{Held, Note, Told};
+use crate::told_rows::ToldRows;
+use desk_base::Piece::{Bytes, Column, Number, Right, Words};
+use desk_base::{Piece, Reason, fill, push, push_wrapped};
 use history::Refusal;
 use order_grammar::{Order, print_order};
+use report::name;
+use sheets::Sheets;
 use std::alloc::{AllocError, Global};
-use tables::Money;
+use tables::{Money, Square, price};
 
 /// The column in front of a price, which has six digits at most.
 const PRICE: usize = 22;
@@ -24,43 +28,124 @@ pub(crate) fn push_note_column(out: &mut Vec<u8>) -> Result<(), AllocError> {
     push(out, &[Column(NOTE)])
 }
 
-/// Adds an order that may not be given, with the first rule that it breaks: its code and its words.
-pub(crate) fn push_may_not(
-    alloc: Global,
+/// Adds a line for each row of which it is told that the order may be given: of bids, or of the
+/// other orders.
+pub(crate) fn push_given(
     out: &mut Vec<u8>,
-    order: &Order,
-    rule: Refusal,
+    sheets: &Sheets,
+    list: &ToldRows,
+    is_bid: bool,
 ) -> Result<(), AllocError> {
-    fill(out, "NOT ", &[])?;
-    print_order(out, order)?;
-    push_note_column(out)?;
-    let mut why = Vec::new(alloc);
-    push_rule(&mut why, rule)?;
-    push_wrapped(out, NOTE, why.as_slice())
+    for (place, row) in list.rows.iter().enumerate() {
+        if let Some(Told::May { price, note }) = list.told_at(place)
+            && matches!(row.order, Order::Bid { .. }) == is_bid
+        {
+            push_may_noted(out, sheets, &row.order, price, note)?;
+            fill(out, "\n", &[])?;
+        }
+    }
+    Ok(())
 }
 
-/// Adds an order that may not be given, with its price and what is held, and the first rule that it
-/// breaks.
-pub(crate) fn push_may_not_at(
+/// Adds a line for each row of which it is told that the order may not be given: of the exchange of
+/// MH, or of the other orders.
+pub(crate) fn push_not_given(
     alloc: Global,
     out: &mut Vec<u8>,
+    list: &ToldRows,
+    is_exchange: bool,
+) -> Result<(), AllocError> {
+    for (place, row) in list.rows.iter().enumerate() {
+        if let Some(Told::Not { rule, price, held }) = list.told_at(place)
+            && matches!(row.order, Order::ExchangeMohawk) == is_exchange
+        {
+            push_may_not(alloc, out, &row.order, rule, price, held)?;
+        }
+    }
+    Ok(())
+}
+
+/// Adds an order that may be given, with its price in dollars and what is said of it. The line stays
+/// open.
+pub(crate) fn push_may_noted(
+    out: &mut Vec<u8>,
+    sheets: &Sheets,
     order: &Order,
-    rule: Refusal,
     price: Money,
-    held: Money,
+    note: Note,
 ) -> Result<(), AllocError> {
-    fill(out, "NOT ", &[])?;
     push_may(out, order, price)?;
+    if let Note::Nothing = note {
+        return Ok(());
+    }
     push_note_column(out)?;
-    let mut why = Vec::new(alloc);
-    push_rule(&mut why, rule)?;
-    fill(&mut why, "; you hold %", &[Number(held)])?;
-    push_wrapped(out, NOTE, why.as_slice())
+    push_note(out, sheets, note)
 }
 
-/// Adds a rule: its code and its words.
-fn push_rule(out: &mut Vec<u8>, rule: Refusal) -> Result<(), AllocError> {
+/// Adds what is said of an order that may be given.
+fn push_note(out: &mut Vec<u8>, sheets: &Sheets, note: Note) -> Result<(), AllocError> {
+    match note {
+        Note::Nothing => Ok(()),
+        Note::OrMore => fill(out, "or more", &[]),
+        Note::Several => fill(
+            out,
+            "as many as you like in a turn: its price is brown",
+            &[],
+        ),
+        Note::Falls { from, to } => {
+            push_square(out, from)?;
+            fill(out, " -> ", &[])?;
+            push_square(out, to)
+        }
+        Note::Source(from) => fill(out, "for a share of NYC from %", &[Bytes(from.text())]),
+        Note::UpTo { most, giver: None } => fill(out, "up to %", &[Number(most)]),
+        Note::UpTo {
+            most,
+            giver: Some(giver),
+        } => fill(
+            out,
+            "up to %, if % offers it",
+            &[Number(most), Bytes(name(sheets, giver))],
+        ),
+    }
+}
+
+/// Adds the price of a square with its name.
+fn push_square(out: &mut Vec<u8>, square: Square) -> Result<(), AllocError> {
+    let price = Number(Money::from(price(square)));
+    fill(out, "% %", &[price, Piece::Square(square)])
+}
+
+/// Adds an order that may not be given, with its price in dollars if it is told, the first rule that
+/// it breaks, and what is held of which the rule speaks.
+fn push_may_not(
+    alloc: Global,
+    out: &mut Vec<u8>,
+    order: &Order,
+    rule: Refusal,
+    price: Option<Money>,
+    held: Held,
+) -> Result<(), AllocError> {
+    fill(out, "NOT ", &[])?;
+    match price {
+        Some(price) => push_may(out, order, price)?,
+        None => print_order(out, order)?,
+    }
+    push_note_column(out)?;
+    let mut why = Vec::new(alloc);
     let reason = Reason::Order(rule);
     let pieces = [Words(reason.code()), Words(reason.sentence())];
-    fill(out, "%: %", &pieces)
+    fill(&mut why, "%: %", &pieces)?;
+    push_held(&mut why, held)?;
+    push_wrapped(out, NOTE, why.as_slice())
+}
+
+/// Adds what is held of which a rule speaks.
+fn push_held(out: &mut Vec<u8>, held: Held) -> Result<(), AllocError> {
+    match held {
+        Held::Unsaid => Ok(()),
+        Held::YourCash(cash) => fill(out, "; you have %", &[Number(cash)]),
+        Held::ItsCash(cash) => fill(out, "; it has %", &[Number(cash)]),
+        Held::YourShares(shares) => fill(out, "; you hold %", &[Number(Money::from(shares))]),
+    }
 }

@@ -1,20 +1,23 @@
 //! A train that a company must buy as its turn ends, as text: what it costs and who pays, what its
 //! president may sell for it, and what happens otherwise.
 
+ghost use Rattle.std.specs.Prelude.{◌≡◌};
+ghost use Rattle.desk_may.specs.RaiseRows.{greater_of, price_brought};
+
 use crate::may_line::push_may;
-use crate::raise_rows::brought_by;
+use crate::raise_rows::{NUMBERS, raise_rows};
 use crate::until_then::{SAID, push_events};
 use certs::Sale;
 use desk_base::Piece::{Bytes, Column, Number, Words};
 use desk_base::{fill, push};
 use forced_purchase::{Operator, cheapest, falls_short, lack, sale_rule};
 use foresight::{OrdersAhead, RoundAhead};
-use history::{History, Party, Shareholder, TrainSeller};
-use order_grammar::Order;
+use history::{History, Party, TrainSeller};
+use moves::{Answer, Row, brought_by};
 use report::name;
 use sheets::Sheets;
 use std::alloc::{AllocError, Global};
-use tables::{Amount, Company, Money};
+use tables::{Company, Money};
 
 /// When a company must buy a train, as it is told.
 #[derive(Clone, Copy)]
@@ -56,7 +59,7 @@ pub fn push_end_of_turn<'a>(
     if !due {
         return push_if_sold(out, orders)?.finish();
     }
-    push_purchase(out, sheets, orders.history(), orders.by())?;
+    push_purchase(alloc, out, sheets, orders.history(), orders.by())?;
     let from = orders.history().events().len();
     let ahead = orders.finish()?;
     push_what_follows(alloc, out, sheets, ahead.history(), from)?;
@@ -82,6 +85,7 @@ fn push_if_sold<'a>(
 
 /// Adds what a company must buy, and who pays for it.
 fn push_purchase(
+    alloc: Global,
     out: &mut Vec<u8>,
     sheets: &Sheets,
     history: &History,
@@ -90,7 +94,7 @@ fn push_purchase(
     push_cost(out, history, by, AT_THE_END)?;
     push_president(out, sheets, history, by, AT_THE_END)?;
     if falls_short(history, by) {
-        push_raises(out, history, by)?;
+        push_raises(out, raise_rows(alloc, history, by)?.as_slice())?;
     }
     Ok(())
 }
@@ -154,49 +158,48 @@ fn push_president(
 fn raised_at_most(history: &History, by: Operator) -> Money {
     let mut sum: Money = 0;
     for company in &Company::ALL {
-        let mut most = 0;
-        for shares in 1..=held(history, by, *company) {
-            if let Some(brought) = price_brought(history, by, *company, shares) {
-                most = brought.max(most);
-            }
-        }
-        sum = sum.saturating_add(most);
+        sum = sum.saturating_add(most_raised(history, by, *company));
     }
     sum
 }
 
-/// Returns how many shares of a company a president has.
-fn held(history: &History, by: Operator, company: Company) -> Amount {
-    let shares = history.shares(company, Shareholder::Seat(by.president));
-    Amount::try_from(shares).unwrap_or(0)
+/// Returns what the block of shares of a company brings that brings most, in dollars; 0 if each is
+/// refused.
+fn most_raised(history: &History, by: Operator, company: Company) -> Money {
+    let mut most = 0;
+    for shares in &NUMBERS {
+        let shares = *shares;
+        most = greater_of(most, price_brought(history, by, Sale { company, shares }));
+    }
+    most
+}
+
+/// Returns the greater of two sums, in dollars, if there is a second.
+fn greater_of(most: Money, brought: Option<Money>) -> Money
+    ensures { result ≡ greater_of most brought }
+{
+    match brought {
+        Some(sum) => { if most < sum { sum } else { most } }
+        None => most,
+    }
 }
 
 /// Returns what a sale to pay for a train brings, in dollars; `None` if a rule refuses it.
-fn price_brought(
-    history: &History,
-    by: Operator,
-    company: Company,
-    shares: Amount,
-) -> Option<Money> {
-    let sale = Sale { company, shares };
+fn price_brought(history: &History, by: Operator, sale: Sale) -> Option<Money>
+    ensures { result ≡ price_brought history.now by sale }
+{
     match sale_rule(history, by, sale) {
         Some(_) => None,
         None => Some(brought_by(&history.now(), sale)),
     }
 }
 
-/// Adds each RAISE that would be obeyed, with what it brings.
-fn push_raises(out: &mut Vec<u8>, history: &History, by: Operator) -> Result<(), AllocError> {
-    for company in &Company::ALL {
-        for shares in 1..=held(history, by, *company) {
-            if let Some(brought) = price_brought(history, by, *company, shares) {
-                let order = Order::Raise {
-                    company: *company,
-                    shares,
-                };
-                push_may(out, &order, brought)?;
-                fill(out, "\n", &[])?;
-            }
+/// Adds each RAISE that would be obeyed as the first, with what it brings.
+fn push_raises(out: &mut Vec<u8>, rows: &[Row]) -> Result<(), AllocError> {
+    for row in rows {
+        if let Answer::Obeyed { price } = row.answer {
+            push_may(out, &row.order, price)?;
+            fill(out, "\n", &[])?;
         }
     }
     Ok(())

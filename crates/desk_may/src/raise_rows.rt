@@ -1,18 +1,17 @@
 //! The rows of RAISE lines, where a company must buy a train that its cash does not pay for.
-ghost use Rattle.std.specs.Prelude.{◌≡◌, ◌++◌, IfOk, OnOk, map, pos};
+ghost use Rattle.std.specs.Prelude.{◌≡◌, ◌++◌, IfOk, OnOk, map};
 ghost use Rattle.desk_may.specs.RaiseRows.{is_held, raise_answer, raise_if_held, raise_row, raises, raises_of};
-ghost use Rattle.moves.specs.Deals.{brought_by};
 
-use certs::{Sale, market_price};
+use certs::Sale;
 use forced_purchase::{Operator, raise_rule};
-use history::{GameView, History, ShareCount, Shareholder};
-use moves::{Answer, Row};
+use history::{History, ShareCount, Shareholder};
+use moves::{Answer, Row, brought_by};
 use order_grammar::Order;
 use std::alloc::{AllocError, Global};
-use tables::{Amount, Company, Money};
+use tables::{Amount, Company};
 
 /// The numbers of shares that a RAISE may name: a company has ten.
-const NUMBERS: [Amount; 10] = [1, 2, 3, 4, 5, 6, 7, 8, 9, 10];
+pub(crate) const NUMBERS: [Amount; 10] = [1, 2, 3, 4, 5, 6, 7, 8, 9, 10];
 
 /// Returns what becomes of each RAISE as the first, where a train must be bought: of one share of a
 /// company to all that its president has of it. Fails only if allocation fails.
@@ -95,11 +94,4 @@ fn raise_answer(history: &History, by: Operator, sale: Sale) -> Answer
             price: brought_by(&history.now(), sale),
         },
     }
-}
-
-/// Returns what the shares of a sale bring, in dollars: the market price for each.
-pub(crate) fn brought_by(view: &GameView, sale: Sale) -> Money
-    ensures { result ≡ pos (brought_by view.now.events.now sale) }
-{
-    Money::from(sale.shares) * Money::from(market_price(view, sale.company))
 }

@@ -1,8 +1,11 @@
 //! The best runs of a company, with the trains that it has or with others.
-ghost use Rattle.std.specs.Prelude.{IfOk};
+ghost use Rattle.std.specs.Prelude.{◌≡◌, IfOk, OnOk, count_by};
+ghost use Rattle.std.specs.List.{list_any};
 ghost use Rattle.board_state.specs.MapState.{position_of};
+ghost use Rattle.desk_moves.specs.BestTrains.{AreAllowed, has_rusted, is_too_many};
 ghost use Rattle.legal_runs.specs.Claim.{ClaimHolds};
 ghost use Rattle.legal_runs.specs.Set.{IsGreatest};
+ghost use Rattle.tables.specs.Train.{kinds, same_kind};
 
 use crate::board_now::board_now;
 use crate::fault::{MovesFault, NoAnswer};
@@ -13,7 +16,7 @@ use desk_base::{fill, push_run, trains_of};
 use history::History;
 use legal_runs::Claim;
 use std::alloc::{AllocError, Global};
-use tables::{Company, Kind, Money, limit, rusts, train};
+use tables::{Company, Kind, Money, limit, rusts, same_kind, train};
 
 /// Returns the best runs of a company as its turn begins, as the desk writes runs: with these
 /// trains, or with those that it has if there are none. The error says what is wrong with the
@@ -24,15 +27,27 @@ pub(crate) fn best_text(
     company: Company,
     trains: &[Kind],
 ) -> Result<Vec<u8>, MovesFault> {
+    let trains = meant_trains(alloc, history, company, trains)?;
+    text_with(alloc, history, company, trains.as_slice())
+}
+
+/// Returns the trains that are meant: these, or those that a company has if there are none. Fails if
+/// the company may not have these, or has none.
+fn meant_trains(
+    alloc: Global,
+    history: &History,
+    company: Company,
+    trains: &[Kind],
+) -> Result<Vec<Kind>, MovesFault> {
     if !trains.is_empty() {
-        may_have(history.phase(), trains)?;
-        return text_with(alloc, history, company, trains);
+        must_be_allowed(history.phase(), trains)?;
+        return Ok(trains.to_vec(alloc)?);
     }
     let trains = trains_of(alloc, &history.now(), company)?;
     if trains.is_empty() {
         return Err(MovesFault::Asked(NoAnswer::NoTrains));
     }
-    text_with(alloc, history, company, trains.as_slice())
+    Ok(trains)
 }
 
 /// Returns the best runs of a company with these trains.
@@ -83,20 +98,14 @@ fn push_claim(
 
 /// Fails unless a company may have these trains in a phase, some of which may come only later: no
 /// kind has rusted, there are as many of each, and the limit allows as many.
-fn may_have(phase: Kind, trains: &[Kind]) -> Result<(), MovesFault> {
-    for kind in &Kind::ALL {
-        let named = trains
-            .iter()
-            .filter(|other| other.index() == kind.index())
-            .count();
-        if named > 0 && has_rusted(*kind, phase) {
-            return Err(MovesFault::Asked(NoAnswer::Rusted));
-        }
-        if let Some(number) = train(*kind).number
-            && named > usize::from(number)
-        {
-            return Err(MovesFault::Asked(NoAnswer::TooManyOfKind));
-        }
+fn must_be_allowed(phase: Kind, trains: &[Kind]) -> Result<(), MovesFault>
+    ensures { OnOk result (AreAllowed phase trains.now) }
+{
+    if has_rusted_among(phase, trains) {
+        return Err(MovesFault::Asked(NoAnswer::Rusted));
+    }
+    if has_too_many(trains) {
+        return Err(MovesFault::Asked(NoAnswer::TooManyOfKind));
     }
     if trains.len() > limit(phase) {
         return Err(MovesFault::Asked(NoAnswer::OverLimit));
@@ -104,10 +113,46 @@ fn may_have(phase: Kind, trains: &[Kind]) -> Result<(), MovesFault> {
     Ok(())
 }
 
+/// Returns whether one of some trains has rusted by a phase.
+fn has_rusted_among(phase: Kind, trains: &[Kind]) -> bool
+    ensures { result ≡ list_any (has_rusted phase) trains.now }
+{
+    trains.iter().any(|kind| has_rusted(phase, *kind))
+}
+
 /// Returns whether trains of a kind have rusted by a phase.
-fn has_rusted(kind: Kind, phase: Kind) -> bool {
+fn has_rusted(phase: Kind, kind: Kind) -> bool
+    ensures { result ≡ has_rusted phase kind }
+{
     match rusts(kind) {
         Some(by) => by.index() <= phase.index(),
         None => false,
     }
+}
+
+/// Returns whether there are more trains of a kind among some than there are such trains.
+fn has_too_many(trains: &[Kind]) -> bool
+    ensures { result ≡ list_any (is_too_many trains.now) kinds }
+{
+    Kind::ALL.iter().any(|kind| is_too_many(trains, *kind))
+}
+
+/// Returns whether there are more trains of this kind among some than there are such trains.
+fn is_too_many(trains: &[Kind], kind: Kind) -> bool
+    ensures { result ≡ is_too_many trains.now kind }
+{
+    match train(kind).number {
+        Some(number) => usize::from(number) < count_of(trains, kind),
+        None => false,
+    }
+}
+
+/// Returns how many trains of a kind there are among some.
+fn count_of(trains: &[Kind], kind: Kind) -> usize
+    ensures { result ≡ count_by (λ train. same_kind train kind) trains.now }
+{
+    trains
+        .iter()
+        .filter(|train| same_kind(**train, kind))
+        .count()
 }

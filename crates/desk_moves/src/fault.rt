@@ -9,7 +9,7 @@ use sheets::FileFault;
 use std::alloc::AllocError;
 
 /// Why a question about moves has no answer.
-#[derive(Clone, Copy)]
+#[derive(Drop)]
 pub enum MovesFault {
     /// The file is refused, the round is not played, or an allocation failed.
     Desk(DeskFault),
@@ -18,7 +18,7 @@ pub enum MovesFault {
 }
 
 /// Why a game cannot answer a question.
-#[derive(Clone, Copy)]
+#[derive(Drop)]
 pub enum NoAnswer {
     /// The game is over.
     GameOver,
@@ -43,13 +43,21 @@ pub enum NoAnswer {
     Rusted,
     /// More trains are named than a company may have in this phase.
     OverLimit,
-    /// A player owes a sheet who is not among those that are named.
-    OwesToo,
+    /// Players owe a sheet who are not among those that are named: `CYD and DAN owe`.
+    OwesToo(Vec<u8>),
 }
 
 impl NoAnswer {
-    /// Returns a sentence that says so.
-    pub fn sentence(self) -> &'static str {
+    /// Returns who else owes a sheet, if that is why: what the sentence goes on from.
+    pub fn into_names(self) -> Option<Vec<u8>> {
+        match self {
+            NoAnswer::OwesToo(names) => Some(names),
+            _ => None,
+        }
+    }
+
+    /// Returns a sentence that says so, or what follows the names of those who owe.
+    pub fn sentence(&self) -> &'static str {
         match self {
             NoAnswer::GameOver => "the game is over by then",
             NoAnswer::NotStarted => "that company is not started",
@@ -66,7 +74,7 @@ impl NoAnswer {
             NoAnswer::TooManyOfKind => "there are not so many trains of one kind",
             NoAnswer::Rusted => "trains of one of these kinds have rusted",
             NoAnswer::OverLimit => "a company may not have so many trains in this phase",
-            NoAnswer::OwesToo => "somebody who is not named owes a sheet as well",
+            NoAnswer::OwesToo(_) => " a sheet as well",
         }
     }
 }

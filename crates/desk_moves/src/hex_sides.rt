@@ -1,9 +1,13 @@
 //! What meets at the sides of a hex.
+ghost use Rattle.std.specs.Prelude.{◌≡◌};
+ghost use Rattle.desk_moves.specs.HexFacts.{other_end};
+ghost use Rattle.map_tables.specs.Fit.{has_print_at, is_shut, is_side};
 
 use board::Board;
+use board_state::is_open;
 use desk_base::Piece::{Bytes, Column, Count, Words};
-use desk_base::{fill, push};
-use map_tables::{Hex, HexKind, Link, Place, Side, TrackEnd, hex_kind, neighbour};
+use desk_base::{Beyond, beyond_side, fill, push};
+use map_tables::{Hex, HexKind, Link, Place, Side, TrackEnd, hex_kind, printed_links};
 use reach::Network;
 use std::alloc::AllocError;
 
@@ -34,20 +38,20 @@ fn push_side(out: &mut Vec<u8>, board: &Board, hex: Hex, side: Side) -> Result<(
         "% %%",
         &[number, Words(name_of(side)), Column(NEIGHBOUR)],
     )?;
-    match (neighbour(hex, side), beyond(hex, side)) {
-        (Some(other), _) => {
+    match beyond_side(hex, side) {
+        Beyond::OpenBorder(other) => {
             push(out, &[Bytes(other.text().as_slice()), Column(HERE)])?;
             push_track(out, board, hex, side)?;
             push(out, &[Column(THERE)])?;
             push_track(out, board, other, side.facing())?;
-            fill(out, "%\n", &[Words(closed_by(board, other, side.facing()))])
+            fill(out, "%\n", &[Words(closed_by(other, side.facing()))])
         }
-        (None, Some(other)) => fill(
+        Beyond::ClosedBorder(other) => fill(
             out,
             "%%the border is closed\n",
             &[Bytes(other.text().as_slice()), Column(HERE)],
         ),
-        (None, None) => fill(out, "-%the map ends\n", &[Column(HERE)]),
+        Beyond::MapEnd => fill(out, "-%the map ends\n", &[Column(HERE)]),
     }
 }
 
@@ -63,25 +67,11 @@ fn name_of(side: Side) -> &'static str {
     }
 }
 
-/// Returns the hex that lies at a side, also over a closed border; `None` off the map.
-fn beyond(hex: Hex, side: Side) -> Option<Hex> {
-    let (row, column) = (hex.row(), hex.column());
-    let (below, above) = (row.saturating_add(1), row.saturating_sub(1));
-    match side {
-        Side::SouthWest => Hex::at(below, column.checked_sub(1)?),
-        Side::West => Hex::at(row, column.checked_sub(2)?),
-        Side::NorthWest => Hex::at(above, column.checked_sub(1)?),
-        Side::NorthEast => Hex::at(above, column.checked_add(1)?),
-        Side::East => Hex::at(row, column.checked_add(2)?),
-        Side::SouthEast => Hex::at(below, column.checked_add(1)?),
-    }
-}
-
 /// Adds to which stops and sides the track of a hex leads from a side; `-` where none lies.
 fn push_track(out: &mut Vec<u8>, board: &Board, hex: Hex, side: Side) -> Result<(), AllocError> {
     let mut before = "";
     for link in board.links(hex).as_slice() {
-        if let Some(end) = other_end(link, TrackEnd::Side(side)) {
+        if let Some(end) = other_end(link, side) {
             fill(out, before, &[])?;
             push_end(out, hex, end)?;
             before = " ";
@@ -91,11 +81,13 @@ fn push_track(out: &mut Vec<u8>, board: &Board, hex: Hex, side: Side) -> Result<
     push(out, &[Words(none)])
 }
 
-/// Returns the end of a link that is not this one; `None` if this is none of its ends.
-fn other_end(link: &Link, end: TrackEnd) -> Option<TrackEnd> {
-    if link.a == end {
+/// Returns the end of a link that is not this side; `None` if this is none of its ends.
+fn other_end(link: &Link, side: Side) -> Option<TrackEnd>
+    ensures { result ≡ other_end link.now side }
+{
+    if is_side(side, link.a) {
         Some(link.b)
-    } else if link.b == end {
+    } else if is_side(side, link.b) {
         Some(link.a)
     } else {
         None
@@ -118,15 +110,38 @@ fn push_end(out: &mut Vec<u8>, hex: Hex, end: TrackEnd) -> Result<(), AllocError
 
 /// Returns what is said of a neighbour to which no track may lead: one that is grey or red and has
 /// no track at that side.
-fn closed_by(board: &Board, hex: Hex, side: Side) -> &'static str {
-    let has_track = board
-        .links(hex)
+fn closed_by(hex: Hex, side: Side) -> &'static str {
+    match hex_kind(hex) {
+        HexKind::Grey if is_shut(hex, side) => ", closed: it is grey",
+        HexKind::Red if is_shut(hex, side) => ", closed: it is red",
+        _ => "",
+    }
+}
+
+/// Returns whether no track may reach a hex over this side of it: it is grey or red, and its print
+/// has none there.
+fn is_shut(hex: Hex, side: Side) -> bool
+    ensures { result ≡ is_shut hex side }
+{
+    !is_open(hex_kind(hex)) && !has_print_at(hex, side)
+}
+
+/// Returns whether the print of a hex has track at a side.
+fn has_print_at(hex: Hex, side: Side) -> bool
+    ensures { result ≡ has_print_at hex side }
+{
+    printed_links(hex)
         .as_slice()
         .iter()
-        .any(|link| other_end(link, TrackEnd::Side(side)).is_some());
-    match hex_kind(hex) {
-        HexKind::Grey if !has_track => ", closed: it is grey",
-        HexKind::Red if !has_track => ", closed: it is red",
-        _ => "",
+        .any(|link| is_side(side, link.a) || is_side(side, link.b))
+}
+
+/// Returns whether an end of track is this side.
+fn is_side(side: Side, end: TrackEnd) -> bool
+    ensures { result ≡ is_side side end }
+{
+    match end {
+        TrackEnd::Side(other) => other.number() == side.number(),
+        TrackEnd::Stop(_) => false,
     }
 }

@@ -1,5 +1,6 @@
 //! A hex as it is: its colour and tile, its terrain, its stops, and what meets at its sides.
 ghost use Rattle.std.specs.Prelude.{◌≡◌, length};
+ghost use Rattle.desk_moves.specs.HexFacts.{closed_by, colour_of, ground_of, is_of_private};
 ghost use Rattle.history.specs.Sound.{IsSound};
 ghost use Rattle.sheets.specs.File.{players_of};
 
@@ -7,22 +8,33 @@ use crate::board_now::board_now;
 use crate::coming::Coming;
 use crate::hex_sides::push_sides;
 use board::Board;
-use board_state::OnMap;
+use board_state::{OnMap, same_hex, slots};
 use desk_base::Piece::{Bytes, Column, Count, Number, Right, Words};
 use desk_base::{fill, push};
 use forced_purchase::Operator;
 use foresight::{Draft, RoundAhead};
 use history::{History, Holder};
 use map_tables::{
-    Colour, Hex, HexKind, Stop, StopNumber, TileKind, hex_kind, joined_stop, printed_colour,
-    printed_slots, printed_stops, private_hexes, terrain_cost, tile,
+    Colour, Hex, HexKind, Lay, Stop, StopNumber, TileKind, hex_kind, joined_stop, printed_colour,
+    printed_stops, private_hexes, terrain_cost, tile,
 };
 use reach::Network;
 use report::name;
 use rounds::End;
 use sheets::Sheets;
 use std::alloc::{AllocError, Global};
-use tables::{Company, Money, Private, Round};
+use tables::{Company, Money, Private, Round, Seat};
+
+/// The ground of a hex.
+#[derive(Clone, Copy)]
+enum Ground {
+    /// It is grey: no tile is laid there.
+    Grey,
+    /// It is a red area.
+    Red,
+    /// It takes tiles, and has this colour now.
+    Tiles(Colour),
+}
 
 /// The column in front of the tokens of a stop.
 const TOKENS: usize = 21;
@@ -79,11 +91,10 @@ fn push_ground(out: &mut Vec<u8>, board: &Board, hex: Hex) -> Result<(), AllocEr
     let text = hex.text();
     let name = Bytes(text.as_slice());
     let takes = Words(takes_of(hex));
-    let colour = match (hex_kind(hex), board.tile_on(hex)) {
-        (HexKind::Grey, _) => "grey",
-        (HexKind::Red, _) => "red",
-        (_, Some(lay)) => name_of(tile(lay.tile).colour),
-        (_, None) => name_of(printed_colour(hex)),
+    let colour = match ground_of(hex, board.tile_on(hex)) {
+        Ground::Grey => "grey",
+        Ground::Red => "red",
+        Ground::Tiles(colour) => name_of(colour),
     };
     fill(
         out,
@@ -108,6 +119,27 @@ fn push_ground(out: &mut Vec<u8>, board: &Board, hex: Hex) -> Result<(), AllocEr
     match terrain_cost(hex) {
         0 => Ok(()),
         _ => fill(out, "TERRAIN           %%\n", &[cost, Words(paid)]),
+    }
+}
+
+/// Returns the ground of a hex with this tile, if one lies there.
+fn ground_of(hex: Hex, lay: Option<Lay>) -> Ground
+    ensures { result ≡ ground_of hex lay }
+{
+    match hex_kind(hex) {
+        HexKind::Open(_) => Ground::Tiles(colour_of(hex, lay)),
+        HexKind::Grey => Ground::Grey,
+        HexKind::Red => Ground::Red,
+    }
+}
+
+/// Returns the colour of the tile that lies on a hex, or of its print.
+fn colour_of(hex: Hex, lay: Option<Lay>) -> Colour
+    ensures { result ≡ colour_of hex lay }
+{
+    match lay {
+        Some(lay) => tile(lay.tile).colour,
+        None => printed_colour(hex),
     }
 }
 
@@ -145,16 +177,33 @@ fn push_blocked(
     hex: Hex,
 ) -> Result<(), AllocError> {
     for private in &Private::ALL {
-        let is_its = private_hexes(*private).iter().any(|its| *its == hex);
-        if let Some(Holder::Seat(seat)) = history.owner(*private)
-            && is_its
-        {
+        if let Some(seat) = closed_by(history, hex, *private) {
             let code = Words(private.code());
             let owner = Bytes(name(sheets, seat));
             fill(out, "CLOSED            while % owns %\n", &[owner, code])?;
         }
     }
     Ok(())
+}
+
+/// Returns the player who keeps a hex closed, if it is of a private that they own.
+fn closed_by(history: &History, hex: Hex, private: Private) -> Option<Seat>
+    ensures { result ≡ closed_by history.now.events hex private }
+{
+    if !is_of_private(hex, private) {
+        return None;
+    }
+    match history.owner(private) {
+        Some(Holder::Seat(seat)) => Some(seat),
+        _ => None,
+    }
+}
+
+/// Returns whether a hex is one of a private.
+fn is_of_private(hex: Hex, private: Private) -> bool
+    ensures { result ≡ is_of_private hex private }
+{
+    private_hexes(private).iter().any(|one| same_hex(*one, hex))
 }
 
 /// Adds the stops of a hex: what each is worth now, and its slots with their tokens.
@@ -180,17 +229,13 @@ fn push_stops(out: &mut Vec<u8>, board: &Board, hex: Hex) -> Result<(), AllocErr
 fn push_stop(out: &mut Vec<u8>, board: &Board, stop: Stop) -> Result<(), AllocError> {
     let place = stop.place().text();
     let value = Money::from(board.value(stop));
-    let slots = match board.tile_on(stop.hex) {
-        Some(lay) => tile(lay.tile).slots,
-        None => printed_slots(stop.hex),
-    };
     push(
         out,
         &[
             Bytes(place.as_slice()),
             Column(8),
             Right(5, value),
-            Right(7, Money::from(slots)),
+            Right(7, slots(board, stop) as Money),
         ],
     )?;
     for company in &Company::ALL {

@@ -1,4 +1,8 @@
 //! What a company's trains would earn at their best after each of its lays and tokens.
+ghost use Rattle.std.specs.Prelude.{IfOk};
+ghost use Rattle.board_state.specs.MapState.{position_of, with_lay, with_token};
+ghost use Rattle.legal_runs.specs.Set.{IsGreatestMoney};
+ghost use Rattle.operating.specs.MapState.{map_state_now};
 
 use crate::best_after::Trains;
 use crate::fault::MovesFault;
@@ -121,14 +125,22 @@ impl<P: Progress> Earning<'_, P> {
     }
 
     /// Returns the greatest revenue after a lay, in dollars, and tells that it is tried.
-    fn after_lay(&mut self, lay: Lay) -> Result<Money, MovesFault> {
+    fn after_lay(&mut self, lay: Lay) -> Result<Money, MovesFault>
+        ensures { let its = self.old.trains in IfOk result (IsGreatestMoney
+            (position_of (with_lay (map_state_now its.history.now.events) lay))
+            its.company its.kinds.now) }
+    {
         let best = self.trains.best_after_lay(lay)?;
         self.tell();
         Ok(best)
     }
 
     /// Returns the greatest revenue after a token, in dollars, and tells that it is tried.
-    fn after_token(&mut self, place: Place) -> Result<Money, MovesFault> {
+    fn after_token(&mut self, place: Place) -> Result<Money, MovesFault>
+        ensures { let its = self.old.trains in IfOk result (IsGreatestMoney
+            (position_of (with_token (map_state_now its.history.now.events) place its.company))
+            its.company its.kinds.now) }
+    {
         let best = self.trains.best_after_token(place)?;
         self.tell();
         Ok(best)

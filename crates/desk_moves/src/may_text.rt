@@ -1,11 +1,12 @@
 //! What a player may do in the round that comes.
-ghost use Rattle.std.specs.Prelude.{◌≡◌, ◌<◌, IfSome, length};
+ghost use Rattle.std.specs.Prelude.{◌≡◌, ◌<◌, length};
 ghost use Rattle.history.specs.Sound.{IsSound};
 ghost use Rattle.sheets.specs.File.{players_of};
 
 use crate::coming::Coming;
 use crate::fault::{MovesFault, NoAnswer};
 use crate::questions::MayForm;
+use crate::trials::seat_named;
 use certs::Holdings;
 use desk_base::Piece::{Bytes, Count, Number};
 use desk_base::{Piece, fill};
@@ -81,7 +82,7 @@ fn push_turn(
     push_head(out, sheets, &history, seat, round)?;
     push_until_then(alloc, out, sheets, &history, from, None)?;
     match round {
-        Round::Opening(_) => push_of_opening(alloc, out, &history, seat),
+        Round::Opening(_) => push_of_opening(alloc, out, sheets, &history, seat),
         _ => push_of_stock(alloc, out, sheets, &history, seat),
     }
 }
@@ -112,19 +113,6 @@ fn push_operating(
     let ahead = RoundAhead::open(alloc, history, draft, round)?;
     push_head(out, sheets, ahead.history(), seat, round)?;
     push_of_operating(alloc, out, ahead, from, seat)
-}
-
-/// Returns the seat of the player of a name, in either case; `None` if nobody who plays has it.
-pub(crate) fn seat_named(sheets: &Sheets, player: &[u8]) -> Option<Seat>
-    ensures { IfSome result (λ seat. seat.0 < length (players_of sheets.now)) }
-{
-    for seat in 0..sheets.seats() {
-        let seat = Seat::at(seat);
-        if name(sheets, seat).eq_ignore_ascii_case(player) {
-            return Some(seat);
-        }
-    }
-    None
 }
 
 /// Adds who is asked of, the round, and what the player has: cash, the cash that no bid ties, and

@@ -1,15 +1,16 @@
 //! A trial: the file with an empty sheet for each player who owes one, to be played one round on.
-ghost use Rattle.std.specs.Prelude.{◌≡◌, IfOk};
+ghost use Rattle.std.specs.Prelude.{◌≡◌, ◌<◌, IfOk, IfSome, length};
 ghost use Rattle.foresight.specs.TrialFile.{tried_file};
+ghost use Rattle.sheets.specs.File.{players_of};
 
 use crate::coming::coming_in;
 use crate::fault::{MovesFault, NoAnswer};
-use crate::may_text::seat_named;
-use desk_base::owes;
+use desk_base::Piece::{Bytes, Words};
+use desk_base::{owes, push};
 use foresight::TrialFile;
 use report::name;
 use sheets::{Sheets, collect};
-use std::alloc::Global;
+use std::alloc::{AllocError, Global};
 use tables::{Round, Seat};
 
 /// A file to be played one round on.
@@ -23,44 +24,103 @@ pub struct TrialRound {
 
 /// Returns the file of a game with an empty sheet for each player who owes one for the round that
 /// is awaited, and that round. If players are named, they must be all who owe one. The error is the
-/// fault of the file, that the game is over, that nobody has a name, that somebody who is not named
-/// owes a sheet, or `Memory`.
+/// fault of the file, that the game is over, that nobody has a name, who else owes a sheet, or
+/// `Memory`.
 pub fn trial(alloc: Global, file: &[u8], players: &[&str]) -> Result<TrialRound, MovesFault>
-    ensures { IfOk result (λ trial. trial.file.bytes.items ≡ tried_file file.now trial.round) }
+    ensures file { IfOk result (λ trial.
+        trial.file.bytes.items ≡ tried_file file.now trial.round) }
 {
     let sheets = collect(alloc, file)?;
-    let round = round_to_try(alloc, &sheets, players)?;
+    let round = coming_in(alloc, &sheets, None)?.round()?;
+    must_name_all(alloc, &sheets, players, round)?;
     let mut file = TrialFile::begin(alloc, file)?;
     file.put_all(&sheets, round)?;
     Ok(TrialRound { file, round })
 }
 
-/// Returns the round that is awaited, where each name is a player's, and those who owe a sheet for
-/// it are all named, if anybody is. The error says what is not so, or is `Memory`.
-fn round_to_try(alloc: Global, sheets: &Sheets, players: &[&str]) -> Result<Round, MovesFault> {
-    let round = coming_in(alloc, sheets, None)?.round()?;
-    must_name_all(sheets, players, round)?;
-    Ok(round)
-}
-
 /// Fails unless each name is a player's, and those who owe a sheet for a round are all named, if
 /// anybody is.
-fn must_name_all(sheets: &Sheets, players: &[&str], round: Round) -> Result<(), MovesFault> {
+fn must_name_all(
+    alloc: Global,
+    sheets: &Sheets,
+    players: &[&str],
+    round: Round,
+) -> Result<(), MovesFault> {
+    let named = seats_named(alloc, sheets, players)?;
+    let owing = owing_too(alloc, sheets, named.as_slice(), round)?;
+    if named.is_empty() || owing.is_empty() {
+        return Ok(());
+    }
+    let mut text = Vec::new(alloc);
+    push_names(&mut text, sheets, owing.as_slice())?;
+    Err(MovesFault::Asked(NoAnswer::OwesToo(text)))
+}
+
+/// Returns the seats of the players with these names. Fails if nobody has one of them.
+fn seats_named(alloc: Global, sheets: &Sheets, players: &[&str]) -> Result<Vec<Seat>, MovesFault> {
+    let mut seats = Vec::new(alloc);
     for player in players {
-        if seat_named(sheets, player.as_bytes()).is_none() {
-            return Err(MovesFault::Asked(NoAnswer::NoSuchPlayer));
+        match seat_named(sheets, player.as_bytes()) {
+            Some(seat) => push_seat(&mut seats, seat)?,
+            None => return Err(MovesFault::Asked(NoAnswer::NoSuchPlayer)),
         }
     }
-    for seat in 0..sheets.seats() {
-        let seat = Seat::at(seat);
-        if !players.is_empty() && owes(sheets, seat, &round) && !is_named(sheets, players, seat) {
-            return Err(MovesFault::Asked(NoAnswer::OwesToo));
-        }
-    }
+    Ok(seats)
+}
+
+/// Adds a seat.
+fn push_seat(seats: &mut Vec<Seat>, seat: Seat) -> Result<(), AllocError> {
+    seats.push(seat)?;
     Ok(())
 }
 
-/// Returns whether the player of a seat is among those that are named.
-fn is_named(sheets: &Sheets, players: &[&str], seat: Seat) -> bool {
-    players.iter().any(|player| name(sheets, seat).eq_ignore_ascii_case(player.as_bytes()))
+/// Returns the seat of the player of a name, in either case; `None` if nobody who plays has it.
+pub(crate) fn seat_named(sheets: &Sheets, player: &[u8]) -> Option<Seat>
+    ensures { IfSome result (λ seat. seat.0 < length (players_of sheets.now)) }
+{
+    for seat in 0..sheets.seats() {
+        let seat = Seat::at(seat);
+        if name(sheets, seat).eq_ignore_ascii_case(player) {
+            return Some(seat);
+        }
+    }
+    None
+}
+
+/// Returns the seats that owe a sheet for a round and are not among these. Fails only if allocation
+/// fails.
+fn owing_too(
+    alloc: Global,
+    sheets: &Sheets,
+    named: &[Seat],
+    round: Round,
+) -> Result<Vec<Seat>, AllocError> {
+    let mut seats = Vec::new(alloc);
+    for seat in 0..sheets.seats() {
+        let seat = Seat::at(seat);
+        if owes(sheets, seat, &round) && !is_among(named, seat) {
+            seats.push(seat)?;
+        }
+    }
+    Ok(seats)
+}
+
+/// Returns whether a seat is among these.
+fn is_among(seats: &[Seat], seat: Seat) -> bool {
+    seats.iter().any(|other| other.0 == seat.0)
+}
+
+/// Adds the names of players, and that they owe.
+fn push_names(out: &mut Vec<u8>, sheets: &Sheets, seats: &[Seat]) -> Result<(), AllocError> {
+    for (place, seat) in seats.iter().enumerate() {
+        let behind = seats.len() - place;
+        let sign = match (place, behind) {
+            (0, _) => "",
+            (_, 1) => " and ",
+            _ => ", ",
+        };
+        push(out, &[Words(sign), Bytes(name(sheets, *seat))])?;
+    }
+    let owe = if seats.len() == 1 { " owes" } else { " owe" };
+    push(out, &[Words(owe)])
 }

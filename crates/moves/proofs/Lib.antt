@@ -1,9 +1,5 @@
 pub mod ListedLemmas
-pub mod DealLemmas
-pub mod BidLemmas
 pub mod LeastBid
-pub mod TrainLemmas
-pub mod OwnedLemmas
 pub mod ExactLemmas
 pub mod TurnLemmas
 pub mod RowLemmas

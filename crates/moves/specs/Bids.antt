@@ -1,13 +1,8 @@
--- What a seat may do as its turn of an opening begins: buy a private at its price, or make the
--- least bid on one that is not too low, 5 over the face and over each earlier bid. No bid names
--- over 4,294,967,295 dollars. What it may of these is what the rules of an opening say in a turn
--- that is not used.
-use Rattle.std.specs.Prelude.{◌≡◌, ◌≤◌, ℕ, ◌+◌, min, max, false, List, Option, Some, None, Result, ℤ}
-use Rattle.board.specs.LayRules.{cost_or}
+-- The least bid on a private that is not too low: 5 over the face and over each earlier bid. No bid
+-- names over 4,294,967,295 dollars.
+use Rattle.std.specs.Prelude.{◌≡◌, ◌≤◌, ℕ, ◌+◌, min, max, false, List, Option, Some, None}
 use Rattle.events.specs.declared.event.Event.{Event}
-use Rattle.events.specs.declared.ruling.OpeningRule.{OpeningRule}
-use Rattle.order_grammar.specs.declared.order.Order.TheVariants.{Bid, BuyPrivate}
-use Rattle.privates.specs.Bank.{price_of}
+use Rattle.order_grammar.specs.declared.order.Order.TheVariants.{Bid}
 use Rattle.privates.specs.Turn.{judgement_of}
 use Rattle.tables.specs.Roster.{face_of}
 use Rattle.tables.specs.declared.roster.Private.{Private}
@@ -26,17 +21,6 @@ least_over least (Some bid) = max least (step_over bid)
 -- the least bid on a private: 5 over its face and over the greatest earlier bid on it
 abbrev pub least_bid_of : List Event → Private → ℕ
 least_bid_of events private = least_over (step_over (face_of private)) (greatest_bid_of events private)
-
--- the verdict on the purchase of a private: its price, or the first rule that it breaks
-abbrev pub IsPrivateAnswer : ℕ → List Event → Seat → Private → Result ℤ OpeningRule → Type 0
-IsPrivateAnswer seats events seat private answer =
-    answer ≡ cost_or (price_of events private) (judgement_of seats events seat false (BuyPrivate private))
-
--- the verdict on the least bid on a private: that bid, or the first rule that it breaks
-abbrev pub IsBidAnswer : ℕ → List Event → Seat → Private → Result ℤ OpeningRule → Type 0
-IsBidAnswer seats events seat private answer =
-    let least = least_bid_of events private in
-    answer ≡ cost_or least (judgement_of seats events seat false (Bid private least))
 
 -- if a seat may bid some sum on a private, it may make the least bid on it, which is no more
 abbrev pub LeastBidIsLeast : Type 0

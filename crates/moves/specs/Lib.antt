@@ -3,8 +3,6 @@ pub mod Candidates
 pub mod Exact
 pub mod Deals
 pub mod Bids
-pub mod Trains
-pub mod Owned
 pub mod Rows
 pub mod OpeningRows
 pub mod StockRows

@@ -1,15 +1,15 @@
 //! The rows of an opening: of each private its purchase, the least bid on it, and a bid that is
 //! lower by one.
 ghost use Rattle.std.specs.Prelude.{◌≡◌, ◌++◌, ◌∷◌, [], IfOk, OnOk, map, pos};
+ghost use Rattle.moves.specs.Bids.{least_bid_of};
 ghost use Rattle.moves.specs.OpeningRows.{opening_answer, opening_cost, opening_orders, opening_row, orders_on};
 
-use crate::bid_list::least_bid;
 use crate::row::{Answer, Row, answer_of, push_row};
 use history::{History, Refusal};
 use order_grammar::Order;
 use privates::{judge, price_of};
 use std::alloc::{AllocError, Global};
-use tables::{Money, Private, Seat};
+use tables::{Amount, BID_STEP, Money, Private, Seat, face};
 
 /// Returns what becomes of each order to buy a private, to make the least bid on it, and to bid a
 /// dollar less, as the first line of a seat's turn of an opening. Fails only if allocation fails.
@@ -91,5 +91,17 @@ fn cost(history: &History, order: &Order) -> Money
         Order::BuyPrivate(private) => Money::from(price_of(&history.now(), *private)),
         Order::Bid { amount, .. } => Money::from(*amount),
         _ => 0,
+    }
+}
+
+/// Returns the least bid on a private that is not too low, in dollars: 5 over its face and over the
+/// greatest earlier bid on it.
+pub fn least_bid(history: &History, private: Private) -> Amount
+    ensures { result ≡ least_bid_of history.now.events private }
+{
+    let least = face(private).saturating_add(BID_STEP);
+    match history.now().greatest_bid(private) {
+        Some(bid) => least.max(bid.saturating_add(BID_STEP)),
+        None => least,
     }
 }

@@ -1,14 +1,14 @@
 //! The rows of a stock round: of each company the purchases and sales, and the exchange of MH.
 ghost use Rattle.std.specs.Prelude.{◌≡◌, ◌++◌, ◌∷◌, [], IfOk, None, OnOk, map, pos};
+ghost use Rattle.moves.specs.Deals.{brought_by};
 ghost use Rattle.moves.specs.StockRows.{is_number_asked, orders_of, orders_of_companies, orders_of_sale};
 ghost use Rattle.moves.specs.StockRows.{sales_of, shares_from, starts_of, stock_answer, stock_cost, stock_orders, stock_row};
 ghost use Rattle.stock_round.specs.Exchange.{exchange_judgement};
 ghost use Rattle.stock_round.specs.Orders.{judgement_of};
 
-use crate::deal_list::brought_by;
 use crate::row::{Answer, Row, answer_of, push_row};
-use certs::{Purchase, Sale, may_buy, may_sell, purchase_cost};
-use history::{History, Refusal, ShareCount, Shareholder, StockRule};
+use certs::{Purchase, Sale, market_price, may_buy, may_sell, purchase_cost};
+use history::{GameView, History, Refusal, ShareCount, Shareholder, StockRule};
 use order_grammar::{Order, ShareSource};
 use std::alloc::{AllocError, Global};
 use stock_round::is_no_exchange;
@@ -223,4 +223,11 @@ fn cost(history: &History, order: &Order) -> Money
         }
         _ => 0,
     }
+}
+
+/// Returns what a sale brings, in dollars: the market price for each share.
+pub fn brought_by(view: &GameView, sale: Sale) -> Money
+    ensures { result ≡ pos (brought_by view.now.events.now sale) }
+{
+    Money::from(sale.shares) * Money::from(market_price(view, sale.company))
 }

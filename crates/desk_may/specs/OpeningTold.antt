@@ -1,0 +1,64 @@
+-- What is told of the rows of an opening. Of each unsold private the player is told of one order: to
+-- buy the cheapest, and the least bid on each other. It is told with its price if it is obeyed, and
+-- otherwise with the rule that refuses it; if the player has too little for it, with its price and with
+-- what they could spend on that private.
+use Rattle.std.specs.Prelude.{ℕ, ◌==◌, Bool, false, not, ◌&&◌, if◌then◌else◌, List, Option, Some, None, ℤ, pos}
+use Rattle.desk_may.specs.Told.{lacks_money, not_by}
+use Rattle.desk_may.specs.declared.told.Held.{Held}
+use Rattle.desk_may.specs.declared.told.Held.TheVariants.{Unsaid, YourCash}
+use Rattle.desk_may.specs.declared.told.Note.{Note}
+use Rattle.desk_may.specs.declared.told.Note.TheVariants.{Nothing, OrMore}
+use Rattle.desk_may.specs.declared.told.Told.{Told}
+use Rattle.desk_may.specs.declared.told.Told.TheVariants.{May, Not}
+use Rattle.events.specs.declared.event.Event.{Event}
+use Rattle.events.specs.declared.ruling.Refusal.{Refusal}
+use Rattle.moves.specs.Bids.{least_bid_of}
+use Rattle.moves.specs.declared.row.Answer.{Answer}
+use Rattle.moves.specs.declared.row.Answer.TheVariants.{Obeyed, WithConsent, Refused}
+use Rattle.moves.specs.declared.row.Row.{Row}
+use Rattle.order_grammar.specs.declared.order.Order.{Order}
+use Rattle.order_grammar.specs.declared.order.Order.TheVariants.{Bid, BuyPrivate}
+use Rattle.privates.specs.Bank.{is_cheapest, price_of}
+use Rattle.tables.specs.declared.seat.Seat.{Seat}
+use Rattle.totals.specs.Bids.{free_for}
+use Rattle.totals.specs.LookBack.{is_sold}
+
+-- an order is the one that an unsold private needs
+abbrev pub is_asked : List Event → Order → Bool
+is_asked events (BuyPrivate private) = is_cheapest events private
+is_asked events (Bid private amount) =
+    not (is_sold events private) && not (is_cheapest events private) && amount == least_bid_of events private
+is_asked events other = false
+
+-- what is said of one that is obeyed
+abbrev pub note_on : Order → Note
+note_on (Bid private amount) = OrMore
+note_on other = Nothing
+
+-- what an order costs
+abbrev pub price_on : List Event → Order → Option ℤ
+price_on events (BuyPrivate private) = Some (pos (price_of events private))
+price_on events (Bid private amount) = Some (pos amount)
+price_on events other = None
+
+-- what the player can spend on the private of an order
+abbrev pub cash_on : ℕ → List Event → Seat → Order → Held
+cash_on seats events seat (BuyPrivate private) = YourCash (free_for seats events seat private)
+cash_on seats events seat (Bid private amount) = YourCash (free_for seats events seat private)
+cash_on seats events seat other = Unsaid
+
+-- what is told of one that a rule refuses: if the player has too little, also the price and what they have
+abbrev pub not_told : ℕ → List Event → Seat → Order → Refusal → Told
+not_told seats events seat order rule =
+    if lacks_money rule then Not rule (price_on events order) (cash_on seats events seat order) else not_by rule
+
+-- what is told of an order of which this becomes
+abbrev pub told_of_answer : ℕ → List Event → Seat → Order → Answer → Option Told
+told_of_answer seats events seat order (Obeyed price) = Some (May price (note_on order))
+told_of_answer seats events seat order (WithConsent price giver sale) = None
+told_of_answer seats events seat order (Refused rule) = Some (not_told seats events seat order rule)
+
+-- what is told of a row
+abbrev pub told_in_opening : ℕ → List Event → Seat → Row → Option Told
+told_in_opening seats events seat row =
+    if is_asked events row.order then told_of_answer seats events seat row.order row.answer else None

@@ -1,0 +1,125 @@
+//! What is told of the rows of an opening: of each unsold private the order that it needs, BUY of
+//! the cheapest and the least BID on each other.
+ghost use Rattle.std.specs.Prelude.{◌≡◌};
+ghost use Rattle.desk_may.specs.OpeningTold.{cash_on, is_asked, not_told, note_on, price_on};
+ghost use Rattle.desk_may.specs.OpeningTold.{told_in_opening, told_of_answer};
+ghost use Rattle.privates.specs.Bank.{is_cheapest};
+
+use crate::teller::Teller;
+use crate::told::{Held, Note, Told, lacks_money, not_by};
+use history::{History, Refusal};
+use moves::{Answer, Row, least_bid};
+use order_grammar::Order;
+use privates::price_of;
+use tables::{Money, Private, Seat};
+
+/// A seat in an opening, at the head of its turn.
+#[derive(Clone, Copy)]
+pub(crate) struct OpeningTeller<'a> {
+    pub(crate) history: &'a History,
+    pub(crate) seat: Seat,
+}
+
+impl Teller for OpeningTeller<'_> {
+    ghost told = { λ teller row.
+        told_in_opening teller.history.now.seats teller.history.now.events teller.seat row };
+
+    fn tell(&self, row: &Row) -> Option<Told> {
+        told_in_opening(self.history, self.seat, row)
+    }
+}
+
+/// Returns what is told of a row of an opening.
+fn told_in_opening(history: &History, seat: Seat, row: &Row) -> Option<Told>
+    ensures { result ≡ told_in_opening history.now.seats history.now.events seat row.now }
+{
+    if !is_asked(history, &row.order) {
+        return None;
+    }
+    told_of_answer(history, seat, &row.order, row.answer)
+}
+
+/// Returns whether an order is the one that an unsold private needs: BUY of the cheapest, and the
+/// least BID on another.
+fn is_asked(history: &History, order: &Order) -> bool
+    ensures { result ≡ is_asked history.now.events order.now }
+{
+    match order {
+        Order::BuyPrivate(private) => is_cheapest(history, *private),
+        Order::Bid { private, amount } => {
+            !history.now().is_sold(*private)
+                && !is_cheapest(history, *private)
+                && *amount == least_bid(history, *private)
+        }
+        _ => false,
+    }
+}
+
+/// Returns whether a private is the cheapest unsold one.
+fn is_cheapest(history: &History, private: Private) -> bool
+    ensures { result ≡ is_cheapest history.now.events private }
+{
+    match history.now().cheapest_unsold() {
+        Some(cheapest) => cheapest == private,
+        None => false,
+    }
+}
+
+/// Returns what is told of an order of which this becomes.
+fn told_of_answer(history: &History, seat: Seat, order: &Order, answer: Answer) -> Option<Told>
+    ensures { result
+        ≡ told_of_answer history.now.seats history.now.events seat order.now answer }
+{
+    match answer {
+        Answer::Obeyed { price } => {
+            let note = note_on(order);
+            Some(Told::May { price, note })
+        }
+        Answer::Refused(rule) => Some(not_told(history, seat, order, rule)),
+        Answer::WithConsent { .. } => None,
+    }
+}
+
+/// Returns what is told of an order that a rule refuses.
+fn not_told(history: &History, seat: Seat, order: &Order, rule: Refusal) -> Told
+    ensures { result ≡ not_told history.now.seats history.now.events seat order.now rule }
+{
+    if !lacks_money(rule) {
+        return not_by(rule);
+    }
+    let price = price_on(history, order);
+    let held = cash_on(history, seat, order);
+    Told::Not { rule, price, held }
+}
+
+/// Returns what is said of an order that may be given.
+fn note_on(order: &Order) -> Note
+    ensures { result ≡ note_on order.now }
+{
+    match order {
+        Order::Bid { .. } => Note::OrMore,
+        _ => Note::Nothing,
+    }
+}
+
+/// Returns what an order costs, in dollars.
+fn price_on(history: &History, order: &Order) -> Option<Money>
+    ensures { result ≡ price_on history.now.events order.now }
+{
+    match order {
+        Order::BuyPrivate(private) => Some(Money::from(price_of(&history.now(), *private))),
+        Order::Bid { amount, .. } => Some(Money::from(*amount)),
+        _ => None,
+    }
+}
+
+/// Returns what the player can spend on the private of an order.
+fn cash_on(history: &History, seat: Seat, order: &Order) -> Held
+    ensures { result ≡ cash_on history.now.seats history.now.events seat order.now }
+{
+    match order {
+        Order::BuyPrivate(private) => Held::YourCash(history.now().free_for(seat, *private)),
+        Order::Bid { private, .. } => Held::YourCash(history.now().free_for(seat, *private)),
+        _ => Held::Unsaid,
+    }
+}
