@@ -6,7 +6,11 @@
 check_sources() {
   take_over tools/check/want_of_memory
   count_unstated tools/check/unstated.txt
+  count_unmerged .
 }
+
+# count_unmerged FOLDER: whether no text has the marks of a merge that nobody finished.
+count_unmerged() { count 'a merge that is not finished' "$(grep -rnE --include='*.*' '^(<{7}|>{7}) ' "$1" | head -n 3)"; }
 
 # count_unstated FILE: whether each crate has as many functions without an `ensures` as that file says.
 count_unstated() { count 'functions without an ensures' "$(tools/unstated --check --allowed "$1")"; }
@@ -17,4 +21,6 @@ sources_must_fail() {
   take_over tools/check/want_of_memory --self-test
   sed 's/^page .*/page 1/' tools/check/unstated.txt > "$scratch/unstated.txt"
   sees 'a function without an ensures that is one too many' 1 count_unstated "$scratch/unstated.txt"
+  mkdir -p "$scratch/unmerged" && printf 'a line\n<<<<<<< HEAD\n' > "$scratch/unmerged/page.md"
+  sees 'a merge that is not finished' 1 count_unmerged "$scratch/unmerged"
 }
