@@ -31,11 +31,24 @@ pub fn trial(alloc: Global, file: &[u8], players: &[&str]) -> Result<TrialRound,
         trial.file.bytes.items ≡ tried_file file.now trial.round) }
 {
     let sheets = collect(alloc, file)?;
-    let round = coming_in(alloc, &sheets, None)?.round()?;
-    must_name_all(alloc, &sheets, players, round)?;
+    let round = awaited(alloc, &sheets, players)?;
     let mut file = TrialFile::begin(alloc, file)?;
     file.put_all(&sheets, round)?;
     Ok(TrialRound { file, round })
+}
+
+/// Returns the round that is awaited. Fails if the game is over, or if players are named and they are
+/// not all who owe a sheet for it.
+fn awaited(alloc: Global, sheets: &Sheets, players: &[&str]) -> Result<Round, MovesFault> {
+    let round = round_to_come(alloc, sheets)?;
+    must_name_all(alloc, sheets, players, round)?;
+    Ok(round)
+}
+
+/// Returns the round that comes. Fails if the game is over.
+fn round_to_come(alloc: Global, sheets: &Sheets) -> Result<Round, MovesFault> {
+    let coming = coming_in(alloc, sheets, None)?;
+    coming.round()
 }
 
 /// Fails unless each name is a player's, and those who owe a sheet for a round are all named, if
