@@ -12,7 +12,7 @@ mod task;
 mod version;
 mod waiting;
 
-use crate::answers::{MISUSED, answer_to};
+use crate::answers::{Answer, MISUSED, answer_to};
 use crate::streams::{StreamFault, read_file, write_text};
 use crate::task::{Asked, Task, asked_by};
 use crate::waiting::Waiting;
@@ -75,13 +75,20 @@ fn perform(rt: &HostRuntime, task: &Task) -> Result<u8, StreamFault> {
     let answer = answer_to(rt.alloc(), file.as_slice(), task, &mut waiting)?;
     write_text(io::writer(rt), answer.text.as_slice())?;
     if !answer.note.is_empty() {
-        let names = match &answer.names {
-            Some(names) => str::from_utf8(names.as_slice()).unwrap_or(""),
-            None => "",
-        };
-        let _ = eprintln!(rt; "desk: {names}{}{}", answer.note, answer.about);
+        say(rt, &answer);
     }
     Ok(answer.status)
+}
+
+/// Says the note of an answer on standard error, after the names of those of whom it is said.
+fn say(rt: &HostRuntime, answer: &Answer) {
+    if let Some(names) = &answer.names {
+        if let Ok(names) = str::from_utf8(names.as_slice()) {
+            let _ = eprintln!(rt; "desk: {}{}", names, answer.note);
+            return;
+        }
+    }
+    let _ = eprintln!(rt; "desk: {}{}", answer.note, answer.about);
 }
 
 /// Ends the program.
