@@ -33,7 +33,8 @@ pub enum Fault {
 static FAULTS: [RuleRow<Fault>; Fault::PastLastLine as usize + 1] = rule_rows! { Fault
     TooLong: "G1", "the line has over 1,024 bytes, its comment counted",
     StrayByte: "G2",
-        "a byte before the comment is not printable ASCII (for example a tab or an accented letter)",
+        "a byte before the comment is not printable ASCII (for example a tab or an accented \
+        letter)",
     UnknownWord: "G3",
         "no order begins with its first word; in a file of version 1 none begins with IF",
     WrongWords: "G4",
