@@ -5,7 +5,7 @@ use Rattle.std.proofs.Common.{◌≡◌, ℕ, suc, ◌+◌, ◌<◌, ◌≤◌, 
 use Rattle.std.proofs.Common.{None, List, [], ◌∷◌, ◌++◌, length, get_or, refl, ap, sym, ◌∙◌, subst, arith}
 use Rattle.std.specs.List.{AllByRecursion}
 use Rattle.std.proofs.lemmas.Bool.{eqb-true}
-use Rattle.map_tables.specs.Hex.{hexes, index_of}
+use Rattle.map_tables.specs.Hex.{hexes, index_of, site_of}
 use Rattle.map_tables.specs.declared.hex.Hex.{Hex}
 use Rattle.map_tables.specs.declared.hex.Hex.TheVariants.{A9}
 use Rattle.map_tables.specs.declared.place.Place.{Place}
@@ -33,7 +33,7 @@ use Rattle.legal_runs.proofs.Written.{each_named}
 
 -- all places
 hex_among : (hex : Hex) → IsAmong hex hexes
-unfolding hexes index_of
+unfolding hexes index_of site_of
 hex_among hex = subst (λ (h : Hex). IsAmong h hexes) (at_index hex) (among_at hexes (index_of hex) A9 (low hex))
   where
     at_index : (hex : Hex) → get_or hexes (index_of hex) A9 ≡ hex
