@@ -7,7 +7,8 @@ use map_tables::{LayRule, TokenRule};
 use std::alloc::AllocError;
 use thiserror::Error;
 
-/// Why a lay has no cost: it breaks a rule, or an allocation failed, which says nothing of the lay.
+/// Why a lay has no cost: it breaks a rule, or an allocation failed, which does not tell whether
+/// the lay is legal.
 #[derive(Clone, Copy, Debug, PartialEq, Eq, Drop, Error)]
 pub enum LayFault {
     /// The first rule that the lay breaks.
@@ -18,8 +19,8 @@ pub enum LayFault {
     Memory(AllocError),
 }
 
-/// Why a token has no cost: it breaks a rule, or an allocation failed, which says nothing of the
-/// token.
+/// Why a token has no cost: it breaks a rule, or an allocation failed, which does not tell whether
+/// the token is legal.
 #[derive(Clone, Copy, Debug, PartialEq, Eq, Drop, Error)]
 pub enum TokenFault {
     /// The first rule that the token breaks.
@@ -42,7 +43,7 @@ impl From<AllocError> for LayFault {
     ghost from_gives = { λ error fault. fault ≡ lay_fault.Memory error };
 
     fn from(error: AllocError) -> LayFault {
-        // An allocation failed: passed on.
+        // An allocation failed: the error is passed on.
         LayFault::Memory(error)
     }
 }
@@ -59,7 +60,7 @@ impl From<AllocError> for TokenFault {
     ghost from_gives = { λ error fault. fault ≡ token_fault.Memory error };
 
     fn from(error: AllocError) -> TokenFault {
-        // An allocation failed: passed on.
+        // An allocation failed: the error is passed on.
         TokenFault::Memory(error)
     }
 }
