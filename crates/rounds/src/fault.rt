@@ -23,26 +23,26 @@ impl From<AllocError> for PlayFault {
     ghost from_gives = { λ _ fault. fault ≡ Memory };
 
     fn from(_error: AllocError) -> PlayFault {
-        // An allocation failed: passed on.
+        // An allocation failed: the error is passed on.
         PlayFault::Memory
     }
 }
 
 impl PlayFault {
-    /// Returns the error of play whose runner never refuses: an allocation failed.
+    /// Returns the error of play with a runner that never refuses, which is a failed allocation.
     pub fn want_of_memory(self) -> AllocError
         requires { self ≡ Memory }
     {
-        // An allocation failed: passed on.
+        // An allocation failed: the error is passed on.
         AllocError
     }
 
-    /// Returns why play stops at the turn of a company in a round, by the fault of the runner.
+    /// Returns why play stops at the turn of a company in a round, given the fault of the runner.
     pub(crate) fn in_turn(fault: RunnerFault, round: Round, company: Company) -> PlayFault
         ensures { result ≡ fault_in_turn fault round company }
     {
         match fault {
-            // An allocation failed: passed on.
+            // An allocation failed: the error is passed on.
             RunnerFault::Memory => PlayFault::Memory,
             RunnerFault::Refused => PlayFault::Refused(round, company),
         }
