@@ -15,10 +15,10 @@ pub enum LinesFault {
     /// A read or a write failed.
     #[error("a read or a write failed")]
     Io,
-    /// A line has no place in a board.
+    /// A line is not one of a board's.
     #[error("a line is none of a board")]
     Line,
-    /// The tiles and tokens cannot lie so.
+    /// The tiles and tokens cannot all lie on the map.
     #[error("these tiles and tokens cannot lie")]
     Board,
     /// No company is named.
@@ -38,7 +38,7 @@ impl LinesFault {
 
 impl From<AllocError> for LinesFault {
     fn from(_error: AllocError) -> LinesFault {
-        // An allocation failed: passed on.
+        // An allocation failed: the error is passed on.
         LinesFault::Memory
     }
 }
@@ -46,7 +46,7 @@ impl From<AllocError> for LinesFault {
 impl From<io::Error> for LinesFault {
     fn from(error: io::Error) -> LinesFault {
         if error.kind() == io::ErrorKind::OutOfMemory {
-            // An allocation failed: passed on.
+            // An allocation failed: the error is passed on.
             LinesFault::Memory
         } else {
             LinesFault::Io
@@ -57,7 +57,7 @@ impl From<io::Error> for LinesFault {
 impl From<BoardFault> for LinesFault {
     fn from(fault: BoardFault) -> LinesFault {
         match fault {
-            // An allocation failed: passed on.
+            // An allocation failed: the error is passed on.
             BoardFault::Memory => LinesFault::Memory,
             _ => LinesFault::Board,
         }
@@ -65,9 +65,9 @@ impl From<BoardFault> for LinesFault {
 }
 
 impl From<RunnerFault> for LinesFault {
-    // A search never refuses.
+    // A search never returns `Refused`, so only an allocation can have failed.
     fn from(_fault: RunnerFault) -> LinesFault {
-        // An allocation failed: passed on.
+        // An allocation failed: the error is passed on.
         LinesFault::Memory
     }
 }
