@@ -38,7 +38,7 @@ impl LinesFault {
 
 impl From<AllocError> for LinesFault {
     fn from(_error: AllocError) -> LinesFault {
-        // An allocation failed: the error is passed on.
+        // An allocation failed: passed on.
         LinesFault::Memory
     }
 }
@@ -46,7 +46,7 @@ impl From<AllocError> for LinesFault {
 impl From<io::Error> for LinesFault {
     fn from(error: io::Error) -> LinesFault {
         if error.kind() == io::ErrorKind::OutOfMemory {
-            // An allocation failed: the error is passed on.
+            // An allocation failed: passed on.
             LinesFault::Memory
         } else {
             LinesFault::Io
@@ -57,7 +57,7 @@ impl From<io::Error> for LinesFault {
 impl From<BoardFault> for LinesFault {
     fn from(fault: BoardFault) -> LinesFault {
         match fault {
-            // An allocation failed: the error is passed on.
+            // An allocation failed: passed on.
             BoardFault::Memory => LinesFault::Memory,
             _ => LinesFault::Board,
         }
@@ -67,7 +67,7 @@ impl From<BoardFault> for LinesFault {
 impl From<RunnerFault> for LinesFault {
     // A search never returns `Refused`, so only an allocation can have failed.
     fn from(_fault: RunnerFault) -> LinesFault {
-        // An allocation failed: the error is passed on.
+        // An allocation failed: passed on.
         LinesFault::Memory
     }
 }

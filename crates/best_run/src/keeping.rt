@@ -90,7 +90,7 @@ impl Runner for Keeping {
     ) -> Result<Money, RunnerFault> {
         match self.keep(network, round, company, trains) {
             Ok(money) => Ok(money),
-            // An allocation failed: the error is passed on.
+            // An allocation failed: passed on.
             Err(_) => Err(RunnerFault::Memory),
         }
     }

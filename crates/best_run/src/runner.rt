@@ -36,7 +36,7 @@ impl Runner for Search {
     ) -> Result<Money, RunnerFault> {
         match greatest_money(self.alloc, network, company, trains) {
             Ok(money) => Ok(money),
-            // An allocation failed: the error is passed on.
+            // An allocation failed: passed on.
             Err(_) => Err(RunnerFault::Memory),
         }
     }

@@ -43,7 +43,7 @@ impl From<AllocError> for LayFault {
     ghost from_gives = { λ error fault. fault ≡ lay_fault.Memory error };
 
     fn from(error: AllocError) -> LayFault {
-        // An allocation failed: the error is passed on.
+        // An allocation failed: passed on.
         LayFault::Memory(error)
     }
 }
@@ -60,7 +60,7 @@ impl From<AllocError> for TokenFault {
     ghost from_gives = { λ error fault. fault ≡ token_fault.Memory error };
 
     fn from(error: AllocError) -> TokenFault {
-        // An allocation failed: the error is passed on.
+        // An allocation failed: passed on.
         TokenFault::Memory(error)
     }
 }

@@ -22,7 +22,7 @@ impl From<AllocError> for HexFault {
     ghost from_gives = { λ _ fault. fault ≡ Memory };
 
     fn from(_error: AllocError) -> HexFault {
-        // An allocation failed: the error is passed on.
+        // An allocation failed: passed on.
         HexFault::Memory
     }
 }

@@ -147,7 +147,7 @@ pub(crate) fn json_line<T: Serialize>(alloc: Global, value: &T) -> Result<Vec<u8
         × IsTextOf log json × (text.items ≡ json ++ 10 ∷ [])) }
 {
     let Ok(mut text) = serde_json::to_vec(alloc, value) else {
-        // An allocation failed: the error is passed on.
+        // An allocation failed: passed on.
         return Err(AllocError);
     };
     text.push(b'\n')?;

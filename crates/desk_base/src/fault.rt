@@ -26,7 +26,7 @@ impl From<AllocError> for DeskFault {
     ghost from_gives = { λ _ fault. fault ≡ Memory };
 
     fn from(_error: AllocError) -> DeskFault {
-        // An allocation failed: the error is passed on.
+        // An allocation failed: passed on.
         DeskFault::Memory
     }
 }
@@ -37,7 +37,7 @@ impl From<FileFault> for DeskFault {
 
     fn from(fault: FileFault) -> DeskFault {
         match fault {
-            // An allocation failed: the error is passed on.
+            // An allocation failed: passed on.
             FileFault::Memory => DeskFault::Memory,
             fault => DeskFault::File(fault),
         }

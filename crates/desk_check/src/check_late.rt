@@ -121,7 +121,7 @@ pub(crate) fn find_replaced<'a>(
     let length = file.len().saturating_sub(head.line.from.len());
     match collect(alloc, &file[..length]) {
         Ok(sheets) => add_turned(alloc, &sheets, heads, &head, rounds, game, found),
-        // An allocation failed: the error is passed on.
+        // An allocation failed: passed on.
         Err(FileFault::Memory) => Err(AllocError),
         Err(_) => add_replaced(heads, rounds, &None, now, found),
     }

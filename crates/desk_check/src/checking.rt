@@ -82,7 +82,7 @@ fn look_through(
             findings.any = look_at_sheets(alloc, file, extent, &sheets, &mut findings.text)?;
             Ok(())
         }
-        // An allocation failed: the error is passed on.
+        // An allocation failed: passed on.
         Err(FileFault::Memory) => Err(AllocError),
         Err(fault) => {
             findings.any = true;

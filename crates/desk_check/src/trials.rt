@@ -203,7 +203,7 @@ fn try_alone<'a>(
 {
     match collect(alloc, trial.bytes.as_slice()) {
         Ok(tried) => tell_alone(alloc, &tried, head, played, found, alone),
-        // An allocation failed: the error is passed on.
+        // An allocation failed: passed on.
         Err(FileFault::Memory) => Err(AllocError),
         Err(_) => Ok(()),
     }
@@ -270,7 +270,7 @@ fn try_all<'a>(
 {
     match collect(alloc, trial.bytes.as_slice()) {
         Ok(tried) => tell_all(alloc, &tried, heads, alone, beyond),
-        // An allocation failed: the error is passed on.
+        // An allocation failed: passed on.
         Err(FileFault::Memory) => Err(AllocError),
         Err(_) => Ok(()),
     }

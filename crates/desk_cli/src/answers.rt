@@ -154,7 +154,7 @@ fn answer_with<'a>(
             REFUSED,
         )),
         Err(DeskFault::Round) => Ok(answered(Vec::new(alloc), not_played, MISUSED)),
-        // An allocation failed: the error is passed on.
+        // An allocation failed: passed on.
         Err(DeskFault::Memory) => Err(StreamFault::Memory),
     }
 }

@@ -28,7 +28,7 @@ const FAILED: u8 = 4;
 fn main(rt: HostRuntime) -> ExitCode {
     match words(&rt) {
         Ok(words) => start(&rt, words.as_slice()),
-        // An allocation failed: the error is passed on.
+        // An allocation failed: passed on.
         Err(error) if error.kind() == io::ErrorKind::OutOfMemory => fail(&rt, StreamFault::Memory),
         Err(_) => misuse(&rt, "the command line is not valid text"),
     }
@@ -51,7 +51,7 @@ fn start(rt: &HostRuntime, words: &[String]) -> ExitCode {
 /// Prints what is wrong with the command line, or the help or the version that it asks for.
 fn no_task(rt: &HostRuntime, error: &Error) -> ExitCode {
     if error.kind() == ErrorKind::OutOfMemory {
-        // An allocation failed: the error is passed on.
+        // An allocation failed: passed on.
         return fail(rt, StreamFault::Memory);
     }
     let shown = error.print(rt);

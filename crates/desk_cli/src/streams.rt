@@ -29,7 +29,7 @@ impl StreamFault {
 
 impl From<AllocError> for StreamFault {
     fn from(_error: AllocError) -> StreamFault {
-        // An allocation failed: the error is passed on.
+        // An allocation failed: passed on.
         StreamFault::Memory
     }
 }
@@ -39,7 +39,7 @@ pub(crate) fn read_file<R: Read + Drop>(alloc: Global, reader: R) -> Result<Vec<
     let mut file = Vec::new(alloc);
     match reader.take(FILE_MOST as u64 + 1).read_to_end(&mut file) {
         Ok(_) => Ok(file),
-        // An allocation failed: the error is passed on.
+        // An allocation failed: passed on.
         Err(error) if error.kind() == io::ErrorKind::OutOfMemory => Err(StreamFault::Memory),
         Err(_) => Err(StreamFault::Read),
     }

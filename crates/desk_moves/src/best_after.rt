@@ -66,7 +66,7 @@ impl Trains<'_> {
         let mut search = Search::new(self.alloc);
         match search.earn(board, any_round, self.company, self.kinds) {
             Ok(revenue) => Ok(revenue),
-            // An allocation failed: the error is passed on.
+            // An allocation failed: passed on.
             Err(_) => Err(MovesFault::Desk(DeskFault::Memory)),
         }
     }

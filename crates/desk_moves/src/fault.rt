@@ -92,7 +92,7 @@ impl From<AllocError> for MovesFault {
     ghost from_gives = { λ _ fault. fault ≡ of_desk Memory };
 
     fn from(_error: AllocError) -> MovesFault {
-        // An allocation failed: the error is passed on.
+        // An allocation failed: passed on.
         MovesFault::Desk(DeskFault::Memory)
     }
 }

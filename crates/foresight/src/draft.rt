@@ -69,7 +69,7 @@ impl Draft<'_> {
         let mut search = Search::new(alloc);
         match turn.rule_orders(&orders, &mut search) {
             Ok(raises) => Ok(raises),
-            // An allocation failed: the error is passed on.
+            // An allocation failed: passed on.
             Err(RunnerFault::Memory | RunnerFault::Refused) => Err(AllocError),
         }
     }

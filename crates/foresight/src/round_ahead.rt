@@ -208,7 +208,7 @@ fn played(
     let mut search = Search::new(alloc);
     match play_on(alloc, game, draft.sheets, round, company, &mut search) {
         Ok(game) => Ok(game),
-        // An allocation failed: the error is passed on.
+        // An allocation failed: passed on.
         Err(RunnerFault::Memory | RunnerFault::Refused) => Err(AllocError),
     }
 }

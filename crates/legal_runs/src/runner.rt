@@ -29,7 +29,7 @@ impl From<AllocError> for RunnerFault {
     ghost from_gives = { λ _ fault. fault ≡ Memory };
 
     fn from(_error: AllocError) -> RunnerFault {
-        // An allocation failed: the error is passed on.
+        // An allocation failed: passed on.
         RunnerFault::Memory
     }
 }

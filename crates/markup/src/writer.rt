@@ -169,7 +169,7 @@ impl Writer {
             self.new.text.items ≡ self.old.text.items ++ byte ∷ [] }
     {
         if let Err(error) = self.text.push(byte) {
-            // An allocation failed: the error is passed on.
+            // An allocation failed: passed on.
             self.fault = Some(AllocError::from(error));
         }
     }
@@ -242,7 +242,7 @@ fn keep(stack: &mut Vec<Tag>, fault: &mut Option<AllocError>, tag: Tag)
 {
     if fault.is_none() {
         if let Err(error) = stack.push(tag) {
-            // An allocation failed: the error is passed on.
+            // An allocation failed: passed on.
             *fault = Some(AllocError::from(error));
         }
     }

@@ -104,7 +104,7 @@ pub(crate) fn bulletin_of(alloc: Global, stood: &Stood, due: &str) -> Result<Vec
 pub(crate) fn bulletin_text(alloc: Global, stood: &Stood) -> Result<Vec<u8>, AllocError> {
     match bulletin_of(alloc, stood, "") {
         Ok(text) => Ok(text),
-        // An allocation failed: the error is passed on.
+        // An allocation failed: passed on.
         Err(DeskFault::Memory) => Err(AllocError),
         Err(DeskFault::Round | DeskFault::File(_)) => Ok(Vec::new(alloc)),
     }

@@ -23,7 +23,7 @@ impl From<AllocError> for PlayFault {
     ghost from_gives = { λ _ fault. fault ≡ Memory };
 
     fn from(_error: AllocError) -> PlayFault {
-        // An allocation failed: the error is passed on.
+        // An allocation failed: passed on.
         PlayFault::Memory
     }
 }
@@ -33,7 +33,7 @@ impl PlayFault {
     pub fn want_of_memory(self) -> AllocError
         requires { self ≡ Memory }
     {
-        // An allocation failed: the error is passed on.
+        // An allocation failed: passed on.
         AllocError
     }
 
@@ -42,7 +42,7 @@ impl PlayFault {
         ensures { result ≡ fault_in_turn fault round company }
     {
         match fault {
-            // An allocation failed: the error is passed on.
+            // An allocation failed: passed on.
             RunnerFault::Memory => PlayFault::Memory,
             RunnerFault::Refused => PlayFault::Refused(round, company),
         }

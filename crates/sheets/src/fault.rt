@@ -78,7 +78,7 @@ impl From<AllocError> for FileFault {
     ghost from_gives = { λ _ fault. fault ≡ Memory };
 
     fn from(_error: AllocError) -> FileFault {
-        // An allocation failed: the error is passed on.
+        // An allocation failed: passed on.
         FileFault::Memory
     }
 }
@@ -87,7 +87,7 @@ impl<T: Drop> From<AllocFailed<T>> for FileFault {
     ghost from_gives = { λ _ fault. fault ≡ Memory };
 
     fn from(_error: AllocFailed<T>) -> FileFault {
-        // An allocation failed: the error is passed on.
+        // An allocation failed: passed on.
         FileFault::Memory
     }
 }

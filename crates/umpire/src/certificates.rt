@@ -75,7 +75,7 @@ fn write_certificates<W: Write>(
 {
     match collect(alloc, file) {
         Ok(sheets) => write_game(alloc, &sheets, writer),
-        // An allocation failed: the error is passed on.
+        // An allocation failed: passed on.
         Err(FileFault::Memory) => Err(Fault::Memory),
         Err(fault) => Err(refuse(alloc, fault, writer)),
     }

@@ -33,7 +33,7 @@ impl From<AllocError> for Fault {
     ghost from_gives = { λ _ fault. fault ≡ Memory };
 
     fn from(_error: AllocError) -> Fault {
-        // An allocation failed: the error is passed on.
+        // An allocation failed: passed on.
         Fault::Memory
     }
 }

@@ -72,7 +72,7 @@ fn write_migration<W: Write>(
     match examine(alloc, file) {
         Ok(Version::One) => write_in_two(alloc, file, writer),
         Ok(Version::Two) => write_text(writer, file),
-        // An allocation failed: the error is passed on.
+        // An allocation failed: passed on.
         Err(FileFault::Memory) => Err(Fault::Memory),
         Err(fault) => Err(refuse(alloc, fault, writer)),
     }

@@ -70,7 +70,7 @@ fn write_answer<W: Write>(alloc: Global, file: &[u8], writer: &mut Watched<W>) -
     report::laws::some_report();
     match collect(alloc, file) {
         Ok(sheets) => write_game(alloc, &sheets, writer),
-        // An allocation failed: the error is passed on.
+        // An allocation failed: passed on.
         Err(FileFault::Memory) => Err(Fault::Memory),
         Err(fault) => Err(refuse(alloc, fault, writer)),
     }

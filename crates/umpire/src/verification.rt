@@ -86,7 +86,7 @@ fn write_answer<W: Write>(alloc: Global, input: &[u8], writer: &mut Watched<W>) 
     }
     match collect(alloc, file) {
         Ok(sheets) => write_judgement(alloc, &sheets, certificates, writer),
-        // An allocation failed: the error is passed on.
+        // An allocation failed: passed on.
         Err(FileFault::Memory) => Err(Fault::Memory),
         Err(fault) => Err(refuse(alloc, fault, writer)),
     }
@@ -112,7 +112,7 @@ fn write_judgement<W: Write>(
     let mut play = Play::start(alloc, sheets)?;
     match play_checked(alloc, &mut play, certificates) {
         Ok(texts) => write_played(alloc, sheets, &play, texts.as_slice(), writer),
-        // An allocation failed: the error is passed on.
+        // An allocation failed: passed on.
         Err(PlayFault::Memory) => Err(Fault::Memory),
         Err(PlayFault::Refused(round, company)) => {
             write_uncertified(alloc, round, company, writer)?;

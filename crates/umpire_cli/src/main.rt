@@ -45,7 +45,7 @@ fn words(rt: &HostRuntime) -> io::Result<Vec<String>> {
 /// failed.
 fn no_words(rt: &HostRuntime, error: &io::Error) -> ExitCode {
     if error.kind() == io::ErrorKind::OutOfMemory {
-        // An allocation failed: the error is passed on.
+        // An allocation failed: passed on.
         return end(rt, &Err(Fault::Memory));
     }
     let _ = eprintln!(rt; "error: the command line is not valid text");
@@ -88,7 +88,7 @@ fn command<'a>(alloc: Global) -> Result<Command<'a>, AllocError> {
 /// Prints what is wrong with the command line.
 fn misuse(rt: &HostRuntime, error: &Error) -> ExitCode {
     if error.kind() == ErrorKind::OutOfMemory {
-        // An allocation failed: the error is passed on.
+        // An allocation failed: passed on.
         return end(rt, &Err(Fault::Memory));
     }
     let _ = rt.eprint(error);
