@@ -7,10 +7,19 @@ check_sources() {
   take_over tools/check/want_of_memory
   count_unstated tools/check/unstated.txt
   count_unmerged .
+  count_wide crates
 }
 
 # count_unmerged FOLDER: whether no text has the marks of a merge that nobody finished.
-count_unmerged() { count 'a merge that is not finished' "$(grep -rnE --include='*.*' '^(<{7}|>{7}) ' "$1" | head -n 3)"; }
+count_unmerged() {
+  local left=(--exclude-dir=.git --exclude-dir=out --exclude-dir=.tried)
+  count 'a merge that is not finished' "$(grep -rInE "${left[@]}" --include='*.*' '^(<{7}|>{7}) ' "$1" | head -n 3)"
+}
+
+# count_wide FOLDER: whether no comment of a source is over 100 columns, which no layout looks at.
+count_wide() {
+  count 'a comment over 100 columns' "$(grep -rnP --include='*.rt' '^(?=\s*//).{101}' "$1" | cut -c 1-120 | head -n 3)"
+}
 
 # count_unstated FILE: whether each crate has as many functions without an `ensures` as that file says.
 count_unstated() { count 'functions without an ensures' "$(tools/unstated --check --allowed "$1")"; }
@@ -23,4 +32,6 @@ sources_must_fail() {
   sees 'a function without an ensures that is one too many' 1 count_unstated "$scratch/unstated.txt"
   mkdir -p "$scratch/unmerged" && printf 'a line\n<<<<<<< HEAD\n' > "$scratch/unmerged/page.md"
   sees 'a merge that is not finished' 1 count_unmerged "$scratch/unmerged"
+  mkdir -p "$scratch/wide" && printf '    // %0100d\n' 0 > "$scratch/wide/source.rt"
+  sees 'a comment over 100 columns' 1 count_wide "$scratch/wide"
 }

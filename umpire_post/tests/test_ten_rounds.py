@@ -24,7 +24,7 @@ SENDMAIL = "#!/bin/sh\ncat > /dev/null\n"
 # no-break space, heads of mail, and a quotation; and of a sheet that came late, which it sets aside.
 PUT_RIGHT = {"01-PR1": {3, 4, 5, 6, 7, 16, 18}, "04-SR2": {72, 73, 79, 80}, "06-SR3": {108}}
 # The curly quotation marks are plain ones now.
-TOLD_OTHERWISE = {("01-PR1", 19): 'G4: the words after the first are those of no form'}
+TOLD_OTHERWISE = {("01-PR1", 19): 'G4: the words after the first do not fit any of its forms'}
 
 
 def chunks(path: Path) -> Iterator[tuple[str, list[str], int]]:

@@ -78,14 +78,14 @@ fn on_line(fault: Fault) -> Advice {
         Fault::TooLong => shown("write it shorter", "G1-line-of-1025-bytes"),
         Fault::StrayByte => shown("write plain letters and spaces", "G2-tab"),
         Fault::UnknownWord => shown(
-            "look for a slip in that word; put `#` before what is no order; for conditions begin \
-                the file with `GAME 1830 2`",
+            "check that word for a typo; put `#` before anything that is not an order; to use \
+                conditions, begin the file with `GAME 1830 2`",
             "G3-unknown-word",
         ),
         Fault::WrongWords => shown("compare them with the table of forms", "G4-wrong-words"),
         Fault::NumberTooLarge => shown("write a smaller one", "G5-number-over-99999"),
         Fault::OutOfPlace => shown(
-            "look which lines may stand before the first TURN or COMPANY, in a turn, in a \
+            "see which lines may stand before the first TURN or COMPANY, in a turn, or in a \
                 company's orders",
             "G6-before-the-first-turn",
         ),

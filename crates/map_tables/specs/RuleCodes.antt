@@ -44,7 +44,7 @@ text_of_token_rule token_rule.StepUsed = rule_text (codes "K1") (codes "the step
 text_of_token_rule token_rule.NoTokenLeft = rule_text (codes "K2") (codes "the company has no token left")
 text_of_token_rule token_rule.NoFreeSlot =
     rule_text (codes "K3")
-    (codes "it is at no stop of a city, or no slot is free; one that is kept for a home counts as taken")
+    (codes "it is not at a stop of a city, or no slot is free; a slot kept for a home counts as taken")
 text_of_token_rule token_rule.InHexAlready = rule_text (codes "K4") (codes "the company has a token in the hex")
 text_of_token_rule token_rule.NotReached = rule_text (codes "K5") (codes "the company does not reach the stop")
 text_of_token_rule token_rule.CashTooSmall =
@@ -66,7 +66,7 @@ text_of_run_rule run_rule.NoTrain =
     rule_text (codes "R2")
     (codes "no train of the kind is left that has not run; of RUN BEST: the company has no train, or "
     ++ codes "one has run")
-text_of_run_rule run_rule.NoTrack = rule_text (codes "R3") (codes "there is no such track, or an end is no stop")
+text_of_run_rule run_rule.NoTrack = rule_text (codes "R3") (codes "there is no such track, or an end is not a stop")
 text_of_run_rule run_rule.WrongNumber =
     rule_text (codes "R4")
     (codes "it visits under two stops, or more than the train may")

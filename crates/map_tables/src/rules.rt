@@ -115,8 +115,7 @@ static TOKEN_RULES: [RuleRow<TokenRule>; TokenRule::CashTooSmall as usize + 1] =
     StepUsed: "K1", "the step of the token is past",
     NoTokenLeft: "K2", "the company has no token left",
     NoFreeSlot: "K3",
-        "it is at no stop of a city, or no slot is free; one that is kept for a home counts as \
-        taken",
+        "it is not at a stop of a city, or no slot is free; a slot kept for a home counts as taken",
     InHexAlready: "K4", "the company has a token in the hex",
     NotReached: "K5", "the company does not reach the stop",
     CashTooSmall: "K6", "it costs more than the company's cash: 40 the second, 100 each later one",
@@ -192,7 +191,7 @@ static RUN_RULES: [RuleRow<RunRule>; RunRule::RedInside as usize + 1] = rule_row
     NoTrain: "R2",
         "no train of the kind is left that has not run; of RUN BEST: the company has no train, \
         or one has run",
-    NoTrack: "R3", "there is no such track, or an end is no stop",
+    NoTrack: "R3", "there is no such track, or an end is not a stop",
     WrongNumber: "R4", "it visits under two stops, or more than the train may",
     StopTwice: "R5", "it visits a stop twice",
     BorderTwice: "R6", "it crosses a border that it or another run of the turn has crossed",

@@ -11,19 +11,19 @@ abbrev pub text_of : Fault → RuleText
 text_of TooLong = rule_text (codes "G1") (codes "the line has over 1,024 bytes, its comment counted")
 text_of StrayByte =
     rule_text (codes "G2")
-    (codes "a byte before its comment is no printable ASCII: a tab, a hard space, an accent")
+    (codes "a byte before the comment is not printable ASCII (for example a tab or an accented letter)")
 text_of UnknownWord =
     rule_text (codes "G3")
     (codes "no order begins with its first word; in a file of version 1 none begins with IF")
 text_of WrongWords =
     rule_text (codes "G4")
-    (codes "the words after the first are those of no form; behind IF: those of no condition, or what "
-    ++ codes "follows the condition is no order")
+    (codes "the words after the first do not fit any of its forms; after IF, they are not a condition "
+    ++ codes "followed by an order")
 text_of NumberTooLarge = rule_text (codes "G5") (codes "a number is over 99,999")
 text_of OutOfPlace =
     rule_text (codes "G6")
-    (codes "the order has no place where it stands, with a condition or without, or the line stands in "
-    ++ codes "no sheet")
+    (codes "the order is not allowed where it stands, with or without a condition, or the line belongs "
+    ++ codes "to no sheet")
 text_of UnknownPlayer = rule_text (codes "G7") (codes "the SHEET line names nobody who plays")
 text_of PastLastLine = rule_text (codes "G8") (codes "the line is past the 512th of its sheet")
 

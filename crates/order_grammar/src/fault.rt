@@ -34,16 +34,17 @@ pub enum Fault {
 static FAULTS: [RuleRow<Fault>; Fault::PastLastLine as usize + 1] = rule_rows! { Fault
     TooLong: "G1", "the line has over 1,024 bytes, its comment counted",
     StrayByte: "G2",
-        "a byte before its comment is no printable ASCII: a tab, a hard space, an accent",
+        "a byte before the comment is not printable ASCII (for example a tab or an accented \
+        letter)",
     UnknownWord: "G3",
         "no order begins with its first word; in a file of version 1 none begins with IF",
     WrongWords: "G4",
-        "the words after the first are those of no form; behind IF: those of no condition, or \
-        what follows the condition is no order",
+        "the words after the first do not fit any of its forms; after IF, they are not a condition \
+        followed by an order",
     NumberTooLarge: "G5", "a number is over 99,999",
     OutOfPlace: "G6",
-        "the order has no place where it stands, with a condition or without, or the line stands \
-        in no sheet",
+        "the order is not allowed where it stands, with or without a condition, or the line \
+        belongs to no sheet",
     UnknownPlayer: "G7", "the SHEET line names nobody who plays",
     PastLastLine: "G8", "the line is past the 512th of its sheet",
 };
