@@ -15,10 +15,10 @@ pub enum LinesFault {
     /// A read or a write failed.
     #[error("a read or a write failed")]
     Io,
-    /// A line has no place in a board.
+    /// A line is not one of a board's.
     #[error("a line is none of a board")]
     Line,
-    /// The tiles and tokens cannot lie so.
+    /// The tiles and tokens cannot all lie on the map.
     #[error("these tiles and tokens cannot lie")]
     Board,
     /// No company is named.
@@ -65,7 +65,7 @@ impl From<BoardFault> for LinesFault {
 }
 
 impl From<RunnerFault> for LinesFault {
-    // A search never refuses.
+    // A search never returns `Refused`, so only an allocation can have failed.
     fn from(_fault: RunnerFault) -> LinesFault {
         // An allocation failed: passed on.
         LinesFault::Memory

@@ -1,5 +1,5 @@
-//! A board read line by line: its phase, a company with its trains, and the tiles and tokens that
-//! lie. It gives the greatest revenue of those trains.
+//! A board read line by line: its phase, a company with its trains, and the tiles and tokens on the
+//! map. It gives the greatest revenue of those trains.
 
 use crate::fault::LinesFault;
 use best_run::Search;
@@ -22,7 +22,7 @@ pub struct BoardLines {
 }
 
 impl BoardLines {
-    /// Returns no board.
+    /// Returns an empty board.
     pub fn new(alloc: Global) -> BoardLines {
         BoardLines {
             number: 0,
@@ -60,13 +60,13 @@ impl BoardLines {
         &self.trains
     }
 
-    /// Returns the tiles and tokens as they lie. The error is `Board` or `Memory`.
+    /// Returns the board with its tiles and tokens. The error is `Board` or `Memory`.
     pub fn board(&self, alloc: Global) -> Result<Board, LinesFault> {
         Ok(Board::of(alloc, &self.lays, &self.tokens, self.phase)?)
     }
 
     /// Returns the greatest revenue of the company's trains on the board, in dollars, as an order
-    /// to run their best finds it. The error is `Company`, `Board` or `Memory`.
+    /// to run the best routes would find it. The error is `Company`, `Board` or `Memory`.
     pub fn revenue(&self, alloc: Global) -> Result<Money, LinesFault> {
         let company = self.company()?;
         let board = self.board(alloc)?;

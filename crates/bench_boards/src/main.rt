@@ -1,12 +1,13 @@
 //! Reads boards from standard input, and prints for each its number and the greatest revenue of the
 //! company's trains there, in dollars. With the word `marks` it also prints the number of marks
-//! that show the revenue, and whether they were accepted. Between these it prints how many
-//! milliseconds it took to write and to check them.
+//! that show the revenue, and whether they were accepted, and between these how many milliseconds
+//! it took to write and to check them.
 //!
 //! A board is lines of words: `BOARD number`, `PHASE kind`, `COMPANY company`, `TRAINS kind ..`,
 //! then `LAY tile hex rotation`, with `SWAP` after it if the stops are swapped, and
-//! `TOKEN place company`. A line `GREATEST ..` is passed over. The status is 2 if a line is none of
-//! these or the tiles and tokens cannot lie. It is 4 if a read, a write or an allocation failed.
+//! `TOKEN place company`. A line `GREATEST ..` is skipped. The status is 2 if a line is not one of
+//! these, or if the tiles and tokens cannot all lie on the map. It is 4 if a read, a write or an
+//! allocation failed.
 #![tactic(auto)]
 
 mod fault;
@@ -45,7 +46,7 @@ fn read_all(rt: &HostRuntime) -> Result<(), LinesFault> {
     print(rt, &game, marks)
 }
 
-/// Prints what a board earns, if one was begun, and what the marks cost, if that is requested.
+/// Prints what a board earns, if one was begun, and on request what the marks cost.
 fn print(rt: &HostRuntime, game: &BoardLines, marks: bool) -> Result<(), LinesFault> {
     if !game.is_begun() {
         return Ok(());

@@ -1,5 +1,5 @@
-//! States that are alike to the trains that are left: they differ only in borders that neither the
-//! run begun nor one to come can cross.
+//! States that are equivalent for the trains that are left: they differ only in borders that
+//! neither the run begun nor a later one can cross.
 ghost use Rattle.std.specs.Prelude.{◌≡◌, ◌<◌, ◌≤◌, IsTrue, None, Some, false, length, true};
 ghost use Rattle.best_run.specs.Ahead.{IsWorth, LiesAhead};
 ghost use Rattle.best_run.specs.Canonical.{AreCapped, AreOpen, Holds, IsCanonical, IsInReach, IsNear, IsShut};
@@ -27,7 +27,7 @@ pub(crate) struct InReach {
     pub(crate) left: usize,
     /// The stops that a run may visit.
     pub(crate) ahead: Spots,
-    /// The most that a run that may visit so many stops earns, in dollars.
+    /// The most that a run of that many stops can earn, in dollars.
     pub(crate) cap: Amount,
 }
 
@@ -47,7 +47,7 @@ fn anywhere() -> PartialRun
     }
 }
 
-/// Adds to what is in reach of the trains that are left what a run may reach from a token.
+/// Adds what a run may reach from a token to what is in reach of the trains that are left.
 fn reach_from(task: &Task, assigned: &Assigned, stop: usize, reach: &mut Outlook)
     requires fit { IsFit task.now }
     requires ready { AreReady task.now }
@@ -80,7 +80,7 @@ fn hold(task: &Task, assigned: &Assigned, stop: usize, reach: &mut Outlook)
 }
 
 /// Returns what is in reach of a run that sets out from a stop: the stop, and those to which it may
-/// come. Of a run that may visit this many stops, it is known what they are worth.
+/// come. Their worth is known for a run that may visit this many stops.
 #[inline(always)]
 fn reach_of(task: &Task, assigned: &Assigned, stop: usize, left: usize) -> Outlook
     requires fit { IsFit task.now }
@@ -108,7 +108,7 @@ fn is_passed(task: &Task, stop: usize, ahead: &Spots) -> bool
     !node.ends && ahead.has(stop)
 }
 
-/// Adds to what is in reach what is in reach of a token, unless it is already.
+/// Adds what is in reach of a token, unless it is in reach already.
 fn reach_token(task: &Task, assigned: &Assigned, stop: usize, reach: &mut InReach)
     requires fit { IsFit task.now }
     requires ready { AreReady task.now }
@@ -161,8 +161,8 @@ pub(crate) fn reach(task: &Task, assigned: &Assigned) -> InReach
 }
 
 /// Returns whether the trains that are left can earn no more than what has been found, by what is
-/// in reach. Each of the next trains that are alike earns no more than that allows, and the others
-/// no more than by themselves. It may be false even if that holds.
+/// in reach. Each of the next trains of one kind earns no more than that allows, and the others no
+/// more than they earn by themselves. It may be false even if that holds.
 pub(crate) fn is_pruned_by_reach(
     task: &Task,
     assigned: &Assigned,
@@ -252,8 +252,8 @@ fn shut_off(task: &Task, assigned: &Assigned, reach: &Spots) -> Assigned
     }
 }
 
-/// Returns a state that is alike to one between runs, and in which all borders are used that no run
-/// to come can cross.
+/// Returns a state that is equivalent to one between runs, in which all borders are used that no
+/// later run can cross.
 pub(crate) fn canonical(task: &Task, assigned: &Assigned, reach: &Spots) -> SearchState
     requires fit { IsFit task.now }
     requires ready { AreReady task.now }
@@ -266,7 +266,7 @@ pub(crate) fn canonical(task: &Task, assigned: &Assigned, reach: &Spots) -> Sear
     }
 }
 
-/// Adds to what is in reach a stop, and what a run may reach from there.
+/// Adds a stop, and what a run may reach from there, to what is in reach.
 fn reach_at(task: &Task, assigned: &Assigned, stop: usize, ahead: &mut Spots)
     requires fit { IsFit task.now }
     requires ready { AreReady task.now }
@@ -281,8 +281,9 @@ fn reach_at(task: &Task, assigned: &Assigned, stop: usize, ahead: &mut Spots)
     *ahead = ahead.with(&near.ahead);
 }
 
-/// Returns a state that is alike to one with a run begun. In it all borders are used that neither
-/// that run nor one to come can cross, and all stops to which they cannot come count as visited.
+/// Returns a state that is equivalent to one with a run begun. In it all borders are used that
+/// neither that run nor a later one can cross, and all stops that they cannot reach count as
+/// visited.
 pub(crate) fn canonical_begun(task: &Task, assigned: &Assigned, run: &PartialRun) -> SearchState
     requires fit { IsFit task.now }
     requires ready { AreReady task.now }

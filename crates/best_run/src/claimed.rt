@@ -48,7 +48,7 @@ fn read_walk(alloc: Global, marks: &mut Vec<Mark>) -> Result<Option<Vec<WalkStep
     Ok(None)
 }
 
-/// Returns the runs that a path gives of some trains. Fails only if allocation fails.
+/// Returns the runs that a path gives for some trains. Fails only if allocation fails.
 pub(crate) fn claimed_runs(
     alloc: Global,
     kinds: &[Kind],

@@ -35,7 +35,7 @@ fn exit(task: &Task, assigned: &Assigned, spot: usize) -> Option<usize>
     }
 }
 
-/// Returns whether all legs from a stop that cross no used border cross another one.
+/// Returns whether all legs from a stop that cross no used border cross this border.
 fn cross_it(task: &Task, assigned: &Assigned, spot: usize, border: usize) -> bool
     requires ready { AreReady task.now }
     requires spot { spot < 744 }
@@ -53,7 +53,7 @@ fn cross_it(task: &Task, assigned: &Assigned, spot: usize, border: usize) -> boo
 }
 
 /// Returns whether a run that reaches a stop ahead ends there, since all its legs that cross no
-/// used border cross the one by which it comes. It may be false even if that holds, and is false
+/// used border cross the one by which it comes. It may be false even if that holds, and it is false
 /// for a run that visits no stops.
 fn is_last(task: &Task, assigned: &Assigned, run: &PartialRun, spot: usize) -> bool
     requires ready { AreReady task.now }
@@ -98,7 +98,7 @@ pub(crate) fn count(
 }
 
 /// Counts a stop ahead as one at which the run ends, if it is last; before that it counts as one
-/// that may be passed. It is kept out of line, so that the way to it stays short.
+/// that may be passed. It is kept out of line, so that its caller stays short.
 #[inline(never)]
 pub(crate) fn end_at(
     task: &Task,

@@ -7,17 +7,18 @@
 //!
 //! - `Moves`: what it tries, move by move.
 //! - `MovePath`: how these moves are written down and which runs are read from that.
-//! - `Room`: what keeps its sums within a limit.
+//! - `Room`: why its sums stay within a limit.
 //! - `Extend`: what holds wherever a partial run is extended.
 //! - `Suffix`: what the last trains earn by themselves, and equal trains one after another, which
 //!   bounds what they earn after others.
 //! - `Ahead`: what may lie ahead of a run, which bounds what it may still earn.
-//! - `WaysOn`: which ways on from a run are in vain.
-//! - `Last`: at which of the stops ahead it ends, since it can leave them only as it comes.
-//! - `Kept`: which states need not be explored since another one was.
-//! - `Canonical`: which of them are alike to the trains left.
-//! - `Answer`: what the search finds in the end.
-//! - `Keeping`: what is kept of one call after the other.
+//! - `WaysOn`: which continuations of a run are futile.
+//! - `Last`: at which of the stops ahead it ends, since it could only leave them by the border it
+//!   entered by.
+//! - `Kept`: which states need not be explored because another one was.
+//! - `Canonical`: which of them are equivalent for the trains left.
+//! - `Answer`: what the search finds at its end.
+//! - `Keeping`: what is kept of each call.
 //!
 //! The greatest revenue of a 2 that has one city beside its home to run to:
 //!
@@ -44,12 +45,12 @@
 //!
 //! Reading order: `revenue` (the public call), `claim_and_marks`, `trains` (their order), `state`
 //! (the trains assigned so far, and the run begun), `lookahead` (what lies ahead of that run) with
-//! `value_ahead` (what that is worth), `end_stops` (at which stops ahead it ends), `ways_on` (by
-//! which ways on it may earn more), `move_path` (the moves that earn what has been found),
-//! `search_state` (a state that is kept), `memo` (what has been found, and what need not be explored
-//! again), `canonical` (states that are alike to the trains left), `search`, `claimed` (the runs
-//! that a path gives), `runner` (what finds only the revenue), `keeping` (what keeps the runs and
-//! marks as well).
+//! `value_ahead` (what that is worth), `end_stops` (at which stops ahead it ends), `ways_on` (which
+//! ways on may earn more), `move_path` (the moves that earn what has been found), `search_state` (a
+//! state that is kept), `memo` (what has been found, and what need not be explored again),
+//! `canonical` (states that are equivalent for the trains left), `search`, `claimed` (the runs that
+//! a path gives), `runner` (what finds only the revenue), `keeping` (what keeps the runs and marks
+//! as well).
 #![tactic(auto)]
 
 mod canonical;

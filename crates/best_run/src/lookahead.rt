@@ -25,7 +25,7 @@ pub(crate) struct Outlook {
 }
 
 impl Outlook {
-    /// Returns an outlook in which nothing lies ahead. It looks at this many levels of what will.
+    /// Returns an outlook in which nothing lies ahead. It has this many levels.
     fn nothing(levels: usize) -> Outlook
         requires levels { 0 < levels }
         requires few { levels ≤ 9 }
@@ -60,7 +60,7 @@ pub(crate) fn nothing_ahead(task: &Task, left: usize) -> Outlook
     Outlook::nothing(if left >= task.stops.len() { 1 } else { LEVELS })
 }
 
-/// Returns whether a run may come by a segment to a stop that does not lie ahead so far.
+/// Returns whether a segment takes a run to a stop that is not among those ahead yet.
 pub(crate) fn leads_on(
     task: &Task,
     assigned: &Assigned,

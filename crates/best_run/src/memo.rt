@@ -14,8 +14,8 @@ use tables::Amount;
 /// How many explored states are kept at most.
 const MOST_PLACES: usize = 16_384;
 
-/// How many places there are for each state that has been kept, as long as there may be more. With
-/// too few places, states would overwrite others that are still useful.
+/// How many places there are for each state kept, until the most is reached. With too few places,
+/// states would overwrite others that are still useful.
 const PLACES_EACH: usize = 4;
 
 /// What has been found.
@@ -26,10 +26,10 @@ pub(crate) struct Found {
     /// The moves that earn it.
     pub(crate) move_path: MovePath,
     /// States that have been explored: no way on from there earns more. Each is at one place, and
-    /// overwrites the one that was there. There are no places at first, and twice as many each time
-    /// that there are too few.
+    /// overwrites the one that was there. There are no places at first; their number doubles
+    /// whenever there are too few.
     pub(crate) memo: Vec<SearchState>,
-    /// How often a state has been kept.
+    /// How many times a state has been kept.
     pub(crate) kept: usize,
 }
 
@@ -46,8 +46,7 @@ impl Found {
         }
     }
 
-    /// Returns what is found, unless the allocation of a mark or a place failed. Fails only if
-    /// allocation failed.
+    /// Returns what is found. Fails only if the allocation of a mark or a place had failed.
     pub(crate) fn unless_refused(self) -> Result<Found, AllocError>
         ensures { result ≡ unless_refused self }
     {
@@ -89,9 +88,9 @@ impl Found {
         self.memo[search_state.place() % places].dominates(search_state)
     }
 
-    /// Doubles the number of places. The states of the first half are in the other half too, where
-    /// states whose place was the same are looked for. If there are no places yet, the given state
-    /// fills the first. Fails only if allocation fails.
+    /// Doubles the number of places. The first half is copied to the second, so that a state is
+    /// found at its new place too. If there are no places yet, the given state fills the first.
+    /// Fails only if allocation fails.
     fn widen(&mut self, search_state: &SearchState) -> Result<(), AllocError>
         ensures kept { IsKept search_state.now self.old self.new }
         ensures places { IsOk result → 0 < length self.new.memo.items }

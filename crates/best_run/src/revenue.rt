@@ -25,7 +25,7 @@ use search_task::{Borders, Task};
 use std::alloc::{AllocError, Global};
 use tables::{Amount, Company, Kind};
 
-/// Tries all ways of the last trains by themselves, this many of them.
+/// Tries all ways for this many of the last trains, by themselves.
 fn assign_last(task: &Task, count: usize, bounds: &[Amount], best: &mut Found)
     requires fit { IsFit task.now }
     requires ready { AreReady task.now }

@@ -54,8 +54,8 @@ fn equals(task: &Task, next: usize, most: usize) -> usize
     8
 }
 
-/// Returns whether the trains from a place on can earn no more than what has been found. Those of
-/// the kind that ran last each earn no more than the cap, in dollars. It may be false even if that
+/// Returns whether the trains from a place on can earn no more than what has been found. Each train
+/// of the kind that ran last earns no more than the cap, in dollars. It may be false even if that
 /// holds.
 pub(crate) fn are_pruned_by_cap(
     task: &Task,
@@ -245,7 +245,7 @@ fn take(
 }
 
 /// Tries all ways to the end from a run that has begun. If it is the first one, others are left
-/// after it, and many stops lie ahead, it is worth looking up whether they have been tried before.
+/// after it, and many stops lie ahead, it looks up whether they have been tried before.
 #[cycle(explore)]
 fn extend(task: &Task, assigned: &Assigned, run: &PartialRun, bounds: &[Amount], best: &mut Found)
     requires { MayExtend task.now bounds.now assigned.now run.now }
@@ -266,7 +266,7 @@ fn extend(task: &Task, assigned: &Assigned, run: &PartialRun, bounds: &[Amount],
 }
 
 /// Tries all ways to the end from a run that has begun, unless that was done before. It is kept out
-/// of line, so that the way without it stays short.
+/// of line, so that its caller stays short.
 #[cycle(explore)]
 #[inline(never)]
 fn extend_with_memo(
@@ -316,7 +316,7 @@ fn extend_without_memo(
     }
 }
 
-/// Tries all ways on from where a run is, but for those to stops to which it goes on in vain.
+/// Tries all ways on from where a run is, except to stops where that is in vain.
 #[cycle(explore)]
 fn go_on(
     task: &Task,

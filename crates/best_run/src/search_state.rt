@@ -14,8 +14,8 @@ pub(crate) struct SearchState {
     pub(crate) run: Option<PartialRun>,
 }
 
-/// Returns whether a run covers another, or there is none in either state. If a train ran before,
-/// it may be false: its run may not earn more than that one did.
+/// Returns whether a run dominates another, or there is none in either state. If a train ran
+/// before, it may be false: its run may not earn more than that one did.
 fn dominates_run(kind: usize, run: &Option<PartialRun>, other: &Option<PartialRun>) -> bool
     ensures { IsTrue result → DominatesAny kind run.now other.now }
 {
@@ -43,8 +43,8 @@ impl SearchState {
         }
     }
 
-    /// Returns whether whatever may come after another state may come after this one as well, and
-    /// as much is earned. It may be false even if that holds.
+    /// Returns whether whatever may follow another state may follow this one too, and earns as
+    /// much. It may be false even if that holds.
     pub(crate) fn dominates(&self, other: &SearchState) -> bool
         ensures { IsTrue result → DominatesStage self.now other.now }
     {

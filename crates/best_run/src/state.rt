@@ -1,5 +1,6 @@
 //! The states of the search: the trains assigned so far, and a run that has begun. Each has the
-//! moves that lead on from it, and can be compared with another to see whether it does as well.
+//! moves that lead on from it, and can be compared with another to see whether it is at least as
+//! good.
 ghost use Rattle.std.specs.Prelude.{◌≡◌, ◌+◌, ◌-◌, ◌*◌, ◌^◌, ◌<◌, ◌≤◌, IsTrue, false, length, true};
 ghost use Rattle.search_task.specs.Fit.{BordersFit, IsFit};
 ghost use Rattle.best_run.specs.Memo.{Dominates, DominatesRun, IsBarred, TurnsAs};
@@ -70,8 +71,8 @@ impl Assigned {
         }
     }
 
-    /// Returns whether each run that may come after another state may come after this one as well,
-    /// and as much is earned. It may be false even if that holds.
+    /// Returns whether each run that may follow another state may follow this one too, and earns as
+    /// much. It may be false even if that holds.
     pub(crate) fn dominates(&self, other: &Assigned) -> bool
         ensures { IsTrue result → Dominates self.now other.now }
     {
@@ -142,8 +143,8 @@ impl PartialRun {
         self.by(self.first)
     }
 
-    /// Returns whether the run may go on as another one may, and earns no less then. It may be
-    /// false even if that holds.
+    /// Returns whether the run may go on wherever another one may, and then earns no less. It may
+    /// be false even if that holds.
     pub(crate) fn dominates(&self, other: &PartialRun) -> bool
         ensures { IsTrue result → DominatesRun self.now other.now }
     {
@@ -156,7 +157,7 @@ impl PartialRun {
             && self.visited.is_within(&other.visited)
     }
 
-    /// Returns whether the run may turn back as another one may; neither may if both have.
+    /// Returns whether the run may turn back if another one may. Neither may if both have done so.
     fn may_turn_as(&self, other: &PartialRun) -> bool
         ensures { IsTrue result → TurnsAs self.now other.now }
     {
@@ -211,7 +212,7 @@ impl PartialRun {
         }
     }
 
-    /// Returns whether the run may reach a stop.
+    /// Returns whether the run may still visit a stop.
     fn may_come(&self, stop: &BitPlace) -> bool
         requires { stop.now < 744 }
         ensures { result ≡ may_come true self.now stop.now }

@@ -33,7 +33,7 @@ pub(crate) struct WaysOn {
 }
 
 impl WaysOn {
-    /// Returns ways of which nothing is known: none of them need be in vain.
+    /// Returns ways on of which nothing is known: none is known to be in vain.
     fn unknown() -> WaysOn
         ensures vain { result.vain ≡ replicate 744 false }
         ensures turns { result.turns_in_vain ≡ false }
@@ -228,8 +228,8 @@ fn ways_home(
     ways
 }
 
-/// Looks at the ways on by the legs from where a run is. What lies ahead once it turns back, and
-/// the ways there, are known.
+/// Looks at the ways on by the legs from where a run is, given what lies ahead once it turns back,
+/// and the ways there.
 fn look_on(
     task: &Task,
     assigned: &Assigned,
@@ -272,7 +272,7 @@ fn look_on(
 }
 
 /// Returns how many legs from a stop a run may take, of those that begin by a segment at this place
-/// or later, but two at most. Any number would do: it decides whether the search looks ahead.
+/// or later, up to two. Any number would do: it decides whether the search looks ahead.
 fn count_ways(
     task: &Task,
     assigned: &Assigned,
@@ -315,8 +315,8 @@ fn has_one_way(task: &Task, assigned: &Assigned, run: &PartialRun) -> bool
     on.saturating_add(count_ways(task, assigned, run, run.home, run.first)) <= 1
 }
 
-/// Returns the ways on from a run. More of them may be in vain than are known to be; of a run with
-/// one way on nothing is known.
+/// Returns the ways on from a run. Ways that are not known to be in vain may be so too. For a run
+/// with one way on nothing is known.
 pub(crate) fn ways_on(
     task: &Task,
     assigned: &Assigned,

@@ -14,13 +14,13 @@ use tables::{Company, Kind};
 /// How many tokens there are: 25, of all companies.
 const TOKENS: usize = 25;
 
-/// The tiles and tokens that lie on the map, in a phase. In a contract it is all that were laid,
-/// oldest first, replaced tiles included. Beside the lists it keeps an index, so that finding a
-/// tile or a token takes no longer if more was laid.
+/// The tiles and tokens that lie on the map, in a phase. In a contract it is all tiles and tokens
+/// that were laid, oldest first, replaced tiles included. Beside the lists it keeps an index, so
+/// that finding a tile or a token takes no longer when more are laid.
 #[derive(Drop)]
 pub struct Board {
     pub(crate) lays: Vec<Lay>,
-    /// No more than `TOKENS` lie in a game: those are in the value itself.
+    /// A game has no more than `TOKENS` of them, which are kept in the value itself.
     pub(crate) tokens: SmallVec<(Place, Company), TOKENS>,
     phase: Kind,
     index: Index,
@@ -107,7 +107,7 @@ impl Board {
         self.tokens.len()
     }
 
-    /// Returns the tokens that lie, oldest first.
+    /// Returns the tokens on the map, oldest first.
     pub(crate) fn laid_tokens(&self) -> &[(Place, Company)]
         ensures { result.now ≡ self.now.tokens }
     {
@@ -121,7 +121,7 @@ impl Board {
         self.phase = phase;
     }
 
-    /// Lays a tile. Fails only if allocation fails, which leaves the board as it was.
+    /// Lays a tile. Fails only if allocation fails, which leaves the board unchanged.
     pub fn put_lay(&mut self, lay: Lay) -> Result<(), AllocError>
         ensures ok { OnOk result (self.new ≡ with_lay self.old lay) }
         ensures err { OnErr result (self.new ≡ self.old) }
@@ -131,13 +131,13 @@ impl Board {
         Ok(())
     }
 
-    /// Places a token. Fails only if allocation fails, which leaves the board as it was.
+    /// Places a token. Fails only if allocation fails, which leaves the board unchanged.
     pub fn put_token(&mut self, place: Place, company: Company) -> Result<(), AllocError>
         ensures ok { OnOk result (self.new ≡ with_token self.old place company) }
         ensures err { OnErr result (self.new ≡ self.old) }
     {
         self.tokens.push((place, company))?;
-        // For the proof alone: there are no more tokens than the length of a list can be, so no
+        // For the proof only: there are no more tokens than the length of a list can be, so no
         // count of the index overflows.
         let _lie = self.tokens.len();
         self.index.add_token(place, company);

@@ -7,7 +7,8 @@ use map_tables::{LayRule, TokenRule};
 use std::alloc::AllocError;
 use thiserror::Error;
 
-/// Why a lay has no cost: it breaks a rule, or an allocation failed, which says nothing of the lay.
+/// Why a lay has no cost: it breaks a rule, or an allocation failed, which does not tell whether
+/// the lay is legal.
 #[derive(Clone, Copy, Debug, PartialEq, Eq, Drop, Error)]
 pub enum LayFault {
     /// The first rule that the lay breaks.
@@ -18,8 +19,8 @@ pub enum LayFault {
     Memory(AllocError),
 }
 
-/// Why a token has no cost: it breaks a rule, or an allocation failed, which says nothing of the
-/// token.
+/// Why a token has no cost: it breaks a rule, or an allocation failed, which does not tell whether
+/// the token is legal.
 #[derive(Clone, Copy, Debug, PartialEq, Eq, Drop, Error)]
 pub enum TokenFault {
     /// The first rule that the token breaks.

@@ -16,8 +16,8 @@ use tables::{COMPANIES, Company};
 /// How many places there are for tokens: one of each company at each stop.
 const HOLDERS: usize = COMPANIES * STOPS;
 
-/// What lies, so that it is found at once: the tile on each hex with its links, how many tokens
-/// name each stop, and whose.
+/// The tiles and tokens by their places, so that each is found at once: the tile on each hex with
+/// its links, how many tokens name each stop, and whose they are.
 #[derive(Clone, Copy)]
 pub(crate) struct Index {
     tiles: [Option<Lay>; HEXES],

@@ -3,7 +3,8 @@ ghost use Rattle.board.specs.Example.{WorkedExamples};
 ghost use Rattle.board.specs.Homes.{FitsWithoutHomes, HomeKeepsFit, LayKeepsFit, TokenKeepsFit};
 ghost use Rattle.board.specs.Stock.{LayKeepsStock};
 
-/// States that what fits with the home tokens that are still to come is not refused as a board.
+/// States that tiles and tokens that fit together with the home tokens still to come are accepted
+/// as a board.
 pub fn fits_without_homes()
     ensures { FitsWithoutHomes }
 {}
@@ -25,13 +26,14 @@ pub fn home_keeps_fit()
     ensures { HomeKeepsFit }
 {}
 
-/// States that a lay by the rules leaves no more tiles of any number on the map than there are.
+/// States that a legal lay never puts more tiles of a number on the map than the game has.
 pub fn lay_keeps_stock()
     ensures { LayKeepsStock }
 {}
 
-/// States two small examples. A tile's colour has not come; later the tile is laid with its stops
-/// swapped. A token costs a dollar more than the company has; with that dollar it is placed.
+/// States two small examples. A tile of a colour that is not available yet is refused; later it is
+/// laid with its stops swapped. A token that costs a dollar more than the company has is refused;
+/// with that dollar it is placed.
 pub fn worked_examples()
     ensures { WorkedExamples }
 {}

@@ -26,9 +26,9 @@ use reach::reaches_hex;
 use tables::{Amount, Company, Kind, Money, Private, rules};
 
 impl Board {
-    /// Returns what a lay costs, in dollars, or the first rule that it breaks. The company has to
-    /// reach some piece of the tile in the position after the lay. The board stays as it is, and
-    /// nothing is allocated.
+    /// Returns what a lay costs, in dollars, or the first rule that it breaks. The company must
+    /// reach some track of the tile in the position after the lay. It does not change the board,
+    /// and allocates nothing.
     pub fn try_lay(&self, asker: &Asker, lay: Lay) -> Result<Money, LayFault>
         ensures { IsLayOutcome self.now asker.now lay result }
     {
@@ -41,7 +41,8 @@ impl Board {
     }
 
     /// Returns what a lay costs, in dollars, or the first rule that it breaks, given whether some
-    /// piece of the tile is reached. The lay keeps the rules before that one.
+    /// track of the tile is reached. It returns so only for a lay that keeps the rules before that
+    /// one.
     fn lay_answer(&self, asker: &Asker, lay: Lay, reached: bool) -> Result<Money, LayRule>
         requires { first_broken (map_rules self.now asker.now lay) ≡ None }
         ensures { result ≡ lay_answer_of self.now asker.now lay reached }
@@ -73,8 +74,8 @@ impl Board {
         }
     }
 
-    /// Returns whether a company would reach some piece of a tile once it lies. Its hex is no part
-    /// of another's stop.
+    /// Returns whether a company would reach some track of a tile once it is laid. Its hex is not
+    /// part of another hex's stop.
     fn would_reach(&self, company: Company, lay: Lay) -> bool
         requires { joined_hex lay.hex ≡ lay.hex }
         ensures { let after = position_of (with_lay self.now lay) in
@@ -96,8 +97,8 @@ impl Board {
         }
     }
 
-    /// Returns whether the step of the lay is over, or its lay is used, which does not matter for
-    /// CS's lay.
+    /// Returns whether the step of the lay is over, or the company has used its lay; the latter
+    /// does not matter for CS's lay.
     #[tactic(auto, unfolding(crate::specs::LayRules::is_lay_used))]
     fn is_lay_used(&self, asker: &Asker, hex: Hex) -> bool
         ensures { result ≡ is_lay_used self.now.lays asker.now hex }
@@ -129,7 +130,7 @@ impl Board {
         self.count_of(number, &Hex::ALL)
     }
 
-    /// Counts the hexes, of some, on which a tile of a number lies.
+    /// Counts those of some hexes on which a tile of a number lies.
     fn count_of(&self, number: TileNo, hexes: &[Hex]) -> usize
         ensures { result ≡ count_by (λ hex. is_tile number (tile_on self.now.lays hex)) hexes.now }
     {
@@ -149,7 +150,7 @@ impl Board {
         }
     }
 
-    /// Returns the colour of a hex.
+    /// Returns the colour that a hex has now.
     fn colour_on(&self, hex: Hex) -> Colour
         ensures { result ≡ colour_on self.now.lays hex }
     {
@@ -159,7 +160,7 @@ impl Board {
         }
     }
 
-    /// Returns whether a tile does not have the colour that comes next on its hex.
+    /// Returns whether a tile does not have the next colour for its hex.
     #[tactic(auto, unfolding(crate::specs::LayRules::is_wrong_colour))]
     fn is_wrong_colour(&self, lay: Lay) -> bool
         ensures { result ≡ is_wrong_colour self.now.lays lay }
@@ -167,7 +168,7 @@ impl Board {
         place_of_colour(tile(lay.tile).colour) != place_of_colour(self.colour_on(lay.hex)) + 1
     }
 
-    /// Returns whether some link of the hex is not one of the tile's.
+    /// Returns whether the tile lacks some link that the hex has now.
     #[tactic(auto, unfolding(crate::specs::LayRules::loses_track))]
     fn loses_track(&self, lay: Lay) -> bool
         ensures { result ≡ loses_track self.now.lays lay }
@@ -180,7 +181,7 @@ impl Board {
     }
 }
 
-/// Returns whether a colour has not come yet.
+/// Returns whether tiles of a colour are not available yet in a phase.
 #[tactic(auto, unfolding(crate::specs::LayRules::is_colour_closed))]
 fn is_colour_closed(phase: Kind, colour: Colour) -> bool
     ensures { result ≡ is_colour_closed phase colour }
@@ -212,7 +213,7 @@ fn is_kept(links: &[Link], old: Link) -> bool
     links.iter().any(|link| link.order() == old.order())
 }
 
-/// Returns whether a hex is one of a private that a player owns.
+/// Returns whether a hex belongs to a private that a player owns.
 #[tactic(auto, unfolding(crate::specs::LayRules::is_blocked))]
 fn is_blocked(asker: &Asker, hex: Hex) -> bool
     ensures { result ≡ is_blocked asker.now hex }

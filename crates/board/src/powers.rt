@@ -10,7 +10,7 @@ use tables::Private;
 
 impl Board {
     /// Returns whether a lay on a hex is CS's: the company that owns CS lays on B20, while no tile
-    /// lies there. Such a lay does not use the lay of the turn, and needs no connection.
+    /// lies there. Such a lay does not count as the lay of the turn, and needs no connection.
     #[tactic(auto, unfolding(crate::specs::Powers::is_cs_lay))]
     pub fn is_cs_lay(&self, asker: &Asker, hex: Hex) -> bool
         ensures { result ≡ is_cs_lay self.now.lays asker.now hex }

@@ -16,8 +16,8 @@ use reach::reaches_stop;
 use tables::{Amount, Company, Money, rules, token_price, tokens};
 
 impl Board {
-    /// Returns what a token costs, in dollars, or the first rule that it breaks. The board stays as
-    /// it is, and nothing is allocated.
+    /// Returns what a token costs, in dollars, or the first rule that it breaks. It does not change
+    /// the board, and allocates nothing.
     pub fn try_token(&self, asker: &Asker, place: Place) -> Result<Money, TokenFault>
         ensures { IsTokenOutcome self.now asker.now place result }
     {
@@ -70,7 +70,7 @@ impl Board {
         }
     }
 
-    /// Returns how many tokens of a company lie.
+    /// Returns how many tokens a company has on the map.
     #[tactic(auto, unfolding(crate::specs::TokenRules::laid_by))]
     fn laid_by(&self, company: Company) -> usize
         ensures { result ≡ laid_by self.now.tokens company }
@@ -102,7 +102,7 @@ impl Board {
         tokens(company) <= self.laid_by(company)
     }
 
-    /// Returns whether a place is no city, or all slots of it are taken or kept.
+    /// Returns whether a place is not a city, or all its slots are taken or reserved.
     #[tactic(auto, unfolding(crate::specs::TokenRules::is_no_free_slot))]
     fn is_no_free_slot(&self, place: Place) -> bool
         ensures { result ≡ is_no_free_slot self.now place }
@@ -113,7 +113,7 @@ impl Board {
         }
     }
 
-    /// Returns whether all slots of a stop are taken or kept.
+    /// Returns whether all slots of a stop are taken or reserved.
     fn is_taken_up(&self, stop: Stop) -> bool
         ensures { result ≡ is_full_at self.now (Some stop) }
     {
@@ -122,7 +122,8 @@ impl Board {
         slots <= taken || slots - taken <= self.kept_at(joined_stop(stop))
     }
 
-    /// Returns how many slots of a stop are kept for companies whose token does not lie there yet.
+    /// Returns how many slots of a stop are reserved for companies whose token does not lie there
+    /// yet.
     #[tactic(auto, unfolding(crate::specs::TokenRules::kept_at))]
     fn kept_at(&self, stop: Stop) -> usize
         ensures { result ≡ kept_at self.now.tokens stop }
@@ -133,7 +134,7 @@ impl Board {
             .count()
     }
 
-    /// Returns whether a slot of a stop is kept for a company.
+    /// Returns whether a slot of a stop is reserved for a company.
     fn is_kept_for(&self, stop: Stop, company: Company) -> bool
         ensures { result ≡ is_kept_for self.now.tokens stop company }
     {

@@ -29,13 +29,13 @@ impl TurnStep {
     }
 }
 
-/// The company that wants to lay a tile or to place a token, and how far its turn has come.
+/// The company that wants to lay a tile or place a token, and the step of its turn.
 #[derive(Clone, Copy, Debug, PartialEq, Eq)]
 pub struct Asker {
     pub company: Company,
-    /// What it can spend, in dollars.
+    /// Its cash, in dollars.
     pub cash: Money,
-    /// The first step that its turn may still take.
+    /// The first step that is still open to it in this turn.
     pub pointer: TurnStep,
     /// Whether it has used its lay in this turn.
     pub lay_used: bool,

@@ -37,7 +37,7 @@ fn lacks_slot(lays: &[Lay], tokens: &[(Place, Company)]) -> bool
         .any(|token| is_over_full(lays, tokens, token.0))
 }
 
-/// Returns whether more tokens name a place than it takes.
+/// Returns whether more tokens name a place than it has slots.
 fn is_over_full(lays: &[Lay], tokens: &[(Place, Company)], place: Place) -> bool
     ensures { result ≡ is_over_full lays.now tokens.now (stop_of place) }
 {
@@ -86,8 +86,8 @@ fn takes(hex: HexKind, tile: TileKind) -> bool
     }
 }
 
-/// Returns whether a tile is of another kind than its hex, or its stops are swapped though there
-/// are not two.
+/// Returns whether a tile is of a kind that its hex does not take, or its stops are swapped though
+/// it does not have two.
 #[tactic(auto, unfolding(map_tables::specs::Fit::is_wrong_kind))]
 pub fn is_wrong_kind(lay: Lay) -> bool
     ensures { result ≡ is_wrong_kind lay }
@@ -144,7 +144,7 @@ fn has_print_at(hex: Hex, side: Side) -> bool
         .any(|link| is_side(side, link.a) || is_side(side, link.b))
 }
 
-/// Returns whether an end is this side.
+/// Returns whether an end of track is this side.
 fn is_side(side: Side, end: TrackEnd) -> bool
     ensures { result ≡ is_side side end }
 {

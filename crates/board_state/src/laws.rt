@@ -2,7 +2,7 @@
 ghost use Rattle.board_state.specs.Fit.{FaultlessAreFit};
 ghost use Rattle.board_state.specs.MapState.{MapStatesAreLawful};
 
-/// States that what lies is not refused as a board exactly if it is fit.
+/// States that tiles and tokens are accepted as a board exactly if they are fit.
 pub fn faultless_are_fit()
     ensures { FaultlessAreFit }
 {}

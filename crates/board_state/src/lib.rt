@@ -1,5 +1,5 @@
 //! The map state of 1830: the tiles and tokens that lie on the map, what follows from them, and
-//! which may lie at all.
+//! what may lie on the map at all.
 //!
 //! In a contract a map state is the tiles that were laid, oldest first, the tokens that were
 //! placed, and the phase. From these follows its position as a `reach::Network`: on each hex the
@@ -10,11 +10,11 @@
 //! refuses what may not lie on the map.
 //!
 //! The definitions, in `specs/`: `MapState` (the tiles and tokens, and the position) and `Fit`
-//! (what may lie at all).
+//! (what may lie on the map at all).
 //!
-//! Reading order: `fault`, `stop_facts` (what shows at a hex or a stop), `fit` (what may lie at
-//! all), `on_map` (what follows from the map state), `plain_board`, `network` (the position that is
-//! kept), `laws`.
+//! Reading order: `fault`, `stop_facts` (what shows at a hex or a stop), `fit` (what may lie on the
+//! map at all), `on_map` (what follows from the map state), `plain_board`, `network` (the position
+//! that is kept), `laws`.
 #![tactic(auto)]
 
 mod fault;

@@ -15,7 +15,7 @@ use map_tables::{
 };
 use tables::{Amount, Company, Kind};
 
-/// Gives the tiles and tokens on the map. Whatever a contract says of it, it says of what was laid.
+/// Gives the tiles and tokens on the map. In a contract it is the map state.
 pub trait OnMap {
     /// What lies.
     ghost laid: { Self → MapState };
@@ -42,8 +42,8 @@ pub trait OnMap {
         ensures { result ≡ (laid self.now).phase };
 }
 
-/// Returns the track in a hex. A hex that is a part of another's stop keeps its print: no tile is
-/// laid there.
+/// Returns the track in a hex. A hex that is part of another hex's stop keeps its printed track,
+/// since no tile is laid there.
 fn track_in<L: OnMap>(board: &L, hex: Hex) -> Links
     ensures { result.items ≡ track_in (L.laid board.now).lays hex }
 {
@@ -87,7 +87,7 @@ pub fn value_on_map<L: OnMap>(board: &L, stop: Stop) -> Amount
     }
 }
 
-/// Returns how many tokens each stop of a hex takes.
+/// Returns how many slots each stop of a hex has.
 fn slots_on<L: OnMap>(board: &L, hex: Hex) -> u8
     ensures { result ≡ slots_on (L.laid board.now).lays hex }
 {
@@ -97,7 +97,7 @@ fn slots_on<L: OnMap>(board: &L, hex: Hex) -> u8
     }
 }
 
-/// Returns how many tokens a stop takes; 0 if there is no such stop.
+/// Returns how many slots a stop has; 0 if there is no such stop.
 fn slots_there<L: OnMap>(board: &L, stop: Stop) -> usize
     ensures { result ≡ slots_at (L.laid board.now).lays stop }
 {
@@ -109,7 +109,7 @@ fn slots_there<L: OnMap>(board: &L, stop: Stop) -> usize
     }
 }
 
-/// Returns how many tokens a stop takes, by the map state and in the position.
+/// Returns how many slots a stop has, by the map state and in the position.
 pub fn slots<L: OnMap>(board: &L, stop: Stop) -> usize
     ensures slots { result ≡ slots_at (L.laid board.now).lays stop }
     ensures shown { result ≡ (at_stop (position_of (L.laid board.now)) stop).slots }

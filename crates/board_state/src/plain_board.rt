@@ -12,8 +12,8 @@ use std::alloc::Global;
 use std::marker::Model;
 use tables::{Company, Kind};
 
-/// The tiles and tokens that lie on the map, in a phase, as they were laid and no more: it searches
-/// for what lies on a hex. In a contract it is the same as a `Board`, which finds that at once.
+/// The tiles and tokens that lie on the map, in a phase, as plain lists, which it searches for what
+/// lies on a hex. In a contract it is the same as a `Board`, which finds that at once.
 #[derive(Drop)]
 pub struct PlainBoard {
     lays: Vec<Lay>,

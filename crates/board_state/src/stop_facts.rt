@@ -1,6 +1,6 @@
 //! Facts of hexes and stops, read from lists of tiles and tokens: the tile on a hex, the slots of a
-//! stop, and the tokens that name it. With them come the tests of whether two hexes, stops or
-//! companies are one.
+//! stop, and the tokens that name it. It also tests whether two hexes, stops or companies are the
+//! same.
 ghost use Rattle.std.specs.Prelude.{◌≡◌};
 ghost use Rattle.std.specs.List.{count_by};
 ghost use Rattle.map_tables.specs.declared.place.Place.{Place};
@@ -15,24 +15,24 @@ use map_tables::{
 };
 use tables::{Amount, Company, Kind};
 
-// These three compare by number, not by `==`: the prover knows numbers, and of a derived `==` only
-// its law.
+// These three compare by number, not by `==`: the prover computes with numbers, and knows only the
+// law of a derived `==`.
 
-/// Returns whether two hexes are one.
+/// Returns whether two hexes are the same.
 pub fn same_hex(a: Hex, b: Hex) -> bool
     ensures { result ≡ same_hex a b }
 {
     a.index() == b.index()
 }
 
-/// Returns whether two stops are one.
+/// Returns whether two stops are the same.
 pub fn same_stop(a: Stop, b: Stop) -> bool
     ensures { result ≡ same_stop a b }
 {
     same_hex(a.hex, b.hex) && a.number.index() == b.number.index()
 }
 
-/// Returns whether two companies are one.
+/// Returns whether two companies are the same.
 pub fn same_company(a: Company, b: Company) -> bool
     ensures { result ≡ same_company a b }
 {
@@ -97,7 +97,7 @@ pub(crate) fn count_naming(tokens: &[(Place, Company)], stop: Stop) -> usize
     tokens.iter().filter(|token| names(stop, token.0)).count()
 }
 
-/// Returns how many tokens each stop of a hex takes, by the tiles that were laid.
+/// Returns how many slots each stop of a hex has, by the tiles that were laid.
 pub fn slots_on(lays: &[Lay], hex: Hex) -> u8
     ensures { result ≡ slots_on lays.now hex }
 {
@@ -107,7 +107,7 @@ pub fn slots_on(lays: &[Lay], hex: Hex) -> u8
     }
 }
 
-/// Returns how many tokens a stop takes; 0 if there is no such stop.
+/// Returns how many slots a stop has; 0 if there is no such stop.
 pub(crate) fn slots_at(lays: &[Lay], stop: Stop) -> usize
     ensures { result ≡ slots_at lays.now stop }
 {

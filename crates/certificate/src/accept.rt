@@ -98,7 +98,7 @@ fn are_zeros<M: Marks>(bits: &mut M, most: usize) -> bool
 
 /// Writes the marks for a revenue of a company's trains. Each node of the choice tree is cut if its
 /// bound is at most the revenue, and split otherwise. For the greatest revenue they are marks that
-/// hold, whatever fills up the last digit of their text. Fails only if allocation fails.
+/// hold, whatever pads the last digit of their text. Fails only if allocation fails.
 pub fn write_marks<N: Network>(
     alloc: Global,
     network: &N,

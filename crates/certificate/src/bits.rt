@@ -43,7 +43,7 @@ impl Bits {
         }
     }
 
-    /// Adds a bit at the end. Fails only if allocation fails; then the bits are as they were.
+    /// Adds a bit at the end. Fails only if allocation fails, which leaves the bits unchanged.
     pub fn push(&mut self, bit: bool) -> Result<(), AllocError>
         ensures added { OnOk result (self.new ≡ self.old ++ bit ∷ []) }
         ensures kept { OnErr result (self.new ≡ self.old) }
@@ -61,9 +61,9 @@ impl Bits {
     }
 
     /// Adds the bits of hexadecimal digits, of upper or lower case: four bits from each, the
-    /// highest first. The error is `Digit` if a byte is no digit, which is checked before anything
-    /// is allocated; then the bits are as they were. The error is `Memory` if allocation fails;
-    /// then some may be added.
+    /// highest first. The error is `Digit` if a byte is not a digit; that is checked before
+    /// anything is allocated, and leaves the bits unchanged. The error is `Memory` if allocation
+    /// fails; then some bits may have been added.
     pub fn read_digits(&mut self, text: &[u8]) -> Result<(), HexFault>
         ensures digit { (result ≡ Err Digit) ↔ (has_other text.now ≡ true) }
         ensures added { OnOk result (self.new ≡ self.old ++ bits_of_digits text.now) }
@@ -77,7 +77,7 @@ impl Bits {
     }
 
     /// Adds the bits of bytes that are known to be hexadecimal digits; another byte adds four 0
-    /// bits. Fails only if allocation fails; then some may be added.
+    /// bits. Fails only if allocation fails; then some may have been added.
     pub fn add_digits(&mut self, text: &[u8]) -> Result<(), AllocError>
         ensures { OnOk result (self.new ≡ self.old ++ bits_of_digits text.now) }
     {
@@ -88,7 +88,7 @@ impl Bits {
     }
 
     /// Adds the four bits of a hexadecimal digit, or four 0 bits for another byte. Fails only if
-    /// allocation fails; then some may be added.
+    /// allocation fails; then some may have been added.
     fn add_digit(&mut self, digit: u8) -> Result<(), AllocError>
         ensures { OnOk result (self.new ≡ self.old ++ bits_of_digit digit) }
     {
@@ -139,7 +139,7 @@ fn first_bit(count: u8, byte: u8) -> bool
     count > 0 && (byte >> (count - 1)) % 2 == 1
 }
 
-/// Reads bits one after the other. In a contract it is the list of the bits that are left.
+/// Reads bits one after another. In a contract it is the list of the bits that are left.
 #[derive(Drop)]
 pub struct BitReader<'a> {
     /// The byte that is being read.
@@ -214,7 +214,7 @@ impl<'a> BitReader<'a> {
 
     /// Prints the next bits at the end of a text, in hexadecimal digits of lower case, as
     /// `print_hex` prints them: this many digits, or all if fewer are left. Fails only if
-    /// allocation fails; then some may be printed.
+    /// allocation fails; then some may have been printed.
     pub fn print_digits(&mut self, most: usize, text: &mut Vec<u8>) -> Result<(), AllocError>
         ensures printed { OnOk result
             (text.new.items ≡ text.old.items ++ digits_of (take (4 * most) self.old)) }

@@ -47,7 +47,7 @@ impl Runner for Checked {
     ghost earns = { AnswersByNext };
 
     /// Returns what the next group claims, in dollars, if it shows the best runs of the company's
-    /// trains in that round; otherwise the error is `Refused`. In each case the group is used up.
+    /// trains in that round; otherwise the error is `Refused`. Either way the group is used up.
     fn earn<N: Network>(
         &mut self,
         network: &N,

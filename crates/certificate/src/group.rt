@@ -5,7 +5,7 @@ use legal_runs::Claim;
 use tables::{Company, Round};
 
 /// A group of a text of certificates: the round and the company of the best runs, what it claims
-/// that they earn, and the bits by which this is checked.
+/// they earn, and the bits by which this is checked.
 #[derive(Drop)]
 pub struct Group {
     pub round: Round,

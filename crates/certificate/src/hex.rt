@@ -7,10 +7,10 @@ ghost use Rattle.certificate.specs.declared.hex.HexFault.TheVariants.{Digit, Mem
 use std::alloc::{AllocError, Global};
 use thiserror::Error;
 
-/// Why a text of marks is not read.
+/// Why a text of marks cannot be read.
 #[derive(Clone, Copy, Debug, PartialEq, Eq, Drop, Error)]
 pub enum HexFault {
-    /// A byte is no hexadecimal digit.
+    /// A byte is not a hexadecimal digit.
     #[error("a byte is no hexadecimal digit")]
     Digit,
     /// An allocation failed.
@@ -31,7 +31,7 @@ impl From<AllocError> for HexFault {
 const DIGITS: &[u8; 16] = b"0123456789abcdef";
 
 /// Reads bits from hexadecimal digits of upper or lower case: four bits from each, the highest
-/// first. The error is `Digit` if a byte is no digit, which is checked before anything is
+/// first. The error is `Digit` if a byte is not a digit, which is checked before anything is
 /// allocated, and `Memory` if allocation fails.
 pub fn read_hex(alloc: Global, text: &[u8]) -> Result<Vec<bool>, HexFault>
     ensures digit { (result ≡ Err Digit) ↔ (has_other text.now ≡ true) }
@@ -48,7 +48,7 @@ pub fn read_hex(alloc: Global, text: &[u8]) -> Result<Vec<bool>, HexFault>
 }
 
 /// Prints bits in hexadecimal digits of lower case: four bits in each, the highest first. The last
-/// digit is filled up with 0 bits. Fails only if allocation fails.
+/// digit is padded with 0 bits. Fails only if allocation fails.
 pub fn print_hex(alloc: Global, bits: &[bool]) -> Result<Vec<u8>, AllocError>
     ensures { IfOk result (λ text. text.items ≡ digits_of bits.now) }
 {
@@ -100,7 +100,7 @@ pub(crate) fn bit_number(bit: bool) -> u8
     if bit { 1 } else { 0 }
 }
 
-/// Returns whether a byte is no digit.
+/// Returns whether some byte is not a hexadecimal digit.
 pub(crate) fn has_other(text: &[u8]) -> bool
     ensures { result ≡ has_other text.now }
 {

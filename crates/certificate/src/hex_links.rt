@@ -8,8 +8,8 @@ use arrayvec::ArrayVec;
 use map_tables::{HEXES, Hex};
 use reach::Network;
 
-/// The links of each hex of a network, which is asked for them once. They are kept in few bytes,
-/// since a table of links is made, and moved, for each tree. Allocates nothing.
+/// The links of each hex of a network, which is asked for each hex once. They take few bytes, since
+/// each tree makes, and moves, its own table. Allocates nothing.
 #[derive(Drop)]
 pub(crate) struct HexLinks {
     /// The links by the places of the hexes in their order.

@@ -1,4 +1,4 @@
-//! What the reached stops are to a company, as a walk looks it up.
+//! What the reached stops are to a company, as a walk looks them up.
 ghost use Rattle.certificate.specs.KnownStops.{AreKnown, IsOfStop};
 
 use legal_runs::{has_token, is_full, worth};
@@ -55,7 +55,7 @@ impl KnownStops {
         KnownStops { facts }
     }
 
-    /// Returns what a stop is to the company. The network is asked if that is not known.
+    /// Returns what a stop is to the company. If that is not known, it asks the network.
     #[inline(always)]
     pub(crate) fn at<N: Network>(&self, network: &N, company: Company, stop: Stop) -> StopFacts
         ensures { let position = N.position network.now in

@@ -78,7 +78,7 @@ pub fn worked_marks()
     ensures { WorkedMarks }
 {}
 
-/// States how texts and bits belong together. If `read_hex` reads a text of digits in lower case,
+/// States how texts and bits correspond. If `read_hex` reads a text of digits in lower case,
 /// `print_hex` prints that text again, and it prints only such texts. What it printed is read as
 /// the bits, with at most three 0 bits after them.
 pub fn digits_and_bits()

@@ -10,7 +10,7 @@
 //! the nodes ahead, and when a claim is accepted by them; `HoldingLaws` says that it then has the
 //! greatest revenue. `Digits` is how marks are written in a text. `Checked` is how calls of a
 //! runner use groups, each a claim with its marks. `Filled` is marks that hold however the last
-//! digit of their text is filled up.
+//! digit of their text is padded.
 //!
 //! Reading order: `ranking` (what a run may still earn), `hex` (marks in a text), `bits` (marks as
 //! they are kept). `accept` is the check of a claim by marks, and their writing. Both are one walk

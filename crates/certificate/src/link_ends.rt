@@ -32,7 +32,7 @@ pub(crate) fn order(end: TrackEnd) -> u8
     end.order() as u8
 }
 
-/// The ends of the links of a hex, in order: the first of these, this many.
+/// The ends of the links of a hex, in order: this many of the first of these.
 #[derive(Clone, Copy)]
 pub(crate) struct HexEnds {
     ends: [LinkEnds; LINKS_MOST],
@@ -45,7 +45,7 @@ impl Default for HexEnds {
     ghost is_default = { λ kept.
         kept ≡ record { ends = replicate 6 (record { a = 0; b = 0 }); count = 0 } };
 
-    /// Returns no links, which is the filler for the unused room of a table.
+    /// Returns no links, which fill the unused part of a table.
     fn default() -> HexEnds {
         HexEnds {
             ends: [LinkEnds { a: 0, b: 0 }; LINKS_MOST],

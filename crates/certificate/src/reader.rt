@@ -6,7 +6,7 @@ use crate::bits::BitReader;
 use crate::decider::{Decider, Decision};
 use tables::Amount;
 
-/// Marks that are read one after the other.
+/// Marks that are read one after another.
 pub(crate) trait Marks {
     /// The marks that are left.
     ghost left: { Self → List Bool };
@@ -56,7 +56,7 @@ impl Marks for SliceMarks<'_> {
     }
 }
 
-/// Decides by marks: 0 cuts a node whose bound is at most a revenue, and 1 splits one that is no
+/// Decides by marks: 0 cuts a node whose bound is at most a revenue, and 1 splits one that is not a
 /// leaf. If the next mark does neither, or there is none, the walk ends.
 #[derive(Drop)]
 pub(crate) struct Reader<M: Drop> {

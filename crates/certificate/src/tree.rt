@@ -1,5 +1,5 @@
-//! What stays the same in a walk over a choice tree: the company, what it reaches and what that is,
-//! the links of the hexes, and its trains in their order, D, 6 and so on to 2.
+//! What stays the same in a walk over a choice tree: the company, the stops that it reaches with
+//! their facts, the links of the hexes, and its trains in their order, D, 6 and so on to 2.
 ghost use Rattle.std.specs.Prelude.{◌≡◌, List, Option, [], count_by, length};
 ghost use Rattle.map_tables.specs.declared.place.Stop.{Stop};
 ghost use Rattle.reach.specs.Position.{Position};
@@ -85,8 +85,8 @@ impl Tree {
         self.reached.has(stop)
     }
 
-    /// Returns what a train may still earn, in dollars, at as many reached stops that it has not
-    /// visited as are left to it.
+    /// Returns what a train may still earn, in dollars, at the reached stops that it has not
+    /// visited and still may.
     pub(crate) fn may_earn(&self, left: Option<usize>, seen: &StopMarks) -> Amount
         ensures { (position : Position) (stops : List Stop) → IsTree position self.now →
             AreVisited seen.now stops →
@@ -109,7 +109,7 @@ impl Tree {
         None
     }
 
-    /// Returns what the trains from a place on may earn, in dollars, before they have begun.
+    /// Returns what the trains from a place on may earn, in dollars, before any of them has begun.
     pub(crate) fn may_earn_from(&self, place: usize) -> u64
         ensures { result ≡ capped (earned_from self.now.groups place) }
     {
@@ -124,7 +124,7 @@ impl Tree {
     }
 }
 
-/// Returns the trains of a kind, among some.
+/// Returns those of some trains that are of a kind.
 fn group_of(ranking: &Ranking, trains: &[Kind], kind: Kind) -> Group
     ensures kind { result.kind ≡ kind }
     ensures count { result.count ≡ count_by (λ train. same_kind train kind) trains.now }

@@ -119,10 +119,10 @@ fn ask<D: Decider>(tree: &Tree, begun: &Begun, seen: &StopMarks, decider: &mut D
     decider.decide(bound, false)
 }
 
-/// Decides at the nodes at which no run is begun, from a place in the order of the trains on. Each
-/// node is the first child of the one before, down to the first that is not split, or to the leaf.
-/// Returns how far it came: the trains before that place are to set out. Returns `None` if the walk
-/// ends.
+/// Decides at the nodes at which no run is begun, beginning at a place in the order of the trains.
+/// Each node is the first child of the one before, down to the first that is not split, or to the
+/// leaf. Returns how far it came: the trains before that place must set out. Returns `None` if the
+/// walk ends.
 fn descend<D: Decider>(tree: &Tree, value: u64, first: usize, decider: &mut D) -> Option<usize>
     ensures { (position : Position) (assigned : List TrainRun) →
         IsBetweenRuns position tree.now value assigned →

@@ -1,4 +1,4 @@
-//! Tables of what a game says of its companies, as the totals of the game have it.
+//! Tables of each company's shares, president and square, read from the totals of a game.
 ghost use Rattle.certs.specs.CompanyTables.{AreCompanyTablesOf, AreSharesOf, IsRowOf};
 ghost use Rattle.certs.specs.ShareRow.{AreBounded, IsBounded};
 
@@ -6,12 +6,12 @@ use crate::share_places::Row;
 use history::{GameView, Shareholder};
 use tables::{Company, PerCompany, Seat, Square};
 
-/// What is said of each company, by its place in the roster.
+/// The facts of each company, by its place in the roster.
 #[derive(Clone, Copy, Debug)]
 pub(crate) struct CompanyTables {
     /// The shares of each company by their places.
     pub shares: PerCompany<Row>,
-    /// The president of each company, as it was said last.
+    /// The president of each company, as last recorded.
     pub presidents: PerCompany<Option<Seat>>,
     /// The square of each company.
     pub squares: PerCompany<Option<Square>>,

@@ -11,9 +11,9 @@ use market::move_token_right;
 use std::alloc::AllocError;
 use tables::{Amount, Company, SHARES, Seat};
 
-/// Pays a revenue in dollars for the shares of a company from the bank: a tenth of it for each
-/// share that a seat holds, seat by seat, and as much to the company for each in the bank pool. Its
-/// token on the chart moves right. Fails only if allocation fails.
+/// Pays a revenue in dollars for the shares of a company from the bank: each seat gets a tenth of
+/// it per share, seat by seat, and the company a tenth for each share in the bank pool. Its token
+/// on the chart moves right. Fails only if allocation fails.
 pub fn pay_out(history: &mut History, company: Company, revenue: Amount) -> Result<(), AllocError>
     requires few { history.old.seats ≤ 6 }
     requires small { revenue ≤ 100000 }
@@ -26,8 +26,8 @@ pub fn pay_out(history: &mut History, company: Company, revenue: Amount) -> Resu
     Ok(())
 }
 
-/// Pays the seats for their shares of a company from the bank, seat by seat, and the company for
-/// those of the bank pool.
+/// Pays from the bank the seats for their shares of a company, seat by seat, and the company for
+/// those in the bank pool.
 fn pay_all(history: &mut History, company: Company, revenue: Amount) -> Result<(), AllocError>
     requires few { history.old.seats ≤ 6 }
     requires small { revenue ≤ 100000 }
@@ -76,7 +76,7 @@ fn dividend(history: &History, company: Company, place: Shareholder, revenue: Am
     shares * (revenue / SHARES)
 }
 
-/// Pays a holder from the bank, if there is something to pay; perhaps that breaks the bank.
+/// Pays a holder from the bank, if there is something to pay; the payment may break the bank.
 fn pay_to(
     history: &mut History,
     company: Company,

@@ -23,15 +23,15 @@ pub struct Holdings {
 impl Holdings {
     ghost use Rattle.certs.specs.Holdings.{AreHoldingsAt, AreHoldingsOf, MovesShares, shares_in};
 
-    /// Returns the holdings of a game as it stands, read from the totals that it keeps of its
-    /// events.
+    /// Returns the holdings of a game, read from the totals of its events.
     pub fn of(history: &History) -> Holdings
         ensures { AreHoldingsOf history.now result }
     {
         Holdings::at(&history.now())
     }
 
-    /// Returns the holdings of a game as it stood, read from the totals that it kept of its events.
+    /// Returns the holdings of a game, as it was at an earlier event, read from the totals of its
+    /// events until then.
     pub fn at(view: &GameView) -> Holdings
         ensures { AreHoldingsAt view.now result }
     {
@@ -49,7 +49,7 @@ impl Holdings {
         }
     }
 
-    /// Returns the shares of a company at a place. Of the seats the first six have places.
+    /// Returns the shares of a company at a place. Only the first six seats have places.
     pub fn shares(&self, company: Company, place: Shareholder) -> ShareCount
         ensures { result ≡ shares_in self.now company place }
     {
@@ -60,7 +60,7 @@ impl Holdings {
     }
 
     /// Moves shares of a company from one place, which has them, to another. A seat past the sixth
-    /// has no place: what goes to it leaves the table.
+    /// has no place: shares that go to it leave the table.
     pub fn transfer(&mut self, transfer: Transfer)
         requires { pos transfer.shares ≤ℤ shares_in self.old transfer.company transfer.from }
         ensures { MovesShares self.old self.new transfer }

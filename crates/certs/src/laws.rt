@@ -3,20 +3,19 @@ ghost use Rattle.certs.specs.Counted.{CountsByGame};
 ghost use Rattle.certs.specs.Dividend.{NoMoreIsPaid};
 ghost use Rattle.certs.specs.President.{FirstWithMostPresides, PresidesByGame};
 
-/// States that the seat that presides is the first with most, beginning with the one that presided:
-/// each seat before it has fewer shares, and none after it has more.
+/// States that the seat that presides is the first with the most shares, beginning with the one
+/// that presided: each seat before it has fewer shares, and none after it has more.
 pub fn first_with_most_presides()
     ensures { FirstWithMostPresides }
 {}
 
-/// States that the certificates that count by the holdings of a game are those that count by its
-/// events.
+/// States that the same certificates count by the holdings of a game as by its events.
 pub fn counted_by_the_game()
     ensures { CountsByGame }
 {}
 
 /// States that the seat that presides by the holdings of a game presides by its events, if the
-/// president as it was last said is at the table.
+/// president last recorded is at the table.
 pub fn presides_by_the_game()
     ensures { PresidesByGame }
 {}

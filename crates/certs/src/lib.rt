@@ -4,14 +4,14 @@
 //!
 //! The holdings are a small table that is read from the totals that a game keeps of its events. A
 //! transfer moves shares and nothing else; then the table gives who presides. The rules of a
-//! purchase and of a sale are checked in the order of their numbers, and the first that is broken
-//! is returned.
+//! purchase or a sale are checked in the order of their numbers; the error is the first that it
+//! breaks.
 //!
 //! Reading order: `holdings`, `company_tables` (what they are made of), `share_places` (the shares
 //! of one company), `president`, `counted_certificates` (the certificates that count), `share_deal`
 //! (what is bought and sold), `purchase`, `sale`, `sell` (what follows from a sale), `dividend`
-//! (what a company pays out), `laws` (what decides the presidency, and that it and what counts are
-//! the same by the events of a game).
+//! (what a company pays out), `laws` (what decides the presidency; the presidency and the
+//! certificates that count are the same by a game's events).
 #![tactic(auto)]
 
 mod company_tables;

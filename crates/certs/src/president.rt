@@ -36,8 +36,8 @@ impl SharesOfSeats for GameView<'_> {
 
 impl Holdings {
     /// Returns who presides over a company; `None` if nobody has its president's certificate. The
-    /// president as it was last said stays unless some seat has strictly more shares. Then it is
-    /// the seat with most, among equals the first to the president's left.
+    /// president last recorded stays unless some seat has strictly more shares. Then it is the seat
+    /// with the most; if several have as many, the first to the president's left.
     pub fn president(&self, company: Company) -> Option<Seat>
         ensures { result ≡ presiding_in self.now company }
     {
@@ -47,16 +47,16 @@ impl Holdings {
 }
 
 /// Returns who presides over a company by the game's shares, if this seat presided. It stays unless
-/// some seat has strictly more shares. Then it is the seat with most, among equals the first to its
-/// left.
+/// some seat has strictly more shares. Then it is the seat with the most; if several have as many,
+/// the first to its left.
 pub fn successor(view: &GameView, company: Company, old: Seat) -> Seat
     ensures { result ≡ successor_of view.now.seats view.now.events.now company old }
 {
     with_most(view, company, view.seats, old)
 }
 
-/// Returns the seat with most shares of a company at a table of this many seats, among equals the
-/// first from this one on.
+/// Returns the seat with the most shares of a company at a table of this many seats; if several
+/// have as many, the first from this one on.
 fn with_most<T: SharesOfSeats>(shares: &T, company: Company, seats: usize, old: Seat) -> Seat
     ensures { result ≡ successor (T.shares shares.now company) seats old }
 {

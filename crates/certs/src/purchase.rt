@@ -19,11 +19,11 @@ use tables::{
     rules, zone,
 };
 
-/// The most shares of a company that a seat may hold if no zone lifts that.
+/// The most shares of a company that a seat may hold, unless a zone lifts the limit.
 const SHARES_MOST: ShareCount = 6;
 
-/// Checks whether a seat may buy, given the company of which it has bought in this turn, if any.
-/// The error is the first rule that the purchase breaks, of S6 to S13.
+/// Checks whether a seat may buy, given the company, if any, whose share it has bought in this
+/// turn. The error is the first of the rules S6 to S13 that the purchase breaks.
 pub fn may_buy(
     history: &History,
     seat: Seat,
@@ -76,7 +76,7 @@ fn is_sold_out_there(now: &GameView, purchase: Purchase) -> bool
     }
 }
 
-/// Returns whether a sum that is to be the par value is none of the six.
+/// Returns whether the par value asked for is not one of the six.
 fn is_no_par(purchase: Purchase) -> bool
     ensures { result ≡ is_no_par purchase }
 {
@@ -86,8 +86,8 @@ fn is_no_par(purchase: Purchase) -> bool
     }
 }
 
-/// Returns whether a par value is set for a company that is started, or a share bought of one that
-/// is not.
+/// Returns whether the purchase sets a par value for a company that has started, or buys a share of
+/// one that has not.
 fn is_wrong_start(now: &GameView, purchase: Purchase) -> bool
     ensures { result ≡ is_wrong_start now.now.events.now purchase }
 {
@@ -141,7 +141,7 @@ fn is_short(now: &GameView, seat: Seat, purchase: Purchase) -> bool
     now.free_cash(seat) < purchase_cost(now, purchase)
 }
 
-/// Returns whether a certificate of a company would count, and a seat has reached the limit.
+/// Returns whether a certificate of a company would count though the seat has reached the limit.
 #[tactic(auto, unfolding(crate::specs::Purchase::is_at_limit))]
 fn is_at_limit(now: &GameView, seat: Seat, company: Company) -> bool
     ensures { result ≡ is_at_limit now.now.seats now.now.events.now seat company }
@@ -149,7 +149,7 @@ fn is_at_limit(now: &GameView, seat: Seat, company: Company) -> bool
     counts_on(now.square(company)) && has_full_hand(now, seat)
 }
 
-/// Returns whether a seat has as many certificates that count as the limit.
+/// Returns whether as many of a seat's certificates count as the limit allows.
 fn has_full_hand(now: &GameView, seat: Seat) -> bool
     ensures { result ≡ le_z (pos (certificate_limit_of now.now.seats))
         (counted_of now.now.events.now seat) }
@@ -183,8 +183,7 @@ fn would_have(now: &GameView, seat: Seat, company: Company, shares: u8) -> Share
     now.shares(company, Shareholder::Seat(seat)) + ShareCount::from(shares)
 }
 
-/// Returns whether a seat has bought already in its turn, and this purchase is not one of several
-/// that are allowed.
+/// Returns whether a seat has bought already in its turn, and may not buy a second time.
 #[tactic(auto, unfolding(crate::specs::Purchase::is_second))]
 fn is_second(now: &GameView, company: Company, bought: Option<Company>) -> bool
     ensures { result ≡ is_second now.now.events.now company bought }

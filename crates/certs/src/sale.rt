@@ -12,7 +12,7 @@ use history::{GameView, History, ShareCount, Shareholder, StockRule};
 use tables::{Company, POOL_SHARES_MOST, PRESIDENT_SHARES, Round, Seat, rules};
 
 /// Checks whether a seat may sell. A sale to pay for a train names the operating company. The error
-/// is the first rule that the sale breaks, of S2 to S5 and S9.
+/// is the first of the rules S2 to S5 and S9 that the sale breaks.
 pub fn may_sell(
     history: &History,
     seat: Seat,
@@ -54,7 +54,7 @@ fn is_first_stock(now: &GameView) -> bool
     matches!(now.round(), Some(Round::Stock(1)))
 }
 
-/// Returns whether no shares are to be sold, or more than the seat has.
+/// Returns whether the sale is of no shares, or of more than the seat has.
 #[tactic(auto, unfolding(crate::specs::Sale::is_not_held))]
 fn is_not_held(now: &GameView, seat: Seat, sale: Sale) -> bool
     ensures { result ≡ is_not_held now.now.events.now seat sale }

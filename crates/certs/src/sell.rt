@@ -54,8 +54,8 @@ fn pay_for_block(
     Ok(())
 }
 
-/// Records who presides over a company, if the presidency has moved by a change of its shares.
-/// Fails only if allocation fails.
+/// Records who presides over a company, if a change of its shares has moved the presidency. Fails
+/// only if allocation fails.
 pub fn record_president(history: &mut History, company: Company) -> Result<(), AllocError>
     ensures seats { OnOk result (history.new.seats ≡ history.old.seats) }
     ensures events { OnOk result (history.new.events

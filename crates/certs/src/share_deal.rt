@@ -9,10 +9,10 @@ use tables::{Amount, Company};
 /// What a seat buys in a stock round.
 #[derive(Clone, Copy, Debug, PartialEq, Eq)]
 pub enum Purchase {
-    /// The president's certificate of a company that is not started, two shares, at twice the par
+    /// The president's certificate of a company that has not started, two shares, at twice the par
     /// value that the seat sets, in dollars.
     Par { company: Company, price: Amount },
-    /// A share of a company that is started.
+    /// A share of a company that has started.
     Share { company: Company, from: ShareSource },
 }
 

@@ -26,7 +26,7 @@ pub(crate) fn index_of(place: Shareholder) -> usize
 }
 
 /// Returns a row after this many shares have gone from one place, which has them, to another. A
-/// place may be none of the row: it has no shares, and what goes to it leaves the row.
+/// place outside the row has no shares, and shares that go to it leave the row.
 pub(crate) fn moved(row: Row, from: usize, to: usize, shares: u8) -> Row
     requires held { pos shares ≤ℤ slice_index_or row from (pos 0) }
     requires bounded { IsBounded row }

@@ -8,7 +8,7 @@ use tables::{Amount, Company, Round};
 /// What a company earned, in the last of the rounds so far in which it operated.
 #[derive(Clone, Copy)]
 pub struct Earnings {
-    /// That round; `None` if it has operated in none.
+    /// That round; `None` if it has never operated.
     pub round: Option<Round>,
     /// What its runs earned in it, in dollars.
     pub dollars: u128,
@@ -74,8 +74,8 @@ pub fn earnings_of(events: &[Event], company: Company) -> Earnings
 }
 
 /// Returns what a company earns by an event with which it operates: the revenue of its runs, in
-/// dollars, and 0 for WITHHOLD, since the runs before it earned what it keeps. `None` for every
-/// other event.
+/// dollars, and 0 for WITHHOLD, since an earlier event has the revenue that it keeps. `None` for
+/// every other event.
 fn earned_by(company: Company, event: &Event) -> Option<Amount>
     ensures { result ≡ earned_by company event.now }
 {

@@ -22,8 +22,8 @@ impl From<TrainSeller> for Fact<'_> {
     }
 }
 
-/// An event of the game of some sheets. Its member `event` is the first word of its line, or of a
-/// line of a sheet what became of it.
+/// An event of the game of some sheets. Its member `event` is the first word of its line in the
+/// report; for a line of a sheet it is what became of the line.
 #[derive(Clone, Copy)]
 pub(crate) struct EventFacts<'a> {
     pub(crate) alloc: Global,

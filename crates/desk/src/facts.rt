@@ -1,5 +1,5 @@
-//! Facts as JSON: what an object has under its names, and how that is written. Each form of a fact
-//! is an impl of `Serialize`, so that lists and objects are written as they are read from the game.
+//! Facts as JSON: the members of an object, and how they are written. Each form of a fact is an
+//! impl of `Serialize`, so that lists and objects are written as they are read from the game.
 ghost use Rattle.std.specs.Prelude.{◌≡◌, ◌∷◌, ◌++◌, [], IfOk, List, Some, ℕ};
 ghost use Rattle.serde.specs.Event.{Log};
 ghost use Rattle.serde_json.specs.Sent.{IsTextOf};
@@ -10,23 +10,23 @@ use std::alloc::{AllocError, Global};
 use std::str;
 use tables::{Amount, Company, Kind, Money, Private, Round, Square};
 
-/// What is written where an allocation fails.
+/// The message for a failed allocation.
 pub(crate) const MEMORY: &str = "an allocation failed";
 
-/// The form of the facts, under its name. It changes once a member that was there goes, or changes
-/// its meaning.
+/// The form of the facts, under its name. It changes whenever a member is removed or changes its
+/// meaning.
 pub(crate) const FORM: (&str, Fact) = ("form", Fact::Number(1));
 
 /// A fact that an object has.
 #[derive(Clone, Copy)]
 pub(crate) enum Fact<'a> {
-    /// That there is none.
+    /// There is none.
     Nothing,
     /// A name, a code, a round or a square, in ASCII.
     Text(Piece<'a>),
     /// A sum in dollars, or how many there are.
     Number(Money),
-    /// Whether it is so.
+    /// True or false.
     Flag(bool),
 }
 
@@ -140,8 +140,8 @@ impl Serialize for Object<'_> {
     }
 }
 
-/// Returns a value as a line of JSON. Facts have no form that JSON lacks, so it fails only if
-/// allocation fails.
+/// Returns a value as a line of JSON. JSON can express every fact, so it fails only if allocation
+/// fails.
 pub(crate) fn json_line<T: Serialize>(alloc: Global, value: &T) -> Result<Vec<u8>, AllocError>
     ensures { IfOk result (λ text. (log : Log) × (json : List ℕ) × T.writes value.now (Some []) log
         × IsTextOf log json × (text.items ≡ json ++ 10 ∷ [])) }

@@ -1,8 +1,9 @@
-//! A game as it stands, at its end or between two of its rounds, as text and as JSON, and the events
-//! of a round as JSON. No call reads or writes a stream.
+//! The state of a game, at its end or between two rounds, as text and as JSON, and the events of a
+//! round as JSON. No call reads or writes a stream.
 //!
 //! Each figure comes from a reader of the game's list, from `desk_base`, or from `player_figures`,
-//! `earnings`, `stack` or `standing`, whose contracts define it. The games of `games/desk/` test the layout.
+//! `earnings`, `stack` or `standing`, whose contracts define it. The games of `games/desk/` test
+//! the layout.
 //!
 //! Reading order: `round_name` (the round that is asked for). Then the figures that the readers of
 //! a game do not have (`player_figures`, `earnings`, `stack`, `standing`, `state_rows`), and their

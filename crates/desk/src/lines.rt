@@ -9,7 +9,7 @@ use std::alloc::AllocError;
 const LINE_MOST: usize = 80;
 
 /// Returns the piece that moves to the next place of the current line, where each place has this
-/// many columns. It begins a new line if the place would end past column 80.
+/// many columns. It begins a new line if that place would end after column 80.
 pub(crate) fn next_place<'a>(text: &[u8], width: usize) -> Piece<'a>
     requires { 0 < width }
 {

@@ -16,7 +16,7 @@ use tables::{Money, Seat};
 pub struct Purse {
     /// In dollars.
     pub cash: Money,
-    /// The cash that no standing bid ties, in dollars.
+    /// The cash that is not tied up in bids, in dollars.
     pub free: Money,
     /// How many certificates count against the limit.
     pub certificates: ShareCount,

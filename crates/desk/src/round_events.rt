@@ -13,9 +13,9 @@ use sheets::{Sheets, collect};
 use std::alloc::Global;
 use tables::Round;
 
-/// Returns the events of a round of the game of an order file as JSON, in one line; of the last
-/// round that was played if none is named. Fails with `File` if the file is refused, with `Round`
-/// if that round is not played, or none is, and with `Memory` if allocation fails.
+/// Returns the events of a round of the game of an order file as JSON, in one line: the round
+/// named, or else the last one played. Fails with `File` if the file is refused, with `Round` if
+/// that round was not played, or no round was, and with `Memory` if allocation fails.
 #[tactic(auto, using(desk_base::proofs::Refusals::no_state_where_it_fails, desk_base::proofs::Refusals::no_state_of_game))]
 pub fn round_facts(alloc: Global, file: &[u8], asked: Option<Round>) -> Result<Vec<u8>, DeskFault>
     ensures accepted { OnOk result (IsAccepted file.now) }

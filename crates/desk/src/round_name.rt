@@ -1,12 +1,12 @@
-//! The round that is asked for, as it is written on a command line.
+//! The round that is asked for, as a command line names it.
 
 use order_grammar::{Line, Order, read_line};
 use tables::Round;
 
-/// A SHEET line of anybody, with room for the name of a round, which has 9 bytes at most.
+/// A SHEET line of some player, with room for the name of a round, which has at most 9 bytes.
 const SHEET: &[u8; 17] = b"SHEET A          ";
 
-/// Where the name of the round stands on it.
+/// The index of the round's name in it.
 const ROUND_AT: usize = 8;
 
 /// Returns the round that a word names as a SHEET line would, in either case: `PR1`, `SR1` or

@@ -12,7 +12,7 @@ use tables::{CHART_COLUMNS_END, CHART_ROWS, Money, Zone, price, square, zone};
 /// The width of a square.
 const SQUARE: usize = 4;
 
-/// How many tokens of a stack a line shows.
+/// The most tokens of a stack that a line shows.
 const SHOWN: usize = 3;
 
 /// Adds the stock market: the prices of each row, with the zones, and below them the tokens.
@@ -62,7 +62,7 @@ fn mark(zone: Zone) -> &'static str {
 }
 
 /// Adds the tokens on the squares of a row that lie below this many others, as many as a line
-/// shows; no line where there are none.
+/// shows; adds no line if there are none.
 fn push_tokens(out: &mut Vec<u8>, view: &GameView, row: u8, above: usize) -> Result<(), AllocError>
     requires { above < 9 }
 {

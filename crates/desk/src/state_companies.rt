@@ -24,7 +24,7 @@ const PRESIDENT: usize = 28;
 /// The column of its cash.
 const CASH: usize = 37;
 
-/// The column of the round that its last revenue is of.
+/// The column of the round of its last revenue.
 const ROUND: usize = 55;
 
 /// The column in front of its trains.
@@ -46,7 +46,7 @@ const PLAYERS: usize = 23;
 const PLAYER: usize = 9;
 
 /// Adds what the companies have, in this order: their figures, their shares, and how many tokens
-/// they have left, with where those lie that they have placed.
+/// they have left, with the places of those on the map.
 pub(crate) fn push_companies(
     out: &mut Vec<u8>,
     stood: &Stood,
@@ -77,7 +77,7 @@ pub(crate) fn push_all_shares(
     Ok(())
 }
 
-/// Adds how many tokens each company has left, and where those lie that it has placed.
+/// Adds how many tokens each company has left, and the places of those on the map.
 pub(crate) fn push_all_tokens(
     out: &mut Vec<u8>,
     history: &History,
@@ -90,7 +90,7 @@ pub(crate) fn push_all_tokens(
     Ok(())
 }
 
-/// Adds how many tokens a company has left, and where those lie that it has placed.
+/// Adds how many tokens a company has left, and the places of those on the map.
 fn push_tokens(out: &mut Vec<u8>, history: &History, company: Company) -> Result<(), AllocError> {
     let left = tokens_left(&history.now(), company) as Money;
     push(out, &[Words(company.code()), Column(8), Right(4, left)])?;
@@ -104,8 +104,8 @@ fn push_tokens(out: &mut Vec<u8>, history: &History, company: Company) -> Result
 }
 
 /// Adds the line of a company's figures: its price, its square, the place of its token in the stack
-/// there, its president, and what it has. One that has not floated has few, and one that is not
-/// started none.
+/// there, its president, and what it has. A company that has not floated has few of them, and one
+/// that has not started none.
 fn push_figures(out: &mut Vec<u8>, stood: &Stood, company: Company) -> Result<(), AllocError> {
     let view = stood.history.now();
     let row = company_row(&view, company);
@@ -127,8 +127,8 @@ fn push_figures(out: &mut Vec<u8>, stood: &Stood, company: Company) -> Result<()
     push_privates(out, stood.history, Holder::Company(company), PRIVATES)
 }
 
-/// Adds a company's price, its square, and the place of its token in the stack there, behind so
-/// many others.
+/// Adds a company's price, its square, and the place of its token in the stack there, after so many
+/// others.
 fn push_square(out: &mut Vec<u8>, square: Square, above: usize) -> Result<(), AllocError> {
     push(
         out,
@@ -143,7 +143,7 @@ fn push_square(out: &mut Vec<u8>, square: Square, above: usize) -> Result<(), Al
     )
 }
 
-/// Adds a company's cash, its last revenue with the round that it is of, and its trains.
+/// Adds a company's cash, its last revenue with its round, and its trains.
 fn push_treasury(
     out: &mut Vec<u8>,
     history: &History,
@@ -178,7 +178,7 @@ fn push_share_heading(out: &mut Vec<u8>, sheets: &Sheets) -> Result<(), AllocErr
     fill(out, "\n", &[])
 }
 
-/// Adds a company's par and its shares by their holders; those of its president are marked.
+/// Adds a company's par and its shares by their holders; the president's are marked.
 fn push_shares(out: &mut Vec<u8>, stood: &Stood, company: Company) -> Result<(), AllocError> {
     let history = stood.history;
     let row = share_row(&history.now(), company);

@@ -1,4 +1,4 @@
-//! The state of a game as JSON, by the rows from which its text is made.
+//! The state of a game as JSON, from the rows that its text is made of.
 
 use crate::earnings::earnings_of;
 use crate::facts::{FORM, Fact, Object, Written};
@@ -98,7 +98,7 @@ impl Serialize for Matters<'_> {
     }
 }
 
-/// The names of those who owe a sheet for the round that is awaited.
+/// The names of those who owe a sheet for the awaited round.
 #[derive(Drop)]
 struct Owing<'a> {
     alloc: Global,
@@ -185,7 +185,7 @@ impl Serialize for Owned<'_> {
     }
 }
 
-/// Each private with its owner; of those that are unsold the price, and the bids.
+/// Each private with its owner; for those that are unsold also the price and the bids.
 #[derive(Drop)]
 struct Privates<'a> {
     alloc: Global,
@@ -233,7 +233,7 @@ impl Serialize for Privates<'_> {
     }
 }
 
-/// The bids that are held for a private.
+/// The bids on a private.
 #[derive(Drop)]
 struct Bids<'a> {
     alloc: Global,
@@ -318,7 +318,7 @@ impl Serialize for CompanyFacts<'_> {
     }
 }
 
-/// The figures of a company. What one that is not started has none of is nothing.
+/// The figures of a company. Those that an unstarted company lacks are `Nothing`.
 #[derive(Drop)]
 struct Figures<'a> {
     alloc: Global,

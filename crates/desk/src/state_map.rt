@@ -8,10 +8,10 @@ use map_tables::{Hex, HexKind, Lay, Stop, StopNumber, TileKind, hex_kind, printe
 use std::alloc::AllocError;
 use tables::{Company, Money};
 
-/// The letter of the row that lies behind the last of the map.
+/// The letter after that of the map's last row.
 const ROWS_END: u8 = b'L';
 
-/// The width of a column, of which a hex takes two.
+/// The width of a column; a hex takes two.
 const COLUMN: usize = 3;
 
 /// Adds the map: a row of hexes with what is on each, and below it the tokens of its cities.
@@ -53,7 +53,7 @@ fn column_of(hex: Hex) -> usize {
 }
 
 /// Adds what is on a hex: the number and the rotation of the tile that lies there, or what is
-/// printed.
+/// printed on it.
 fn push_tile(out: &mut Vec<u8>, lays: &[Lay], hex: Hex) -> Result<(), AllocError> {
     match tile_on(lays, hex) {
         Some(lay) => fill(

@@ -12,7 +12,7 @@ use tables::{Money, Private, Seat};
 /// The width of a column of figures.
 const FIGURES: usize = 8;
 
-/// The column behind a player's figures.
+/// The column after a player's figures.
 const PRIVATES: usize = 41;
 
 /// The column of a private's owner.
@@ -21,8 +21,8 @@ const OWNER: usize = 21;
 /// The column in front of the bids on a private.
 const BIDS: usize = 29;
 
-/// The last column after which a bid is on the same line: that of a name of eight letters and a sum
-/// of five digits ends before column 80.
+/// The last column at which another bid begins on the same line: with a name of eight letters and a
+/// sum of five digits it ends before column 80.
 const BIDS_END: usize = 65;
 
 /// Adds what each player has: cash, certificates, worth and privates.
@@ -67,7 +67,7 @@ pub(crate) fn push_privates(
     fill(out, "\n", &[])
 }
 
-/// Adds who owns each private; of those that are unsold the price, and the bids that are held.
+/// Adds who owns each private; for those that are unsold also the price and the bids.
 pub(crate) fn push_owners(out: &mut Vec<u8>, stood: &Stood) -> Result<(), AllocError> {
     fill(out, "\nPRIVATE FACE  PRICE  OWNER    BIDS\n", &[])?;
     for private in &Private::ALL {
@@ -77,8 +77,8 @@ pub(crate) fn push_owners(out: &mut Vec<u8>, stood: &Stood) -> Result<(), AllocE
     Ok(())
 }
 
-/// Adds the bids that are held on a private, and ends the line. A bid that would end past column 80
-/// begins a new line.
+/// Adds the bids on a private, and ends the line. A bid that would end past column 80 begins a new
+/// line.
 fn push_bids(out: &mut Vec<u8>, stood: &Stood, private: Private) -> Result<(), AllocError> {
     for seat in 0..stood.sheets.seats() {
         let seat = Seat::at(seat);

@@ -1,4 +1,5 @@
-//! What is awaited and who owes it, or how the game ended; and what the phase and the set bring.
+//! The awaited round and who owes a sheet for it, or how the game ended; and the limits of the
+//! phase and the set.
 
 use crate::state_rows::game_row;
 use desk_base::Piece::{Bytes, Count, Number, Words};
@@ -8,8 +9,8 @@ use rounds::End;
 use std::alloc::AllocError;
 use tables::{Money, Seat};
 
-/// Adds the round that was played last, and the round that is awaited with those who owe a sheet
-/// for it, or how the game ended.
+/// Adds the round that was played last, and the awaited round with those who owe a sheet for it, or
+/// how the game ended.
 pub(crate) fn push_awaited(out: &mut Vec<u8>, stood: &Stood) -> Result<(), AllocError> {
     let last = match stood.history.now().round() {
         Some(round) => Piece::Round(round),

@@ -1,5 +1,5 @@
 //! The rows of a state: the figures of a company, its shares, a private, a kind of train, and the
-//! game. What is printed of them is a function of the row.
+//! game. What is printed is a function of the row alone.
 ghost use Rattle.std.specs.Prelude.{◌≡◌, option_map, pos};
 ghost use Rattle.desk_base.specs.StockLeft.{trains_left};
 ghost use Rattle.events.specs.Event.{party_of_company};
@@ -80,11 +80,11 @@ pub(crate) fn private_row(view: &GameView, private: Private) -> PrivateRow
 /// A company.
 #[derive(Clone, Copy)]
 pub(crate) struct CompanyRow {
-    /// The square of its token; `None` before it is started.
+    /// The square of its token; `None` before it has started.
     pub(crate) square: Option<Square>,
     /// Its president.
     pub(crate) president: Option<Seat>,
-    /// Whether it is started.
+    /// Whether it has started.
     pub(crate) is_started: bool,
     /// Whether it operates.
     pub(crate) operates: bool,
@@ -113,7 +113,7 @@ pub(crate) fn company_row(view: &GameView, company: Company) -> CompanyRow
 /// The shares of a company that no player has.
 #[derive(Clone, Copy)]
 pub(crate) struct ShareRow {
-    /// Its par value, in dollars; `None` before it is started.
+    /// Its par value, in dollars; `None` before it has started.
     pub(crate) par: Option<Money>,
     /// The shares in the initial offering.
     pub(crate) offering: ShareCount,
@@ -138,7 +138,7 @@ pub(crate) fn share_row(view: &GameView, company: Company) -> ShareRow
 /// A kind of train.
 #[derive(Clone, Copy)]
 pub(crate) struct TrainRow {
-    /// How many the bank has not sold; `None` if their number has no limit.
+    /// How many the bank has not sold; `None` if there is no limit.
     pub(crate) left: Option<usize>,
     /// How many are in the bank pool.
     pub(crate) pool: TrainCount,

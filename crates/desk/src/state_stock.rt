@@ -72,7 +72,7 @@ pub(crate) fn push_laid(out: &mut Vec<u8>, history: &History) -> Result<(), Allo
     end_open_line(out)
 }
 
-/// Adds how many tiles of each number are left, by their colours, behind the names of these.
+/// Adds how many tiles of each number are left, by colour, after the name of the colour.
 pub(crate) fn push_tiles_left(out: &mut Vec<u8>, history: &History) -> Result<(), AllocError> {
     fill(out, "\nTILES LEFT\n", &[])?;
     for (colour, name) in &COLOURS {

@@ -1,4 +1,5 @@
-//! What comes after a round: the next one, with its order and who owes a sheet for it, or the result.
+//! What comes after a round: the next round, with the order of its turns and who owes a sheet for
+//! it, or the result.
 
 use crate::standing::{rank_of, worths_of};
 use crate::state_rows::game_row;
@@ -14,11 +15,11 @@ use tables::{Company, Round, Seat};
 /// The column of further lines of a list.
 const LISTED: usize = 6;
 
-/// How many columns of what the umpire says of the time are shown.
+/// The most columns shown of the umpire's words on when sheets are due.
 const DUE_COLUMNS: usize = 60;
 
-/// Adds the round that comes next, in which order its players or companies have their turns, and who
-/// owes a sheet for it; or how the game ended, and the result.
+/// Adds the next round, the order of its turns, and who owes a sheet for it; or how the game ended,
+/// and the result.
 pub(crate) fn push_next(
     alloc: Global,
     out: &mut Vec<u8>,
@@ -72,7 +73,8 @@ fn push_order(
     )
 }
 
-/// Adds who owes a sheet for a round, and when it is due if that is said; or that it is played.
+/// Adds who owes a sheet for a round, and when it is due if the umpire has said so; or that the
+/// round has been played.
 fn push_owed(
     alloc: Global,
     out: &mut Vec<u8>,
@@ -98,7 +100,7 @@ fn push_owed(
 }
 
 /// Adds why the game is over, and what each player is worth, the greatest first. Players who are
-/// worth the same have the same rank, and come in the order of their seats.
+/// worth the same have the same rank, and are in the order of their seats.
 fn push_result(out: &mut Vec<u8>, stood: &Stood, why: &str) -> Result<(), AllocError> {
     fill(out, "\nTHE END: %\nRESULT        WORTH\n", &[Words(why)])?;
     let seats = stood.sheets.seats();

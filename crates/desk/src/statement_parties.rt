@@ -1,4 +1,4 @@
-//! What the players and the companies have after a round, beside what they had before it.
+//! What the players and the companies have after a round, beside what they had before.
 
 use crate::earnings::earnings_of;
 use crate::player_figures::{Purse, purse_of};
@@ -17,7 +17,7 @@ const MONEY: usize = 8;
 /// The width of the certificates that count.
 const CERTIFICATES: usize = 5;
 
-/// The column behind a player's figures.
+/// The column after a player's figures.
 const PRIVATES: usize = 51;
 
 /// The column of a company's president.
@@ -32,7 +32,7 @@ const NOW: usize = 22;
 /// The column in front of its cash.
 const CASH: usize = 29;
 
-/// The column of the round that its last revenue is of.
+/// The column of the round of its last revenue.
 const ROUND: usize = 46;
 
 /// The column of its trains.
@@ -71,7 +71,7 @@ pub(crate) fn push_players_moved(
     Ok(())
 }
 
-/// Adds how many certificates of a player count, of how many, and what the player is worth.
+/// Adds how many certificates of a player count, the limit, and what the player is worth.
 fn push_counted(out: &mut Vec<u8>, purse: Purse, most: usize) -> Result<(), AllocError> {
     fill(
         out,
@@ -85,7 +85,8 @@ fn push_counted(out: &mut Vec<u8>, purse: Purse, most: usize) -> Result<(), Allo
 }
 
 /// Adds what each of some companies has, in this order: president, price before the round and after
-/// it, cash, last revenue, trains of how many, privates. Nothing if there are none.
+/// it, cash, last revenue, trains with their limit, privates. Adds nothing if there are no
+/// companies.
 pub(crate) fn push_companies_moved(
     alloc: Global,
     out: &mut Vec<u8>,
@@ -112,7 +113,7 @@ pub(crate) fn push_companies_moved(
 }
 
 /// Adds a company's president, its price before the round and after it, its cash, and its last
-/// revenue with the round that it is of.
+/// revenue with its round.
 fn push_figures(
     out: &mut Vec<u8>,
     stood: &Stood,
@@ -133,7 +134,7 @@ fn push_figures(
     Ok(())
 }
 
-/// Adds a company's cash, and its last revenue with the round that it is of.
+/// Adds a company's cash, and its last revenue with its round.
 fn push_money(
     out: &mut Vec<u8>,
     history: &History,

@@ -1,7 +1,7 @@
 //! The state of a game, as text or as JSON.
 //!
 //! Its facts come from the readers of the game's list, or from `purse`, `earnings`, `stack` and
-//! `stock_left`, whose contracts say what they are. The rest is layout.
+//! `stock_left`, whose contracts define them. The rest is layout.
 ghost use Rattle.std.specs.Prelude.{IfErr, OnOk};
 ghost use Rattle.desk_base.specs.Refusal.{HasNoState, IsOfGame};
 ghost use Rattle.sheets.specs.File.{IsAccepted};
@@ -30,14 +30,15 @@ pub enum StateForm {
     Json,
 }
 
-/// Returns the state of the game of an order file at a moment, in a form. It has who owes a sheet, or
-/// how the game ended; the phase, priority, the number of operating rounds of the set and the limit
-/// of certificates; players, privates, companies in operating order, trains and tiles; the stock
-/// market and the map. Lines have at most 80 columns, except that of a company with over three
-/// privates. JSON has the same figures, without the pictures of the market and the map.
+/// Returns the state of the game of an order file at a moment, in a form. It says who owes a sheet,
+/// or how the game ended; then come the phase, priority, the number of operating rounds of the set
+/// and the limit of certificates; players, privates, companies in operating order, trains and
+/// tiles; the stock market and the map. Lines have at most 80 columns, except that of a company
+/// with over three privates. JSON has the same figures, without the pictures of the market and the
+/// map.
 ///
 /// Fails with `File` if the file is refused, with `Round` if the moment names a round that was not
-/// played, or is before the last round and none was played, and with `Memory` if allocation fails.
+/// played, or is `BeforeLast` and no round was, and with `Memory` if allocation fails.
 #[tactic(auto, using(desk_base::proofs::Refusals::no_state_where_it_fails, desk_base::proofs::Refusals::no_state_of_game))]
 pub fn state(
     alloc: Global,

@@ -1,4 +1,4 @@
-//! The statement that ends a bulletin: how everybody stands after a round, and what comes next.
+//! The statement that ends a bulletin: what everybody has after a round, and what comes next.
 //!
 //! Its figures come from the rows of a state, and the ranks of the result from `standing`. The rest
 //! is layout.
@@ -21,10 +21,11 @@ use tables::{Amount, Company, Kind, Money};
 /// The column of the values of the head.
 pub(crate) const VALUES: usize = 18;
 
-/// Returns the statement of a game at a moment between two rounds, in lines of at most 80 columns. It
-/// has what each player and each started company has, beside what they had before the last round;
-/// shares, trains, tokens and tiles; what comes next, and who owes a sheet for it, `due` then if that
-/// is not empty; and the result once the game is over. Fails only if allocation fails.
+/// Returns the statement of a game at a moment between two rounds, in lines of at most 80 columns.
+/// It shows what each player and each started company has, beside what they had before the last
+/// round; shares, trains, tokens and tiles; what comes next, who owes a sheet for it and when
+/// (`due`, unless that is empty); and the result once the game is over. Fails only if allocation
+/// fails.
 pub fn statement(alloc: Global, stood: &Stood, due: &str) -> Result<Vec<u8>, AllocError> {
     let order = all_in_order(alloc, stood.history)?;
     let mut text = Vec::new(alloc);
@@ -60,7 +61,7 @@ fn push_statement(
     push_next(alloc, out, stood, order, due)
 }
 
-/// Returns those of some companies that are started, in their order.
+/// Returns those of some companies that have started, in their order.
 fn started_in(
     alloc: Global,
     history: &History,
@@ -75,7 +76,7 @@ fn started_in(
     Ok(started)
 }
 
-/// Returns how many events were before the round that began last; 0 if none began.
+/// Returns the number of events before the round that began last; 0 if none began.
 fn before_round(events: &[Event]) -> usize {
     let mut before = 0;
     for (place, event) in events.iter().enumerate() {
@@ -86,7 +87,7 @@ fn before_round(events: &[Event]) -> usize {
     before
 }
 
-/// Adds the round, the phase and what it brings, and what the bank has.
+/// Adds the round, the phase with its limits, and the bank's cash.
 fn push_head(alloc: Global, out: &mut Vec<u8>, stood: &Stood) -> Result<(), AllocError> {
     let round = match stood.history.now().round() {
         Some(round) => Piece::Round(round),
@@ -107,8 +108,8 @@ fn push_head(alloc: Global, out: &mut Vec<u8>, stood: &Stood) -> Result<(), Allo
     push_trains(out, "TRAINS IN POOL", pool.as_slice())
 }
 
-/// Adds a kind of train with its price to the list of those that the bank sells, with how many are
-/// left, and to the list of those in the pool, with how many are there.
+/// Adds a kind of train with its price and the number left: to the list of those that the bank
+/// sells, and to the list of those in the pool.
 fn push_sold(
     bank: &mut Vec<u8>,
     pool: &mut Vec<u8>,
@@ -137,7 +138,7 @@ fn push_priced(list: &mut Vec<u8>, kind: Kind, price: Amount) -> Result<(), Allo
     fill(list, "%% for %", &[Words(comma), Words(kind.code()), price])
 }
 
-/// Adds a list of trains behind its name; `none` if it is empty.
+/// Adds a list of trains after its name; `none` if it is empty.
 fn push_trains(out: &mut Vec<u8>, name: &str, list: &[u8]) -> Result<(), AllocError> {
     push(out, &[Words(name), Column(VALUES)])?;
     push_wrapped(out, VALUES, if list.is_empty() { b"none" } else { list })

@@ -1,5 +1,5 @@
-//! What the writer of a refused file or line may do, for each rule, and the small game that shows
-//! the rule.
+//! What the writer of a refused file or line can do about it, for each rule, and the small game
+//! that shows the rule.
 
 use crate::reason::Reason;
 use history::{OpeningRule, PayRule, PrivateRule, Refusal, StockRule, TrainRule};
@@ -7,16 +7,16 @@ use map_tables::{LayRule, RunRule, TokenRule};
 use order_grammar::Fault;
 use sheets::FileFault;
 
-/// What may be done about a refusal.
+/// What can be done about a refusal.
 #[derive(Clone, Copy)]
 pub struct Advice {
-    /// What its writer may do about it.
+    /// What its writer can do.
     pub to_do: &'static str,
     /// The small game in `games/codes` that shows it; `None` if it is too large to keep.
     pub game: Option<&'static str>,
 }
 
-/// Returns advice that a small game shows.
+/// Returns advice with the small game that shows the rule.
 fn shown(to_do: &'static str, game: &'static str) -> Advice {
     Advice {
         to_do,
@@ -24,12 +24,12 @@ fn shown(to_do: &'static str, game: &'static str) -> Advice {
     }
 }
 
-/// Returns advice without a game, which would be too large to keep.
+/// Returns advice without a game, because that would be too large to keep.
 fn untried(to_do: &'static str) -> Advice {
     Advice { to_do, game: None }
 }
 
-/// Returns what may be done where a file or a line is refused for this reason.
+/// Returns what can be done when a file or a line is refused for this reason.
 pub(crate) fn advice_on(reason: Reason) -> Advice {
     match reason {
         Reason::File(fault) => on_file(fault),
@@ -72,7 +72,7 @@ fn on_file(fault: FileFault) -> Advice {
     }
 }
 
-/// Returns advice on the faults of a line by itself.
+/// Returns advice on the faults that a line has whatever the game.
 fn on_line(fault: Fault) -> Advice {
     match fault {
         Fault::TooLong => shown("write it shorter", "G1-line-of-1025-bytes"),

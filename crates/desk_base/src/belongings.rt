@@ -1,4 +1,4 @@
-//! Orders about what a seat or a company has: offers, discards, trains of another company.
+//! Orders about what a seat or a company has: offers, discards, trains of other companies.
 ghost use Rattle.std.specs.Prelude.{◌≡◌};
 ghost use Rattle.desk_base.specs.Belongings.{other_president};
 ghost use Rattle.purchases.specs.Discard.{is_president};
@@ -23,8 +23,8 @@ pub fn other_president(view: &GameView, company: Company, seat: Seat) -> Option<
 }
 
 /// Returns why a seat may not give this order, with the code of the rule that it breaks: the seat
-/// does not own the private, does not preside, or the seller has no such train. `None` if nothing
-/// of this holds.
+/// does not own the private, does not preside, or the seller has no such train. `None` if none of
+/// these holds.
 pub fn objection_by_view(
     view: &GameView,
     seat: Seat,

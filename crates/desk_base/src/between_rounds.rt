@@ -30,9 +30,9 @@ pub enum Moment {
 pub struct Stood<'a> {
     /// The sheets of the whole game.
     pub sheets: &'a Sheets<'a>,
-    /// All that had happened.
+    /// The events so far.
     pub history: &'a History,
-    /// The round that came next, or how the game ended.
+    /// The next round, or how the game ended.
     pub end: End,
     /// The number of operating rounds of the set, or of the set that the next round begins.
     pub in_set: u8,
@@ -50,7 +50,7 @@ pub fn stood_at_last<'a>(game: &'a Game<'a>) -> Stood<'a>
     }
 }
 
-/// Returns a game after the rounds that were played; `None` once a fault has stopped play.
+/// Returns a game after the rounds played so far; `None` once a fault has stopped play.
 pub fn stood_now<'a>(play: &'a Play<'a>) -> Option<Stood<'a>> {
     let history = play.history()?;
     let end = match (play.outcome(), play.last_round()) {
@@ -110,7 +110,7 @@ pub fn play_before<'a>(
     }
 }
 
-/// Returns whether a round comes next, and each player has a sheet for it.
+/// Returns whether a round comes next and every player has a sheet for it.
 fn comes_next(play: &Play, asked: Round) -> bool {
     match stood_now(play) {
         Some(

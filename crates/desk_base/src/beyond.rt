@@ -12,7 +12,7 @@ use std::alloc::AllocError;
 pub enum Beyond {
     /// Nothing: the map ends there.
     MapEnd,
-    /// This hex, behind a closed border.
+    /// This hex, beyond a closed border.
     ClosedBorder(Hex),
     /// This hex, and the border is open.
     OpenBorder(Hex),

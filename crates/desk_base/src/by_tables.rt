@@ -1,4 +1,4 @@
-//! Orders that the map and the tables alone show to be wrong, whatever the game.
+//! Orders that are wrong whatever the game, by the map and the tables alone.
 
 use crate::beyond::beyond_side;
 use crate::map_facts::{bad_side, side_towards};
@@ -9,7 +9,7 @@ use order_grammar::Order;
 use tables::{Amount, Company, Round, par_square};
 
 /// Returns why an order of a sheet for a round is wrong whatever the game, with the code of the
-/// rule that it breaks; `None` if the tables do not show it.
+/// rule that it breaks; `None` if the tables do not show it to be wrong.
 pub fn objection_to(
     round: Round,
     is_open: bool,
@@ -28,7 +28,7 @@ pub fn objection_to(
     }
 }
 
-/// Returns whether an order of a written turn never has a place in such a round.
+/// Returns whether an order of a written turn has no place in this kind of round.
 fn is_of_other_round(round: Round, order: &Order) -> bool {
     match round {
         Round::Opening(_) => !matches!(order, Order::BuyPrivate(_) | Order::Bid { .. }),
@@ -40,8 +40,8 @@ fn is_of_other_round(round: Round, order: &Order) -> bool {
     }
 }
 
-/// Returns why a PAR is wrong whatever the game: its value is none of the six, or it is given in an
-/// opening and not for BO.
+/// Returns why a PAR is wrong whatever the game: its value is not one of the six, or it is for
+/// another company than BO in an opening.
 fn objection_to_par(
     round: Round,
     company: Company,
@@ -58,7 +58,7 @@ fn objection_to_par(
 }
 
 /// Returns why a lay is wrong whatever the game: the hex takes no tiles, or none of this kind, or
-/// the track leads to a side where it may not.
+/// the track leads to a side where it must not.
 fn objection_to_lay(lay: Lay) -> Option<(&'static str, Objection)> {
     if !is_open(hex_kind(lay.hex)) {
         return Some(("L2", Objection::Nothing));
@@ -73,7 +73,7 @@ fn objection_to_lay(lay: Lay) -> Option<(&'static str, Objection)> {
     None
 }
 
-/// Returns why a token is wrong whatever the game: its place is no stop of a city.
+/// Returns why a token is wrong whatever the game: its place is not a stop of a city.
 fn objection_to_token(place: Place) -> Option<(&'static str, Objection)> {
     if printed_slots(place.hex) == 0 {
         return Some(("K3", Objection::NoCity(place.hex)));
@@ -84,8 +84,8 @@ fn objection_to_token(place: Place) -> Option<(&'static str, Objection)> {
     }
 }
 
-/// Returns why a run is wrong whatever the game: it names a stop that is not there, no track can
-/// lead from a place to the next, or an end is no stop.
+/// Returns why a run is wrong whatever the game: it names a stop that its hex does not have, no
+/// track can lead from a place to the next, or one of its ends is not a stop.
 fn objection_to_run(places: &[Place]) -> Option<(&'static str, Objection)> {
     let mut before: Option<Place> = None;
     for place in places {
@@ -109,7 +109,7 @@ fn objection_to_run(places: &[Place]) -> Option<(&'static str, Objection)> {
 }
 
 /// Returns the objection that a place names a stop that its hex does not have, with this code;
-/// `None` if it has it, or names none.
+/// `None` if the hex has it, or the place names no stop.
 fn objection_to_stop(code: &'static str, place: Place) -> Option<(&'static str, Objection)> {
     if place.stop?.index() < printed_stops(place.hex) {
         return None;

@@ -1,4 +1,4 @@
-//! The causes of a rule that has several: which one it was that refused a line.
+//! Which of several causes it was for which a rule refused a line.
 ghost use Rattle.std.specs.Prelude.{◌≡◌};
 ghost use Rattle.desk_base.specs.Cause.{cause_of_slot, has_empty_slot};
 ghost use Rattle.map_tables.specs.Place.{stop_of};
@@ -7,24 +7,24 @@ use board::Board;
 use board_state::{OnMap, slots};
 use map_tables::{Place, joined_stop};
 
-/// The cause, among several of a rule, for which a line was refused.
+/// The cause for which a rule refused a line, where a rule has several.
 #[derive(Clone, Copy)]
 pub enum Cause {
-    /// A1: it stands in a turn of an opening, which has BUY and BID of a private alone.
+    /// A1: it is in a turn of an opening, which has only BUY and BID of a private.
     TurnOfOpening,
-    /// S1: it stands in a turn of a stock round, and is none of its orders.
+    /// S1: it is in a turn of a stock round, and is not PAR, BUY, SELL or EXCHANGE.
     TurnOfStock,
-    /// G6: it stands above the first turn of an opening, and is neither a LIMIT nor a PAR.
+    /// G6: it is above the first turn of an opening, and is neither a LIMIT nor a PAR.
     AboveTurnOfOpening,
-    /// G6: it stands above the first turn of a stock round.
+    /// G6: it is above the first turn of a stock round.
     AboveTurnOfStock,
-    /// G6: it stands above the first company's orders, and is neither a DISCARD nor an OFFER.
+    /// G6: it is above the first company's orders, and is neither a DISCARD nor an OFFER.
     AboveCompany,
-    /// G6: it stands in a turn, and is a line of a file, of a certificate, or a COMPANY.
+    /// G6: it is in a turn, and is a line of a file or of a certificate, or a COMPANY line.
     InTurn,
-    /// G6: it stands among a company's orders, and is none of them.
+    /// G6: it is among a company's orders, and is not an order of a company.
     InOrders,
-    /// L1: the lay of the turn is used.
+    /// L1: the company has used its lay in this turn.
     LayUsed,
     /// L1: the company has placed a token since.
     TokenPlaced,
@@ -32,7 +32,7 @@ pub enum Cause {
     HasRun,
     /// L1, D1: the company has paid or withheld.
     PaidOrWithheld,
-    /// D1: the company has earned nothing that it could pay.
+    /// D1: the company has earned nothing to pay out.
     NothingEarned,
     /// R2, T6: the company has no train of the kind.
     NoSuchTrain,
@@ -44,31 +44,31 @@ pub enum Cause {
     SomeHaveRun,
     /// S1, of RAISE: the company has a train.
     HasTrain,
-    /// S1, of RAISE: the company has none, and could run none.
+    /// S1, of RAISE: the company has none, and could not run one.
     RunsNone,
-    /// S1, of RAISE: the company must buy one, and it and its president have money enough.
+    /// S1, of RAISE: the company must buy one, and it and its president have enough money.
     NotShort,
     /// S5: the president would keep under two shares, and nobody else has two.
     NobodyElse,
     /// S5, of RAISE: the presidency of the company that operates would move.
     PresidencyMoves,
-    /// K3: no token lies in a slot of the stop, which is kept for a home.
+    /// K3: the only empty slots of the stop are reserved for home tokens.
     SlotIsKept,
-    /// K3: tokens lie in all slots of the stop.
+    /// K3: all slots of the stop have tokens.
     NoSlot,
     /// T4: the order or the offer names a price of 0.
     PriceIsZero,
-    /// T5: the company has such a train, and would buy it from itself.
+    /// T5: the company would buy the train from itself.
     BuysFromItself,
-    /// T6: the train that is bought is no D.
+    /// T6: the train that is bought is not a D.
     NotForDiesel,
-    /// T6: the train that is traded in is no 4, 5 or 6.
+    /// T6: the train that is traded in is not a 4, 5 or 6.
     NeverTraded,
 }
 
 impl Cause {
-    /// Returns what is printed of it behind the sentence of the rule. `%` stands for the company
-    /// among whose orders the line is.
+    /// Returns what is printed after the sentence of the rule. `%` stands for the company whose
+    /// orders the line is among.
     pub fn words(self) -> &'static str {
         match self {
             Cause::TurnOfOpening => " (a turn of an opening has no such order)",
@@ -104,7 +104,7 @@ impl Cause {
     }
 }
 
-/// Returns why no token is placed at a stop of a city that has no free slot.
+/// Returns why a stop of a city has no free slot for a token.
 pub fn cause_of_slot(board: &Board, place: Place) -> Cause
     ensures { result ≡ cause_of_slot board.now (stop_of place) }
 {
@@ -115,8 +115,8 @@ pub fn cause_of_slot(board: &Board, place: Place) -> Cause
     }
 }
 
-/// Returns whether a place names a stop of a city with a slot in which no token lies, whether it is
-/// kept for a home or not.
+/// Returns whether a place names a stop of a city with an empty slot, reserved for a home token or
+/// not.
 fn has_empty_slot(board: &Board, place: Place) -> bool
     ensures { result ≡ has_empty_slot board.now (stop_of place) }
 {

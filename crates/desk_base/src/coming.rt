@@ -33,14 +33,15 @@ fn may_be_ahead(game: &Game, round: Round) -> bool
 }
 
 /// Returns whether a round may be the awaited one or come after it. The set of the awaited round
-/// has this many operating rounds, and if the bank is broken no other set is played.
+/// has this many operating rounds, and no other set follows if the bank is broken.
 fn may_follow(awaited: Round, in_set: u8, broken: bool, round: Round) -> bool
     ensures { result ≡ may_follow awaited in_set broken round }
 {
     !round.is_before(awaited) && may_come(set_of(awaited), in_set, broken, round)
 }
 
-/// Returns whether a round may come that is not before the awaited one, whose set has this number.
+/// Returns whether a round may still come that is not before the awaited one, given the awaited
+/// round's set and its number of operating rounds.
 fn may_come(set: u32, in_set: u8, broken: bool, round: Round) -> bool
     ensures { result ≡ may_come set in_set broken round }
 {
@@ -54,7 +55,7 @@ fn may_come(set: u32, in_set: u8, broken: bool, round: Round) -> bool
     }
 }
 
-/// Returns the set of a round; of an opening the first, which follows it.
+/// Returns the set of a round; for an opening the first set, which follows it.
 fn set_of(round: Round) -> u32
     ensures { result ≡ set_of round }
 {

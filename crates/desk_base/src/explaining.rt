@@ -9,8 +9,8 @@ use crate::text::Piece::{Column, Words};
 use crate::text::fill;
 use std::alloc::{AllocError, Global};
 
-/// Returns the reason with a code, in letters of either case and between spaces; `None` if no
-/// report prints that code.
+/// Returns the reason with a code, in letters of either case, with or without spaces around it;
+/// `None` if no report prints that code.
 pub fn explain(word: &str) -> Option<Reason>
     ensures { MatchOption result (NoneHasCode (trim word.now)) (HasItsCode (trim word.now)) }
 {

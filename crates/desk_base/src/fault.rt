@@ -1,4 +1,4 @@
-//! Why the desk returns no text: a refused file, a round that is not played, or a failed
+//! Why the desk returns no text: a refused file, a round that was not played, or a failed
 //! allocation.
 ghost use Rattle.std.specs.Prelude.{◌≡◌};
 ghost use Rattle.desk_base.specs.Fault.{fault_of_file};
@@ -14,7 +14,7 @@ pub enum DeskFault {
     /// The whole order file is refused.
     #[error("the order file is refused: {0}")]
     File(FileFault),
-    /// The requested round is not played.
+    /// The requested round was not played.
     #[error("the round is not played")]
     Round,
     /// Allocation failed.
@@ -31,7 +31,7 @@ impl From<AllocError> for DeskFault {
     }
 }
 
-/// A failed allocation is no fault of the file.
+/// A failed allocation is not a fault of the file.
 impl From<FileFault> for DeskFault {
     ghost from_gives = { λ file fault. fault ≡ fault_of_file file };
 

@@ -1,12 +1,12 @@
 //! What the desk's libraries share: what a code means, how many operating rounds a set has, which
-//! rounds can still come in a game, why an order is wrong, a game between two rounds, what is left
-//! of its tokens, trains and tiles, and a text piece by piece.
+//! rounds can still come in a game, why an order is wrong, a game between two rounds, how many
+//! tokens, trains and tiles are left, and a text piece by piece.
 //!
 //! Reading order: `text` (`Piece`, `push`, `fill`), `wrapped` (lines of 80 columns), `reason`
 //! (`Reason`), `advice`, `explaining` (`explain`), `set_number` (`number_in_set`, `end_after`),
 //! `between_rounds` (`Stood`), `stock_left`, `coming` (`can_come`), `objection` (`Objection`),
 //! `beyond` (what lies at a side), `map_facts`, `by_tables` (what the map and the tables show),
-//! `belongings` (what somebody has), `cause` (which one it was of several), `map_state`,
+//! `belongings` (what somebody has), `cause` (which of several causes it was), `map_state`,
 //! `run_line`.
 #![tactic(auto)]
 

@@ -1,4 +1,4 @@
-//! Track by the map alone: over which sides it may not lead, and between which hexes it may.
+//! Track by the map alone: over which sides it must not lead, and between which hexes it may.
 
 use board_state::is_open;
 use map_tables::{Hex, Lay, Side, TrackEnd, hex_kind, laid_links, neighbour, printed_links};

@@ -15,8 +15,8 @@ use std::alloc::{AllocError, Global};
 use tables::{Company, Kind, Money};
 
 /// Returns the view of a game of this many seats after this many events of a walk. If the walk has
-/// fewer events, it returns the view where the walk is. (Callers count events, so it has as many;
-/// the prover does not see that.)
+/// fewer events, it returns the view where the walk is. (Callers never ask for more, which the
+/// prover does not know.)
 pub fn view_behind<'a>(walk: &'a mut Walk, passed: usize, seats: usize) -> GameView<'a> {
     if passed <= walk.events.len() {
         walk.go(passed);
@@ -48,8 +48,8 @@ fn lay(board: &mut Board, event: &Event) -> Result<(), AllocError>
     Ok(())
 }
 
-/// Returns runs by which a company's trains earn the most that they can in this state of the game,
-/// with what they earn, in dollars. Fails only if allocation fails.
+/// Returns the best runs of a company's trains in this state of the game, with what they earn, in
+/// dollars. Fails only if allocation fails.
 pub fn best_at(alloc: Global, view: &GameView, company: Company) -> Result<Claim, AllocError>
     ensures holds { let events = view.now.events.now in
         IfOk result (ClaimHolds (position_now events) company (trains_now events company)) }
@@ -63,7 +63,7 @@ pub fn best_at(alloc: Global, view: &GameView, company: Company) -> Result<Claim
     Ok(found.claim)
 }
 
-/// Returns the trains that a company had, kind by kind. Fails only if allocation fails.
+/// Returns the trains of a company, kind by kind. Fails only if allocation fails.
 pub fn trains_of(alloc: Global, view: &GameView, company: Company) -> Result<Vec<Kind>, AllocError>
     ensures { IfOk result (λ trains. trains.items ≡ trains_now view.now.events.now company) }
 {
@@ -74,7 +74,7 @@ pub fn trains_of(alloc: Global, view: &GameView, company: Company) -> Result<Vec
     Ok(trains)
 }
 
-/// Adds this many trains of a kind at the end; none if the number is under 0.
+/// Adds this many trains of a kind at the end; adds none if the number is negative.
 fn push_trains(trains: &mut Vec<Kind>, kind: Kind, count: TrainCount) -> Result<(), AllocError>
     ensures { OnOk result (trains.new.items
         ≡ trains.old.items ++ replicate (at_least_zero count) kind) }

@@ -1,5 +1,5 @@
-//! Why an order is wrong that breaks a rule: the one cause among those of the rule, and what would
-//! be good where that is known.
+//! Why an order breaks a rule: which of the rule's causes it is, and what would be right if that is
+//! known.
 
 use crate::beyond::{Beyond, push_beyond};
 use crate::text::Piece::{Bytes, Count, Number, Words};
@@ -10,10 +10,10 @@ use sheets::Sheets;
 use std::alloc::AllocError;
 use tables::{Company, Kind, Money, Private, Seat};
 
-/// Why an order is wrong that breaks a rule.
+/// Why an order breaks a rule.
 #[derive(Clone, Copy)]
 pub enum Objection {
-    /// What the rule says.
+    /// What the rule says, and no more.
     Nothing,
     /// The orders above it have passed its step.
     Passed,
@@ -21,23 +21,24 @@ pub enum Objection {
     NoRun,
     /// There is a RUN BEST above it.
     Best,
-    /// It names no stop of this hex where one is to stand.
+    /// It names no stop of this hex where it has to.
     Stops(Hex),
     /// This hex has no city.
     NoCity(Hex),
-    /// No track leads from a hex to another, or none does on this map.
+    /// No track can lead from this hex to that one.
     Apart(Hex, Hex),
-    /// The tile is of another kind than the hex, or its stops are swapped where there are not two.
+    /// The hex does not take this kind of tile, or the tile's stops are swapped though it does not
+    /// have two.
     Kind(Lay),
     /// Its track leads over this side, beyond which this lies.
     Side(Side, Beyond),
     /// It is not BO's par value.
     NotBaltimore,
-    /// It is no par value.
+    /// It is not a par value.
     NoPar,
-    /// The private is not the player's, but this holder's, if it is anybody's.
+    /// The private is not the player's. It belongs to this holder, if it belongs to anybody.
     Owner(Private, Option<Holder>),
-    /// This player presides over the company, if anybody does.
+    /// Another player presides over the company, this one, or nobody does.
     President(Company, Option<Seat>),
     /// The company has no such train.
     NoTrain(Company, Kind),
@@ -51,7 +52,7 @@ pub fn who<'a>(sheets: &'a Sheets, seat: Option<Seat>) -> Piece<'a> {
     }
 }
 
-/// Adds why an order is wrong, and what would be good where that is known.
+/// Adds why an order is wrong, and what would be right if that is known.
 pub fn push_objection(
     out: &mut Vec<u8>,
     sheets: &Sheets,
@@ -86,7 +87,7 @@ pub fn push_objection(
     }
 }
 
-/// Adds words with two things in them.
+/// Adds words with two pieces filled in.
 fn push_two(
     out: &mut Vec<u8>,
     words: &str,
@@ -96,7 +97,7 @@ fn push_two(
     fill(out, words, &[first, Words(second)])
 }
 
-/// Returns whom a private belongs to.
+/// Returns the name of a private's owner.
 fn owned_by<'a>(sheets: &'a Sheets, owner: Option<Holder>) -> Piece<'a> {
     match owner {
         Some(Holder::Seat(seat)) => who(sheets, Some(seat)),
@@ -105,7 +106,7 @@ fn owned_by<'a>(sheets: &'a Sheets, owner: Option<Holder>) -> Piece<'a> {
     }
 }
 
-/// Adds that two hexes are not joined.
+/// Adds that no track joins two hexes.
 fn push_apart(out: &mut Vec<u8>, hex: Hex, other: Hex) -> Result<(), AllocError> {
     let (hex, other) = (hex.text(), other.text());
     let pieces = [Bytes(hex.as_slice()), Bytes(other.as_slice())];
@@ -123,7 +124,7 @@ fn push_stops(out: &mut Vec<u8>, hex: Hex) -> Result<(), AllocError> {
     }
 }
 
-/// Adds of which kinds a tile and its hex are.
+/// Adds the kinds of a tile and its hex.
 fn push_kinds(out: &mut Vec<u8>, lay: Lay) -> Result<(), AllocError> {
     let HexKind::Open(kind) = hex_kind(lay.hex) else {
         return Ok(());

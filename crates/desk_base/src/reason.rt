@@ -16,7 +16,7 @@ use tables::rule_with_code;
 pub enum Reason {
     /// The whole file has a fault.
     File(FileFault),
-    /// The line has a fault by itself, or no place where it stands.
+    /// The line has a fault whatever the game, or has no place where it is.
     Line(Fault),
     /// The order breaks a rule of play, or its condition does not hold.
     Order(Refusal),

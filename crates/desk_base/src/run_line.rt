@@ -32,7 +32,7 @@ fn sum_of(board: &Board, places: &[Place]) -> Amount {
     sum
 }
 
-/// Adds what the stops of a run are worth, each behind a sign, and the end of the line.
+/// Adds what the stops of a run are worth, each after a sign, and the end of the line.
 fn push_values(out: &mut Vec<u8>, board: &Board, places: &[Place]) -> Result<(), AllocError> {
     let mut sign = " = ";
     for place in places {

@@ -12,8 +12,8 @@ use history::{Event, History};
 use rounds::{End, Game};
 use tables::{Kind, Round, rounds_in_set};
 
-/// The phase, and how many operating rounds the set has that began last. A game begins as if a set
-/// had begun in its first phase.
+/// The phase, and how many operating rounds the set has that began last. At the start of a game it
+/// is that of a set that begins in the first phase.
 #[derive(Clone, Copy)]
 pub(crate) struct SetSoFar {
     phase: Kind,
@@ -53,15 +53,15 @@ impl SetSoFar {
     }
 }
 
-/// Returns how many operating rounds the set has that began last, or that begins with the round
-/// that is awaited: the number by which the game was played so far, and by which it goes on.
+/// Returns how many operating rounds the set has that began last, or that begins with the awaited
+/// round: the number by which the game has been played so far, and goes on.
 #[tactic(auto, using(crate::proofs::SetLemmas::is_number_played))]
 pub fn number_in_set(game: &Game) -> u8
     requires { IsTheGame game.now }
     ensures { IsNumberPlayed game.now result }
 {
-    // A law, which does nothing when it runs: a round adds its own event, and none that begins
-    // another.
+    // A law, which does nothing when it runs: a round adds the event that begins it, and none that
+    // begins another.
     rounds::laws::rounds_only_add();
     number_after(game.history(), game.outcome())
 }

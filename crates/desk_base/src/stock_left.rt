@@ -1,4 +1,4 @@
-//! What is left: tokens of a company, trains of the bank, tiles; and the tiles and tokens on the
+//! What is left: tokens of a company, trains of the bank, tiles. Also the tiles and tokens on the
 //! map.
 ghost use Rattle.std.specs.Prelude.{◌≡◌};
 ghost use Rattle.board.specs.LayRules.{is_tile, on_map_of};
@@ -26,7 +26,7 @@ pub fn trains_left(view: &GameView, kind: Kind) -> Option<usize>
     Some(usize::from(number).saturating_sub(view.trains_sold(kind)))
 }
 
-/// Returns how many tiles of a number do not lie on the map, by the tiles that were laid.
+/// Returns how many tiles of a number are not on the map, given the tiles that were laid.
 pub fn tiles_left(lays: &[Lay], number: TileNo) -> usize
     ensures { result ≡ tiles_left lays.now number }
 {

@@ -4,10 +4,10 @@ use order_grammar::{print_number, print_round};
 use std::alloc::AllocError;
 use tables::{Money, Round, Square};
 
-/// The least byte that is printed as it is, and the greatest.
+/// The least and the greatest byte that are printed unchanged.
 const PRINTABLE: (u8, u8) = (b' ', b'~');
 
-/// What stands for a piece among words.
+/// The byte that stands for a piece among words.
 const PLACE: u8 = b'%';
 
 /// A piece of a text.
@@ -19,7 +19,7 @@ pub enum Piece<'a> {
     Bytes(&'a [u8]),
     /// A number in digits.
     Number(Money),
-    /// How many there are, or the number of a line, of a side or of a rotation, in digits.
+    /// A count, or the number of a line, a side or a rotation, in digits.
     Count(usize),
     /// A number at the right of a column of this many bytes.
     Right(usize, Money),
@@ -29,11 +29,11 @@ pub enum Piece<'a> {
     Square(Square),
     /// Spaces up to this column of the last line, counted from 0; none if the line is that long.
     Column(usize),
-    /// A line of a file, cut to this many bytes. A byte that is no printable ASCII is `?`.
+    /// A line of a file, cut to this many bytes. A byte that is not printable ASCII becomes `?`.
     Cut(&'a [u8], usize),
 }
 
-/// Adds words, with the next of some pieces at each `%`, and nothing there once no piece is left.
+/// Adds words, with the next of some pieces in place of each `%`; nothing once no piece is left.
 pub fn fill(out: &mut Vec<u8>, words: &str, pieces: &[Piece]) -> Result<(), AllocError> {
     let mut left = pieces.iter();
     for byte in words.as_bytes() {
@@ -69,7 +69,7 @@ fn push_piece(out: &mut Vec<u8>, piece: Piece) -> Result<(), AllocError> {
     }
 }
 
-/// Returns how many bytes the last line of a text has, which is not ended yet.
+/// Returns how many bytes the last line of a text has, which has not ended yet.
 pub fn width_in_hand(text: &[u8]) -> usize {
     for (width, byte) in text.iter().rev().enumerate() {
         if *byte == b'\n' {

@@ -1,4 +1,4 @@
-//! From which round on the report of a game is another than that of a game before it.
+//! From which round on the report of a game differs from that of an earlier game.
 
 use history::{Event, PackedRuling, Ruling, Verdict};
 use order_grammar::print_conditional;
@@ -6,9 +6,9 @@ use rounds::Game;
 use std::alloc::{AllocError, Global};
 use tables::Round;
 
-/// Returns the first round of a game of which the report is another in the game of now; `None` if
-/// each has the same. It compares the rounds, the rulings and what was left of the sheets, since
-/// all other events follow from these. Fails only if allocation fails.
+/// Returns the first round of a game whose report differs in the present game; `None` if all are
+/// the same. It compares the rounds, the rulings and what was left of the sheets, since all other
+/// events follow from these. Fails only if allocation fails.
 pub(crate) fn first_changed(
     alloc: Global,
     before: &Game,
@@ -99,7 +99,7 @@ fn have_same_text(
     Ok(text.as_slice() == other_text.as_slice())
 }
 
-/// Returns whether two lines were obeyed, or not for the same reason.
+/// Returns whether two lines were both obeyed, or both not obeyed for the same reason.
 pub(crate) fn are_alike(verdict: Verdict, other: Verdict) -> bool {
     match (verdict, other) {
         (Verdict::Obeyed, Verdict::Obeyed) => true,

@@ -1,5 +1,5 @@
-//! Which sheets are looked at line by line, and sheets for rounds that are not played: whether the
-//! round can come.
+//! Which sheets are checked line by line, and, for sheets of rounds that were not played, whether
+//! the round can come.
 ghost use Rattle.std.specs.Prelude.{◌≡◌};
 ghost use Rattle.desk_check.specs.Heads.{AreKept};
 ghost use Rattle.desk_check.specs.Looked.{is_looked_at};
@@ -13,7 +13,7 @@ use history::{Event, GameView, Walk};
 use rounds::{End, Game};
 use std::alloc::AllocError;
 
-/// Finds sheets for rounds that are not played, and what is wrong with the lines of the sheets of
+/// Finds sheets for rounds that were not played, and what is wrong with the lines of the sheets of
 /// the last round that was played and of later ones, or of all sheets.
 pub(crate) fn look_at_lines<'a>(
     heads: &Heads<'a>,
@@ -42,8 +42,8 @@ pub(crate) fn look_at_lines<'a>(
     Ok(())
 }
 
-/// Finds what is wrong with the lines of a sheet, with the state of the game at the start of its
-/// round if that is known.
+/// Finds what is wrong with the lines of a sheet, given the state of the game at the start of its
+/// round, if that is known.
 fn look_by_game<'a>(
     head: &Head<'a>,
     game: &Game,
@@ -78,7 +78,7 @@ fn find_when<'a>(head: &Head<'a>, game: &Game, found: &mut Found<'a>) -> Result<
     Ok(true)
 }
 
-/// Returns whether the sheets for a round are looked at line by line.
+/// Returns whether the sheets for a round are checked line by line.
 fn is_looked_at(all: bool, is_played: bool, is_last: bool) -> bool
     ensures { result ≡ is_looked_at all is_played is_last }
 {

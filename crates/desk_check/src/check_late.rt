@@ -1,4 +1,4 @@
-//! Sheets that replace others: whether the round was played, and how the game has changed since.
+//! Sheets that replace others: whether the round had been played, and what they change.
 ghost use Rattle.std.specs.Prelude.{◌≡◌, ℕ, ◌++◌, IfOk, List, OnOk, Some};
 ghost use Rattle.desk_check.specs.Heads.{AreKept};
 ghost use Rattle.desk_check.specs.Replaced.{AddsReplaced, before, findings_of, is_of_batch, lateness_of};
@@ -17,12 +17,12 @@ use std::alloc::{AllocError, Global};
 use std::collections::HashMap;
 use tables::Round;
 
-/// The rounds of a game that were played, each with the number of the line of the file by which
-/// every player had a sheet for it and for each round before it.
+/// The rounds of a game that were played, each with the number of the line that completed it: by
+/// then every player had a sheet for it and for each round before it.
 #[derive(Drop)]
 pub(crate) struct Rounds {
     lines: HashMap<Round, usize>,
-    /// The number of the line that the last of them has.
+    /// The number of the line that completed the last of them.
     by: usize,
 }
 
@@ -85,7 +85,7 @@ pub(crate) fn standing_of(game: &Game) -> Standing
     }
 }
 
-/// The game of what is before a line that replaced a sheet for a played round.
+/// The game of the lines before one that replaced a sheet for a played round.
 #[derive(Drop)]
 struct Turn {
     /// The number of the line.
@@ -94,13 +94,14 @@ struct Turn {
     rounds: Rounds,
     /// How far it had come.
     standing: Standing,
-    /// The first of them of which the report is another now.
+    /// The first of them whose report differs now.
     changed: Option<Round>,
 }
 
-/// Finds the sheets that replace others, and whether their round was played by then. At the line
-/// where the game changes it also finds how far the game had come before, and comes now. (If a file
-/// is not refused, what precedes a line after its PLAYERS line is not refused either.)
+/// Finds the sheets that replace others, and whether their round had been played by then. At the
+/// line where the game changes it also finds how far the game had come before, and how far it comes
+/// now. (If a file is not refused, neither is the part of it before any line below its PLAYERS
+/// line.)
 pub(crate) fn find_replaced<'a>(
     alloc: Global,
     file: &'a [u8],
@@ -126,8 +127,8 @@ pub(crate) fn find_replaced<'a>(
     }
 }
 
-/// Adds each sheet that replaces another, where the game turns at this head and these sheets are
-/// before it.
+/// Adds each sheet that replaces another, if the game turns at this head, given the sheets before
+/// it.
 fn add_turned<'a>(
     alloc: Global,
     sheets: &Sheets,
@@ -177,8 +178,8 @@ fn add_replaced<'a>(
     Ok(())
 }
 
-/// Returns what there is to say of a head that replaces the sheet of a line, where lines are
-/// reported from one on.
+/// Returns what there is to say of a head that replaces the sheet of a line, given the first
+/// reported line.
 fn matter_of(
     from: usize,
     heads: &Heads,
@@ -215,15 +216,15 @@ fn turned(turn: &Option<Turn>, line: usize, now: Standing) -> Option<Change>
     }
 }
 
-/// Returns whether a line is among those that are reported, which do not begin with the file: it
-/// came in the batch that is looked at.
+/// Returns whether a line came in the batch that is checked: not the whole file is reported, and
+/// the line is among those that are.
 fn is_of_batch(from: usize, line: usize) -> bool
     ensures { result ≡ is_of_batch from line }
 {
     from > 1 && line >= from
 }
 
-/// Returns whether a line replaces a sheet that came before the batch that is looked at.
+/// Returns whether a line replaces a sheet that came before the batch that is checked.
 fn replaces_older(from: usize, replaces: Option<usize>) -> bool
     ensures { result ≡ replaces_older from replaces }
 {

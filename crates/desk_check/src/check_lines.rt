@@ -7,7 +7,7 @@ use sheets::first_line;
 /// A line of a file.
 #[derive(Clone, Copy)]
 pub(crate) struct FileLine<'a> {
-    /// Its number in the file, from 1, blank ones counted.
+    /// Its number in the file, from 1, counting blank lines.
     pub(crate) number: usize,
     /// Its bytes, without its LF and a CR before that.
     pub(crate) text: &'a [u8],

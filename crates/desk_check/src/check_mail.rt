@@ -3,7 +3,7 @@ ghost use Rattle.std.specs.Prelude.{◌≡◌};
 ghost use Rattle.desk_check.specs.Mail.{begins_with_one, is_above_quotation, is_mail};
 ghost use Rattle.hints.specs.Slip.{texts};
 
-/// How lines begin that are headers of a mail, that it quotes, or that begin its signature.
+/// The beginnings of mail headers, of quoted lines, and of the line above a signature.
 static HEADS: [&[u8]; 11] = [
     b"From:",
     b"To:",
@@ -25,7 +25,7 @@ pub(crate) fn is_mail(line: &[u8]) -> bool
     ensures { result ≡ is_mail line.now }
 {
     match line {
-        // (a line that begins otherwise, as most do, is compared with no head)
+        // (most lines begin with no such byte, and are not compared)
         [
             b'F' | b'T' | b'C' | b'D' | b'S' | b'M' | b'>' | b'O' | b'|' | b'-',
             ..
@@ -44,7 +44,7 @@ fn begins_with_one(line: &[u8], heads: &[&[u8]]) -> bool
     }
 }
 
-/// Returns whether a line says who wrote what is quoted below it.
+/// Returns whether a line says who wrote the quotation below it.
 fn is_above_quotation(line: &[u8]) -> bool
     ensures { result ≡ is_above_quotation line.now }
 {

@@ -2,8 +2,8 @@
 
 use tables::{Company, Private};
 
-/// The words of at most eight letters with which a report's lines begin, and those that are in the
-/// place of a name.
+/// The words of at most eight letters that begin a report's lines, and those that a report prints
+/// in place of a name.
 static WORDS: [&str; 40] = [
     "AID", "AWAITING", "BANK", "BANKRUPT", "BIDS", "BOUGHT", "BROKEN", "CLOSED", "COMPANY",
     "DIVIDEND", "END", "FILE", "FLOATS", "FORCED", "GAME", "GIVEN", "HOME", "IPO", "LAID", "LEFT",

@@ -1,4 +1,4 @@
-//! The steps of a company's turn that the orders of a sheet have passed.
+//! The step of a company's turn that the orders of a sheet have reached.
 
 use desk_base::Objection;
 use order_grammar::Order;
@@ -14,13 +14,12 @@ const PAY: u8 = 3;
 
 const TRAIN: u8 = 4;
 
-/// The step that the orders of a company's turn have reached. Orders under a condition do not
-/// count.
+/// The step that the orders of a company's turn have reached. Conditional orders do not count.
 #[derive(Clone, Copy)]
 pub(crate) struct Block {
     /// The last step of these orders.
     step: u8,
-    /// Whether a train is to run, even under a condition.
+    /// Whether a RUN is among them, even a conditional one.
     has_run: bool,
     /// Whether RUN BEST is among them.
     has_best: bool,
@@ -48,7 +47,7 @@ impl Block {
         }
     }
 
-    /// Returns the block with one more order, which may be under a condition.
+    /// Returns the block with one more order, which may be conditional.
     pub(crate) fn with(self, order: &Order, is_conditional: bool) -> Block {
         let is_run = matches!(order, Order::Run { .. } | Order::RunBest);
         let has_run = self.has_run || is_run;

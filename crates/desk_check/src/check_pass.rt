@@ -33,9 +33,9 @@ pub(crate) struct Pass<'a> {
     pub(crate) found: Found<'a>,
     /// How many lines of the preamble have come.
     preamble: usize,
-    /// The number of the line that begins the sheet that is open; `None` if none is.
+    /// The number of the line that begins the open sheet; `None` if none is open.
     open: Option<usize>,
-    /// The SHEET line with a fault that came last, if no good one came since.
+    /// The last SHEET line with a fault, unless a good one has come since.
     closing: Option<Closing<'a>>,
     /// The sheets that such lines were meant to begin.
     pub(crate) meant: Vec<Head<'a>>,
@@ -137,8 +137,8 @@ impl<'a> Pass<'a> {
         Ok(())
     }
 
-    /// Adds what there is to say of the SHEET line with a fault that came last, if one did, as its
-    /// lines have come.
+    /// Adds what there is to say of the last SHEET line with a fault, if there is one, once the
+    /// lines below it have come.
     fn end_closing(&mut self) -> Result<(), AllocError>
         ensures { self.new.heads ≡ self.old.heads }
     {

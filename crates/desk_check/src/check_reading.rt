@@ -22,14 +22,14 @@ use sheets::{LINES_MOST, NumberedLine, UnreadLine, is_blank, is_head_of, is_of_f
 use std::alloc::AllocError;
 use tables::{COMPANIES, Company, PerCompany, Round};
 
-/// How far a sheet was looked at.
+/// How far the check of a sheet has come.
 #[derive(Drop)]
 struct Reader<'v, 'g> {
     /// The version of the file.
     version: Version,
     /// The game as the sheet's round begins; `None` if that is not known.
     view: Option<&'v GameView<'g>>,
-    /// How many lines were numbered.
+    /// How many lines of the sheet have numbers so far.
     number: u32,
     /// Whether a head has come.
     is_open: bool,
@@ -40,8 +40,8 @@ struct Reader<'v, 'g> {
 }
 
 /// Finds what is wrong with the lines of a sheet of a file of some version, and the companies that
-/// it leaves without orders, by the game as its round begins, where that is known. Of lines past
-/// `LINES_MOST`, which have one fault whatever they say, only the first is read.
+/// it leaves without orders, by the game at the start of its round if that is known. All lines past
+/// `LINES_MOST` have the same fault, and only the first of them is read.
 #[tactic(auto, using(crate::proofs::FaultLemmas::tells_no_more))]
 pub(crate) fn look_at_sheet<'a>(
     version: Version,
@@ -65,14 +65,15 @@ pub(crate) fn look_at_sheet<'a>(
     Ok(())
 }
 
-/// Returns whether a sheet ends at a line, or was meant to, or so many of its lines came before that it is not read.
+/// Returns whether a sheet ends at a line, or was meant to, or the sheet has too many lines for it
+/// to be read.
 fn ends_sheet(number: u32, line: &[u8]) -> bool
     ensures { result ≡ ends_sheet number line.now }
 {
     closes(line) || number > LINES_MOST
 }
 
-/// Adds what there is to say of a line of a sheet, if there is something.
+/// Adds what there is to say of a line of a sheet, if anything.
 fn add_said<'a>(
     line: &FileLine<'a>,
     sent: Sent,
@@ -142,7 +143,7 @@ impl Reader<'_, '_> {
         }
     }
 
-    /// Takes the head of a turn, or of a company's orders; what there is to say of it.
+    /// Takes the head of a turn, or of a company's orders. Returns what there is to say of it.
     fn begin(&mut self, head: &Head, line: &FileLine, read: &NumberedLine) -> Option<Said>
         ensures version { self.new.version ≡ self.old.version }
         ensures number { self.new.number ≡ self.old.number }
@@ -161,7 +162,7 @@ impl Reader<'_, '_> {
         Some(Said::Presided(*company, president))
     }
 
-    /// Takes an order that has a place; what there is to say of it, if it is wrong.
+    /// Takes an order that has a place. Returns what there is to say of it if it is wrong.
     fn object(&mut self, head: &Head, read: &NumberedLine) -> Option<Said>
         ensures version { self.new.version ≡ self.old.version }
         ensures number { self.new.number ≡ self.old.number }
@@ -172,7 +173,8 @@ impl Reader<'_, '_> {
         Some(Said::Breaks(code, reason))
     }
 
-    /// Takes an order that has a place; why it is wrong, with the code of the rule that it breaks.
+    /// Takes an order that has a place. Returns why it is wrong, with the code of the rule that it
+    /// breaks.
     fn wrong_with(&mut self, head: &Head, read: &NumberedLine) -> Option<(&'static str, Objection)>
         ensures version { self.new.version ≡ self.old.version }
         ensures number { self.new.number ≡ self.old.number }
@@ -221,7 +223,7 @@ impl Reader<'_, '_> {
     }
 }
 
-/// Returns what is said of a line with this fault, behind a head or before the first.
+/// Returns what is said of a line with this fault, after a head or before the first.
 fn said_of_fault(is_open: bool, fault: Fault) -> Said
     ensures { result ≡ said_of_fault is_open fault }
 {

@@ -7,7 +7,7 @@ use order_grammar::{Fault, NAME_MOST, Order, begins_with_word, read_line};
 use sheets::{FILE_MOST, FileFault, GAME, is_blank};
 use tables::{PLAYERS_LEAST, PLAYERS_MOST};
 
-/// What some editors write before the first line of a text.
+/// The bytes that some editors write before the first line of a text.
 const BYTE_ORDER_MARK: &[u8] = b"\xEF\xBB\xBF";
 
 /// What is wrong with a line of a mail.
@@ -19,7 +19,7 @@ const TOO_LONG: &str = "it has over 1,024 bytes";
 /// What is wrong with a line that has a stray byte before its comment.
 const STRAY_BYTE: &str = "it has a byte that is no printable ASCII, as a tab or a hard space";
 
-/// What is wrong with a line that is no header.
+/// What is wrong with a line that is not a header.
 const NO_HEADER: &str = "the first line is to be GAME 1830 1 or GAME 1830 2";
 
 /// Why a file is refused.
@@ -33,14 +33,14 @@ pub(crate) enum Cause<'a> {
     Name(&'a [u8], &'static str),
 }
 
-/// A cause, with the line that it is about, if it is about one.
+/// A cause, with the line that it is about, if any.
 #[derive(Clone, Copy)]
 pub(crate) struct Refusal<'a> {
     pub(crate) line: Option<FileLine<'a>>,
     pub(crate) cause: Cause<'a>,
 }
 
-/// Returns why a file is refused by this fault.
+/// Returns why a file with this fault is refused.
 pub(crate) fn refusal_of(file: &[u8], fault: FileFault) -> Refusal<'_> {
     let (line, cause) = match fault {
         FileFault::TooLong | FileFault::Memory => {

@@ -12,7 +12,7 @@ use sheets::Sheets;
 use std::alloc::AllocError;
 use tables::{PLAYERS_MOST, Round, Seat};
 
-/// Adds the code of a line's fault, what is wrong, and what to write in its place if that is known.
+/// Adds the code of a line's fault, what is wrong, and what to write instead if that is known.
 pub(crate) fn push_fault(
     out: &mut Vec<u8>,
     sheets: &Sheets,
@@ -32,7 +32,7 @@ pub(crate) fn push_fault(
     push_hint(out, faulty)
 }
 
-/// Returns the names of the players, and behind them empty ones.
+/// Returns the names of the players, and empty names after them.
 pub(crate) fn names_of<'a>(sheets: &'a Sheets) -> [&'a [u8]; 6] {
     let mut names: [&[u8]; PLAYERS_MOST] = [b""; PLAYERS_MOST];
     for seat in 0..PLAYERS_MOST {

@@ -1,4 +1,4 @@
-//! What a seat has to order as a round begins.
+//! Whether a seat has a company to order for as a round begins.
 ghost use Rattle.std.specs.Prelude.{◌≡◌};
 ghost use Rattle.desk_check.specs.Looked.{has_to_order};
 

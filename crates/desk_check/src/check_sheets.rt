@@ -27,7 +27,7 @@ pub(crate) struct Head<'a> {
     pub(crate) line: FileLine<'a>,
     /// The sheet that it begins.
     pub(crate) sent: Sent,
-    /// The number of the line that began the same sheet last before; `None` if none did.
+    /// The number of the last line above that began the same sheet; `None` if there is none.
     pub(crate) replaces: Option<usize>,
 }
 
@@ -38,9 +38,9 @@ pub(crate) struct Heads<'a> {
     pub(crate) heads: Vec<Head<'a>>,
     /// How many players there are.
     pub(crate) seats: usize,
-    /// The number of the first that begins a sheet.
+    /// The number of the first line that begins each sheet.
     first: HashMap<Sent, usize>,
-    /// The number of the last that does.
+    /// The number of the last line that does.
     last: HashMap<Sent, usize>,
 }
 
@@ -80,8 +80,8 @@ impl<'a> Heads<'a> {
         Ok(())
     }
 
-    /// Returns the number of the line by which every player had a sheet for a round; `None` if one
-    /// has none.
+    /// Returns the number of the line by which every player had a sheet for a round; `None` if some
+    /// player has none.
     pub(crate) fn complete_by(&self, round: Round) -> Option<usize>
         requires { AreKept self.now }
         ensures { result ≡ complete_by self.now.seats round (came self.now) }
@@ -95,7 +95,7 @@ impl<'a> Heads<'a> {
         Some(by)
     }
 
-    /// Returns whether the sheet that a line begins counts: no later one replaces it.
+    /// Returns whether the sheet that a line begins counts, because no later one replaces it.
     pub(crate) fn counts(&self, head: &Head) -> bool
         requires { AreKept self.now }
         ensures { result ≡ is_at (last_line (sheet_key_of head.now.sent) (came self.now))

@@ -15,7 +15,7 @@ use tables::Round;
 /// How many columns of a line are shown.
 const COLUMNS: usize = 60;
 
-/// What is between the parts of a finding.
+/// The separator of the parts of a finding.
 const PARTED: Piece = Words(" | ");
 
 /// No piece.
@@ -36,7 +36,7 @@ pub(crate) fn push_found(
     push_unlisted(out, found.unlisted)
 }
 
-/// Adds how many findings of lines there are that are not listed, if there are any.
+/// Adds how many findings of lines are not listed, if any.
 fn push_unlisted(out: &mut Vec<u8>, unlisted: usize) -> Result<(), AllocError> {
     let findings = match unlisted {
         0 => return Ok(()),
@@ -53,14 +53,14 @@ fn push_unlisted(out: &mut Vec<u8>, unlisted: usize) -> Result<(), AllocError> {
     push(out, &pieces)
 }
 
-/// Adds what heads the findings that are for the umpire alone, since they show what the sheets of
-/// others do.
+/// Adds the heading of the findings that are for the umpire only, since they show what the sheets
+/// of others do.
 pub(crate) fn push_heading(out: &mut Vec<u8>) -> Result<(), AllocError> {
     let words = "FOR THE UMPIRE ALONE: refused with all sheets that are there\n";
     push(out, &[Words(words)])
 }
 
-/// Adds a finding, by the texts of the trials.
+/// Adds a finding, given the texts of the trials.
 fn push_finding(
     out: &mut Vec<u8>,
     sheets: &Sheets,
@@ -77,7 +77,7 @@ fn push_finding(
     push(out, &[Words("\n")])
 }
 
-/// Adds what there is to say of a line, by the texts of the trials.
+/// Adds what there is to say of a line, given the texts of the trials.
 fn push_matter(
     out: &mut Vec<u8>,
     sheets: &Sheets,
@@ -130,8 +130,8 @@ pub(crate) fn push_rule(out: &mut Vec<u8>, code: &'static str) -> Result<(), All
     push(out, &[Words(code), Words(parted), Words(rule)])
 }
 
-/// Adds what there is to say of a sheet that replaces that of a line; where the game turns there,
-/// how far it had come before, how far it comes now, and what of its report is another.
+/// Adds what there is to say of a sheet that replaces that of a line; if the game turns there, also
+/// how far it had come before, how far it comes now, and from which round on its report differs.
 fn push_replaced(
     out: &mut Vec<u8>,
     line: usize,
@@ -177,7 +177,7 @@ fn push_replaced(
     }
 }
 
-/// Adds how far a game has come, behind some words.
+/// Adds how far a game has come, after some words.
 fn push_standing(out: &mut Vec<u8>, before: &str, standing: Standing) -> Result<(), AllocError> {
     let (last, words) = match standing.last {
         Some(round) => (Piece::Round(round), " was played last, "),
@@ -187,7 +187,7 @@ fn push_standing(out: &mut Vec<u8>, before: &str, standing: Standing) -> Result<
     push_end(out, words, standing.end)
 }
 
-/// Adds why play stopped, behind some words.
+/// Adds why play stopped, after some words.
 fn push_end(out: &mut Vec<u8>, before: &str, end: End) -> Result<(), AllocError> {
     let (awaited, words) = match end {
         End::Awaiting(round) => (Piece::Round(round), " is awaited"),

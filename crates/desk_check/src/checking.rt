@@ -23,7 +23,7 @@ use std::alloc::{AllocError, Global};
 /// How much of a file is reported.
 #[derive(Clone, Copy)]
 pub struct Extent {
-    /// Whether to report lines of all rounds, not only of the last that was played and later ones.
+    /// Whether to report lines of all rounds, not only of the last round played and later ones.
     pub all: bool,
     /// The first line of the file that is reported.
     pub from: usize,
@@ -34,7 +34,7 @@ pub struct Extent {
 pub struct Findings {
     /// A line for each finding, in the order of the file, and who still owes a sheet.
     pub text: Vec<u8>,
-    /// Whether there is a finding. Who owes a sheet is none.
+    /// Whether there is a finding. That somebody owes a sheet does not count as one.
     pub any: bool,
     /// Why the file is refused; `None` if it is not.
     pub refused: Option<FileFault>,
@@ -42,16 +42,16 @@ pub struct Findings {
 
 /// Lints a file. If it is refused, it reports the line and the reason. Otherwise it reports lines
 /// that are in no sheet or look like mail, names that mean something else, sheets that replace
-/// others, sheets for rounds that are not played, and what is wrong with the lines of the sheets of
-/// the last round that was played and of later ones, or of all sheets.
+/// others, sheets for rounds that were not played, and what is wrong with the lines of the sheets
+/// of the last round that was played and of later ones, or of all sheets.
 ///
-/// It also plays the round that is awaited: each sheet for it alone, with empty sheets of the other
-/// players, and then all sheets that are there. If not the whole file is reported it plays each
-/// reported sheet for the last round alone, too. It reports what these trials refuse, and what is
-/// sold for trains that companies must buy. Last it says who still owes a sheet.
+/// It also plays the awaited round: each sheet for it alone, with empty sheets for the other
+/// players, and then all sheets that the file has. If only a part of the file is reported, it also
+/// plays each reported sheet for the last round alone. It reports what these trials refuse, and
+/// what is sold for trains that companies must buy. Finally it says who still owes a sheet.
 ///
-/// It plays the game of the file, at most one more for a sheet that replaces one of a played round,
-/// and a game for each trial.
+/// It plays the game of the file, at most one more for a sheet that replaces one for a played
+/// round, and a game for each trial.
 ///
 /// Fails only if allocation fails.
 pub fn check(alloc: Global, file: &[u8], extent: Extent) -> Result<Findings, AllocError>
@@ -119,8 +119,8 @@ fn look_at_sheets(
     Ok(!pass.found.is_empty() || !beyond.is_empty())
 }
 
-/// Adds what the trials find, by the SHEET lines of a file, and to `beyond` what only all sheets that
-/// are there show.
+/// Adds what the trials find, by the SHEET lines of a file, and adds to `beyond` what only the
+/// trial of all sheets shows.
 fn try_pass<'a>(
     alloc: Global,
     file: &[u8],
@@ -161,7 +161,7 @@ fn look_at_game<'a>(
     reached_by(alloc, &game, extent.from > 1)
 }
 
-/// Returns how far a game has come; with what the last round refused, if sheets for it are to be
+/// Returns how far a game has come, with what the last round refused if sheets for it are to be
 /// tried.
 fn reached_by(alloc: Global, game: &Game, tries_last: bool) -> Result<Reached, AllocError> {
     let standing = standing_of(game);

@@ -1,4 +1,4 @@
-//! The offer of another player with which an order would be obeyed that lacks their consent.
+//! The offer of another player that an order lacks and with which it would be obeyed.
 
 use desk_base::Piece::{Bytes, Words};
 use desk_base::{fill, push};
@@ -18,8 +18,8 @@ struct Consent {
     offer: Offer,
 }
 
-/// Adds with whose offer an order of a company would be obeyed, if it was refused for want of that
-/// alone. The order is of the player of a seat, and the game is as it was before it.
+/// Adds whose offer would get an order of a company obeyed, if it was refused only because that is
+/// lacking. The order is of the player of a seat, and the game is given as it was before the order.
 pub(crate) fn push_consent(
     out: &mut Vec<u8>,
     sheets: &Sheets,
@@ -41,7 +41,7 @@ pub(crate) fn push_consent(
 }
 
 /// Returns the offer with which an order of a company would be obeyed; `None` if it was refused for
-/// another rule, or would be refused in spite of the offer.
+/// another rule, or would be refused even with the offer.
 fn consent_lacking(
     view: &GameView,
     seat: Seat,
@@ -81,7 +81,7 @@ fn consent_lacking(
     }
 }
 
-/// Returns whether a company has a sum, in dollars.
+/// Returns whether a company has a sum in cash, in dollars.
 fn has_cash(view: &GameView, company: Company, price: Amount) -> bool {
     view.cash(Party::of_company(company)) >= Money::from(price)
 }

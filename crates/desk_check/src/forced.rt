@@ -1,5 +1,5 @@
-//! The train that a company must buy which its own orders leave without one: what it is, who pays
-//! for it, what is sold for it, and whether its president is bankrupt.
+//! The train that a company must buy because its own orders leave it without one: what it is, who
+//! pays for it, what is sold for it, and whether its president is bankrupt.
 
 use crate::check_sheets::Sent;
 use desk_base::Piece::{Bytes, Number, Words};
@@ -12,7 +12,7 @@ use sheets::Sheets;
 use std::alloc::{AllocError, Global};
 use tables::{Amount, Company, Kind, Money, Seat, train};
 
-/// What happens as a company must buy a train.
+/// What happens when a company must buy a train.
 #[derive(Clone, Copy, PartialEq, Eq)]
 pub(crate) enum ForcedFact {
     /// The company has no train, and must buy one of this kind.
@@ -32,7 +32,7 @@ pub(crate) enum ForcedFact {
     Bankrupt(Seat),
 }
 
-/// A company that must buy a train, and something that happens then.
+/// A company that must buy a train, and something that happens as it does.
 #[derive(Clone, Copy, PartialEq, Eq)]
 pub(crate) struct Forced {
     /// The company that must buy a train.
@@ -88,7 +88,7 @@ fn buyer_then(company: Company, event: &Event) -> Option<Company> {
     }
 }
 
-/// Adds what a company must buy, if there is one that must, and what its president adds to the
+/// Adds what a company must buy, if there is such a company, and what its president adds to the
 /// price by these events.
 fn push_must(
     forced: &mut Vec<Forced>,
@@ -126,7 +126,7 @@ fn aid_to(events: &[Event], buyer: Company) -> Option<ForcedFact> {
     None
 }
 
-/// Adds what an event brings while a company must buy a train, if it is told of.
+/// Adds what an event does while a company must buy a train, if that is reported.
 fn push_fact(forced: &mut Vec<Forced>, company: Company, event: &Event) -> Result<(), AllocError> {
     let Some(fact) = fact_of(event) else {
         return Ok(());
@@ -135,7 +135,7 @@ fn push_fact(forced: &mut Vec<Forced>, company: Company, event: &Event) -> Resul
     Ok(())
 }
 
-/// Returns what an event brings while a company must buy a train; `None` if it is not told of.
+/// Returns what an event does while a company must buy a train; `None` if that is not reported.
 fn fact_of(event: &Event) -> Option<ForcedFact> {
     match event {
         Event::Sells {
@@ -155,7 +155,7 @@ fn fact_of(event: &Event) -> Option<ForcedFact> {
     }
 }
 
-/// Adds what happens as a company must buy a train, as a sentence without a stop.
+/// Adds what happens when a company must buy a train, as a sentence without its full stop.
 pub(crate) fn push_forced(
     out: &mut Vec<u8>,
     sheets: &Sheets,

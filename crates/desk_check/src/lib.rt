@@ -1,20 +1,20 @@
-//! Lints an order file, and tries its sheets: `check` takes the allocator and the bytes of the file,
-//! and returns text.
+//! Lints an order file, and tries its sheets: `check` takes the allocator and the bytes of the
+//! file, and returns text.
 //!
-//! The facts come from contracts: the lines of a file and their numbers, the sheets that they
-//! begin, which sheet replaces which, which rounds were played by then, which can still come, the
-//! fault of a line, the file of a trial, and the lines that its game refuses. How they are laid out
-//! is tested by the games of `games/desk/`.
+//! Contracts define the facts: the lines of a file and their numbers, the sheets that they begin,
+//! which sheet replaces which, which rounds were played by then, which can still come, the fault of
+//! a line, the file of a trial, and the lines that its game refuses. The games of `games/desk/`
+//! test the layout.
 //!
 //! Reading order: `check_lines` (the lines of a file), `check_mail`, `check_names`, `check_found`
-//! (what is found), `check_sheets` (the SHEET lines), `sheet_like` (lines that were meant as such),
-//! `check_pass` (one pass over a file), `meant` (lines below a SHEET line with a fault),
+//! (what is found), `check_sheets` (the SHEET lines), `sheet_like` (lines that were meant as SHEET
+//! lines), `check_pass` (one pass over a file), `meant` (lines below a SHEET line with a fault),
 //! `check_changed` and `check_late` (sheets that replace others), `check_early` (sheets for rounds
-//! to come), `check_refused` (refused files); then the trials: `refusals`
-//! (the lines that they refuse), `outcome` (what the last round refused), `numbered` (where those
-//! lines are in the file), `forced` (trains that companies must buy), `consent` and `taken` (what
-//! other players have to do with it), `told` (their findings), `trials`; `owed`, `check_text` (the
-//! text), `checking` (`check`).
+//! to come), `check_refused` (refused files); then the trials: `refusals` (the lines that they
+//! refuse), `outcome` (what the last round refused), `numbered` (where those lines are in the
+//! file), `forced` (trains that companies must buy), `consent` and `taken` (what other players have
+//! to do with it), `told` (their findings), `trials`; `owed`, `check_text` (the text), `checking`
+//! (`check`).
 #![tactic(auto)]
 
 mod check_changed;

@@ -1,4 +1,4 @@
-//! Lines below a SHEET line with a fault: they are looked at as if it stood there as it was meant.
+//! Lines below a SHEET line with a fault: they are checked as if it had none.
 
 use crate::check_found::Found;
 use crate::check_reading::look_at_sheet;
@@ -6,7 +6,7 @@ use crate::check_sheets::Head;
 use rounds::{End, Game};
 use std::alloc::AllocError;
 
-/// Finds what is wrong with the lines of sheets that were meant.
+/// Finds what is wrong with the lines of the sheets that such lines were meant to begin.
 pub(crate) fn look_at_meant<'a>(
     meant: &[Head<'a>],
     game: &Game,

@@ -1,4 +1,4 @@
-//! The lines of a sheet that are numbered, where they are in the file.
+//! The numbered lines of a sheet, with their places in the file.
 ghost use Rattle.std.specs.Prelude.{◌≡◌, IfOk, map};
 ghost use Rattle.desk_check.specs.Numbered.{ends_numbered, line_at, numbered_of};
 
@@ -10,12 +10,12 @@ use sheets::{LINES_MOST, UnreadLine, is_blank};
 use std::alloc::{AllocError, Global};
 use tables::Company;
 
-/// The most lines of a sheet that are kept. Those past it have one fault, whatever they say, and
-/// only the first of them is told of.
+/// The most lines of a sheet that are kept. All lines past `LINES_MOST` have the same fault, and
+/// only the first of them is reported.
 const KEPT_MOST: usize = LINES_MOST as usize + 1;
 
-/// Returns the lines of the sheet that a head begins, without blank ones: that with number 1 comes
-/// first. Of lines past 512 there is only the first. Fails only if allocation fails.
+/// Returns the lines of the sheet that a head begins, without blank ones: line 1 comes first. Of
+/// the lines past 512 it has only the first. Fails only if allocation fails.
 pub(crate) fn numbered_lines<'a>(
     alloc: Global,
     head: &Head<'a>,
@@ -38,8 +38,8 @@ pub(crate) fn numbered_lines<'a>(
     Ok(numbered)
 }
 
-/// Returns whether a sheet ends at a line, or was meant to, or so many of its lines came before that no further one
-/// is kept.
+/// Returns whether a sheet ends at a line, or was meant to, or the sheet has too many lines for
+/// another to be kept.
 fn ends_numbered(count: usize, line: &[u8]) -> bool
     ensures { result ≡ ends_numbered count line.now }
 {

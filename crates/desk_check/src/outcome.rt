@@ -1,4 +1,5 @@
-//! What became of a round that was played, by which the trials alone of its sheets are told.
+//! What became of a round that was played, which decides what is reported of the trials of its
+//! sheets alone.
 
 use crate::check_changed::are_alike;
 use crate::check_sheets::Sent;
@@ -21,9 +22,9 @@ pub(crate) struct SeatLine {
 /// What became of a round that was played.
 #[derive(Drop)]
 pub(crate) struct Outcome {
-    /// The lines that were refused, but not for their condition, or have a fault.
+    /// The lines that have a fault, or were refused for another reason than their condition.
     refused: Vec<SeatLine>,
-    /// What happened as companies had to buy trains.
+    /// What happened when companies had to buy trains.
     forced: Vec<Forced>,
 }
 
@@ -45,12 +46,12 @@ impl Outcome {
         Ok(Outcome { refused, forced })
     }
 
-    /// Returns whether something happened in the round, too, as a company had to buy a train.
+    /// Returns whether this happened in the round, too, when a company had to buy a train.
     pub(crate) fn has(&self, forced: Forced) -> bool {
         self.forced.iter().any(|fact| *fact == forced)
     }
 
-    /// Returns the lines of the sheet of a seat that a trial refused and the round did, too, for the
+    /// Returns the lines of the sheet of a seat that both a trial and the round refused for the
     /// same rule. Fails only if allocation fails.
     pub(crate) fn also_refused(
         &self,
@@ -67,8 +68,8 @@ impl Outcome {
         Ok(refused)
     }
 
-    /// Returns whether the round refused a line of the sheet of a seat for the rule for which a
-    /// trial did.
+    /// Returns whether the round refused a line of the sheet of a seat for the same rule as a
+    /// trial.
     fn refuses(&self, seat: Seat, row: &RefusedLine) -> bool {
         self.refused.iter().any(|line| {
             is_line(line, seat, row.number) && are_alike(line.verdict, row.verdict)
@@ -109,7 +110,7 @@ pub(crate) fn rows_beyond(
     Ok(beyond)
 }
 
-/// Returns whether a line is that with a number of the sheet of a seat.
+/// Returns whether a line is the one with this number in the sheet of a seat.
 fn is_line(line: &SeatLine, seat: Seat, number: u32) -> bool {
     line.seat == seat && line.number == number
 }

@@ -7,7 +7,7 @@ use sheets::Sheets;
 use std::alloc::AllocError;
 use tables::{Round, Seat};
 
-/// Adds who owes a sheet for a round, if some player has one for it, and not every player has.
+/// Adds who owes a sheet for a round, if some players, but not all, have one for it.
 pub(crate) fn push_owed(
     out: &mut Vec<u8>,
     sheets: &Sheets,

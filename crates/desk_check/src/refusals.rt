@@ -33,8 +33,8 @@ pub(crate) fn refused_of(
     rows_at(alloc, events, sent.seat, places.as_slice())
 }
 
-/// Returns the lines of the sheet of a seat that the events at some places refuse, those that are
-/// told of. Fails only if allocation fails.
+/// Returns the lines of the sheet of a seat that the events at some places refuse, if they are
+/// reported. Fails only if allocation fails.
 fn rows_at(
     alloc: Global,
     events: &[Event],
@@ -50,7 +50,7 @@ fn rows_at(
     Ok(rows)
 }
 
-/// Adds the line that the event at a place refuses, if it is of the sheet of a seat and told of.
+/// Adds the line that the event at a place refuses, if it is in the sheet of a seat and reported.
 fn push_row(
     rows: &mut Vec<RefusedLine>,
     events: &[Event],
@@ -65,7 +65,7 @@ fn push_row(
     }
 }
 
-/// Adds the line that an event at a place refuses, if it is of the sheet of a seat and to be told.
+/// Adds the line that an event at a place refuses, if it is in the sheet of a seat and reported.
 fn push_ruled(
     rows: &mut Vec<RefusedLine>,
     seat: Seat,
@@ -84,7 +84,7 @@ fn push_ruled(
     }
 }
 
-/// Adds the line with a number, whose ruling is at a place, if it is to be told.
+/// Adds the line with a number, whose ruling is at a place, if it is reported.
 fn push_told(
     rows: &mut Vec<RefusedLine>,
     place: usize,
@@ -103,8 +103,8 @@ fn push_told(
     Ok(())
 }
 
-/// Returns whether what became of a line is told: it was refused, but not for its condition, or has
-/// a fault.
+/// Returns whether what became of a line is reported: it has a fault, or was refused for another
+/// reason than its condition.
 fn is_told(verdict: Verdict) -> bool
     ensures { result ≡ is_told verdict }
 {

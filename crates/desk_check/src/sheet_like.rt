@@ -7,8 +7,8 @@ use order_grammar::begins_with_word;
 /// How many letters SHEET has.
 const LETTERS: usize = 5;
 
-/// Returns whether a sheet ends at a line, or was meant to: its first word is SHEET, or it begins
-/// with that and a sign in place of a space.
+/// Returns whether a sheet ends at a line, or was meant to: its first word is SHEET, or SHEET is
+/// followed by a sign in place of a space.
 #[tactic(auto, unfolding(sheets::specs::File::is_sheet_line))]
 pub(crate) fn closes(line: &[u8]) -> bool
     ensures { result ≡ closes line.now }
@@ -26,7 +26,7 @@ pub(crate) fn is_like_sheet(line: &[u8]) -> bool
     line[..LETTERS].eq_ignore_ascii_case(b"SHEET") && begins_with_sign(&line[LETTERS..])
 }
 
-/// Returns whether a text begins with a byte that is written behind SHEET in place of a space: a
+/// Returns whether a text begins with a byte that people write after SHEET in place of a space: a
 /// colon, a comma, a semicolon, a full stop, a tab, or the first byte of a no-break space.
 fn begins_with_sign(text: &[u8]) -> bool
     ensures { result ≡ begins_with_sign text.now }

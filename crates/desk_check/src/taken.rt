@@ -9,8 +9,8 @@ use sheets::Sheets;
 use std::alloc::AllocError;
 use tables::{Company, Seat};
 
-/// Adds which other player's sheet takes the last of what an order of a seat wanted, if an event of
-/// the same round before it shows that. The events are those before its ruling.
+/// Adds which other player's sheet took the last of what an order of a seat wanted, if an earlier
+/// event of the same round shows that. The events are those before its ruling.
 pub(crate) fn push_taker(
     out: &mut Vec<u8>,
     sheets: &Sheets,
@@ -29,7 +29,7 @@ pub(crate) fn push_taker(
     }
 }
 
-/// Returns who last took one of what an order wanted, in the round in hand after some events.
+/// Returns who last took one of what an order wanted, in the round that some events are in.
 fn taker_of(events: &[Event], order: &Order, rule: Refusal) -> Option<Seat> {
     if !wants_the_last(rule) {
         return None;
@@ -47,7 +47,7 @@ fn taker_of(events: &[Event], order: &Order, rule: Refusal) -> Option<Seat> {
     taker
 }
 
-/// Returns whether a rule is one that is broken where none is left of what an order wants.
+/// Returns whether an order breaks a rule because none is left of what it wants.
 fn wants_the_last(rule: Refusal) -> bool {
     matches!(
         rule,
@@ -58,7 +58,7 @@ fn wants_the_last(rule: Refusal) -> bool {
     )
 }
 
-/// Returns the events of the last of the rounds that begin in a list.
+/// Returns the events of the last round in a list.
 fn events_of_round(events: &[Event]) -> &[Event] {
     let mut begun = 0;
     for (place, event) in events.iter().enumerate().rev() {
@@ -70,8 +70,8 @@ fn events_of_round(events: &[Event]) -> &[Event] {
     events.get(begun..).unwrap_or(&[])
 }
 
-/// Returns whether trains of the kind that an order wants leave play by an event, so that nobody
-/// took the last.
+/// Returns whether an event removes from play all trains of the kind that an order wants, so that
+/// nobody took the last.
 fn leaves_none(event: &Event, order: &Order) -> bool {
     match (event, order) {
         (Event::Rusted { kind, .. }, Order::BuyTrain { kind: wanted, .. }) => kind == wanted,
@@ -79,8 +79,8 @@ fn leaves_none(event: &Event, order: &Order) -> bool {
     }
 }
 
-/// Returns by whose sheet the next events come, after one more event: that of the line that was
-/// ruled last, or that of the player who acts. A purchase by force comes by no sheet.
+/// Returns whose sheet the next events follow, after one more event: the sheet of the line that was
+/// ruled last, or of the player who acts. A forced purchase follows no sheet.
 fn whose_then(whose: Option<Seat>, event: &Event) -> Option<Seat> {
     match event {
         Event::Round(_) | Event::Forced(_) => None,
@@ -92,7 +92,8 @@ fn whose_then(whose: Option<Seat>, event: &Event) -> Option<Seat> {
     }
 }
 
-/// Returns whether an event takes one of what an order wanted that was refused since none is left.
+/// Returns whether an event takes one of what an order wanted that was refused because none is
+/// left.
 fn takes(event: &Event, order: &Order, rule: Refusal) -> bool {
     match (rule, order, event) {
         (Refusal::Lay(LayRule::NoneLeft), Order::Lay(wanted), Event::Laid { lay, .. }) => {
@@ -135,7 +136,7 @@ fn takes(event: &Event, order: &Order, rule: Refusal) -> bool {
     }
 }
 
-/// Returns whether a train is bought where an order wanted one.
+/// Returns whether a train is bought from where an order wanted one.
 fn is_seller(source: TrainSource, seller: TrainSeller) -> bool {
     match (source, seller) {
         (TrainSource::Bank | TrainSource::Trade(_), TrainSeller::Bank) => true,

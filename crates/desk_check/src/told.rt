@@ -1,5 +1,5 @@
 //! Adds the findings of a trial: the lines that it did not obey, each with the rule, its figures
-//! and its cause, and what happens as companies must buy trains.
+//! and its cause, and what happens when companies must buy trains.
 
 use crate::check_found::{CodedLine, Found, Matter};
 use crate::check_lines::FileLine;
@@ -20,16 +20,16 @@ use std::alloc::{AllocError, Global};
 /// Which trial it is.
 #[derive(Clone, Copy)]
 pub(crate) enum Trial {
-    /// That of a player's sheet alone.
+    /// A player's sheet alone.
     Alone,
-    /// That of a player's sheet alone for a round that was played.
+    /// A player's sheet alone, for a round that was played.
     Played,
-    /// That of all sheets that are there.
+    /// All sheets that the file has.
     All,
 }
 
 impl Trial {
-    /// Returns the words with which its findings begin.
+    /// Returns the words that begin its findings.
     fn words(self) -> &'static str {
         match self {
             Trial::Alone => "as things stand: ",
@@ -50,7 +50,7 @@ pub(crate) struct TriedSheet<'g, 'h, 'n, 'a> {
     pub(crate) numbered: &'n [FileLine<'a>],
 }
 
-/// Adds the lines of a sheet that a trial did not obey, unless a finding of the line has the same
+/// Adds the lines of a sheet that a trial did not obey, unless the line has a finding with the same
 /// code already.
 pub(crate) fn tell_refused<'a>(
     alloc: Global,
@@ -75,8 +75,8 @@ pub(crate) fn tell_refused<'a>(
     Ok(())
 }
 
-/// Returns whether a finding of a line has the code already with which it was refused, or says that
-/// the line looks like mail and so has a fault.
+/// Returns whether a line has a finding already with the code for which it was refused, or one that
+/// says it looks like mail, so that a fault is expected.
 fn is_told(coded: &[CodedLine], line: &FileLine, verdict: Verdict) -> bool {
     let code = match verdict {
         Verdict::Obeyed => return true,
@@ -89,7 +89,7 @@ fn is_told(coded: &[CodedLine], line: &FileLine, verdict: Verdict) -> bool {
         .any(|told| told.number == line.number && told.code == code)
 }
 
-/// Adds a line that a trial did not obey. The game is as it was before the line.
+/// Adds a line that a trial did not obey. The game is given as it was before the line.
 fn tell_row<'a>(
     alloc: Global,
     played: TriedSheet<'_, '_, '_, 'a>,
@@ -143,8 +143,7 @@ fn push_others(
     }
 }
 
-/// Adds a finding of a line of a sheet, of which the texts of the trials say what they have from a
-/// place on.
+/// Adds a finding of a line of a sheet: the part of the trials' texts from a place on.
 fn add_told<'a>(
     found: &mut Found<'a>,
     line: &FileLine<'a>,
@@ -155,8 +154,8 @@ fn add_told<'a>(
     found.add_line(line, Matter::Tried { sent, from, to })
 }
 
-/// Adds what happens as a company must buy a train, to the line with which its orders begin, or to
-/// the SHEET line if it has none.
+/// Adds what happens when a company must buy a train, to the line with which its orders begin, or
+/// to the SHEET line if it has none.
 pub(crate) fn tell_forced<'a>(
     played: TriedSheet<'_, '_, '_, 'a>,
     forced: Forced,

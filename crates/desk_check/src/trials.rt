@@ -1,4 +1,4 @@
-//! Plays the trials: that of each sheet alone, and that of all sheets that are there.
+//! Plays the trials: each sheet alone, and then all sheets that the file has.
 ghost use Rattle.std.specs.Prelude.{◌≡◌, ◌++◌, IfOk, OnOk};
 ghost use Rattle.std.specs.List.{flat_map};
 ghost use Rattle.foresight.specs.TrialFile.{IsBegun, alone_file, tried_file};
@@ -33,11 +33,11 @@ pub(crate) struct Reached {
     pub(crate) last: Option<Outcome>,
 }
 
-/// Adds what the trials alone find in the sheets for the round that is awaited, and, if not the
-/// whole file is reported, in the sheets for the last round that was played that begin on the first
-/// reported line or below it; of these only what the round itself came to, too. Adds to `beyond`
-/// what the trial of all sheets for the round that is awaited refuses and no trial alone does.
-/// Fails only if allocation fails.
+/// Adds what the trials alone find in the sheets for the awaited round, and, if only a part of the
+/// file is reported, in the sheets for the last round played that begin on the first reported line
+/// or below it; for these only what happened in the round itself, too. Adds to `beyond` what the
+/// trial of all sheets for the awaited round refuses and no trial alone does. Fails only if
+/// allocation fails.
 pub(crate) fn try_sheets<'a>(
     alloc: Global,
     file: &[u8],
@@ -68,7 +68,7 @@ pub(crate) fn try_sheets<'a>(
     let End::Awaiting(round) = reached.standing.end else {
         return Ok(());
     };
-    // The trial of a sheet that is there alone is that of all.
+    // If there is only one sheet, its trial alone is the trial of all.
     if awaited.len() < 2 {
         return Ok(());
     }
@@ -100,7 +100,7 @@ fn last_to_try<'a>(
     }
 }
 
-/// Returns the heads of the sheets for the round that is awaited. Fails only if allocation fails.
+/// Returns the heads of the sheets for the awaited round. Fails only if allocation fails.
 fn awaited_to_try<'a>(
     alloc: Global,
     heads: &Heads<'a>,
@@ -166,8 +166,8 @@ fn push_if_for<'a>(
     Ok(())
 }
 
-/// Adds what the trials alone find in the sheets that some heads begin; of a round that was played
-/// only what it came to, too. Returns the lines that are refused.
+/// Adds what the trials alone find in the sheets that some heads begin; for a round that was played
+/// only what happened in it, too. Returns the lines that are refused.
 fn try_each_alone<'a>(
     alloc: Global,
     sheets: &Sheets,
@@ -188,7 +188,7 @@ fn try_each_alone<'a>(
 }
 
 /// Adds what the trial alone finds in the sheet that a head begins, and the lines that it refuses.
-/// If the file of the trial is refused, since it is longer than the order file, nothing is found.
+/// If the file of the trial is refused because it is longer than the order file, it finds nothing.
 fn try_alone<'a>(
     alloc: Global,
     sheets: &Sheets,
@@ -220,7 +220,7 @@ fn try_sheet<'g>(alloc: Global, tried: &'g Sheets<'g>, sent: Sent) -> Result<Tri
 }
 
 /// Adds what the trial alone of the sheet that a head begins finds, by the sheets of the trial, and
-/// the lines that it refuses; if its round was played, only what that came to, too.
+/// the lines that it refuses; if its round was played, only what happened in that, too.
 fn tell_alone<'a>(
     alloc: Global,
     tried: &Sheets,
@@ -254,9 +254,9 @@ fn tell_alone<'a>(
     push_lines(alone, head.sent.seat, rows.as_slice())
 }
 
-/// Adds the lines of the sheets that some heads begin that are refused with all sheets for a round
-/// that are there, and in no trial alone. If the file of the trial is refused, since it is longer
-/// than the order file, nothing is found.
+/// Adds those lines of the sheets begun by some heads that the trial of all sheets for a round
+/// refuses and no trial alone does. If the file of the trial is refused because it is longer than
+/// the order file, it finds nothing.
 fn try_all<'a>(
     alloc: Global,
     sheets: &Sheets,
@@ -276,8 +276,8 @@ fn try_all<'a>(
     }
 }
 
-/// Adds the lines of the sheets that some heads begin that the sheets of a trial refuse, and no
-/// trial alone.
+/// Adds those lines of the sheets begun by some heads that this trial refuses and no trial alone
+/// does.
 fn tell_all<'a>(
     alloc: Global,
     tried: &Sheets,
@@ -292,7 +292,8 @@ fn tell_all<'a>(
     Ok(())
 }
 
-/// Adds the lines of the sheet that a head begins that a game refuses, and its trial alone did not.
+/// Adds those lines of the sheet begun by a head that a game refuses and the trial of the sheet
+/// alone did not.
 fn tell_beyond<'g, 'a>(
     alloc: Global,
     game: &'g Game<'g>,

@@ -15,7 +15,7 @@ use tables::Round;
 /// The status if the text is written.
 const WRITTEN: u8 = 0;
 
-/// The status for a command line that names no task, or a round that is not played.
+/// The status for a command line that names no task, or a round that was not played.
 pub(crate) const MISUSED: u8 = 1;
 
 /// The status for a refused file.
@@ -24,13 +24,13 @@ const REFUSED: u8 = 2;
 /// The status if `check` found something.
 const TOLD: u8 = 3;
 
-/// Where more is said of a refused file.
+/// Points to where more is said of a refused file.
 const SEE_CHECK: &str = "`desk check` says which line is meant, and what is wrong with it";
 
-/// What is said where no round is there to be told of.
+/// The note for a round that was not played.
 const NO_ROUND: &str = "that round is not played";
 
-/// The same, where none was named.
+/// The note if no round was named and none was played.
 const NOTHING_PLAYED: &str = "no round is played yet";
 
 /// What the program writes, and its status.
@@ -38,11 +38,11 @@ const NOTHING_PLAYED: &str = "no round is played yet";
 pub(crate) struct Answer<'a> {
     /// What is written to standard output.
     pub(crate) text: Vec<u8>,
-    /// Of whom the note is said, if of anybody.
+    /// The names of those whom the note is about, if any.
     pub(crate) names: Option<Vec<u8>>,
-    /// What is said on standard error; nothing where it is empty.
+    /// What is printed on standard error; nothing if it is empty.
     pub(crate) note: &'static str,
-    /// Of what it is said.
+    /// What the note is about.
     pub(crate) about: &'a str,
     /// The status.
     pub(crate) status: u8,
@@ -86,7 +86,7 @@ pub(crate) fn answer_to<'a, P: Progress>(
     answer_with(alloc, task.round.is_some(), told_of(alloc, file, asked))
 }
 
-/// What is asked of a game.
+/// What is asked about a game.
 #[derive(Clone, Copy)]
 struct Asking<'a> {
     job: Job,
@@ -97,7 +97,7 @@ struct Asking<'a> {
     json: bool,
 }
 
-/// Returns the text of a word about the game of a file.
+/// Returns the text of one of the program's words about the game of a file.
 fn told_of(alloc: Global, file: &[u8], asked: Asking) -> Result<Vec<u8>, DeskFault> {
     match asked.job {
         Job::State => {
@@ -115,8 +115,8 @@ fn told_of(alloc: Global, file: &[u8], asked: Asking) -> Result<Vec<u8>, DeskFau
     }
 }
 
-/// Returns the part of the report of a round, with the rules that refused lines broke where they
-/// are asked for, or the events of the round as JSON.
+/// Returns the part of the report of a round, with the rules that refused lines broke if they are
+/// asked for, or the events of the round as JSON.
 fn told_of_round(alloc: Global, file: &[u8], asked: Asking) -> Result<Vec<u8>, DeskFault> {
     if asked.json {
         round_facts(alloc, file, asked.round)
@@ -159,7 +159,7 @@ fn answer_with<'a>(
     }
 }
 
-/// Returns what there is to say of moves in the game of a file.
+/// Returns the text about moves in the game of a file.
 fn moves_told_of<P: Progress>(
     alloc: Global,
     file: &[u8],
@@ -196,7 +196,7 @@ fn moves_told_of<P: Progress>(
 }
 
 /// Returns the text of a trial: the round as a bulletin, or as its part of the report, with the
-/// rules that refused lines broke, where they are asked for.
+/// rules that refused lines broke if they are asked for.
 fn trial_told_of(alloc: Global, file: &[u8], task: &Task) -> Result<Vec<u8>, MovesFault> {
     let trial = trial(alloc, file, task.names.as_slice())?;
     let (file, round) = (trial.file.bytes.as_slice(), Some(trial.round));
@@ -207,7 +207,7 @@ fn trial_told_of(alloc: Global, file: &[u8], task: &Task) -> Result<Vec<u8>, Mov
     }
 }
 
-/// Returns an `Answer` with the text of moves, or with why there is none.
+/// Returns an `Answer` with the text about moves, or with why there is none.
 fn moves_answered<'a>(
     alloc: Global,
     is_named: bool,

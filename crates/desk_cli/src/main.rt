@@ -1,9 +1,9 @@
 //! The desk's program. Each of its words but `explain` reads an order file from standard input, and
 //! each writes text to standard output: `round` a round's part of the report, ready to be mailed;
-//! `state` how the game stands.
+//! `state` the state of the game.
 //!
-//! Reading order: `task` (the command line), `streams` (standard input and output),
-//! `answers` (what is written, and the status), `waiting` (what is said while that takes long), `version`.
+//! Reading order: `task` (the command line), `streams` (standard input and output), `answers` (what
+//! is written, and the status), `waiting` (progress on standard error), `version`.
 #![tactic(auto)]
 
 mod answers;
@@ -48,7 +48,7 @@ fn start(rt: &HostRuntime, words: &[String]) -> ExitCode {
     }
 }
 
-/// Says what is wrong with the command line, or writes the help or the version that it asks for.
+/// Prints what is wrong with the command line, or the help or the version that it asks for.
 fn no_task(rt: &HostRuntime, error: &Error) -> ExitCode {
     if error.kind() == ErrorKind::OutOfMemory {
         // An allocation failed: passed on.
@@ -80,7 +80,7 @@ fn perform(rt: &HostRuntime, task: &Task) -> Result<u8, StreamFault> {
     Ok(answer.status)
 }
 
-/// Says the note of an answer on standard error, after the names of those of whom it is said.
+/// Prints the note of an answer on standard error, after the names of those whom it is about.
 fn say(rt: &HostRuntime, answer: &Answer) {
     if let Some(names) = &answer.names {
         if let Ok(names) = str::from_utf8(names.as_slice()) {
@@ -99,14 +99,14 @@ fn end(rt: &HostRuntime, outcome: Result<u8, StreamFault>) -> ExitCode {
     }
 }
 
-/// Ends the program after a failed read, write or allocation, and says on standard error which it
+/// Ends the program after a failed read, write or allocation, and prints on standard error which it
 /// was.
 fn fail(rt: &HostRuntime, fault: StreamFault) -> ExitCode {
     let _ = eprintln!(rt; "{}", fault.word());
     ExitCode::from(FAILED)
 }
 
-/// Ends the program, and says what is wrong with the command line.
+/// Ends the program, and prints what is wrong with the command line.
 fn misuse(rt: &HostRuntime, what: &str) -> ExitCode {
     let _ = eprintln!(rt; "error: {what}");
     ExitCode::from(MISUSED)

@@ -17,7 +17,7 @@ pub(crate) enum StreamFault {
 }
 
 impl StreamFault {
-    /// Returns what is said on standard error.
+    /// Returns what is printed on standard error.
     pub(crate) fn word(self) -> &'static str {
         match self {
             StreamFault::Read => "desk: standard input could not be read",

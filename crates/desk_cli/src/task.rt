@@ -14,13 +14,13 @@ use tables::{Company, Kind, Round};
 pub(crate) enum Job {
     /// A round's part of the report.
     Round,
-    /// What a report does not tell of the file.
+    /// What is wrong with the file beyond its report.
     Check,
     /// What codes mean.
     Explain,
     /// What the trains of each company ran in a round.
     Runs,
-    /// How the game stands, or stood.
+    /// The state of the game, now or earlier.
     State,
     /// A round for its players.
     Bulletin,
@@ -30,9 +30,9 @@ pub(crate) enum Job {
     May,
     /// The best runs of a company.
     Best,
-    /// How the round that is awaited would come out by the sheets that are there.
+    /// How the awaited round would come out with the sheets that the file has.
     Trial,
-    /// A hex as it is.
+    /// What a hex has now.
     Hex,
     /// The game as a page, or the page of all tiles.
     Page,
@@ -51,17 +51,17 @@ pub(crate) struct Task<'a> {
     pub(crate) before: bool,
     /// Whether to write JSON.
     pub(crate) json: bool,
-    /// Whether to write all that there is.
+    /// Whether to leave nothing out.
     pub(crate) all: bool,
     /// The first line of the file that is reported.
     pub(crate) from: usize,
-    /// When the next sheets are due; empty if that is not said.
+    /// When the next sheets are due; empty if that is unknown.
     pub(crate) due: &'a str,
-    /// Whether to write order lines alone.
+    /// Whether to write order lines only.
     pub(crate) lines: bool,
     /// Whether to tell what the best runs would earn.
     pub(crate) best: bool,
-    /// Whether to ask behind the orders of one's own sheet.
+    /// Whether to ask after the orders of the player's own sheet.
     pub(crate) drafted: bool,
     /// Whether to write the page of all tiles.
     pub(crate) tiles: bool,
@@ -80,12 +80,12 @@ pub(crate) struct Task<'a> {
 pub(crate) enum Asked<'a> {
     /// A task.
     Task(Task<'a>),
-    /// Nothing, for what this says.
+    /// Nothing, for this reason.
     Nothing(&'static str),
 }
 
 impl Task<'_> {
-    /// Returns whether an order file is to be read for it.
+    /// Returns whether it needs an order file.
     pub(crate) fn needs_file(&self) -> bool {
         !matches!(self.job, Job::Explain) && !self.tiles
     }
@@ -97,11 +97,11 @@ struct Word {
     about: &'static str,
     example: &'static str,
     job: Job,
-    /// What may stand behind it.
+    /// What may follow it.
     operands: &'static [Operand],
 }
 
-/// What may stand behind a word.
+/// What may follow a word.
 #[derive(Clone, Copy)]
 enum Operand {
     /// A round, or none.
@@ -466,8 +466,8 @@ fn take_round(task: &mut Task, word: &str) -> Option<&'static str> {
     }
 }
 
-/// Takes the number of the line from which on is told. Returns what is wrong with it; `None` if
-/// nothing is.
+/// Takes the number of the first line to report. Returns what is wrong with it; `None` if nothing
+/// is.
 fn take_from(task: &mut Task, word: &str) -> Option<&'static str> {
     let Ok(line) = word.parse() else {
         return Some("--from takes the number of a line of the file");

@@ -1,24 +1,24 @@
-//! What is said on standard error while a text takes long.
+//! Progress on standard error while a text takes long.
 
 use desk_moves::Progress;
 use std::rt::Runtime;
 use std::time::Instant;
 
-/// How many seconds pass before the first word, and between two.
+/// How many seconds pass before the first report of progress, and between two.
 const PAUSE: u64 = 2;
 
-/// Says every two seconds how far a text is.
+/// Reports progress every two seconds.
 #[derive(Drop)]
 pub(crate) struct Waiting<'a> {
     rt: &'a HostRuntime,
-    /// When the first lay had been tried; `None` before, and without a clock.
+    /// When the first lay was tried; `None` before that, or without a clock.
     begun: Option<Instant>,
-    /// How often something was said.
+    /// How often progress was reported.
     told: u64,
 }
 
 impl<'a> Waiting<'a> {
-    /// Returns one that has said nothing.
+    /// Returns a value that has reported nothing yet.
     pub(crate) fn new(rt: &'a HostRuntime) -> Waiting<'a> {
         Waiting {
             rt,
@@ -27,7 +27,7 @@ impl<'a> Waiting<'a> {
         }
     }
 
-    /// Returns how many seconds have passed since the first lay had been tried.
+    /// Returns how many seconds have passed since the first lay was tried.
     fn seconds(&mut self) -> u64 {
         if self.begun.is_none() {
             self.begun = Instant::now(self.rt).ok();

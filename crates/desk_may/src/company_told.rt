@@ -1,5 +1,5 @@
-//! What is told of the rows of a company's turn: the trains and privates that it may buy, as if
-//! whoever is asked consents, and those of the bank and of players that it may not.
+//! What is said about the rows of a company's turn: the trains and privates that it may buy if
+//! everybody asked consents, and those of the bank and of players that it may not.
 ghost use Rattle.std.specs.Prelude.{◌≡◌};
 ghost use Rattle.desk_may.specs.CompanyTold.{cash_of_company, giver_of, not_of_private, not_of_train, not_told};
 ghost use Rattle.desk_may.specs.CompanyTold.{note_of_private, note_of_train, other_giver, rule_if_given};
@@ -33,7 +33,7 @@ impl Teller for TrainTeller<'_> {
     }
 }
 
-/// A company whose turn has come.
+/// A company in its turn.
 #[derive(Clone, Copy)]
 pub(crate) struct PrivateTeller<'a> {
     pub(crate) history: &'a History,
@@ -48,7 +48,7 @@ impl Teller for PrivateTeller<'_> {
     }
 }
 
-/// Returns what is told of the row of a train.
+/// Returns what is said about the row of a train.
 fn told_of_train(
     presidents: &[Option<Seat>],
     history: &History,
@@ -71,7 +71,8 @@ fn told_of_train(
     }
 }
 
-/// Returns what is told of a train of which this becomes, if no offer comes too late.
+/// Returns what is said about the purchase of a train with this outcome, if no offer comes too
+/// late.
 fn told_train(
     history: &History,
     by: Operator,
@@ -94,8 +95,8 @@ fn told_train(
     }
 }
 
-/// Returns what is said of a train that may be bought: of another company's the greatest price, and
-/// who must offer it.
+/// Returns what is said of a train that may be bought: for another company's train the greatest
+/// price, and who must offer it.
 fn note_of_train(history: &History, by: Operator, from: TrainSource) -> Note
     ensures { result ≡ note_of_train history.now by from }
 {
@@ -109,8 +110,8 @@ fn note_of_train(history: &History, by: Operator, from: TrainSource) -> Note
     }
 }
 
-/// Returns what is told of a train that a rule refuses: only of one that the bank sells, without a
-/// trade-in.
+/// Returns what is said about a train that a rule refuses: only about one that the bank sells,
+/// without a trade-in.
 fn not_of_train(
     history: &History,
     by: Operator,
@@ -126,7 +127,7 @@ fn not_of_train(
     }
 }
 
-/// Returns what is told of a train that a rule refuses, if the bank sells it.
+/// Returns what is said about a train that a rule refuses, if the bank sells it.
 fn told_of_bank(history: &History, company: Company, kind: Kind, rule: Refusal) -> Option<Told>
     ensures { result ≡ told_of_bank history.now company kind rule }
 {
@@ -136,8 +137,8 @@ fn told_of_bank(history: &History, company: Company, kind: Kind, rule: Refusal) 
     Some(not_told(history, company, train(kind).price, rule))
 }
 
-/// Returns what is told of an order of a company that a rule refuses: if it has too little, also the
-/// price and what it has.
+/// Returns what is said about an order of a company that a rule refuses; if the company has too
+/// little money, also the price and its cash.
 fn not_told(history: &History, company: Company, price: Amount, rule: Refusal) -> Told
     ensures { result ≡ not_told history.now company price rule }
 {
@@ -149,14 +150,14 @@ fn not_told(history: &History, company: Company, price: Amount, rule: Refusal) -
     Told::Not { rule, price, held }
 }
 
-/// Returns what a company has, in dollars.
+/// Returns a company's cash, in dollars.
 fn cash_of_company(history: &History, company: Company) -> Money
     ensures { result ≡ cash_of_company history.now company }
 {
     history.cash(Party::of_company(company))
 }
 
-/// Returns who must offer something, if it is another than this player.
+/// Returns who must offer something, unless it is this player.
 fn other_giver(giver: Option<Seat>, seat: Seat) -> Option<Seat>
     ensures { result ≡ other_giver giver seat }
 {
@@ -167,7 +168,7 @@ fn other_giver(giver: Option<Seat>, seat: Seat) -> Option<Seat>
     }
 }
 
-/// Returns what is told of the row of a private.
+/// Returns what is said about the row of a private.
 fn told_of_private(history: &History, by: Operator, row: &Row) -> Option<Told>
     ensures { result ≡ told_of_private history.now by row.now }
 {
@@ -179,7 +180,7 @@ fn told_of_private(history: &History, by: Operator, row: &Row) -> Option<Told>
     }
 }
 
-/// Returns what is told of a private at a price: only of the least, half of its face value.
+/// Returns what is said about a private at a price: only at the lowest, half of its face value.
 fn told_private_at(
     history: &History,
     by: Operator,
@@ -195,7 +196,7 @@ fn told_private_at(
     told_private(history, by, private, price, answer)
 }
 
-/// Returns what is told of a private of which this becomes.
+/// Returns what is said about the purchase of a private with this outcome.
 fn told_private(
     history: &History,
     by: Operator,
@@ -245,7 +246,7 @@ fn giver_of(history: &History, private: Private) -> Option<Seat>
     }
 }
 
-/// Returns what is told of a private that a rule refuses, if a player owns it.
+/// Returns what is said about a private that a rule refuses, if a player owns it.
 fn not_of_private(
     history: &History,
     company: Company,
@@ -262,8 +263,8 @@ fn not_of_private(
     Some(not_told(history, company, price, rule))
 }
 
-/// Returns the first rule that the purchase of a private breaks if its owner consents, or otherwise
-/// this one.
+/// Returns the first rule that the purchase of a private breaks if its owner consents; this rule if
+/// it breaks none then.
 fn rule_if_given(
     history: &History,
     company: Company,

@@ -1,17 +1,17 @@
-//! What a player may do in the round that comes, as text: what they may buy, bid and sell, what they
-//! might expect and may not, with the rule that forbids it, and a train that a company of theirs
+//! What a player may do in the coming round, as text: what they may buy, bid and sell, what they
+//! might expect but may not, with the rule that forbids it, and a train that a company of theirs
 //! must buy.
 //!
 //! Each line is made from a row of `moves`, at the head of the player's turn or of their company's
-//! orders (`foresight`), and from what is told of that row. What is told is proved; how it is printed
-//! is tested.
+//! orders (`foresight`), and from what is said about that row. What is said is proved; how it is
+//! printed is tested.
 //!
-//! Reading order: `told` (what is told of an order), `teller` (of each row), `opening_told`,
+//! Reading order: `told` (what is said about an order), `teller` (of each row), `opening_told`,
 //! `stock_told`, `company_told` (of the rows of each kind of turn), `told_rows` (rows with what is
-//! told of them); `may_line` (a line), `until_then` (what comes before), `may_opening`, `may_stock`,
-//! `may_operating` (the lines of each kind of round), `must_buy` (a train that a company must buy),
-//! `offerers` (who may offer a train), `raise_rows` (what becomes of a RAISE), `row_lines` (rows as
-//! lines), `may_lines` (the same as the lines of a sheet).
+//! said about them); `may_line` (a line), `until_then` (what happens before the turn),
+//! `may_opening`, `may_stock`, `may_operating` (the lines of each kind of round), `must_buy` (a
+//! train that a company must buy), `offerers` (who may offer a train), `raise_rows` (the outcome of
+//! a RAISE), `row_lines` (rows as lines), `may_lines` (the same as the lines of a sheet).
 #![tactic(auto)]
 
 mod company_told;

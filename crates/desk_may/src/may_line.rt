@@ -1,4 +1,4 @@
-//! A line of what a player may do, or may not.
+//! A line that says what a player may or may not do.
 
 use crate::told::{Held, Note, Told};
 use crate::told_rows::ToldRows;
@@ -11,25 +11,24 @@ use sheets::Sheets;
 use std::alloc::{AllocError, Global};
 use tables::{Money, Square, price};
 
-/// The column in front of a price, which has six digits at most.
+/// The column before a price, which has at most six digits.
 const PRICE: usize = 22;
 
-/// The column of what is said behind a price, or of why something is not allowed.
+/// The column of a note after a price, or of why something is not allowed.
 const NOTE: usize = 30;
 
-/// Adds an order that may be given, with its price in dollars. The line stays open.
+/// Adds an order that may be given, with its price in dollars. It does not end the line.
 pub(crate) fn push_may(out: &mut Vec<u8>, order: &Order, price: Money) -> Result<(), AllocError> {
     print_order(out, order)?;
     push(out, &[Column(PRICE), Right(6, price)])
 }
 
-/// Adds the column of a note, to a line that is open.
+/// Moves to the column of a note, in a line that has not ended.
 pub(crate) fn push_note_column(out: &mut Vec<u8>) -> Result<(), AllocError> {
     push(out, &[Column(NOTE)])
 }
 
-/// Adds a line for each row of which it is told that the order may be given: of bids, or of the
-/// other orders.
+/// Adds a line for each order that may be given: either the bids or the other orders.
 pub(crate) fn push_given(
     out: &mut Vec<u8>,
     sheets: &Sheets,
@@ -47,8 +46,7 @@ pub(crate) fn push_given(
     Ok(())
 }
 
-/// Adds a line for each row of which it is told that the order may not be given: of the exchange of
-/// MH, or of the other orders.
+/// Adds a line for each order that may not be given: either the exchange of MH or the other orders.
 pub(crate) fn push_not_given(
     alloc: Global,
     out: &mut Vec<u8>,
@@ -65,8 +63,8 @@ pub(crate) fn push_not_given(
     Ok(())
 }
 
-/// Adds an order that may be given, with its price in dollars and what is said of it. The line stays
-/// open.
+/// Adds an order that may be given, with its price in dollars and what is said of it. It does not
+/// end the line.
 pub(crate) fn push_may_noted(
     out: &mut Vec<u8>,
     sheets: &Sheets,
@@ -116,8 +114,8 @@ fn push_square(out: &mut Vec<u8>, square: Square) -> Result<(), AllocError> {
     fill(out, "% %", &[price, Piece::Square(square)])
 }
 
-/// Adds an order that may not be given, with its price in dollars if it is told, the first rule that
-/// it breaks, and what is held of which the rule speaks.
+/// Adds an order that may not be given, with its price in dollars if that is said, the first rule
+/// that it breaks, and what the player or company has of what the rule is about.
 fn push_may_not(
     alloc: Global,
     out: &mut Vec<u8>,
@@ -140,7 +138,7 @@ fn push_may_not(
     push_wrapped(out, NOTE, why.as_slice())
 }
 
-/// Adds what is held of which a rule speaks.
+/// Adds what the player or company has of what a rule is about.
 fn push_held(out: &mut Vec<u8>, held: Held) -> Result<(), AllocError> {
     match held {
         Held::Unsaid => Ok(()),

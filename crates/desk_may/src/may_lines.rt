@@ -1,6 +1,6 @@
-//! What a player may do as the lines of a sheet, in its order: standing lines, then TURN, or COMPANY
-//! for each of the player's companies in operating order, and below each head the orders. Each is
-//! judged alone, as the first line there.
+//! What a player may do as the lines of a sheet, in the order of a sheet: standing lines, then
+//! TURN, or COMPANY for each of the player's companies in operating order, and below each head the
+//! orders. Each order is judged by itself, as the first line there.
 ghost use Rattle.std.specs.Prelude.{◌≡◌, ◌++◌, [], if◌then◌else◌, IfOk, OnOk, Some, length};
 ghost use Rattle.desk_may.specs.OperatingLines.{AddsOperatingLines, AddsOrders, AddsTurn, AddsTurns};
 ghost use Rattle.desk_may.specs.OperatingLines.{company_head, private_rows_of, raise_lines, train_lines};
@@ -21,8 +21,8 @@ use sheets::Sheets;
 use std::alloc::{AllocError, Global};
 use tables::{COMPANIES, Company, Round, Seat};
 
-/// Adds the lines of a player's first turn of an opening or a stock round, in a game at its head.
-/// Fails only if allocation fails.
+/// Adds the lines of a player's first turn of an opening or a stock round, in a game at the head of
+/// that turn. Fails only if allocation fails.
 pub fn push_lines_of_turn(
     alloc: Global,
     out: &mut Vec<u8>,
@@ -57,8 +57,8 @@ fn turn_rows(
     }
 }
 
-/// Adds the lines of an operating round that comes: the standing lines, and the orders of each of
-/// the player's companies. Fails only if allocation fails.
+/// Adds the lines of a coming operating round: the standing lines, and the orders of each of the
+/// player's companies. Fails only if allocation fails.
 pub fn push_lines_of_operating(
     alloc: Global,
     out: &mut Vec<u8>,
@@ -79,8 +79,8 @@ pub fn push_lines_of_operating(
     push_turns(alloc, out, ahead, presidents.as_slice(), seat)
 }
 
-/// Adds the orders of each company that a seat leads as its turn comes, by those who preside as the
-/// round begins.
+/// Adds the orders of each company that a seat presides over when its turn comes, by those who
+/// preside as the round begins.
 fn push_turns(
     alloc: Global,
     out: &mut Vec<u8>,
@@ -103,8 +103,8 @@ fn push_turns(
     Ok(())
 }
 
-/// Adds the orders of the company that comes next, if a seat leads it. Returns the round after its
-/// turn.
+/// Adds the orders of the company that comes next, if a seat presides over it. Returns the round
+/// after its turn.
 fn push_turn<'a>(
     alloc: Global,
     out: &mut Vec<u8>,
@@ -125,8 +125,8 @@ fn push_turn<'a>(
     push_orders(alloc, out, orders, presidents)?.finish()
 }
 
-/// Adds the orders of a company at the head of its orders, or behind those that are drafted.
-/// Returns its turn once it has withheld.
+/// Adds the orders of a company at the head of its orders, or after those drafted. Returns its turn
+/// after it has withheld.
 fn push_orders<'a>(
     alloc: Global,
     out: &mut Vec<u8>,
@@ -158,7 +158,7 @@ fn push_head(out: &mut Vec<u8>, company: Company) -> Result<(), AllocError>
     Ok(())
 }
 
-/// Returns the rows of the privates that a company may buy, and may not.
+/// Returns the rows of the privates that a company may or may not buy.
 fn privates_of(alloc: Global, orders: &OrdersAhead) -> Result<Vec<Row>, AllocError>
     ensures { IfOk result (λ rows.
         rows.items ≡ private_rows_of orders.now.turn.game orders.now.by.company) }
@@ -166,7 +166,7 @@ fn privates_of(alloc: Global, orders: &OrdersAhead) -> Result<Vec<Row>, AllocErr
     private_rows(alloc, orders.history(), orders.by().company)
 }
 
-/// Adds the lines of the trains that a company may buy, and may not.
+/// Adds the lines of the trains that a company may or may not buy.
 fn push_trains(
     alloc: Global,
     out: &mut Vec<u8>,

@@ -9,8 +9,7 @@ use std::alloc::{AllocError, Global};
 use tables::Seat;
 
 /// Adds the private that a player may buy at the head of their turn, and the least bid on each on
-/// which they may bid; and of the other unsold ones why they may not. Fails only if allocation
-/// fails.
+/// which they may bid; and for the other unsold ones why not. Fails only if allocation fails.
 pub fn push_of_opening(
     alloc: Global,
     out: &mut Vec<u8>,

@@ -1,5 +1,5 @@
-//! What a player's companies may buy in an operating round that comes, each at the head of its
-//! orders, or behind those that the player has drafted.
+//! What a player's companies may buy in a coming operating round, each at the head of its orders,
+//! or after those that the player has drafted.
 use crate::may_line::{push_given, push_not_given};
 use crate::must_buy::push_end_of_turn;
 use crate::offerers::presidents;
@@ -14,9 +14,9 @@ use sheets::Sheets;
 use std::alloc::{AllocError, Global};
 use tables::{COMPANIES, Company, Kind, Seat, limit};
 
-/// Adds what each company of a player's may buy in an operating round that has been opened, and what
-/// it might be expected to buy and may not: companies that operate, in their order, and then those
-/// without a turn. If the player's own sheet is looked at, each is told of behind its orders there.
+/// Adds what each company of a player may buy in an operating round that has been opened, and what
+/// it might be expected to buy but may not: companies that operate, in their order, and then those
+/// without a turn. If the player's own sheet is looked at, each is taken after its orders there.
 /// `from` is the place in the list of the event that begins the round. Fails only if allocation
 /// fails.
 pub fn push_of_operating(
@@ -43,7 +43,7 @@ pub fn push_of_operating(
     push_without_a_turn(out, ahead.history(), from, seat)
 }
 
-/// Adds the companies of a player's that have no turn in a round, with why.
+/// Adds those companies of a player that have no turn in a round, and why.
 fn push_without_a_turn(
     out: &mut Vec<u8>,
     history: &History,
@@ -71,8 +71,8 @@ fn has_operated(history: &History, from: usize, company: Company) -> bool {
     events.iter().any(|event| event.operated() == Some(company))
 }
 
-/// Adds what a company may buy at the head of its orders, or behind those that are drafted, and
-/// the train that it must buy if its turn ends there. Returns the round after its turn.
+/// Adds what a company may buy at the head of its orders, or after those drafted, and the train
+/// that it must buy if its turn ends there. Returns the round after its turn.
 fn push_turn<'a>(
     alloc: Global,
     out: &mut Vec<u8>,
@@ -92,7 +92,7 @@ fn push_turn<'a>(
     push_end_of_turn(alloc, out, orders)
 }
 
-/// Adds what may be bought of some rows, and then what may not.
+/// Adds what some rows say may be bought, and then what may not.
 fn push_told(
     alloc: Global,
     out: &mut Vec<u8>,

@@ -14,7 +14,7 @@ use std::alloc::{AllocError, Global};
 use tables::{Company, Money, Seat};
 
 /// Adds what a player may buy, sell and exchange as their turn begins, and what they might expect
-/// and may not. Fails only if allocation fails.
+/// but may not. Fails only if allocation fails.
 pub fn push_of_stock(
     alloc: Global,
     out: &mut Vec<u8>,
@@ -54,7 +54,7 @@ fn push_purchases(out: &mut Vec<u8>, sheets: &Sheets, list: &ToldRows) -> Result
     Ok(())
 }
 
-/// Adds the par values of a company that may be chosen behind a place of a list, and ends the line.
+/// Adds the par values of a company that may be chosen, after a place in a list, and ends the line.
 fn push_other_pars(
     out: &mut Vec<u8>,
     list: &ToldRows,
@@ -105,7 +105,7 @@ fn push_sales(
     Ok(())
 }
 
-/// Returns whether a greater sale of a company may be made, behind a place of a list.
+/// Returns whether a greater sale of a company may be made, after a place in a list.
 fn is_sold_after(list: &ToldRows, from: usize, company: Company) -> bool {
     for (place, row) in list.rows.iter().enumerate() {
         if let Order::Sell { company: its, .. } = row.order
@@ -119,7 +119,7 @@ fn is_sold_after(list: &ToldRows, from: usize, company: Company) -> bool {
     false
 }
 
-/// Adds who presides over a company once a seat has sold shares of it, if that is another then.
+/// Adds who would preside over a company once a seat has sold shares of it, if that changes.
 fn push_successor(
     out: &mut Vec<u8>,
     sheets: &Sheets,

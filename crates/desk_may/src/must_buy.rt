@@ -19,15 +19,15 @@ use sheets::Sheets;
 use std::alloc::{AllocError, Global};
 use tables::{Company, Money};
 
-/// When a company must buy a train, as it is told.
+/// When it is that a company must buy a train.
 #[derive(Clone, Copy)]
 struct Occasion {
     label: &'static str,
-    /// What is said of the end of its turn.
+    /// The words for it.
     when: &'static str,
-    /// What the company has beside its cash.
+    /// What the company has besides its cash.
     beside: &'static str,
-    /// Whether the company's cash is all that it has then, so that what it lacks can be told.
+    /// Whether the company will have only its cash then, so that it is known what it lacks.
     is_lack_known: bool,
 }
 
@@ -47,8 +47,8 @@ const IF_SOLD: Occasion = Occasion {
     is_lack_known: false,
 };
 
-/// Ends the turn of a company. If it must buy a train then, adds that, and what follows. Returns the
-/// round after the turn. Fails only if allocation fails.
+/// Ends the turn of a company. If it must buy a train then, adds that, and what follows. Returns
+/// the round after the turn. Fails only if allocation fails.
 pub fn push_end_of_turn<'a>(
     alloc: Global,
     out: &mut Vec<u8>,
@@ -66,7 +66,7 @@ pub fn push_end_of_turn<'a>(
     Ok(ahead)
 }
 
-/// Adds what a company must buy that has one train left, if that is sold. Returns its turn.
+/// Adds what a company with one train left must buy if it sells that train. Returns its turn.
 fn push_if_sold<'a>(
     out: &mut Vec<u8>,
     orders: OrdersAhead<'a>,
@@ -153,8 +153,8 @@ fn push_president(
     )
 }
 
-/// Returns what a president can raise at most by sales, in dollars: of each company the block that
-/// brings most.
+/// Returns the most that a president can raise by sales, in dollars: from each company the block of
+/// shares that brings the most.
 fn raised_at_most(history: &History, by: Operator) -> Money {
     let mut sum: Money = 0;
     for company in &Company::ALL {
@@ -163,8 +163,7 @@ fn raised_at_most(history: &History, by: Operator) -> Money {
     sum
 }
 
-/// Returns what the block of shares of a company brings that brings most, in dollars; 0 if each is
-/// refused.
+/// Returns the most that a block of shares of a company brings, in dollars; 0 if each is refused.
 fn most_raised(history: &History, by: Operator, company: Company) -> Money {
     let mut most = 0;
     for shares in &NUMBERS {
@@ -194,7 +193,7 @@ fn price_brought(history: &History, by: Operator, sale: Sale) -> Option<Money>
     }
 }
 
-/// Adds each RAISE that would be obeyed as the first, with what it brings.
+/// Adds each RAISE that would be obeyed as the first one, with what it brings.
 fn push_raises(out: &mut Vec<u8>, rows: &[Row]) -> Result<(), AllocError> {
     for row in rows {
         if let Answer::Obeyed { price } = row.answer {
@@ -205,7 +204,7 @@ fn push_raises(out: &mut Vec<u8>, rows: &[Row]) -> Result<(), AllocError> {
     Ok(())
 }
 
-/// Adds what happens at the end of the turn without further orders, as the report has it.
+/// Adds what happens at the end of the turn without further orders, as the report words it.
 fn push_what_follows(
     alloc: Global,
     out: &mut Vec<u8>,

@@ -1,4 +1,4 @@
-//! Who may offer a train: an OFFER is a standing line, and is ruled as the round begins.
+//! Who may offer a train. An OFFER is a standing line, which is ruled as the round begins.
 ghost use Rattle.std.specs.Prelude.{◌≡◌, IfOk};
 ghost use Rattle.desk_may.specs.Offerers.{as_offered, led_it, may_offer, presidents_of};
 
@@ -20,7 +20,7 @@ pub(crate) fn presidents(alloc: Global, history: &History) -> Result<Vec<Option<
     Ok(presidents)
 }
 
-/// Returns whether a seat presided over a company, by who presides over each as the round begins.
+/// Returns whether a seat presided over a company as the round began, given who presided over each.
 pub(crate) fn led_it(presidents: &[Option<Seat>], company: Company, seat: Seat) -> bool
     ensures { result ≡ led_it presidents.now company seat }
 {
@@ -30,7 +30,7 @@ pub(crate) fn led_it(presidents: &[Option<Seat>], company: Company, seat: Seat) 
     }
 }
 
-/// Returns whether a seat may make an offer, by those who preside as the round begins.
+/// Returns whether a seat may make an offer, given who presides as the round begins.
 fn may_offer(presidents: &[Option<Seat>], giver: Seat, offer: Offer) -> bool
     ensures { result ≡ may_offer presidents.now giver offer }
 {
@@ -40,8 +40,8 @@ fn may_offer(presidents: &[Option<Seat>], giver: Seat, offer: Offer) -> bool
     }
 }
 
-/// Returns what becomes of an order, if no offer comes too late: whoever presides over the seller of
-/// a train only since the round began has no offer that is obeyed.
+/// Returns the outcome of an order, given that no offer may come too late: a player who presides
+/// over the seller of a train only since the round began has no offer that was obeyed.
 pub(crate) fn as_offered(presidents: &[Option<Seat>], answer: Answer) -> Answer
     ensures { result ≡ as_offered presidents.now answer }
 {

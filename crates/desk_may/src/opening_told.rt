@@ -1,5 +1,5 @@
-//! What is told of the rows of an opening: of each unsold private the order that it needs, BUY of
-//! the cheapest and the least BID on each other.
+//! What is said about the rows of an opening: for each unsold private the one order that matters,
+//! BUY of the cheapest and the lowest BID on each other.
 ghost use Rattle.std.specs.Prelude.{◌≡◌};
 ghost use Rattle.desk_may.specs.OpeningTold.{cash_on, is_asked, not_told, note_on, price_on};
 ghost use Rattle.desk_may.specs.OpeningTold.{told_in_opening, told_of_answer};
@@ -29,7 +29,7 @@ impl Teller for OpeningTeller<'_> {
     }
 }
 
-/// Returns what is told of a row of an opening.
+/// Returns what is said about a row of an opening.
 fn told_in_opening(history: &History, seat: Seat, row: &Row) -> Option<Told>
     ensures { result ≡ told_in_opening history.now.seats history.now.events seat row.now }
 {
@@ -39,8 +39,8 @@ fn told_in_opening(history: &History, seat: Seat, row: &Row) -> Option<Told>
     told_of_answer(history, seat, &row.order, row.answer)
 }
 
-/// Returns whether an order is the one that an unsold private needs: BUY of the cheapest, and the
-/// least BID on another.
+/// Returns whether an order is the one that matters for an unsold private: BUY of the cheapest, and
+/// the lowest BID on another.
 fn is_asked(history: &History, order: &Order) -> bool
     ensures { result ≡ is_asked history.now.events order.now }
 {
@@ -65,7 +65,7 @@ fn is_cheapest(history: &History, private: Private) -> bool
     }
 }
 
-/// Returns what is told of an order of which this becomes.
+/// Returns what is said about an order with this outcome.
 fn told_of_answer(history: &History, seat: Seat, order: &Order, answer: Answer) -> Option<Told>
     ensures { result
         ≡ told_of_answer history.now.seats history.now.events seat order.now answer }
@@ -80,7 +80,7 @@ fn told_of_answer(history: &History, seat: Seat, order: &Order, answer: Answer) 
     }
 }
 
-/// Returns what is told of an order that a rule refuses.
+/// Returns what is said about an order that a rule refuses.
 fn not_told(history: &History, seat: Seat, order: &Order, rule: Refusal) -> Told
     ensures { result ≡ not_told history.now.seats history.now.events seat order.now rule }
 {

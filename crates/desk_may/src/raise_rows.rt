@@ -1,4 +1,4 @@
-//! The rows of RAISE lines, where a company must buy a train that its cash does not pay for.
+//! The rows of RAISE lines, for a company that must buy a train and cannot pay for it.
 ghost use Rattle.std.specs.Prelude.{◌≡◌, ◌++◌, IfOk, OnOk, map};
 ghost use Rattle.desk_may.specs.RaiseRows.{is_held, raise_answer, raise_if_held, raise_row, raises, raises_of};
 
@@ -13,8 +13,8 @@ use tables::{Amount, Company};
 /// The numbers of shares that a RAISE may name: a company has ten.
 pub(crate) const NUMBERS: [Amount; 10] = [1, 2, 3, 4, 5, 6, 7, 8, 9, 10];
 
-/// Returns what becomes of each RAISE as the first, where a train must be bought: of one share of a
-/// company to all that its president has of it. Fails only if allocation fails.
+/// Returns the outcome of each RAISE as the first one, when a train must be bought: for one share
+/// of a company up to all that the president has. Fails only if allocation fails.
 pub(crate) fn raise_rows(
     alloc: Global,
     history: &History,
@@ -55,7 +55,7 @@ fn push_raises_of(
     Ok(())
 }
 
-/// Adds the row of this many shares of a company, if its president has as many.
+/// Adds the row of this many shares of a company, if the president has them.
 fn push_if_held(
     rows: &mut Vec<Row>,
     history: &History,
@@ -77,14 +77,14 @@ fn push_if_held(
     Ok(())
 }
 
-/// Returns whether a president has as many shares of a company as this.
+/// Returns whether a president has at least this many shares of a company.
 fn is_held(history: &History, by: Operator, company: Company, shares: Amount) -> bool
     ensures { result ≡ is_held history.now.events by.president company shares }
 {
     ShareCount::from(shares) <= history.shares(company, Shareholder::Seat(by.president))
 }
 
-/// Returns what becomes of a RAISE as the first, where a train must be bought.
+/// Returns the outcome of a RAISE as the first one, when a train must be bought.
 fn raise_answer(history: &History, by: Operator, sale: Sale) -> Answer
     ensures { result ≡ raise_answer history.now by sale }
 {

@@ -1,4 +1,4 @@
-//! Rows as lines: each order as a sheet could hold it, four spaces, and what becomes of it.
+//! Rows as lines: each order as a sheet could hold it, four spaces, and its outcome.
 ghost use Rattle.std.specs.Prelude.{◌≡◌, ◌++◌, OnOk};
 ghost use Rattle.desk_may.specs.RowLines.{answer_text, offered_lines, row_line, row_lines};
 
@@ -20,8 +20,8 @@ pub(crate) fn push_rows(out: &mut Vec<u8>, sheets: &Sheets, rows: &[Row]) -> Res
     Ok(())
 }
 
-/// Adds the lines of some rows in which no train needs an offer that comes too late, by those who
-/// preside as the round begins. Fails only if allocation fails.
+/// Adds the lines of some rows, given who presides as the round begins: a train whose offer would
+/// come too late is refused. Fails only if allocation fails.
 pub(crate) fn push_offered_rows(
     out: &mut Vec<u8>,
     sheets: &Sheets,
@@ -38,7 +38,7 @@ pub(crate) fn push_offered_rows(
     Ok(())
 }
 
-/// Adds the line of an order, with what becomes of it.
+/// Adds the line of an order, with its outcome.
 fn push_row(
     out: &mut Vec<u8>,
     sheets: &Sheets,
@@ -55,7 +55,7 @@ fn push_row(
     Ok(())
 }
 
-/// Adds what becomes of an order: OK with its price, and whose offer that takes, or the code of the
+/// Adds the outcome of an order: OK with its price and whose offer it needs, or the code of the
 /// rule that refuses it.
 fn push_answer(out: &mut Vec<u8>, sheets: &Sheets, answer: Answer) -> Result<(), AllocError>
     ensures { OnOk result (out.new.items ≡ out.old.items ++ answer_text sheets.now answer) }

@@ -1,5 +1,5 @@
-//! What is told of the rows of a stock round: each order that is obeyed, and of the others those
-//! that a player may expect.
+//! What is said about the rows of a stock round: each order that would be obeyed, and those of the
+//! others that a player may expect to give.
 ghost use Rattle.std.specs.Prelude.{◌≡◌};
 ghost use Rattle.desk_may.specs.StockTold.{cost_of_order, fall_on, has_any, has_shares, held_by, held_of};
 ghost use Rattle.desk_may.specs.StockTold.{holds_mohawk, is_brown, is_expected, is_on_offer, not_told, note_on};
@@ -34,7 +34,7 @@ impl Teller for StockTeller<'_> {
     }
 }
 
-/// Returns what is told of a row of a stock round.
+/// Returns what is said about a row of a stock round.
 fn told_in_stock(history: &History, seat: Seat, row: &Row) -> Option<Told>
     ensures { result ≡ told_in_stock history.now.seats history.now.events seat row.now }
 {
@@ -66,7 +66,7 @@ fn note_on(history: &History, order: &Order) -> Note
     }
 }
 
-/// Returns that several may be bought in a turn, if they may.
+/// Returns the note that several may be bought in a turn, if so.
 fn several_if(is_brown: bool) -> Note
     ensures { result ≡ several_if is_brown }
 {
@@ -78,7 +78,7 @@ fn several_if(is_brown: bool) -> Note
 }
 
 /// Returns whether the price of a company is brown, so that several of its shares may be bought in
-/// a turn.
+/// one turn.
 fn is_brown(history: &History, company: Company) -> bool
     ensures { result ≡ is_brown history.now.events company }
 {
@@ -102,9 +102,9 @@ fn fall_on(history: &History, company: Company, shares: Amount) -> Note
     }
 }
 
-/// Returns whether an order that is refused may have been expected: to start a company that is not
-/// started, to buy a share of one that is where there are some, to sell a share that the player
-/// has, and to exchange MH, if the player owns it.
+/// Returns whether a player may have expected to give a refused order: to start a company that has
+/// not started, to buy a share of a started one from where there are shares, to sell a share that
+/// the player has, or to exchange MH if the player owns it.
 fn is_expected(history: &History, seat: Seat, order: &Order) -> bool
     ensures { result ≡ is_expected history.now.events seat order.now }
 {
@@ -119,7 +119,7 @@ fn is_expected(history: &History, seat: Seat, order: &Order) -> bool
     }
 }
 
-/// Returns whether a company is started, and shares of it are where they are to be bought.
+/// Returns whether a company has started, and has shares where one is to be bought.
 fn is_on_offer(history: &History, company: Company, from: ShareSource) -> bool
     ensures { result ≡ is_on_offer history.now.events company from }
 {
@@ -150,7 +150,7 @@ fn holds_mohawk(history: &History, seat: Seat) -> bool
     }
 }
 
-/// Returns what is told of an order that a rule refuses.
+/// Returns what is said about an order that a rule refuses.
 fn not_told(history: &History, seat: Seat, order: &Order, rule: Refusal) -> Told
     ensures { result ≡ not_told history.now.seats history.now.events seat order.now rule }
 {
@@ -159,7 +159,7 @@ fn not_told(history: &History, seat: Seat, order: &Order, rule: Refusal) -> Told
     Told::Not { rule, price, held }
 }
 
-/// Returns what a purchase would cost, in dollars; `None` of another order.
+/// Returns what a purchase would cost, in dollars; `None` for other orders.
 fn cost_of_order(history: &History, order: &Order) -> Option<Money>
     ensures { result ≡ cost_of_order history.now.events order.now }
 {
@@ -176,8 +176,7 @@ fn cost_of_order(history: &History, order: &Order) -> Option<Money>
     }
 }
 
-/// Returns what a player has of which a rule says that it is too little or too much: cash, or shares
-/// of the company.
+/// Returns what a player has too little or too much of by a rule: cash, or shares of the company.
 fn held_of(history: &History, seat: Seat, order: &Order, rule: Refusal) -> Held
     ensures { result ≡ held_of history.now.seats history.now.events seat order.now rule }
 {
@@ -190,7 +189,7 @@ fn held_of(history: &History, seat: Seat, order: &Order, rule: Refusal) -> Held
     }
 }
 
-/// Returns how many shares of a company a player has, if the rule is that it would be over six.
+/// Returns how many shares of a company a player has, if the rule is the limit of six.
 fn held_by(history: &History, seat: Seat, order: &Order, rule: StockRule) -> Held
     ensures { result ≡ held_by history.now.events seat order.now rule }
 {

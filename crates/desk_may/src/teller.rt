@@ -1,4 +1,4 @@
-//! What is told of each row of a turn.
+//! What is said about each row of a turn.
 ghost use Rattle.std.specs.Prelude.{◌≡◌, IfOk, Option, map};
 ghost use Rattle.desk_may.specs.declared.told.Told.{Told};
 ghost use Rattle.moves.specs.declared.row.Row.{Row};
@@ -7,16 +7,16 @@ use crate::told::Told;
 use moves::Row;
 use std::alloc::{AllocError, Global};
 
-/// Says what is told of a row, if anything is.
+/// Decides what is said about a row, if anything.
 pub(crate) trait Teller {
     ghost told: { Self → Row → Option Told };
 
-    /// Returns what is told of a row; `None` if nothing is.
+    /// Returns what is said about a row; `None` if nothing is.
     fn tell(&self, row: &Row) -> Option<Told>
         ensures { result ≡ told self.now row.now };
 }
 
-/// Returns what is told of each of some rows, in their order. Fails only if allocation fails.
+/// Returns what is said about each of some rows, in their order. Fails only if allocation fails.
 pub(crate) fn all_told<T: Teller>(
     alloc: Global,
     teller: &T,

@@ -1,4 +1,4 @@
-//! What is told of an order: that it may be given, with its price, or by which rule it may not.
+//! What is said about an order: that it may be given, with its price, or which rule forbids it.
 ghost use Rattle.std.specs.Prelude.{◌≡◌};
 ghost use Rattle.desk_may.specs.Told.{lacks_money, not_by};
 
@@ -6,7 +6,7 @@ use history::{OpeningRule, PrivateRule, Refusal, ShareCount, StockRule, TrainRul
 use order_grammar::ShareSource;
 use tables::{Money, Seat, Square};
 
-/// What is told of an order.
+/// What is said about an order.
 #[derive(Clone, Copy)]
 pub(crate) enum Told {
     /// It may be given.
@@ -19,30 +19,30 @@ pub(crate) enum Told {
     Not {
         /// The rule that refuses it.
         rule: Refusal,
-        /// What it would cost, in dollars, if that is told.
+        /// What it would cost, in dollars, if that is said.
         price: Option<Money>,
         held: Held,
     },
 }
 
-/// What is said of an order that may be given, beside its price.
+/// What is said of an order that may be given, besides its price.
 #[derive(Clone, Copy)]
 pub(crate) enum Note {
     /// Nothing.
     Nothing,
     /// More may be bid as well.
     OrMore,
-    /// Several may be bought in a turn, since the price of the company is brown.
+    /// Several may be bought in one turn, since the price of the company is brown.
     Several,
     /// The square of the company's token before a sale, and after it.
     Falls { from: Square, to: Square },
-    /// Where the share comes from that is given for MH.
+    /// Where the share given for MH comes from.
     Source(ShareSource),
     /// The greatest price, in dollars, and who must offer it, if it is another player.
     UpTo { most: Money, giver: Option<Seat> },
 }
 
-/// What somebody has, of an order that may not be given for want of it.
+/// What somebody has, if an order may not be given because that is too little or too much.
 #[derive(Clone, Copy)]
 pub(crate) enum Held {
     /// Nothing is said.
@@ -51,11 +51,11 @@ pub(crate) enum Held {
     YourCash(Money),
     /// The company has this much, in dollars.
     ItsCash(Money),
-    /// The player has so many shares.
+    /// The player has this many shares.
     YourShares(ShareCount),
 }
 
-/// Returns what is told of an order if the rule that refuses it is all that is said.
+/// Returns what is said about an order if the rule that refuses it is all that is said.
 pub(crate) fn not_by(rule: Refusal) -> Told
     ensures { result ≡ not_by rule }
 {
@@ -66,7 +66,8 @@ pub(crate) fn not_by(rule: Refusal) -> Told
     }
 }
 
-/// Returns whether a rule is that who buys has too little money: then price and cash are told.
+/// Returns whether a rule is that the buyer has too little money; then the price and the cash are
+/// said.
 pub(crate) fn lacks_money(rule: Refusal) -> bool
     ensures { result ≡ lacks_money rule }
 {

@@ -1,4 +1,4 @@
-//! Rows with what is told of each: what is printed of a turn is made of these alone.
+//! Rows with what is said about each. What is printed of a turn depends on these alone.
 ghost use Rattle.std.specs.Prelude.{◌≡◌, IfOk, map, slice_get, unwrap_or};
 ghost use Rattle.desk_may.specs.CompanyTold.{told_of_private, told_of_train};
 ghost use Rattle.desk_may.specs.OpeningTold.{told_in_opening};
@@ -18,16 +18,16 @@ use moves::{Row, opening_rows, private_rows, stock_rows, train_rows};
 use std::alloc::{AllocError, Global};
 use tables::Seat;
 
-/// Some rows, and what is told of each.
+/// Some rows, and what is said about each.
 #[derive(Drop)]
 pub(crate) struct ToldRows {
     pub(crate) rows: Vec<Row>,
-    /// What is told of the row at the same place; `None` if nothing is.
+    /// What is said about the row at the same place; `None` if nothing is.
     pub(crate) told: Vec<Option<Told>>,
 }
 
 impl ToldRows {
-    /// Returns what is told of the row at a place; `None` if nothing is.
+    /// Returns what is said about the row at a place; `None` if nothing is.
     pub(crate) fn told_at(&self, place: usize) -> Option<Told>
         ensures { result ≡ unwrap_or (slice_get self.now.told.items place) None }
     {
@@ -38,7 +38,7 @@ impl ToldRows {
     }
 }
 
-/// Returns the rows of a seat's turn of an opening, with what is told of each. Fails only if
+/// Returns the rows of a seat's turn of an opening, with what is said about each. Fails only if
 /// allocation fails.
 pub(crate) fn opening_told(
     alloc: Global,
@@ -57,7 +57,7 @@ pub(crate) fn opening_told(
     Ok(ToldRows { rows, told })
 }
 
-/// Returns the rows of a seat's turn of a stock round, with what is told of each. Fails only if
+/// Returns the rows of a seat's turn of a stock round, with what is said about each. Fails only if
 /// allocation fails.
 pub(crate) fn stock_told(
     alloc: Global,
@@ -76,8 +76,8 @@ pub(crate) fn stock_told(
     Ok(ToldRows { rows, told })
 }
 
-/// Returns the rows of the trains of a company whose turn has come and which has withheld, with what
-/// is told of each, where these presided as the round began. Fails only if allocation fails.
+/// Returns the rows of the trains of a company in its turn that has withheld, with what is said
+/// about each, given who presided as the round began. Fails only if allocation fails.
 pub(crate) fn trains_told(
     alloc: Global,
     orders: &OrdersAhead,
@@ -101,8 +101,8 @@ pub(crate) fn trains_told(
     Ok(ToldRows { rows, told })
 }
 
-/// Returns the rows of the privates of a company whose turn has come, with what is told of each.
-/// Fails only if allocation fails.
+/// Returns the rows of the privates of a company in its turn, with what is said about each. Fails
+/// only if allocation fails.
 pub(crate) fn privates_told(alloc: Global, orders: &OrdersAhead) -> Result<ToldRows, AllocError>
     ensures rows { IfOk result (λ list. list.rows.items
         ≡ map (private_row orders.now.turn.game orders.now.by.company) private_orders) }

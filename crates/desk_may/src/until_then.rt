@@ -1,4 +1,4 @@
-//! What comes before a turn, if nobody orders anything until then.
+//! What happens before a turn, if nobody orders anything until then.
 
 use desk_base::Piece::{Bytes, Column, Words};
 use desk_base::{fill, push};
@@ -8,12 +8,12 @@ use sheets::Sheets;
 use std::alloc::{AllocError, Global};
 use tables::Company;
 
-/// The column of what is said behind a label.
+/// The column of what is said after a label.
 pub(crate) const SAID: usize = 18;
 
-/// Adds who has a turn before in a round that comes, and what happens until then. `from` is the
-/// place in the list of the event that begins the round, and `company` the one whose turn it is in
-/// an operating round.
+/// Adds who has a turn earlier in a coming round, and what happens until then. `from` is the place
+/// in the list of the event that begins the round, and `company` the one whose turn it is in an
+/// operating round.
 pub fn push_until_then(
     alloc: Global,
     out: &mut Vec<u8>,
@@ -27,7 +27,7 @@ pub fn push_until_then(
     push_events(alloc, out, sheets, "UNTIL THEN", events)
 }
 
-/// Adds some events as the report has them, behind a label: not that a round begins, nor that a
+/// Adds some events as the report words them, after a label, except that a round begins and that a
 /// seat passes.
 pub(crate) fn push_events(
     alloc: Global,
@@ -48,7 +48,7 @@ pub(crate) fn push_events(
     Ok(())
 }
 
-/// Adds who has a turn before, by the events of the round so far.
+/// Adds who has had a turn already, by the events of the round so far.
 fn push_before(
     out: &mut Vec<u8>,
     sheets: &Sheets,
@@ -76,7 +76,7 @@ fn push_before(
     push(out, &[Words(end)])
 }
 
-/// Returns whether an event is told: not that the round begins, nor that a seat passes.
+/// Returns whether an event is shown: any but that a round begins or a seat passes.
 fn is_told(event: &Event) -> bool {
     !matches!(event, Event::Round(_) | Event::Passes(_))
 }

@@ -15,7 +15,7 @@ use map_tables::{Lay, Place};
 use std::alloc::Global;
 use tables::{Company, Kind, Money, Round};
 
-/// A company with its trains, in a game at the head of its orders or behind some of them.
+/// A company with its trains, in a game, at the head of its orders or after some of them.
 #[derive(Clone, Copy)]
 pub(crate) struct Trains<'a> {
     pub(crate) alloc: Global,
@@ -61,7 +61,7 @@ impl Trains<'_> {
         ensures { let its = self.entry in
             IfOk result (IsGreatestMoney (position_of board.now) its.company its.kinds.now) }
     {
-        // A search takes no account of the round.
+        // The search does not depend on the round.
         let any_round = Round::Operating { set: 1, number: 1 };
         let mut search = Search::new(self.alloc);
         match search.earn(board, any_round, self.company, self.kinds) {

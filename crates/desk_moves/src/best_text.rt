@@ -19,7 +19,7 @@ use std::alloc::{AllocError, Global};
 use tables::{Company, Kind, Money, limit, rusts, same_kind, train};
 
 /// Returns the best runs of a company as its turn begins, as the desk writes runs: with these
-/// trains, or with those that it has if there are none. The error says what is wrong with the
+/// trains, or if there are none with those that it has. The error says what is wrong with the
 /// trains, or is `Memory`.
 pub(crate) fn best_text(
     alloc: Global,
@@ -31,8 +31,8 @@ pub(crate) fn best_text(
     text_with(alloc, history, company, trains.as_slice())
 }
 
-/// Returns the trains that are meant: these, or those that a company has if there are none. Fails if
-/// the company may not have these, or has none.
+/// Returns the trains to use: these, or if there are none those that the company has. Fails if the
+/// company may not have these, or has none.
 fn meant_trains(
     alloc: Global,
     history: &History,
@@ -80,7 +80,7 @@ fn best_claim(
     Ok(found.claim)
 }
 
-/// Adds what a company would earn, and by which runs.
+/// Adds what a company would earn, and the runs that earn it.
 fn push_claim(
     out: &mut Vec<u8>,
     board: &Board,
@@ -96,8 +96,8 @@ fn push_claim(
     Ok(())
 }
 
-/// Fails unless a company may have these trains in a phase, some of which may come only later: no
-/// kind has rusted, there are as many of each, and the limit allows as many.
+/// Fails unless a company may have these trains in a phase: none has rusted, there are enough of
+/// each kind, and the limit allows as many. Some of them may only be sold in a later phase.
 fn must_be_allowed(phase: Kind, trains: &[Kind]) -> Result<(), MovesFault>
     ensures { OnOk result (AreAllowed phase trains.now) }
 {
@@ -113,7 +113,7 @@ fn must_be_allowed(phase: Kind, trains: &[Kind]) -> Result<(), MovesFault>
     Ok(())
 }
 
-/// Returns whether one of some trains has rusted by a phase.
+/// Returns whether any of some trains has rusted by a phase.
 fn has_rusted_among(phase: Kind, trains: &[Kind]) -> bool
     ensures { result ≡ list_any (has_rusted phase) trains.now }
 {
@@ -130,14 +130,14 @@ fn has_rusted(phase: Kind, kind: Kind) -> bool
     }
 }
 
-/// Returns whether there are more trains of a kind among some than there are such trains.
+/// Returns whether some trains have more of any kind than the game has.
 fn has_too_many(trains: &[Kind]) -> bool
     ensures { result ≡ list_any (is_too_many trains.now) kinds }
 {
     Kind::ALL.iter().any(|kind| is_too_many(trains, *kind))
 }
 
-/// Returns whether there are more trains of this kind among some than there are such trains.
+/// Returns whether some trains have more of this kind than the game has.
 fn is_too_many(trains: &[Kind], kind: Kind) -> bool
     ensures { result ≡ is_too_many trains.now kind }
 {
@@ -147,7 +147,7 @@ fn is_too_many(trains: &[Kind], kind: Kind) -> bool
     }
 }
 
-/// Returns how many trains of a kind there are among some.
+/// Returns how many of some trains are of a kind.
 fn count_of(trains: &[Kind], kind: Kind) -> usize
     ensures { result ≡ count_by (λ train. same_kind train kind) trains.now }
 {

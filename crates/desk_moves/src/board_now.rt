@@ -6,8 +6,8 @@ use board::Board;
 use history::History;
 use std::alloc::{AllocError, Global};
 
-/// Returns the board as it lies, by the tiles and tokens that the totals keep: no event is read
-/// again, since `lays --best` asks for a board after each lay. Fails only if allocation fails.
+/// Returns the board as it is, from the tiles and tokens that the totals keep. It does not read the
+/// events again, since `lays --best` needs a board after each lay. Fails only if allocation fails.
 pub(crate) fn board_now(alloc: Global, history: &History) -> Result<Board, AllocError>
     ensures { IfOk result (λ board. board ≡ map_state_now history.now.events) }
 {

@@ -1,4 +1,4 @@
-//! A game that has stopped before a round that comes, or at its end.
+//! A game that has stopped before the coming round, or at its end.
 ghost use Rattle.std.specs.Prelude.{◌≡◌, IfOk, length};
 ghost use Rattle.history.specs.Sound.{IsSound};
 ghost use Rattle.sheets.specs.File.{players_of};
@@ -11,19 +11,19 @@ use sheets::Sheets;
 use std::alloc::Global;
 use tables::{Company, Round, Seat};
 
-/// A game before a round that comes, or at its end.
+/// A game before the coming round, or at its end.
 #[derive(Drop)]
 pub(crate) struct Coming<'a> {
     /// Its sheets.
     pub(crate) sheets: &'a Sheets<'a>,
-    /// All that has happened.
+    /// The events so far.
     pub(crate) history: History,
-    /// The round, or how the game ended.
+    /// The coming round, or how the game ended.
     pub(crate) end: End,
 }
 
-/// Returns the game of some sheets before the round that comes after a round, or after the last
-/// that they play. The error is that the round is not played, or `Memory`.
+/// Returns the game of some sheets before the round that follows this one, or if none is named the
+/// last one played. The error is that the round was not played, or `Memory`.
 pub(crate) fn coming_in<'a>(
     alloc: Global,
     sheets: &'a Sheets<'a>,
@@ -77,7 +77,7 @@ fn coming_after<'a>(
 }
 
 impl Coming<'_> {
-    /// Returns the round that comes. Fails with `GameOver` if none does.
+    /// Returns the coming round. Fails with `GameOver` if there is none.
     pub(crate) fn round(&self) -> Result<Round, MovesFault> {
         match self.end {
             End::Awaiting(round) => Ok(round),
@@ -85,7 +85,7 @@ impl Coming<'_> {
         }
     }
 
-    /// Returns the president of a company, who orders for it. Fails with `NotStarted` or
+    /// Returns the president of a company, who gives its orders. Fails with `NotStarted` or
     /// `NoPresident` if it has none.
     pub(crate) fn president(&self, company: Company) -> Result<Seat, MovesFault> {
         let view = self.history.now();
@@ -99,7 +99,7 @@ impl Coming<'_> {
     }
 
     /// Returns a seat whose own sheet for the round is to be looked at. Fails with `NoDraft` if it
-    /// has none, and with `GameOver` if no round comes.
+    /// has none, and with `GameOver` if no round follows.
     pub(crate) fn drafter(&self, seat: Seat) -> Result<Seat, MovesFault> {
         if owes(self.sheets, seat, &self.round()?) {
             return Err(MovesFault::Asked(NoAnswer::NoDraft));

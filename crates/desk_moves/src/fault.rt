@@ -1,4 +1,4 @@
-//! Why a question about moves has no answer, with the sentence that tells the player so.
+//! Why a question about moves has no answer, with the sentence that the player reads.
 ghost use Rattle.std.specs.Prelude.{◌≡◌};
 ghost use Rattle.desk_base.specs.declared.fault.DeskFault.TheVariants.{Memory};
 ghost use Rattle.desk_base.specs.Fault.{fault_of_file};
@@ -11,7 +11,7 @@ use std::alloc::AllocError;
 /// Why a question about moves has no answer.
 #[derive(Drop)]
 pub enum MovesFault {
-    /// The file is refused, the round is not played, or an allocation failed.
+    /// The file is refused, the round was not played, or an allocation failed.
     Desk(DeskFault),
     /// The game cannot answer it.
     Asked(NoAnswer),
@@ -22,33 +22,34 @@ pub enum MovesFault {
 pub enum NoAnswer {
     /// The game is over.
     GameOver,
-    /// The company is not started.
+    /// The company has not started.
     NotStarted,
     /// The company has no president.
     NoPresident,
-    /// Nobody who plays has that name.
+    /// No player has that name.
     NoSuchPlayer,
-    /// The company does not operate in the operating round that comes, or the game ends before its
+    /// The company does not operate in the coming operating round, or the game ends before its
     /// turn.
     NoTurn,
     /// No operating round comes next.
     NoOperatingRound,
-    /// The player whose own sheet is to be looked at has none for the round that comes.
+    /// The player whose own sheet is to be looked at has none for the coming round.
     NoDraft,
     /// The company has no train, and none is named.
     NoTrains,
-    /// A kind is named more often than there are such trains.
+    /// More trains of a kind are named than the game has.
     TooManyOfKind,
-    /// A kind is named whose trains have rusted.
+    /// A train of a kind that has rusted is named.
     Rusted,
     /// More trains are named than a company may have in this phase.
     OverLimit,
-    /// Players owe a sheet who are not among those that are named: `CYD and DAN owe`.
+    /// Players who were not named owe a sheet, too: `CYD and DAN owe`.
     OwesToo(Vec<u8>),
 }
 
 impl NoAnswer {
-    /// Returns who else owes a sheet, if that is why: what the sentence goes on from.
+    /// Returns the names of those who also owe a sheet, if that is the reason. The sentence follows
+    /// them.
     pub fn into_names(self) -> Option<Vec<u8>> {
         match self {
             NoAnswer::OwesToo(names) => Some(names),
@@ -56,7 +57,7 @@ impl NoAnswer {
         }
     }
 
-    /// Returns a sentence that says so, or what follows the names of those who owe.
+    /// Returns the sentence for it, or its rest after the names of those who owe.
     pub fn sentence(&self) -> &'static str {
         match self {
             NoAnswer::GameOver => "the game is over by then",

@@ -20,7 +20,7 @@ const HERE: usize = 18;
 /// The column of the track of the neighbour.
 const THERE: usize = 32;
 
-/// Adds each side of a hex with its neighbour, where the track of the hex leads from there, and
+/// Adds each side of a hex with its neighbour, where the hex's track leads from that side, and
 /// where the neighbour's does.
 pub(crate) fn push_sides(out: &mut Vec<u8>, board: &Board, hex: Hex) -> Result<(), AllocError> {
     fill(out, "\nSIDE         HEX  TRACK TO      ITS TRACK TO\n", &[])?;
@@ -81,7 +81,7 @@ fn push_track(out: &mut Vec<u8>, board: &Board, hex: Hex, side: Side) -> Result<
     push(out, &[Words(none)])
 }
 
-/// Returns the end of a link that is not this side; `None` if this is none of its ends.
+/// Returns the end of a link that is not this side; `None` if the link has no end at this side.
 fn other_end(link: &Link, side: Side) -> Option<TrackEnd>
     ensures { result ≡ other_end link.now side }
 {

@@ -1,4 +1,4 @@
-//! A hex as it is: its colour and tile, its terrain, its stops, and what meets at its sides.
+//! A hex as it is now: its colour and tile, its terrain, its stops, and what meets at its sides.
 ghost use Rattle.std.specs.Prelude.{◌≡◌, length};
 ghost use Rattle.desk_moves.specs.HexFacts.{closed_by, colour_of, ground_of, is_of_private};
 ghost use Rattle.history.specs.Sound.{IsSound};
@@ -25,7 +25,7 @@ use sheets::Sheets;
 use std::alloc::{AllocError, Global};
 use tables::{Company, Money, Private, Round, Seat};
 
-/// The ground of a hex.
+/// What a hex is to tiles.
 #[derive(Clone, Copy)]
 enum Ground {
     /// It is grey: no tile is laid there.
@@ -39,8 +39,8 @@ enum Ground {
 /// The column in front of the tokens of a stop.
 const TOKENS: usize = 21;
 
-/// Returns a hex as text, at the head of the first turn of the round that comes, or at the end of
-/// the game. Fails only if allocation fails.
+/// Returns a hex as text, at the head of the first turn of the coming round, or at the end of the
+/// game. Fails only if allocation fails.
 pub(crate) fn hex_text(alloc: Global, coming: Coming, hex: Hex) -> Result<Vec<u8>, AllocError>
     requires sound { IsSound coming.history }
     requires seats { coming.history.seats ≡ length (players_of coming.sheets.now) }
@@ -86,7 +86,8 @@ fn text_of(
     Ok(text)
 }
 
-/// Adds the hex, its colour, the tile that lies there, what it takes, and the cost of its terrain.
+/// Adds the hex, its colour, the tile that lies there, what tiles it takes, and the cost of its
+/// terrain.
 fn push_ground(out: &mut Vec<u8>, board: &Board, hex: Hex) -> Result<(), AllocError> {
     let text = hex.text();
     let name = Bytes(text.as_slice());
@@ -122,7 +123,7 @@ fn push_ground(out: &mut Vec<u8>, board: &Board, hex: Hex) -> Result<(), AllocEr
     }
 }
 
-/// Returns the ground of a hex with this tile, if one lies there.
+/// Returns what a hex is to tiles, given the tile that lies there, if any.
 fn ground_of(hex: Hex, lay: Option<Lay>) -> Ground
     ensures { result ≡ ground_of hex lay }
 {
@@ -169,7 +170,7 @@ fn name_of(colour: Colour) -> &'static str {
     }
 }
 
-/// Adds that no tile may be laid, if a player owns the private of the hex.
+/// Adds that no tile may be laid if a player owns the private of the hex.
 fn push_blocked(
     out: &mut Vec<u8>,
     sheets: &Sheets,
@@ -186,7 +187,7 @@ fn push_blocked(
     Ok(())
 }
 
-/// Returns the player who keeps a hex closed, if it is of a private that they own.
+/// Returns the player who blocks a hex because they own its private, if any.
 fn closed_by(history: &History, hex: Hex, private: Private) -> Option<Seat>
     ensures { result ≡ closed_by history.now.events hex private }
 {
@@ -199,7 +200,7 @@ fn closed_by(history: &History, hex: Hex, private: Private) -> Option<Seat>
     }
 }
 
-/// Returns whether a hex is one of a private.
+/// Returns whether a hex belongs to a private.
 fn is_of_private(hex: Hex, private: Private) -> bool
     ensures { result ≡ is_of_private hex private }
 {

@@ -20,7 +20,7 @@ use tables::Money;
 /// The column of the rotations.
 const ROTATIONS: usize = 38;
 
-/// A company with its trains, what it may lay and place, and how far it has been tried.
+/// A company with its trains, what it may lay and place, and how much of that has been tried.
 #[derive(Drop)]
 pub(crate) struct Earning<'a, P> {
     pub(crate) trains: Trains<'a>,
@@ -28,7 +28,7 @@ pub(crate) struct Earning<'a, P> {
     pub(crate) tokens: &'a [Priced<Place>],
     /// How many of the lays and tokens have been tried.
     pub(crate) done: usize,
-    /// What hears of it.
+    /// Where progress is reported.
     pub(crate) progress: &'a mut P,
 }
 
@@ -55,8 +55,8 @@ impl<P: Progress> Earning<'_, P> {
         Ok(())
     }
 
-    /// Adds the revenue of now, a line for each track that may be laid and earns more, the greatest
-    /// revenue first, and the same of tokens. A line says how many others there are.
+    /// Adds the present revenue, a line for each track that may be laid and earns more, the
+    /// greatest revenue first, and the same for tokens. A line says how many others there are.
     pub(crate) fn push_table(&mut self, out: &mut Vec<u8>) -> Result<(), MovesFault> {
         let now = self.trains.best_now()?;
         fill(out, "BEST NOW          %\n", &[Number(now)])?;
@@ -86,8 +86,8 @@ impl<P: Progress> Earning<'_, P> {
         Ok(push_others(out, &earned, now, "lay", "lays")?)
     }
 
-    /// Returns the first lay of each track, with what the trains earn after it, the greatest revenue
-    /// first.
+    /// Returns the first lay of each track, with what the trains earn after it, the greatest
+    /// revenue first.
     fn lays_earned(&mut self) -> Result<Vec<Earned>, MovesFault> {
         let mut earned = Vec::new(self.trains.alloc);
         let lays = self.lays;
@@ -124,7 +124,7 @@ impl<P: Progress> Earning<'_, P> {
         Ok(push_others(out, &earned, now, "token", "tokens")?)
     }
 
-    /// Returns the greatest revenue after a lay, in dollars, and tells that it is tried.
+    /// Returns the greatest revenue after a lay, in dollars, and reports that it has been tried.
     fn after_lay(&mut self, lay: Lay) -> Result<Money, MovesFault>
         ensures { let its = self.old.trains in IfOk result (IsGreatestMoney
             (position_of (with_lay (map_state_now its.history.now.events) lay))
@@ -135,7 +135,7 @@ impl<P: Progress> Earning<'_, P> {
         Ok(best)
     }
 
-    /// Returns the greatest revenue after a token, in dollars, and tells that it is tried.
+    /// Returns the greatest revenue after a token, in dollars, and reports that it has been tried.
     fn after_token(&mut self, place: Place) -> Result<Money, MovesFault>
         ensures { let its = self.old.trains in IfOk result (IsGreatestMoney
             (position_of (with_token (map_state_now its.history.now.events) place its.company))
@@ -146,7 +146,7 @@ impl<P: Progress> Earning<'_, P> {
         Ok(best)
     }
 
-    /// Tells that one more has been tried.
+    /// Reports that one more has been tried.
     fn tell(&mut self) {
         self.done = self.done.saturating_add(1);
         let of = self.lays.len().saturating_add(self.tokens.len());
@@ -165,7 +165,7 @@ fn push_line(
     fill(out, "    %    %\n", &[Number(price), Number(best)])
 }
 
-/// Adds a revenue, and by how much it is above that of now.
+/// Adds a revenue, and how much more it is than the present one.
 fn push_revenue(out: &mut Vec<u8>, best: Money, now: Money) -> Result<(), AllocError> {
     push(out, &[Right(7, best), Right(7, best.saturating_sub(now))])
 }
@@ -176,7 +176,7 @@ fn keep(list: &mut Vec<Earned>, earned: Earned) -> Result<(), AllocError> {
     Ok(())
 }
 
-/// Adds how many earn nothing more than now.
+/// Adds how many earn no more than now.
 fn push_others(
     out: &mut Vec<u8>,
     earned: &Vec<Earned>,

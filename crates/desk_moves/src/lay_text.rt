@@ -1,6 +1,6 @@
 //! A company's lays and tokens for a reader: for each hex and tile the rotations, with what is left
-//! of the tile and the price; where asked for, what the company's trains would earn after each; and
-//! a train that the company must buy.
+//! of the tile and the price; on request, what the company's trains would earn after each; and a
+//! train that the company must buy.
 
 use crate::best_after::Trains;
 use crate::board_now::board_now;
@@ -18,15 +18,15 @@ use moves::{Priced, lays, tokens};
 use std::alloc::{AllocError, Global};
 use tables::{Company, Kind, Money};
 
-/// The column in front of the rotations, if no revenue is told.
+/// The column in front of the rotations, if no revenue is shown.
 const ROTATIONS: usize = 23;
 
 /// The column of the price of a token.
 const PRICE: usize = 15;
 
 /// Returns what a company may lay and where it may place its next token, at the head of its orders
-/// or behind those that are drafted, as text. `from` is the place in the list of the event that
-/// begins the round. The error is `Memory`.
+/// or after those drafted, as text. `from` is the place in the list of the event that begins the
+/// round. The error is `Memory`.
 pub(crate) fn lay_text<P: Progress>(
     alloc: Global,
     orders: OrdersAhead,
@@ -45,7 +45,7 @@ pub(crate) fn lay_text<P: Progress>(
     Ok(text)
 }
 
-/// Adds what the company may lay and place, in the form that is asked for.
+/// Adds what the company may lay and place, in the form requested.
 fn push_turn<P: Progress>(
     alloc: Global,
     out: &mut Vec<u8>,
@@ -98,8 +98,8 @@ fn push_lays(out: &mut Vec<u8>, history: &History, lays: &[Priced<Lay>]) -> Resu
     push(out, &[Words(end)])
 }
 
-/// Adds a lay, by those before it and those from it on: the rotations that give its track, unless
-/// they stand there already, on a new line if it is the first of its hex and tile.
+/// Adds a lay, given the lays before it and those from it on: the rotations that give its track,
+/// unless they are there already. The first of its hex and tile begins a new line.
 fn push_lay(
     out: &mut Vec<u8>,
     history: &History,
@@ -180,8 +180,8 @@ pub(crate) fn push_tile(
     )
 }
 
-/// Adds the rotation of a lay, and each other that gives the same track, by the lays from this one
-/// on.
+/// Adds the rotation of a lay, and each other one that gives the same track, given the lays from
+/// this one on.
 pub(crate) fn push_rotations(
     out: &mut Vec<u8>,
     from: &[Priced<Lay>],
@@ -199,17 +199,17 @@ pub(crate) fn push_rotations(
     Ok(())
 }
 
-/// Returns whether one of some lays gives the same track as another.
+/// Returns whether one of some lays gives the same track as this one.
 pub(crate) fn has_same_track(lays: &[Priced<Lay>], lay: Lay) -> bool {
     lays.iter().any(|other| is_same_track(other.what, lay))
 }
 
-/// Returns whether one of some lays is of the same tile on the same hex as another.
+/// Returns whether one of some lays has the same tile on the same hex as this one.
 fn has_same_tile(lays: &[Priced<Lay>], lay: Lay) -> bool {
     lays.iter().any(|other| other.what.hex == lay.hex && other.what.tile == lay.tile)
 }
 
-/// Returns whether two lays give the same track: of the same tile on the same hex.
+/// Returns whether two lays of the same tile on the same hex give the same track.
 fn is_same_track(a: Lay, b: Lay) -> bool {
     a.hex == b.hex && a.tile == b.tile && laid_links(a).as_slice() == laid_links(b).as_slice()
 }

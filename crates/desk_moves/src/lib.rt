@@ -1,17 +1,17 @@
 //! What may be done in a game, for its players: the tiles that a company may lay, its tokens, its
-//! best runs; what a player may buy, bid and sell; what a hex is; and a trial of the sheets that
-//! are there.
+//! best runs; what a player may buy, bid and sell; what a hex has; and a trial of the sheets
+//! received so far.
 //!
-//! Each answer is made from the lists of `moves`, which ask the calls that rule lines, or by the
-//! search that a RUN BEST uses. Each call takes the allocator and the bytes of an order file, and
+//! Each answer comes from the lists of `moves`, which use the calls that rule lines, or from the
+//! search that RUN BEST uses. Each call takes the allocator and the bytes of an order file, and
 //! returns text; no call reads or writes a stream.
 //!
-//! Reading order: `fault` (why there is no answer), `progress` (how far one is), `words`
-//! (companies, hexes and trains on a command line), `questions` (`answer`: the turn that is asked),
-//! `coming` (the game before the round that comes), `board_now` (its board), `line_text` (lays and
-//! tokens as order lines), `lay_text` (the same for a reader), `best_after` and `lay_best` (with
-//! revenues), `best_text` (best runs), `may_text` (what a player may do, by `desk_may`), `hex_text`
-//! with `hex_sides`, `trials` (`trial`).
+//! Reading order: `fault` (why there is no answer), `progress` (how far a long answer has got),
+//! `words` (companies, hexes and trains on a command line), `questions` (`answer`: the turn that is
+//! asked), `coming` (the game before the coming round), `board_now` (its board), `line_text` (lays
+//! and tokens as order lines), `lay_text` (the same for a reader), `best_after` and `lay_best`
+//! (with revenues), `best_text` (best runs), `may_text` (what a player may do, by `desk_may`),
+//! `hex_text` with `hex_sides`, `trials` (`trial`).
 #![tactic(auto)]
 
 mod best_after;

@@ -12,10 +12,10 @@ use order_grammar::{Order, print_number, print_order};
 use std::alloc::{AllocError, Global};
 use tables::Money;
 
-/// Between an order and its price.
+/// What is between an order and its price.
 const GAP: &[u8; 4] = b"    ";
 
-/// Returns every lay and every token of a company where its turn has come to, a line each: the
+/// Returns every lay and every token of a company at this point of its turn, a line each: the
 /// order, four spaces, and its price in dollars. Lays come first, in the order of hex, tile,
 /// rotation and SWAP; then tokens, in that of hex and stop. Fails only if allocation fails.
 pub(crate) fn line_text(alloc: Global, orders: &OrdersAhead) -> Result<Vec<u8>, AllocError>

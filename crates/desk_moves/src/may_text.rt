@@ -1,4 +1,4 @@
-//! What a player may do in the round that comes.
+//! What a player may do in the coming round.
 ghost use Rattle.std.specs.Prelude.{◌≡◌, ◌<◌, length};
 ghost use Rattle.history.specs.Sound.{IsSound};
 ghost use Rattle.sheets.specs.File.{players_of};
@@ -21,9 +21,9 @@ use sheets::Sheets;
 use std::alloc::{AllocError, Global};
 use tables::{Round, Seat, certificate_limit};
 
-/// Returns what the player of a name may do in the round that comes, at the head of their turn, or
-/// of their companies' orders. The error says that nobody has that name, that the game is over or
-/// that they have no sheet for the round, or is `Memory`.
+/// Returns what the player with this name may do in the coming round, at the head of their turn, or
+/// of their companies' orders. The error says that no player has that name, that the game is over
+/// or that they have no sheet for the round, or is `Memory`.
 pub(crate) fn may_text(
     alloc: Global,
     coming: Coming,
@@ -73,7 +73,7 @@ fn push_turn(
         ..
     } = coming;
     let from = history.events().len();
-    // For the proof alone: the seats are at most six.
+    // For the proof only: the seats are at most six.
     let _few = sheets.seats();
     let history = at_turn(history, round, seat)?;
     if lines {
@@ -115,8 +115,8 @@ fn push_operating(
     push_of_operating(alloc, out, ahead, from, seat)
 }
 
-/// Adds who is asked of, the round, and what the player has: cash, the cash that no bid ties, and
-/// certificates of how many.
+/// Adds the player, the round, and what the player has: cash, the cash that is not tied up in bids,
+/// and certificates with their limit.
 fn push_head(
     out: &mut Vec<u8>,
     sheets: &Sheets,

@@ -1,7 +1,7 @@
-//! How far a long answer is.
+//! How far a long answer has got.
 
-/// Hears how far a long answer is.
+/// Receives how far a long answer has got.
 pub trait Progress {
-    /// Hears that this many of so many lays and tokens have been tried.
+    /// Receives that `done` of `of` lays and tokens have been tried.
     fn tell(&mut self, done: usize, of: usize);
 }

@@ -1,5 +1,5 @@
-//! What is asked, and where: at the head of a turn of the round that comes, as its sheets leave the
-//! game, or after a round.
+//! What is asked, and where: at the head of a turn of the coming round, after all sheets or after a
+//! named round.
 ghost use Rattle.std.specs.Prelude.{◌≡◌, length};
 ghost use Rattle.history.specs.Sound.{IsSound};
 ghost use Rattle.sheets.specs.File.{players_of};
@@ -26,17 +26,17 @@ pub enum Question<'a> {
         company: Company,
         form: LayForm,
     },
-    /// What the player of a name may do.
+    /// What the player with this name may do.
     May {
         name: &'a [u8],
         form: MayForm,
     },
-    /// The best runs of a company with these trains, or with those that it has if there are none.
+    /// The best runs of a company with these trains, or if there are none with those that it has.
     Best {
         company: Company,
         trains: &'a [Kind],
     },
-    /// What a hex is.
+    /// What a hex has.
     Hex(Hex),
 }
 
@@ -45,24 +45,24 @@ pub enum Question<'a> {
 pub struct LayForm {
     /// Whether to say what the company's best runs would earn after each.
     pub best: bool,
-    /// Whether to write order lines alone.
+    /// Whether to write order lines only.
     pub lines: bool,
-    /// Whether to ask behind the company's orders in its president's own sheet.
+    /// Whether to ask after the company's orders in its president's own sheet.
     pub drafted: bool,
 }
 
 /// How what a player may do is listed.
 #[derive(Clone, Copy)]
 pub struct MayForm {
-    /// Whether to write order lines alone.
+    /// Whether to write order lines only.
     pub lines: bool,
-    /// Whether to ask behind the lines of the player's own sheet.
+    /// Whether to ask after the lines of the player's own sheet.
     pub drafted: bool,
 }
 
-/// Returns the answer to a question as text, in the round that comes after a round, or after the
-/// last that the sheets play if none is named. The error is the fault of the file, `Round` if the
-/// round is not played, why the game has no answer, or `Memory` if an allocation fails.
+/// Returns the answer to a question as text, in the round that follows the named one, or the last
+/// one played if none is named. The error is the fault of the file, `Round` if the named round was
+/// not played, why the game has no answer, or `Memory` if an allocation fails.
 pub fn answer<P: Progress>(
     alloc: Global,
     file: &[u8],
@@ -74,7 +74,7 @@ pub fn answer<P: Progress>(
     answer_in(alloc, &sheets, after, question, progress)
 }
 
-/// Returns the answer by some sheets.
+/// Returns the answer for some sheets.
 fn answer_in<P: Progress>(
     alloc: Global,
     sheets: &Sheets,
@@ -86,7 +86,7 @@ fn answer_in<P: Progress>(
     answer_by(alloc, coming, question, progress)
 }
 
-/// Returns the answer by a game before a round that comes.
+/// Returns the answer for a game before a coming round.
 fn answer_by<P: Progress>(
     alloc: Global,
     coming: Coming,
@@ -119,8 +119,7 @@ fn answer_best(
     best_text(alloc, orders.history(), company, trains)
 }
 
-/// Returns what a company may lay and place at the head of its orders, or behind those that are
-/// drafted.
+/// Returns what a company may lay and place at the head of its orders, or after those drafted.
 fn answer_lays<P: Progress>(
     alloc: Global,
     coming: Coming,
@@ -145,9 +144,9 @@ fn answer_lays<P: Progress>(
     lay_text(alloc, orders, from, form, progress)
 }
 
-/// Returns the turn of a company that has a president at the head of its orders in the round that
-/// comes, or behind those of the sheet that is looked at. The error says why it has none there, or
-/// is `Memory`.
+/// Returns the turn of a company with a president, at the head of its orders in the coming round,
+/// or after those of the sheet that is looked at. The error says why it has none there, or is
+/// `Memory`.
 fn orders_in<'a>(
     alloc: Global,
     coming: Coming<'a>,

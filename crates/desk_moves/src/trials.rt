@@ -1,4 +1,5 @@
-//! A trial: the file with an empty sheet for each player who owes one, to be played one round on.
+//! A trial: the file with an empty sheet for each player who owes one, to be played one round
+//! further.
 ghost use Rattle.std.specs.Prelude.{◌≡◌, ◌<◌, IfOk, IfSome, length};
 ghost use Rattle.foresight.specs.TrialFile.{tried_file};
 ghost use Rattle.sheets.specs.File.{players_of};
@@ -13,7 +14,7 @@ use sheets::{Sheets, collect};
 use std::alloc::{AllocError, Global};
 use tables::{Round, Seat};
 
-/// A file to be played one round on.
+/// A file to be played one round further.
 #[derive(Drop)]
 pub struct TrialRound {
     /// The order file, with an empty sheet at its end for each player who owes one.
@@ -22,10 +23,9 @@ pub struct TrialRound {
     pub round: Round,
 }
 
-/// Returns the file of a game with an empty sheet for each player who owes one for the round that
-/// is awaited, and that round. If players are named, they must be all who owe one. The error is the
-/// fault of the file, that the game is over, that nobody has a name, who else owes a sheet, or
-/// `Memory`.
+/// Returns the file of a game with an empty sheet for each player who owes one for the awaited
+/// round, and that round. If players are named, all who owe one must be. The error is the fault of
+/// the file, that the game is over, that no player has a name, who else owes a sheet, or `Memory`.
 pub fn trial(alloc: Global, file: &[u8], players: &[&str]) -> Result<TrialRound, MovesFault>
     ensures file { IfOk result (λ trial.
         trial.file.bytes.items ≡ tried_file file.now trial.round) }
@@ -37,22 +37,22 @@ pub fn trial(alloc: Global, file: &[u8], players: &[&str]) -> Result<TrialRound,
     Ok(TrialRound { file, round })
 }
 
-/// Returns the round that is awaited. Fails if the game is over, or if players are named and they are
-/// not all who owe a sheet for it.
+/// Returns the awaited round. Fails if the game is over, or if players are named and somebody else
+/// owes a sheet for it.
 fn awaited(alloc: Global, sheets: &Sheets, players: &[&str]) -> Result<Round, MovesFault> {
     let round = round_to_come(alloc, sheets)?;
     must_name_all(alloc, sheets, players, round)?;
     Ok(round)
 }
 
-/// Returns the round that comes. Fails if the game is over.
+/// Returns the coming round. Fails if the game is over.
 fn round_to_come(alloc: Global, sheets: &Sheets) -> Result<Round, MovesFault> {
     let coming = coming_in(alloc, sheets, None)?;
     coming.round()
 }
 
-/// Fails unless each name is a player's, and those who owe a sheet for a round are all named, if
-/// anybody is.
+/// Fails unless each name is a player's and, if any are given, all who owe a sheet for the round
+/// are named.
 fn must_name_all(
     alloc: Global,
     sheets: &Sheets,
@@ -69,7 +69,7 @@ fn must_name_all(
     Err(MovesFault::Asked(NoAnswer::OwesToo(text)))
 }
 
-/// Returns the seats of the players with these names. Fails if nobody has one of them.
+/// Returns the seats of the players with these names. Fails if one of them is no player's.
 fn seats_named(alloc: Global, sheets: &Sheets, players: &[&str]) -> Result<Vec<Seat>, MovesFault> {
     let mut seats = Vec::new(alloc);
     for player in players {
@@ -87,7 +87,7 @@ fn push_seat(seats: &mut Vec<Seat>, seat: Seat) -> Result<(), AllocError> {
     Ok(())
 }
 
-/// Returns the seat of the player of a name, in either case; `None` if nobody who plays has it.
+/// Returns the seat of the player with this name, in either case; `None` if no player has it.
 pub(crate) fn seat_named(sheets: &Sheets, player: &[u8]) -> Option<Seat>
     ensures { IfSome result (λ seat. seat.0 < length (players_of sheets.now)) }
 {
@@ -100,8 +100,7 @@ pub(crate) fn seat_named(sheets: &Sheets, player: &[u8]) -> Option<Seat>
     None
 }
 
-/// Returns the seats that owe a sheet for a round and are not among these. Fails only if allocation
-/// fails.
+/// Returns the other seats that owe a sheet for a round. Fails only if allocation fails.
 fn owing_too(
     alloc: Global,
     sheets: &Sheets,

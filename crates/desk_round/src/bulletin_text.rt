@@ -1,5 +1,5 @@
-//! The turns of a round for its players: whose turn it was, what each had before and after, and what
-//! each line brought.
+//! The turns of a round for its players: whose turn it was, what each had before and after, and
+//! what each line led to.
 ghost use Rattle.std.specs.Prelude.{◌≡◌, IfErr, OnOk, true};
 ghost use Rattle.desk_round.specs.Played.{HasNoTurns, was_played};
 
@@ -20,10 +20,10 @@ use sheets::Sheets;
 use std::alloc::{AllocError, Global};
 use tables::{Amount, Company, Money, Round, Seat};
 
-/// The column of what a line brought.
+/// The column of what a line led to.
 pub(crate) const BROUGHT: usize = 6;
 
-/// The column behind the name of whose turn it was.
+/// The column after the name of whose turn it was.
 const NAMED: usize = 17;
 
 /// A round of a game.
@@ -37,22 +37,22 @@ struct Telling<'a> {
     lines: &'a [SheetLine<'a>],
 }
 
-/// How far a round is told.
+/// How much of a round has been written.
 #[derive(Drop)]
 struct Course<'a> {
-    /// The game before the turn in hand.
+    /// The game before the current turn.
     before: Walk<'a>,
-    /// The game at the event in hand.
+    /// The game at the current event.
     now: Walk<'a>,
-    /// Which companies have had a turn, and under whom.
+    /// The companies that have had a turn, with their presidents then.
     presided: Vec<Presided>,
-    /// The names of those who have passed in a row, separated by commas.
+    /// The names of those who have just passed one after another, separated by commas.
     passed: Vec<u8>,
 }
 
-/// Returns the turns of a round of the game of some sheets as their players read them, in lines of at
-/// most 80 columns. What happened after the round, if the game has gone on, changes nothing. Fails
-/// with `Round` if the round was not played, and with `Memory` if allocation fails.
+/// Returns the turns of a round of the game of some sheets as their players read them, in lines of
+/// at most 80 columns. Later rounds do not change the text. Fails with `Round` if the round was not
+/// played, and with `Memory` if allocation fails.
 pub fn turns(
     alloc: Global,
     sheets: &Sheets,
@@ -85,8 +85,7 @@ fn told(telling: Telling) -> Result<Vec<u8>, AllocError> {
 }
 
 impl Telling<'_> {
-    /// Adds the groups of a round's events. Turns that are nothing but passes are on one line as
-    /// long as they follow each other.
+    /// Adds the groups of a round's events. Consecutive turns that are only passes share a line.
     fn push_groups(&self, out: &mut Vec<u8>) -> Result<(), AllocError> {
         let events = self.history.events();
         let groups = groups_of(self.alloc, self.lines, events, self.round)?;
@@ -107,14 +106,14 @@ impl Telling<'_> {
         push_passes(out, &mut course.passed)
     }
 
-    /// Adds a player to those who have passed in a row.
+    /// Adds a player to those who have just passed.
     fn push_pass(&self, passed: &mut Vec<u8>, seat: Seat) -> Result<(), AllocError> {
         let comma = if passed.is_empty() { "" } else { ", " };
         push(passed, &[Words(comma), Bytes(name(self.sheets, seat))])
     }
 
     /// Adds a group: whose turn it is, with what that party had before and after, its events, and
-    /// whose cash changed beside.
+    /// whose other cash changed.
     fn push_group(
         &self,
         out: &mut Vec<u8>,
@@ -153,7 +152,7 @@ impl Telling<'_> {
         self.push_dividends(out, &mut dividends)
     }
 
-    /// Adds whose turn a group is of, on a new line.
+    /// Adds whose turn a group belongs to, on a new line.
     fn push_whose(
         &self,
         out: &mut Vec<u8>,
@@ -170,7 +169,7 @@ impl Telling<'_> {
         }
     }
 
-    /// Adds an event. Dividends are kept, to be on one line.
+    /// Adds an event. Dividends are kept, so that they share a line.
     fn push_event(
         &self,
         out: &mut Vec<u8>,
@@ -227,7 +226,7 @@ impl Telling<'_> {
         left.push_lines(out, count)
     }
 
-    /// Adds what a holder is paid to the dividends that are on one line.
+    /// Adds a holder's dividend to those that share a line.
     fn push_dividend(
         &self,
         dividends: &mut Vec<u8>,
@@ -257,7 +256,7 @@ impl Telling<'_> {
         push_wrapped_lines(out, BROUGHT, text.as_slice())
     }
 
-    /// Adds the dividends that are kept, on one line, and keeps none.
+    /// Adds the kept dividends on one line, and clears them.
     fn push_dividends(&self, out: &mut Vec<u8>, kept: &mut Vec<u8>) -> Result<(), AllocError> {
         if kept.is_empty() {
             return Ok(());
@@ -298,8 +297,8 @@ impl Telling<'_> {
         push_wrapped(out, BROUGHT + 4, why.as_slice())
     }
 
-    /// Adds a line of a sheet: its order as the report prints it, or the columns of a line with a
-    /// fault that are shown.
+    /// Adds a line of a sheet: its order as the report prints it, or the part of a line with a
+    /// fault that is shown.
     fn push_line(
         &self,
         out: &mut Vec<u8>,
@@ -325,7 +324,7 @@ impl Telling<'_> {
     }
 }
 
-/// Adds who have passed in a row, on one line, and keeps none.
+/// Adds on one line those who have just passed, and clears their list.
 fn push_passes(out: &mut Vec<u8>, passed: &mut Vec<u8>) -> Result<(), AllocError> {
     if passed.is_empty() {
         return Ok(());

@@ -1,4 +1,4 @@
-//! Which cause of a rule it was that refused a line, of a rule with several.
+//! Which of a rule's several causes it was for which a line was refused.
 ghost use Rattle.std.specs.Prelude.{◌≡◌};
 ghost use Rattle.desk_round.specs.Cause.{cause_above, cause_in_orders, cause_in_turn, cause_of};
 ghost use Rattle.desk_round.specs.Cause.{cause_of_lay, cause_of_pay, cause_of_price, cause_of_purchase, cause_of_raise};
@@ -19,7 +19,7 @@ use order_grammar::{Offer, Order, TrainSource};
 use purchases::{has_train, has_trains, may_be_traded};
 use tables::{Amount, Company, Kind, Round, Seat};
 
-/// Returns why a line of a round has no place where it stands.
+/// Returns why a line of a round is out of place.
 pub(crate) fn cause_out_of_place(round: Round, place: LinePlace) -> Cause
     ensures { result ≡ cause_out_of_place round place }
 {
@@ -41,8 +41,8 @@ fn cause_above(round: Round) -> Cause
     }
 }
 
-/// Returns the cause for which a rule refused an order of a seat that stands at this place, by the
-/// game before it; `None` if the rule has one cause alone, or what is told beside it says which.
+/// Returns the cause for which a rule refused an order of a seat at this place, given the game
+/// before it; `None` if the rule has only one cause, or the other details show which it is.
 pub(crate) fn cause_of(
     view: &GameView,
     seat: Seat,
@@ -60,8 +60,8 @@ pub(crate) fn cause_of(
     }
 }
 
-/// Returns the cause for which a rule refused an order, of a rule whose cause depends on where the
-/// order stands.
+/// Returns the cause for which a rule refused an order, for a rule whose cause depends on where the
+/// order is.
 fn cause_there(view: &GameView, place: LinePlace, order: &Order, rule: Refusal) -> Option<Cause>
     ensures { result ≡ cause_there view.now.events.now place order.now rule }
 {
@@ -99,7 +99,7 @@ fn cause_in_orders(view: &GameView, company: Company, order: &Order, rule: Refus
     }
 }
 
-/// Returns why a company lays no tile that has done this last in its turn.
+/// Returns why a company may not lay a tile, given the last step of its turn.
 fn cause_of_lay(done: Option<Done>) -> Cause
     ensures { result ≡ cause_of_lay done }
 {
@@ -111,7 +111,7 @@ fn cause_of_lay(done: Option<Done>) -> Cause
     }
 }
 
-/// Returns why a company neither pays nor withholds that has done this last in its turn.
+/// Returns why a company may neither pay nor withhold, given the last step of its turn.
 fn cause_of_pay(done: Option<Done>) -> Cause
     ensures { result ≡ cause_of_pay done }
 {
@@ -121,7 +121,8 @@ fn cause_of_pay(done: Option<Done>) -> Cause
     }
 }
 
-/// Returns why no train of a company is left to run, by an order for one of a kind or for the best.
+/// Returns why a company has no train left to run, for an order to run one of a kind or to run the
+/// best.
 fn cause_of_run(view: &GameView, company: Company, order: &Order) -> Cause
     ensures { result ≡ cause_of_run view.now.events.now company order.now }
 {
@@ -131,7 +132,7 @@ fn cause_of_run(view: &GameView, company: Company, order: &Order) -> Cause
     }
 }
 
-/// Returns why no train of a kind is left to a company to run.
+/// Returns why a company has no train of a kind left to run.
 fn cause_of_kind(view: &GameView, company: Company, kind: Kind) -> Cause
     ensures { result ≡ cause_of_kind view.now.events.now company kind }
 {
@@ -153,7 +154,7 @@ fn cause_of_best(view: &GameView, company: Company) -> Cause
     }
 }
 
-/// Returns why no money is to be raised for a train of a company.
+/// Returns why no money may be raised for a company's train.
 fn cause_of_raise(view: &GameView, company: Company) -> Cause
     ensures { result ≡ cause_of_raise view.now.events.now company }
 {
@@ -164,7 +165,8 @@ fn cause_of_raise(view: &GameView, company: Company) -> Cause
     }
 }
 
-/// Returns why no money is to be raised for a company without a train that has done this last.
+/// Returns why no money may be raised for a company without a train, given the last step of its
+/// turn.
 fn cause_of_purchase(done: Option<Done>) -> Cause
     ensures { result ≡ cause_of_purchase done }
 {
@@ -199,7 +201,7 @@ fn cause_of_price(price: Amount) -> Option<Cause>
     }
 }
 
-/// Returns why a company sells no train that it has: it is the buyer. `None` if it has none.
+/// Returns why a company may not sell a train that it has: it is the buyer. `None` if it has none.
 fn cause_of_seller(view: &GameView, order: &Order) -> Option<Cause>
     ensures { result ≡ cause_of_seller view.now.events.now order.now }
 {
@@ -209,7 +211,7 @@ fn cause_of_seller(view: &GameView, order: &Order) -> Option<Cause>
     }
 }
 
-/// Returns the same for a train of a kind, by where it is bought.
+/// Returns the same for a train of a kind, given where it is bought.
 fn cause_of_source(view: &GameView, kind: Kind, from: TrainSource) -> Option<Cause>
     ensures { result ≡ cause_of_source view.now.events.now kind from }
 {
@@ -219,7 +221,7 @@ fn cause_of_source(view: &GameView, kind: Kind, from: TrainSource) -> Option<Cau
     }
 }
 
-/// Returns why a company that has such a train, or has not, sells none; `None` if it has none.
+/// Returns why a company may not sell a train, given whether it has one; `None` if it has none.
 fn cause_of_owner(has_train: bool) -> Option<Cause>
     ensures { result ≡ cause_of_owner has_train }
 {
@@ -254,7 +256,7 @@ fn cause_of_trade(kind: Kind, trade_in: Kind) -> Cause
     }
 }
 
-/// Returns why a president must stay who orders a sale; `None` for other orders.
+/// Returns why a president who orders a sale must stay; `None` for other orders.
 fn cause_of_stay(view: &GameView, seat: Seat, order: &Order) -> Option<Cause>
     ensures { result
         ≡ cause_of_stay view.now.seats view.now.events.now seat order.now }
@@ -266,7 +268,7 @@ fn cause_of_stay(view: &GameView, seat: Seat, order: &Order) -> Option<Cause>
     }
 }
 
-/// Returns why a president must stay who would sell so many shares of a company.
+/// Returns why a president who would sell this many shares of a company must stay.
 fn cause_of_shares(view: &GameView, seat: Seat, company: Company, shares: Amount) -> Cause
     ensures { result
         ≡ cause_of_shares view.now.seats view.now.events.now seat company shares }
@@ -274,7 +276,7 @@ fn cause_of_shares(view: &GameView, seat: Seat, company: Company, shares: Amount
     cause_of_sale(view, seat, Sale { company, shares })
 }
 
-/// Returns why a president must stay who would sell so.
+/// Returns why a president who would make this sale must stay.
 fn cause_of_sale(view: &GameView, seat: Seat, sale: Sale) -> Cause
     ensures { result
         ≡ cause_of_sale view.now.seats view.now.events.now seat sale }

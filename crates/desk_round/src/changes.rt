@@ -1,4 +1,4 @@
-//! Whose cash changed in a turn, in it and beside it.
+//! Whose cash changed in a turn: that of its own party, and that of others.
 ghost use Rattle.std.specs.Prelude.{◌≡◌};
 ghost use Rattle.desk_round.specs.Change.{change_of};
 ghost use Rattle.totals.specs.Bids.{free_cash_of};
@@ -14,10 +14,10 @@ use sheets::Sheets;
 use std::alloc::{AllocError, Global};
 use tables::{Company, Money, Seat, Square, price};
 
-/// The column behind the name of whose turn it was.
+/// The column after the name of whose turn it was.
 const CASH: usize = 17;
 
-/// The column behind the cash of a turn.
+/// The column after the cash of a turn.
 const BESIDE: usize = 40;
 
 /// A sum before a turn and after it, in dollars.
@@ -35,8 +35,8 @@ fn cash_change(before: &GameView, after: &GameView, party: Party) -> Option<Chan
     change_of(before.cash(party), after.cash(party))
 }
 
-/// Returns how the cash of a seat that no bid ties changed between two states of a game; `None` if
-/// it did not.
+/// Returns how the free cash of a seat, which is not tied up in bids, changed between two states of
+/// a game; `None` if it did not.
 fn free_change(before: &GameView, after: &GameView, seat: Seat) -> Option<Change>
     ensures { result ≡ change_of (free_cash_of before.now.seats before.now.events.now seat)
         (free_cash_of after.now.seats after.now.events.now seat) }
@@ -55,18 +55,18 @@ fn change_of(before: Money, after: Money) -> Option<Change>
     }
 }
 
-/// Returns whether bids tie cash of a seat in one of two states of a game.
+/// Returns whether bids tie up cash of a seat in either of two states of a game.
 fn has_bids(before: &GameView, after: &GameView, seat: Seat) -> bool {
     ties_cash(before, seat) || ties_cash(after, seat)
 }
 
-/// Returns whether bids tie cash of a seat.
+/// Returns whether bids tie up cash of a seat.
 fn ties_cash(view: &GameView, seat: Seat) -> bool {
     view.free_cash(seat) != view.cash(Party::of_seat(seat))
 }
 
-/// Adds what a turn's own party had before and after it: its cash, of a player with bids the cash
-/// that they do not tie, and of a company its price. Nothing for nobody's turn.
+/// Adds what a turn's own party had before and after it: its cash, for a player with bids the free
+/// cash, and for a company its price. Adds nothing for events outside turns.
 pub(crate) fn push_change(
     out: &mut Vec<u8>,
     whose: Whose,
@@ -113,8 +113,8 @@ fn push_square(out: &mut Vec<u8>, square: Option<Square>) -> Result<(), AllocErr
     fill(out, "% %", &[price, Piece::Square(square)])
 }
 
-/// Adds whose cash changed in a turn that was not their own: on one line all players and companies
-/// whose cash did, and on one all players with bids whose free cash did.
+/// Adds whose cash changed in a turn that was not their own: one line has all players and companies
+/// whose cash changed, and one all players with bids whose free cash changed.
 pub(crate) fn push_changes(
     alloc: Global,
     out: &mut Vec<u8>,
@@ -149,7 +149,7 @@ pub(crate) fn push_changes(
     push_listed(out, "FREE ", free.as_slice())
 }
 
-/// Adds a party and how a sum of theirs changed to a list, if it did.
+/// Adds a party to a list, with how a sum of theirs changed, if it did.
 fn push_if_changed(
     list: &mut Vec<u8>,
     party: Piece,
@@ -167,7 +167,7 @@ fn push_if_changed(
     )
 }
 
-/// Adds a list behind this word, in lines of at most 80 columns; nothing if it is empty.
+/// Adds a list after this word, in lines of at most 80 columns; nothing if it is empty.
 fn push_listed(out: &mut Vec<u8>, word: &str, list: &[u8]) -> Result<(), AllocError> {
     if list.is_empty() {
         return Ok(());

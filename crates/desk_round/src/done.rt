@@ -1,4 +1,4 @@
-//! How far a company's turn had come, by the events before a line.
+//! The last step of a company's turn, by the events before a line.
 ghost use Rattle.std.specs.Prelude.{◌≡◌};
 ghost use Rattle.desk_round.specs.Done.{done_then, last_done};
 
@@ -8,17 +8,17 @@ use tables::Company;
 /// A step of its turn that a company has done, other than a lay.
 #[derive(Clone, Copy)]
 pub(crate) enum Done {
-    /// It has placed a token that is not its home's.
+    /// It has placed a token other than its home token.
     Token,
-    /// A train of it has run.
+    /// One of its trains has run.
     Run,
     /// It has paid or withheld what it earned.
     Pay,
-    /// It is at the purchase that it must make, after its orders.
+    /// Its orders are over, and it is at the purchase that it must make.
     Purchase,
 }
 
-/// Returns the last step that a company has done in the round in hand; `None` if it has done none.
+/// Returns the last step that a company has done in the current round; `None` if it has done none.
 pub(crate) fn last_done(events: &[Event], company: Company) -> Option<Done>
     ensures { result ≡ last_done events.now company }
 {

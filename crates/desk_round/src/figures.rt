@@ -29,7 +29,7 @@ use tables::{
 pub(crate) enum Figures {
     /// The owner of the private.
     Owner(Holder),
-    /// The cheapest private that is not sold.
+    /// The cheapest unsold private.
     Cheapest(Private),
     /// The face value of the private, and the highest bid on it, in dollars.
     Bids(Amount, Amount),
@@ -39,11 +39,11 @@ pub(crate) enum Figures {
     Held(ShareCount),
     /// The shares of the company in the initial offering, and in the bank pool.
     Offered(ShareCount, ShareCount),
-    /// Whether the company is started.
+    /// Whether the company has started.
     Started(Company, bool),
-    /// What the order costs, and the cash of the player that no bid ties, in dollars.
+    /// What the order costs, and the player's free cash, in dollars.
     Cost(Money, Money),
-    /// The certificates of the player that count, and how many may.
+    /// The player's certificates that count, and the limit.
     Certificates(ShareCount, usize),
     /// The phase.
     Phase(Kind),
@@ -59,8 +59,8 @@ pub(crate) enum Figures {
     Price(Company, Amount),
 }
 
-/// Returns the figures that a rule compares, for an order of a seat with its condition, by the game
-/// before it; `None` if the rule compares none. The seat is one of six.
+/// Returns the figures that a rule compares, for an order of a seat with its condition, given the
+/// game before it; `None` if the rule compares none. The seat is one of six.
 pub(crate) fn figures_of(
     view: &GameView,
     seat: Seat,
@@ -178,7 +178,8 @@ fn counted(view: &GameView, seat: Seat) -> ShareCount
     Holdings::at(view).counted(seat)
 }
 
-/// Returns what an order costs that starts a company or buys a share, in dollars; 0 for others.
+/// Returns what an order that starts a company or buys a share costs, in dollars; 0 for other
+/// orders.
 fn cost_of_order(view: &GameView, order: &Order) -> Money
     ensures { result ≡ cost_of_order view.now.events.now order.now }
 {
@@ -251,8 +252,7 @@ fn condition_figures(view: &GameView, condition: Condition) -> Option<Figures>
     }
 }
 
-/// Returns what an order of a company's turn costs, in dollars; `None` if it is none that costs
-/// money.
+/// Returns what an order of a company's turn costs, in dollars; `None` if the order costs no money.
 pub(crate) fn cost_in_turn(view: &GameView, company: Company, order: &Order) -> Option<Amount>
     ensures { result ≡ cost_in_turn view.now.events.now company order.now }
 {
@@ -265,7 +265,7 @@ pub(crate) fn cost_in_turn(view: &GameView, company: Company, order: &Order) -> 
     }
 }
 
-/// Returns what a train costs where a company buys it, in dollars.
+/// Returns what a company pays for a train at its source, in dollars.
 fn cost_of_train(kind: Kind, from: TrainSource) -> Amount
     ensures { result ≡ cost_of (purchase_of kind from) }
 {
@@ -277,7 +277,7 @@ fn cost_of_train(kind: Kind, from: TrainSource) -> Amount
     }
 }
 
-/// Words with at most three pieces in their places; the pieces behind these are empty.
+/// Words with up to three pieces to fill in; unused pieces are empty.
 type Phrase<'a> = (&'static str, [Piece<'a>; 3]);
 
 /// No piece.

@@ -14,7 +14,7 @@ pub(crate) enum Whose {
     Company(Company),
     /// A player's.
     Seat(Seat),
-    /// No turn: what comes before the turns of a round and after them.
+    /// No turn: events before or after the turns of a round.
     Nobody,
 }
 
@@ -23,15 +23,14 @@ pub(crate) enum Whose {
 pub(crate) struct Group {
     /// Whose turn they belong to.
     pub(crate) whose: Whose,
-    /// How many events are before them.
+    /// The number of events before them.
     pub(crate) from: usize,
-    /// How many events there are with them.
+    /// The number of events up to the last of them.
     pub(crate) to: usize,
 }
 
 impl Group {
-    /// Returns the seat whose turn it is, if the turn is nothing but a pass, among the events of
-    /// the game.
+    /// Returns the seat whose turn it is, if the turn is only a pass, given the events of the game.
     pub(crate) fn pass(&self, events: &[Event]) -> Option<Seat>
         ensures { result ≡ pass_of self.now events.now }
     {
@@ -100,7 +99,7 @@ fn push_any(groups: &mut Vec<Group>, group: Option<Group>) -> Result<(), AllocEr
     Ok(())
 }
 
-/// Returns the company among whose orders a line is, if it is among some.
+/// Returns the company whose orders a line is among, if any.
 fn company_of(lines: &[SheetLine], seat: Seat, line: u32) -> Option<Company> {
     find_line(lines, seat, line)?.place.company()
 }

@@ -20,7 +20,7 @@ pub(crate) struct Presided {
     pub(crate) president: Option<Seat>,
 }
 
-/// The lines of a seat's sheet for a round, of which some were not taken up.
+/// A seat's sheet for a round in which some lines were not taken up.
 #[derive(Clone, Copy)]
 pub(crate) struct Left<'a> {
     pub(crate) alloc: Global,
@@ -60,8 +60,8 @@ pub(crate) fn ruled_in(
 }
 
 impl Left<'_> {
-    /// Adds the lines that were not taken up, of which there are this many, and below those of each
-    /// turn or of the orders for a company why not. Lines that are not kept are counted.
+    /// Adds the lines that were not taken up, this many, and below those of each turn or company's
+    /// orders the reason. Lines that are not kept are only counted.
     pub(crate) fn push_lines(&self, out: &mut Vec<u8>, count: u32) -> Result<(), AllocError> {
         let mut turn: usize = 0;
         let mut told: u32 = 0;
@@ -89,7 +89,7 @@ impl Left<'_> {
     }
 
     /// Adds why the lines at a place were not taken up, if there are some. In an opening or a stock
-    /// round they are in this turn of the sheet.
+    /// round `turn` is the turn of the sheet that they are in.
     fn push_cause(
         &self,
         out: &mut Vec<u8>,

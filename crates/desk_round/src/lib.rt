@@ -2,13 +2,13 @@
 //! ran, and its turns as their players read them. The calls that write a text of a round take the
 //! allocator and the bytes of an order file, and return text. No call reads or writes a stream.
 //!
-//! Reading order: `played`, `refused` (which lines were), `round_part` (`round`), `round_texts`
-//! (the game of a file), `sheet_line` (the lines of the sheets), `why` (the rule that a line
-//! broke), `figures` (the figures that it compared), `done` (how far a company's turn had come),
-//! `cause` (which cause of several it was), `refusal_detail` (what is added after the rule),
-//! `track` and `ways` (where track breaks or leads), `train_runs` (`runs`), `groups` (whose turn an
-//! event belongs to), `changes` (whose cash changed), `left_lines` (lines that were not taken up),
-//! `bulletin_text` (`turns`).
+//! Reading order: `played`, `refused` (which lines were refused), `round_part` (`round`),
+//! `round_texts` (the game of a file), `sheet_line` (the lines of the sheets), `why` (the rule that
+//! a line broke), `figures` (the figures that it compared), `done` (the last step of a company's
+//! turn), `cause` (which of several causes it was), `refusal_detail` (what is added after the
+//! rule), `track` and `ways` (where track breaks or leads), `train_runs` (`runs`), `groups` (whose
+//! turn an event belongs to), `changes` (whose cash changed), `left_lines` (lines that were not
+//! taken up), `bulletin_text` (`turns`).
 #![tactic(auto)]
 
 mod bulletin_text;

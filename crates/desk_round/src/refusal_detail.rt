@@ -27,7 +27,7 @@ use tables::{Company, Money, Private, Round, Seat};
 pub struct Ruled<'a> {
     /// The sheets of the game.
     pub sheets: &'a Sheets<'a>,
-    /// The lines of those for the round.
+    /// The lines of the sheets for the round.
     pub lines: &'a [SheetLine<'a>],
     /// The game before it.
     pub view: &'a GameView<'a>,
@@ -35,12 +35,12 @@ pub struct Ruled<'a> {
     pub round: Round,
     /// Whose line it is.
     pub seat: Seat,
-    /// Where it stands in its sheet, if that is known.
+    /// Where it is in its sheet, if that is known.
     pub place: Option<LinePlace>,
 }
 
 impl Ruled<'_> {
-    /// Returns the company among whose orders the line is, if it is known to be among some.
+    /// Returns the company whose orders the line is among, if that is known.
     fn company(&self) -> Option<Company> {
         self.place?.company()
     }
@@ -73,7 +73,8 @@ pub(crate) fn push_refusal_detail<'a>(
     push_by_order(alloc, out, ruled, *rule, order)
 }
 
-/// Adds what shows that an order breaks a rule: the text of the order, or what it is ruled by.
+/// Adds what shows that an order breaks a rule: the order itself, or the state by which it was
+/// ruled.
 fn push_by_order(
     alloc: Global,
     out: &mut Vec<u8>,
@@ -101,7 +102,7 @@ fn push_by_order(
     }
 }
 
-/// Adds which cause of several it was that a line at this place was refused for.
+/// Adds for which of several causes a line at this place was refused.
 fn push_cause(out: &mut Vec<u8>, place: LinePlace, cause: Cause) -> Result<(), AllocError> {
     match place.company() {
         Some(company) => fill(out, cause.words(), &[Words(company.code())]),
@@ -109,8 +110,7 @@ fn push_cause(out: &mut Vec<u8>, place: LinePlace, cause: Cause) -> Result<(), A
     }
 }
 
-/// Adds which lines have a place where a line of a round stands that has none; nothing for other
-/// faults.
+/// Adds which lines are allowed where a misplaced line of a round is; nothing for other faults.
 pub(crate) fn push_of_place(
     out: &mut Vec<u8>,
     round: Round,
@@ -123,7 +123,7 @@ pub(crate) fn push_of_place(
     }
 }
 
-/// Adds to which side the track of a tile leads where it may not, and what lies there.
+/// Adds the bad side that the track of a tile leads to, and what lies there.
 fn push_bad_side(out: &mut Vec<u8>, lay: Lay) -> Result<(), AllocError> {
     let Some(side) = bad_side(lay) else {
         return Ok(());
@@ -133,7 +133,7 @@ fn push_bad_side(out: &mut Vec<u8>, lay: Lay) -> Result<(), AllocError> {
     fill(out, ")", &[])
 }
 
-/// Adds why a PAR of an opening is none: it is not BO's, or names no par value.
+/// Adds why a PAR of an opening is wrong: it is not BO's, or names no par value.
 fn push_of_par(
     out: &mut Vec<u8>,
     ruled: Ruled,
@@ -146,7 +146,8 @@ fn push_of_par(
     }
 }
 
-/// Adds why MH cannot be exchanged: who owns it, or what the seat and the bank have of NYC.
+/// Adds why MH cannot be exchanged: who owns it, or how many shares of NYC the seat and the bank
+/// have.
 fn push_of_exchange(out: &mut Vec<u8>, ruled: Ruled) -> Result<(), AllocError> {
     let owner = ruled.view.owner(Private::MohawkHudson);
     if owner != Some(Holder::Seat(ruled.seat)) {
@@ -163,7 +164,7 @@ fn push_of_exchange(out: &mut Vec<u8>, ruled: Ruled) -> Result<(), AllocError> {
     fill(out, " (% has % of NYC, % are in IPO, % in POOL)", &pieces)
 }
 
-/// Adds why an order breaks a rule, where the map and the tables alone show it.
+/// Adds why an order breaks a rule, if the map and the tables alone show it.
 fn push_by_tables(
     alloc: Global,
     out: &mut Vec<u8>,
@@ -177,8 +178,8 @@ fn push_by_tables(
     }
 }
 
-/// Adds why an order breaks a rule, where what lies on the map or what somebody has shows it, or
-/// what is left of the rule.
+/// Adds why an order breaks a rule, if the tiles and tokens or somebody's belongings show it, or
+/// else the remaining figures of the rule.
 fn push_by_view(
     alloc: Global,
     out: &mut Vec<u8>,
@@ -221,7 +222,7 @@ fn push_by_view(
     }
 }
 
-/// Adds between which hexes of a run no track leads.
+/// Adds the hexes of a run between which no track leads.
 fn push_break(
     alloc: Global,
     out: &mut Vec<u8>,
@@ -270,8 +271,8 @@ fn colour_of(view: &GameView, hex: Hex) -> &'static str {
     }
 }
 
-/// Adds what an order costs, and the cash of the company among whose orders it is; the cash of each
-/// company that the player presides over, if that is not known.
+/// Adds what an order costs, and the cash of the company whose orders it is among; if that is not
+/// known, the cash of each company that the player presides over.
 fn push_cash(out: &mut Vec<u8>, ruled: Ruled, order: &Order) -> Result<(), AllocError> {
     let Some(company) = ruled.company() else {
         return push_cash_of_all(out, ruled);

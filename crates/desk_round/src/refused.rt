@@ -8,8 +8,8 @@ use history::{Event, Verdict};
 use std::alloc::{AllocError, Global};
 use tables::Round;
 
-/// Returns the places in the list of events of all rulings of a round by which a line was refused,
-/// or has a fault, in their order. Fails only if allocation fails.
+/// Returns the places in the list of events of all rulings of a round that refuse a line or find a
+/// fault in it, in order. Fails only if allocation fails.
 pub fn refused_in(alloc: Global, events: &[Event], round: Round) -> Result<Vec<usize>, AllocError>
     ensures { IfOk result (λ places. places.items ≡ refused_in round events.now) }
 {
@@ -24,7 +24,7 @@ pub fn refused_in(alloc: Global, events: &[Event], round: Round) -> Result<Vec<u
     Ok(places)
 }
 
-/// Returns whether a round is in hand after an event.
+/// Returns whether a round is the current one after an event.
 fn within_then(within: bool, event: &Event, round: Round) -> bool
     ensures { result ≡ within_then round within event.now }
 {
@@ -34,7 +34,7 @@ fn within_then(within: bool, event: &Event, round: Round) -> bool
     }
 }
 
-/// Returns whether an event is a ruling by which a line was refused, or has a fault.
+/// Returns whether an event is a ruling that refuses a line or finds a fault in it.
 fn is_refused(event: &Event) -> bool
     ensures { result ≡ is_refused event.now }
 {

@@ -1,4 +1,4 @@
-//! A round's part of the report, and the same with the rules that refused lines broke.
+//! A round's part of the report, with or without the rules that refused lines broke.
 ghost use Rattle.std.specs.Prelude.{◌≡◌, IfErr, IfOk, OnOk, true};
 ghost use Rattle.desk_round.specs.RoundPart.{HasNoText, IsRoundFault, IsRoundPart, is_played};
 ghost use Rattle.desk_round.specs.RoundPart.{round_asked, text_of_round};
@@ -18,9 +18,9 @@ use sheets::{Sheets, collect, first_line};
 use std::alloc::{AllocError, Global};
 use tables::Round;
 
-/// Returns the part of a file's report about a round; about the last that was played if none is
-/// named. Fails with `File` if the file is refused, with `Round` if that round is not played, or
-/// none is, and with `Memory` if allocation fails.
+/// Returns the part of a file's report about a round: the named one, or else the last one played.
+/// Fails with `File` if the file is refused, with `Round` if that round was not played, or no round
+/// was, and with `Memory` if allocation fails.
 #[tactic(auto, using(desk_base::proofs::Refusals::none_where_it_fails, crate::proofs::RoundParts::no_part_where_it_fails))]
 pub fn round(alloc: Global, file: &[u8], asked: Option<Round>) -> Result<Vec<u8>, DeskFault>
     ensures part { IfOk result (λ text. IsRoundPart file.now asked text.items) }
@@ -30,7 +30,7 @@ pub fn round(alloc: Global, file: &[u8], asked: Option<Round>) -> Result<Vec<u8>
     part_in(alloc, &sheets, asked)
 }
 
-/// Returns that part of the report of some sheets.
+/// Returns that part of the report for some sheets.
 #[tactic(auto, using(crate::proofs::RoundParts::part_of_file, crate::proofs::RoundParts::no_part_of_file))]
 fn part_in(alloc: Global, sheets: &Sheets, asked: Option<Round>) -> Result<Vec<u8>, DeskFault>
     ensures part { IfOk result (λ text. IsRoundPart sheets.now asked text.items) }
@@ -50,7 +50,7 @@ pub fn round_with_rules(
     tell(alloc, file, asked, Told::Rules)
 }
 
-/// Returns that part of the report of a game, with these rules.
+/// Returns that part of a game's report, with the broken rules.
 pub(crate) fn rules_of(
     alloc: Global,
     game: &Game,
@@ -84,7 +84,7 @@ pub(crate) fn text_of(
     Ok(round_text(alloc, game, round)?)
 }
 
-/// Returns the named round; the last that was played if none is named; `None` before the first.
+/// Returns the named round, or if none is named the last one played; `None` before the first.
 pub(crate) fn round_asked(game: &Game, asked: Option<Round>) -> Option<Round>
     ensures { result ≡ round_asked game.now asked }
 {
@@ -117,7 +117,7 @@ fn push_with_rules(
     push(out, &[Bytes(rest)])
 }
 
-/// Adds the rule that is broken by the event at a place, of a round with these lines.
+/// Adds the rule that the line ruled by the event at a place broke, in a round with these lines.
 fn push_why_at(
     alloc: Global,
     out: &mut Vec<u8>,
@@ -150,7 +150,7 @@ fn place_of(events: &[Event], round: Round) -> usize {
         .unwrap_or(0)
 }
 
-/// Adds this many lines of a text, or all if there are fewer. Returns the text behind them.
+/// Adds this many lines of a text, or all if there are fewer. Returns the rest of the text.
 fn push_lines<'a>(out: &mut Vec<u8>, text: &'a [u8], count: usize) -> Result<&'a [u8], AllocError> {
     let mut rest = text;
     for _ in 0..count {

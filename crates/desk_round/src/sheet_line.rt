@@ -1,4 +1,4 @@
-//! The lines of the sheets for a round, by their numbers: their text, and where each stands.
+//! The lines of the sheets for a round, by number: the text of each, and where it is.
 ghost use Rattle.std.specs.Prelude.{◌≡◌, ◌==◌, IfSome};
 ghost use Rattle.desk_round.specs.Why.{IsLineOf, company_at};
 
@@ -7,8 +7,8 @@ use sheets::{Sheets, UnreadLine};
 use std::alloc::{AllocError, Global};
 use tables::{Company, Round, Seat};
 
-/// How many lines of a sheet are kept. Those past the 512th all have the same fault, and few sheets
-/// have more.
+/// How many lines of a sheet are kept. All lines past the 512th have the same fault, and few sheets
+/// have any.
 pub(crate) const LINES_KEPT: u32 = 1_024;
 
 /// A line of a sheet.
@@ -20,7 +20,7 @@ pub struct SheetLine<'a> {
     number: u32,
     /// Its bytes.
     pub text: &'a [u8],
-    /// Where it stands in the sheet.
+    /// Where it is in the sheet.
     pub place: LinePlace,
     /// Whether it is a head: a TURN or COMPANY line that begins a part of the sheet.
     pub(crate) is_head: bool,
@@ -42,7 +42,7 @@ impl SheetLine<'_> {
     }
 }
 
-/// Where a line stands in a sheet.
+/// Where a line is in a sheet.
 #[derive(Clone, Copy)]
 pub enum LinePlace {
     /// Above the first head.
@@ -54,7 +54,7 @@ pub enum LinePlace {
 }
 
 impl LinePlace {
-    /// Returns the company among whose orders the line is; `None` if it is among none.
+    /// Returns the company whose orders the line is among; `None` if there is none.
     pub fn company(self) -> Option<Company>
         ensures { result ≡ company_at self }
     {
@@ -110,7 +110,7 @@ fn push_sheet<'a>(
     Ok(())
 }
 
-/// Returns where the lines behind a head stand: among the orders for its company, or in a turn.
+/// Returns where the lines after a head are: among the orders for its company, or in a turn.
 fn place_behind(head: UnreadLine) -> LinePlace {
     match head.read().order() {
         Ok(Order::Company(company)) => LinePlace::Orders(*company),
@@ -119,7 +119,7 @@ fn place_behind(head: UnreadLine) -> LinePlace {
 }
 
 /// Returns the line with this number in the sheet of a seat, among those of all sheets; `None` if
-/// there is none, or it is not kept.
+/// there is no such line, or it is not kept.
 pub fn find_line<'a>(lines: &[SheetLine<'a>], seat: Seat, number: u32) -> Option<SheetLine<'a>>
     ensures { IfSome result (IsLineOf seat number) }
 {

@@ -1,4 +1,4 @@
-//! Where the track of a run breaks, and over which borders a tile or a stop would be reached.
+//! Where the track of a run breaks, and over which borders a tile or a stop can be reached.
 ghost use Rattle.std.specs.Prelude.{◌≡◌, ◌∷◌, []};
 ghost use Rattle.desk_round.specs.Track.{hex_behind};
 
@@ -8,7 +8,7 @@ use map_tables::{Hex, Link, Place, Stop, TrackEnd, neighbour};
 use reach::Network;
 
 /// Returns the first two hexes between which a run breaks, because no track leads from the place in
-/// the first to the place in the second; `None` if it breaks nowhere.
+/// the first to the place in the second; `None` if it does not break.
 pub(crate) fn break_of(board: &Board, places: &[Place]) -> Option<(Hex, Hex)> {
     let first = places.first()?;
     let (mut hex, mut end) = (first.hex, TrackEnd::Stop(first.stop?));
@@ -22,8 +22,8 @@ pub(crate) fn break_of(board: &Board, places: &[Place]) -> Option<(Hex, Hex)> {
     None
 }
 
-/// Returns the end of track at which a train is in the hex of a place, if it comes from this end in
-/// another hex; `None` if no track leads it there.
+/// Returns the end of track that a train reaches in the hex of a place, coming from this end in
+/// another hex; `None` if no track leads there.
 fn end_at(board: &Board, hex: Hex, end: TrackEnd, place: Place) -> Option<TrackEnd> {
     let side = side_towards(hex, place.hex)?;
     if !is_linked(board, hex, end, TrackEnd::Side(side)) {
@@ -46,15 +46,15 @@ fn is_linked(board: &Board, hex: Hex, one: TrackEnd, other: TrackEnd) -> bool {
         || (link.a == other && link.b == one))
 }
 
-/// Returns the hexes from which track leads over a border to a link; `None` if no hex lies, or the
-/// link does not end there.
+/// Returns the hexes from which track can lead over a border to each end of a link; `None` if there
+/// is no hex, or that end is not at a border.
 pub(crate) fn hexes_behind(hex: Hex, link: &Link) -> [Option<Hex>; 2]
     ensures { result ≡ hex_behind hex link.now.a ∷ hex_behind hex link.now.b ∷ [] }
 {
     [hex_behind(hex, link.a), hex_behind(hex, link.b)]
 }
 
-/// Returns the hex behind an end of track in a hex.
+/// Returns the hex beyond an end of track in a hex.
 fn hex_behind(hex: Hex, end: TrackEnd) -> Option<Hex>
     ensures { result ≡ hex_behind hex end }
 {

@@ -14,9 +14,9 @@ use tables::{Amount, Company, Money, Round};
 
 /// Returns what each company ran in a round of the game of a file, as lines that a sheet could
 /// have, each with the values of its stops and their sum. For an obeyed RUN BEST it gives runs that
-/// earn the most. If nothing ran, a line says so. If no round is named, it is the last in which a
-/// company ran, or the last that was played if none ran. Fails with `Round` if the named round is
-/// not played, or none is.
+/// earn the most. If nothing ran, a line says so. If no round is named, it takes the last in which
+/// a company ran, or the last one played if none ran. Fails with `Round` if the named round was not
+/// played, or no round was.
 pub fn runs(alloc: Global, file: &[u8], asked: Option<Round>) -> Result<Vec<u8>, DeskFault> {
     tell(alloc, file, asked, Told::Runs)
 }
@@ -33,7 +33,7 @@ pub(crate) fn runs_of(
     Ok(out)
 }
 
-/// Returns the named round if it is played; if none is named, the last in which a company ran, or
+/// Returns the named round if it was played; if none is named, the last in which a company ran, or
 /// the last that was played if none ran. Fails with `Round` otherwise.
 fn round_with_runs(events: &[Event], asked: Option<Round>) -> Result<Round, DeskFault>
     ensures { result ≡ round_of_runs events.now asked }
@@ -48,7 +48,7 @@ fn round_with_runs(events: &[Event], asked: Option<Round>) -> Result<Round, Desk
     }
 }
 
-/// The rounds that have been seen on the way through the events of a game.
+/// The rounds seen so far on the way through the events of a game.
 #[derive(Clone, Copy)]
 struct Seen {
     /// The last that has begun.
@@ -124,8 +124,8 @@ fn push_runs(
     push(out, &[Words(end)])
 }
 
-/// Adds what a company earned by an obeyed order, and by which runs; nothing if the ruling is of no
-/// obeyed order.
+/// Adds what a company earned by an obeyed order, and by which runs; nothing if the ruling did not
+/// obey an order.
 fn push_earned(
     alloc: Global,
     out: &mut Vec<u8>,
@@ -146,8 +146,8 @@ fn push_earned(
     push_ran(alloc, out, view, company, ruling)
 }
 
-/// Adds the runs of a company by an obeyed order, a line each; nothing if the ruling is of no
-/// obeyed order.
+/// Adds the runs of a company by an obeyed order, a line each; nothing if the ruling did not obey
+/// an order.
 pub(crate) fn push_ran(
     alloc: Global,
     out: &mut Vec<u8>,

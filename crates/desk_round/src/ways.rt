@@ -1,4 +1,4 @@
-//! From where a tile or a stop would have to be reached, as text.
+//! From where a tile or a stop can be reached, as text.
 
 use crate::track::{hexes_behind, touches};
 use board::Board;
@@ -8,7 +8,7 @@ use map_tables::{Hex, Lay, Place, laid_links};
 use reach::Network;
 use std::alloc::AllocError;
 
-/// Adds from which hexes the track of a tile would be reached.
+/// Adds the hexes from which the track of a tile can be reached.
 pub(crate) fn push_ways_to_tile(out: &mut Vec<u8>, lay: Lay) -> Result<(), AllocError> {
     let mut before = BEFORE_FIRST;
     for link in laid_links(lay).as_slice() {
@@ -19,7 +19,7 @@ pub(crate) fn push_ways_to_tile(out: &mut Vec<u8>, lay: Lay) -> Result<(), Alloc
     end_ways(out, before)
 }
 
-/// Adds from which hexes a stop would be reached by the track that lies there.
+/// Adds the hexes from which a stop can be reached by the track there.
 pub(crate) fn push_ways_to_stop(
     out: &mut Vec<u8>,
     board: &Board,
@@ -39,12 +39,12 @@ pub(crate) fn push_ways_to_stop(
     end_ways(out, before)
 }
 
-/// What stands before the first hex, and before each other.
+/// The words before the first hex, and before each later one.
 const BEFORE_FIRST: &str = " (its track comes from %";
 
 const BEFORE_NEXT: &str = ", %";
 
-/// Adds a hex, if there is one, behind some words; what stands before the next.
+/// Adds a hex, if there is one, after some words. Returns the words before the next one.
 fn push_way(
     out: &mut Vec<u8>,
     before: &'static str,

@@ -1,5 +1,5 @@
 //! The events of a game, and the aspects of each: what it pays, which shares or trains it moves,
-//! what it says of privates and companies, and who acts.
+//! what it sets for privates and companies, and who acts.
 ghost use Rattle.std.specs.Prelude.{◌≡◌};
 ghost use Rattle.events.specs.Event.{actor_of, bidding_of, floated_by, office_of, operated_by, ownership_of, par_set};
 ghost use Rattle.events.specs.Event.{party_at, party_of_company, party_of_seller, payment_of, phase_set};
@@ -14,7 +14,7 @@ use map_tables::{Lay, Place};
 use order_grammar::ShareSource;
 use tables::{Amount, Company, Kind, Private, Round, Seat, Square, par_square};
 
-/// The greatest sum of money of an event.
+/// The greatest sum of money in an event, in dollars.
 pub const SUM_MOST: Amount = 1_000_000;
 
 /// Who can own a private.
@@ -29,7 +29,7 @@ pub enum Holder {
 /// Who can pay and be paid.
 #[derive(Clone, Copy, Debug, PartialEq, Eq)]
 pub enum Party {
-    /// The bank, whose cash may go under 0.
+    /// The bank, whose cash may be negative.
     Bank,
     /// A player or a company.
     Holder(Holder),
@@ -72,7 +72,7 @@ pub enum Event {
         line: u32,
         ruling: PackedRuling,
     },
-    /// A seat's turn ends without a purchase.
+    /// A seat's turn ends without an act.
     Passes(Seat),
     /// This many lines of a seat's sheet were not taken up in the round.
     Left {
@@ -167,7 +167,8 @@ pub enum Event {
         place: Place,
         cost: Amount,
     },
-    /// A company withholds what it earned: the bank pays it. Its turn is past its run.
+    /// A company withholds what it earned: the bank pays that to it. The company can no longer run
+    /// in this turn.
     Withheld {
         company: Company,
         amount: Amount,
@@ -177,8 +178,8 @@ pub enum Event {
         company: Company,
         revenue: Amount,
     },
-    /// The bank pays a holder of a company's shares its part of what the company earned. The
-    /// company itself is paid for those in the bank pool.
+    /// The bank pays a holder of a company's shares their part of what the company earned. The
+    /// company itself is paid for the shares in the bank pool.
     Dividend {
         company: Company,
         holder: Holder,
@@ -197,19 +198,19 @@ pub enum Event {
         from: TrainSeller,
         price: Amount,
     },
-    /// The phase that the first train of a kind begins.
+    /// The first train of a kind begins this phase.
     Phase(Kind),
     /// A train of a company, or of the bank pool if no company is named, leaves play.
     Rusted {
         owner: Option<Company>,
         kind: Kind,
     },
-    /// A company has too many trains, and one goes to the bank pool.
+    /// A company has too many trains, and one of them goes to the bank pool.
     Discarded {
         company: Company,
         kind: Kind,
     },
-    /// Nobody owns a private from then on.
+    /// A private closes: nobody owns it from then on.
     Closed(Private),
     /// A company pays a seat for a private, and owns it from then on.
     PrivateBought {
@@ -282,7 +283,7 @@ impl Payment {
     }
 }
 
-/// What an event says of a private.
+/// The owner of a private that an event sets.
 #[derive(Clone, Copy)]
 pub struct Ownership {
     /// The private.
@@ -311,7 +312,7 @@ impl Default for Bid {
     }
 }
 
-/// What an event says of the bids on a private.
+/// What an event does to the bids on a private.
 #[derive(Clone, Copy)]
 pub enum Bidding {
     /// A bid on a private, which replaces an older one of that seat.
@@ -320,7 +321,7 @@ pub enum Bidding {
     Ended(Private),
 }
 
-/// Where shares of a company lie.
+/// Where shares of a company are.
 #[derive(Clone, Copy, Debug, PartialEq, Eq)]
 pub enum Shareholder {
     /// With the bank, never bought yet.
@@ -332,7 +333,7 @@ pub enum Shareholder {
 }
 
 impl Shareholder {
-    /// Returns where a share lies that is bought from a source.
+    /// Returns where a share bought from this source is.
     pub fn of_source(source: ShareSource) -> Shareholder
         ensures { result ≡ place_of_source source }
     {
@@ -348,9 +349,9 @@ impl Shareholder {
 pub struct Transfer {
     /// The company.
     pub company: Company,
-    /// Where they lay.
+    /// Where they were.
     pub from: Shareholder,
-    /// Where they lie from then on.
+    /// Where they are from then on.
     pub to: Shareholder,
     /// How many shares of the company.
     pub shares: u8,
@@ -383,7 +384,7 @@ pub struct Office {
     pub president: Seat,
 }
 
-/// Where a train lies.
+/// Where a train is.
 #[derive(Clone, Copy)]
 pub enum TrainPlace {
     /// With the bank, never sold yet.
@@ -397,7 +398,7 @@ pub enum TrainPlace {
 }
 
 impl TrainPlace {
-    /// Returns where a train lies that is bought from a seller.
+    /// Returns where a train bought from this seller is.
     pub fn of_seller(seller: TrainSeller) -> TrainPlace
         ensures { result ≡ place_of_seller seller }
     {
@@ -408,7 +409,7 @@ impl TrainPlace {
         }
     }
 
-    /// Returns where the trains of a company lie, or those of the bank pool if there is no owner.
+    /// Returns where the trains of a company are, or those of the bank pool if there is no owner.
     pub fn of_owner(owner: Option<Company>) -> TrainPlace
         ensures { result ≡ train_owner_place owner }
     {
@@ -424,9 +425,9 @@ impl TrainPlace {
 pub struct TrainMove {
     /// Its kind.
     pub kind: Kind,
-    /// Where it lay.
+    /// Where it was.
     pub from: TrainPlace,
-    /// Where it lies from then on.
+    /// Where it is from then on.
     pub to: TrainPlace,
 }
 
@@ -504,13 +505,13 @@ impl Event {
         }
     }
 
-    /// Returns what it says of a private.
+    /// Returns the owner of a private that it sets.
     pub fn ownership(&self) -> Option<Ownership>
         ensures { result ≡ ownership_of self.now }
     {
-        // Every look back over the list asks this of each event, which nearly always finds nothing.
-        // A few comparisons cost about the same on every machine; the indirect jump of a `match`
-        // costs ten times as much on some.
+        // Every look back over the list asks this of each event, nearly always in vain. A few
+        // comparisons cost about the same on every machine; the indirect jump of a `match` costs
+        // ten times as much on some.
         if let Event::Sold { private, seat, .. } = self {
             Some(Ownership {
                 private: *private,
@@ -541,7 +542,7 @@ impl Event {
         }
     }
 
-    /// Returns what it says of the bids on a private.
+    /// Returns the bid on a private that it makes, or that it ends the bids on one.
     pub fn bidding(&self) -> Option<Bidding>
         ensures { result ≡ bidding_of self.now }
     {
@@ -700,7 +701,7 @@ impl Event {
         }
     }
 
-    /// Returns the company that has operated by it: its train has run, or it withholds.
+    /// Returns the company that operates by it: its train runs, or it withholds.
     pub fn operated(&self) -> Option<Company>
         ensures { result ≡ operated_by self.now }
     {

@@ -1,12 +1,12 @@
 //! What happens in a game, an event at a time: what an event is, what it says, and how it packs the
 //! ruling of a line in few bytes.
 //!
-//! An event has a few aspects: the payment that it makes, the shares that it moves, what it says of
-//! a private's owner and of the bids on it, the par value, square and president that it sets for a
-//! company, and so on. Each function of `Event` returns one of them, as `specs/Event.antt` defines
-//! it. A few aspects belong to one kind of order alone: how far a seat goes in an auction, the par
-//! value that it sets for BO, the sale that it offers. The ruling has those. This crate does not
-//! look at lists of events: `totals` looks back over lists, by these aspects alone.
+//! An event has a few aspects: the payment that it makes, the shares that it moves, the owner of a
+//! private that it sets, what it does to the bids on one, the par value, square and president that
+//! it sets for a company, and so on. Each function of `Event` returns one of them, as
+//! `specs/Event.antt` defines it. A few aspects belong to only one kind of order: how far a seat
+//! goes in an auction, the par value that it sets for BO, the sale that it offers. The ruling has
+//! those. This crate does not look at lists of events. `totals` does, and by these aspects only.
 //!
 //! Reading order: `event` (events and their aspects), `ruling` (what became of a line),
 //! `packed_place`, `packed_run` and `packed` (how an event packs that).

@@ -1,5 +1,5 @@
-//! Orders and rulings as events keep them, in few bytes. An order under a condition is in a box
-//! with it.
+//! Orders and rulings as events keep them, in few bytes. A conditional order is in a box with its
+//! condition.
 ghost use Rattle.std.specs.Prelude.{◌≡◌, ◌++◌, None, Some, MatchResult, OnOk};
 ghost use Rattle.std.specs.Option.{option_copied};
 ghost use Rattle.events.specs.Event.{acts, order_obeyed};
@@ -24,14 +24,14 @@ use std::alloc::{AllocError, Global};
 use std::marker::Model;
 use tables::{Amount, Company, Kind, Private, par_square};
 
-/// An order that is to be ruled, with its condition if it has one, in few bytes; in a contract it
+/// An order that is to be ruled, with its condition if it has one, in few bytes. In a contract it
 /// is the two.
 #[derive(Drop)]
 pub struct PackedLine {
     packed: PackedForm,
 }
 
-/// An order without a condition, or one under a condition in a box.
+/// An order without a condition, or a conditional one in a box.
 #[derive(Drop)]
 enum PackedForm {
     Plain(PackedOrder),
@@ -65,8 +65,8 @@ impl Model for PackedLine {
 
 impl PackedLine {
     /// Packs a copy of an order with its condition, if it has one. Fails only if the allocation of
-    /// a box fails. Of the orders that are ruled, only one under a condition and a run of more than
-    /// five places need a box.
+    /// a box fails. Of the orders that are ruled, only conditional ones and runs of more than five
+    /// places need a box.
     pub fn pack(
         alloc: Global,
         condition: Option<&Condition>,
@@ -199,7 +199,7 @@ enum PackedRulingForm {
     Faulty(Fault),
 }
 
-// The verdict stands beside the order's form, so that a ruling needs no more room than an order.
+// The verdict is beside the order's form, so that a ruling takes no more space than an order.
 const _: () = prove!(size_of::<PackedRuling>() <= 16);
 
 impl Model for PackedRuling {
@@ -219,14 +219,14 @@ impl PackedRuling {
         PackedRuling::of(OrderVerdict::Obeyed, order)
     }
 
-    /// Returns the ruling of an order that breaks a rule of play, of which this is the first.
+    /// Returns the ruling of an order that breaks a rule of play; this is the first that it breaks.
     pub fn refused(rule: Refusal, order: PackedLine) -> PackedRuling
         ensures { result ≡ Refused rule order.condition order.order }
     {
         PackedRuling::of(OrderVerdict::Refused(rule), order)
     }
 
-    /// Returns the ruling of a line that has a fault by itself or has no place where it stands.
+    /// Returns the ruling of a line that has a fault or is out of place.
     pub fn faulty(fault: Fault) -> PackedRuling
         ensures { result ≡ Faulty fault }
     {
@@ -297,8 +297,8 @@ impl PackedRuling {
         }
     }
 
-    /// Adds the spelling of its order under the condition, if it has one: upper case, single
-    /// spaces, no leading zeros. Adds nothing for a fault. Fails only if allocation fails.
+    /// Adds the spelling of its order with the condition, if it has one: upper case, single spaces,
+    /// no leading zeros. Adds nothing for a fault. Fails only if allocation fails.
     pub fn print_order(&self, text: &mut Vec<u8>) -> Result<(), AllocError>
         ensures { OnOk result (text.new.items ≡ text.old.items ++ order_text self.now) }
     {
@@ -315,7 +315,8 @@ impl PackedRuling {
         }
     }
 
-    /// Returns the order that it obeys, if that needs few bytes: any but a run through places.
+    /// Returns the order that it obeys, if that takes few bytes: any order but a run through
+    /// places.
     #[inline(always)]
     pub fn short_obeyed(&self) -> Option<ShortOrder>
         ensures { IsShortOf (order_obeyed self.now) result }
@@ -378,7 +379,7 @@ impl PackedRuling {
         }
     }
 
-    /// Returns a sale, if the order that it obeys offers it.
+    /// Returns this sale, if the order that it obeys offers it.
     pub fn offer_of(&self, sale: Offer) -> Option<Offer>
         ensures { result ≡ offer_obeyed sale self.now }
     {
@@ -399,7 +400,7 @@ impl PackedRuling {
     }
 }
 
-/// Returns the sum that is said with a private, if it is said of this one.
+/// Returns the sum said for a private, if it is this private.
 fn limit_said(private: Private, said: Option<(Private, Amount)>) -> Option<Amount>
     ensures { result ≡ limit_said private said }
 {

@@ -1,5 +1,5 @@
 //! What became of a line: its order was obeyed or refused, or it has a fault. The rules of play
-//! that a refusal may name are here, with their codes and sentences.
+//! that a refusal can name are here, with their codes and sentences.
 ghost use Rattle.std.specs.Prelude.{◌≡◌, MatchOption};
 ghost use Rattle.events.specs.RuleCodes.{code_of_opening_rule, code_of_pay_rule, code_of_private_rule, code_of_refusal};
 ghost use Rattle.events.specs.RuleCodes.{code_of_stock_rule, code_of_train_rule, sentence_of_opening_rule};
@@ -13,7 +13,7 @@ use std::fmt::{self, Display, Formatter, Write};
 use tables::{Printed, RuleRow, rule_rows, rule_with_code};
 use thiserror::Error;
 
-/// Which rule of play an order breaks first, by the family of the rule.
+/// The first rule of play that an order breaks, by family of rules.
 #[derive(Clone, Copy, Debug, PartialEq, Eq)]
 pub enum Refusal {
     /// A rule of an opening round.
@@ -32,7 +32,7 @@ pub enum Refusal {
     Train(TrainRule),
     /// A rule of privates that companies buy.
     Private(PrivateRule),
-    /// I1.
+    /// I1: the condition of the order does not hold.
     Condition,
 }
 
@@ -54,8 +54,8 @@ impl Refusal {
         }
     }
 
-    /// Returns what is wrong, in a player's words. The desk and the tables of the docs print no
-    /// other.
+    /// Returns what is wrong, in a player's words. The desk and the tables of the docs print these
+    /// words and no others.
     pub fn sentence(self) -> &'static str
         ensures { result.now ≡ sentence_of_refusal self }
     {
@@ -115,19 +115,20 @@ impl Refusal {
 /// A rule that an order in an opening round may break.
 #[derive(Clone, Copy, Debug, PartialEq, Eq, Drop, Error)]
 pub enum OpeningRule {
-    /// A1.
+    /// A1: the line neither buys a private nor bids on one; or a standing PAR is not for BO, or
+    /// names no par value.
     NotOfOpening,
-    /// A2.
+    /// A2: the private is sold.
     Sold,
-    /// A3.
+    /// A3: it buys a private that is not the cheapest unsold.
     NotCheapest,
-    /// A4.
+    /// A4: it bids under 5 above the face value, or under 5 above an earlier bid.
     BidTooLow,
-    /// A5.
+    /// A5: it costs more than your cash minus your bids on other privates.
     CashTooSmall,
-    /// A6.
+    /// A6: you have bought or bid in this turn.
     TurnUsed,
-    /// A7.
+    /// A7: it bids on the cheapest private.
     BidForCheapest,
 }
 
@@ -160,8 +161,8 @@ impl OpeningRule {
         OPENING_RULES[self as usize].code
     }
 
-    /// Returns what is wrong, in a player's words. The desk and the tables of the docs print no
-    /// other.
+    /// Returns what is wrong, in a player's words. The desk and the tables of the docs print these
+    /// words and no others.
     pub fn sentence(self) -> &'static str
         ensures { result.now ≡ sentence_of_opening_rule self }
     {
@@ -187,33 +188,34 @@ impl Display for OpeningRule {
 /// A rule that an order in a stock round may break.
 #[derive(Clone, Copy, Debug, PartialEq, Eq, Drop, Error)]
 pub enum StockRule {
-    /// S1.
+    /// S1: the line is not PAR, BUY of a share, SELL or EXCHANGE; or the RAISE is not needed.
     NotOfStock,
-    /// S2.
+    /// S2: it sells in SR1.
     SaleInFirstRound,
-    /// S3.
+    /// S3: it sells nothing, or more than you hold.
     NotHeld,
-    /// S4.
+    /// S4: it would bring the pool over five shares of the company.
     PoolFull,
-    /// S5.
+    /// S5: you preside, would keep under two shares, and nobody else has two to take the
+    /// president's certificate; or a RAISE would move the presidency of the company that operates.
     PresidentMustStay,
-    /// S6.
+    /// S6: you have sold shares of the company in this round.
     SoldInRound,
-    /// S7.
+    /// S7: that place has no share left.
     NoneThere,
-    /// S8.
+    /// S8: it names no par value.
     NoParValue,
-    /// S9.
+    /// S9: it starts a company that has started, or buys or sells shares of one that has not.
     WrongStart,
-    /// S10.
+    /// S10: it costs more than your cash.
     CashTooSmall,
-    /// S11.
+    /// S11: you hold as many certificates as you may, and this one counts.
     CertificateLimit,
-    /// S12.
+    /// S12: you would hold over six shares, outside the orange and the brown zone.
     OverSixShares,
-    /// S13.
+    /// S13: you have bought in this turn.
     BoughtBefore,
-    /// S14.
+    /// S14: you do not own MH, or no share of NYC is left, or you have six.
     NoExchange,
 }
 
@@ -255,8 +257,8 @@ impl StockRule {
         STOCK_RULES[self as usize].code
     }
 
-    /// Returns what is wrong, in a player's words. The desk and the tables of the docs print no
-    /// other.
+    /// Returns what is wrong, in a player's words. The desk and the tables of the docs print these
+    /// words and no others.
     pub fn sentence(self) -> &'static str
         ensures { result.now ≡ sentence_of_stock_rule self }
     {
@@ -282,7 +284,7 @@ impl Display for StockRule {
 /// A rule that the payment or the withholding of what a company earned may break.
 #[derive(Clone, Copy, Debug, PartialEq, Eq)]
 pub enum PayRule {
-    /// D1.
+    /// D1: the company has paid or withheld; or it is PAY, and nothing was earned.
     NothingToPay,
 }
 
@@ -307,8 +309,8 @@ impl PayRule {
         PAY_RULES[self as usize].code
     }
 
-    /// Returns what is wrong, in a player's words. The desk and the tables of the docs print no
-    /// other.
+    /// Returns what is wrong, in a player's words. The desk and the tables of the docs print these
+    /// words and no others.
     pub fn sentence(self) -> &'static str
         ensures { result.now ≡ sentence_of_pay_rule self }
     {
@@ -327,19 +329,21 @@ impl Printed for PayRule {
 /// A rule that the purchase or the discarding of a train may break.
 #[derive(Clone, Copy, Debug, PartialEq, Eq)]
 pub enum TrainRule {
-    /// T1.
+    /// T1: the bank or the pool does not sell such a train now.
     NotOnSale,
-    /// T2.
+    /// T2: the company has as many trains as it may.
     TrainLimit,
-    /// T3.
+    /// T3: it costs more than the company's cash.
     CashTooSmall,
-    /// T4.
+    /// T4: the seller has not consented to exactly this sale in this round, or the price is 0; or
+    /// an OFFER is at 0, or not by the seller's president.
     NoConsent,
-    /// T5.
+    /// T5: the seller has no such train, or is the buyer.
     NotSellers,
-    /// T6.
+    /// T6: the train to be traded in is not the company's, is not a 4, 5 or 6, or is not for a D.
     NoTradeIn,
-    /// T7.
+    /// T7: the DISCARD is for a company over which you did not preside as the round began, or of a
+    /// train that it did not have.
     NoDiscard,
 }
 
@@ -374,8 +378,8 @@ impl TrainRule {
         TRAIN_RULES[self as usize].code
     }
 
-    /// Returns what is wrong, in a player's words. The desk and the tables of the docs print no
-    /// other.
+    /// Returns what is wrong, in a player's words. The desk and the tables of the docs print these
+    /// words and no others.
     pub fn sentence(self) -> &'static str
         ensures { result.now ≡ sentence_of_train_rule self }
     {
@@ -394,15 +398,16 @@ impl Printed for TrainRule {
 /// A rule that the purchase of a private by a company may break.
 #[derive(Clone, Copy, Debug, PartialEq, Eq)]
 pub enum PrivateRule {
-    /// P1.
+    /// P1: it comes before phase 3.
     TooEarly,
-    /// P2.
+    /// P2: the price is under half the face value or over twice that.
     WrongPrice,
-    /// P3.
+    /// P3: no player owns it, or its owner has not consented to exactly this sale in this round; or
+    /// an OFFER is not by its owner.
     NoConsent,
-    /// P4.
+    /// P4: it is BOP.
     NeverSold,
-    /// P5.
+    /// P5: it costs more than the company's cash.
     CashTooSmall,
 }
 
@@ -433,8 +438,8 @@ impl PrivateRule {
         PRIVATE_RULES[self as usize].code
     }
 
-    /// Returns what is wrong, in a player's words. The desk and the tables of the docs print no
-    /// other.
+    /// Returns what is wrong, in a player's words. The desk and the tables of the docs print these
+    /// words and no others.
     pub fn sentence(self) -> &'static str
         ensures { result.now ≡ sentence_of_private_rule self }
     {
@@ -458,13 +463,13 @@ pub enum Ruling {
         condition: Option<Condition>,
         order: Order,
     },
-    /// The order breaks a rule of play, of which this is the first.
+    /// The order breaks a rule of play; this is the first that it breaks.
     Refused {
         rule: Refusal,
         condition: Option<Condition>,
         order: Order,
     },
-    /// The line has a fault by itself or has no place where it is.
+    /// The line has a fault, or is out of place.
     Faulty(Fault),
 }
 
@@ -473,8 +478,8 @@ pub enum Ruling {
 pub enum Verdict {
     /// The order was carried out.
     Obeyed,
-    /// The order breaks a rule of play, of which this is the first.
+    /// The order breaks a rule of play; this is the first that it breaks.
     Refused(Refusal),
-    /// The line has a fault by itself or has no place where it is.
+    /// The line has a fault, or is out of place.
     Faulty(Fault),
 }

@@ -1,7 +1,8 @@
 //! The purchase that a company must make.
 //!
-//! Its president pays what it lacks. While they fall short they sell: by the RAISE lines of the
-//! company's orders, and then one share at a time. If they still fall short they are bankrupt.
+//! Its president pays what it lacks. A president who falls short sells shares: first by the RAISE
+//! lines of the company's orders, then one share at a time. A president who still falls short is
+//! bankrupt.
 ghost use Rattle.std.specs.Prelude.{◌≡◌, ◌≤◌, ◌<◌, OnOk, false};
 ghost use Rattle.history.specs.Sound.{IsSound};
 ghost use Rattle.totals.specs.Trains.{at_least_zero as as_many};
@@ -19,8 +20,9 @@ use purchases::buy_train;
 use std::alloc::{AllocError, Global};
 use tables::{Amount, COMPANIES, Company, POOL_SHARES_MOST};
 
-/// Buys the train that a company without one must buy, or makes its president bankrupt. The RAISE
-/// lines of its orders, those that were held, are ruled first. Fails only if allocation fails.
+/// Buys the train that a company without one must buy, or makes its president bankrupt. It first
+/// rules the RAISE lines of the company's orders, which were held for this. Fails only if
+/// allocation fails.
 #[tactic(auto, unfolding(crate::specs::Forced::after_forced))]
 pub fn buy_by_force(
     alloc: Global,
@@ -42,10 +44,10 @@ pub fn buy_by_force(
     Ok(())
 }
 
-/// Upper bound on the shares that can be sold: those of all companies that the pool takes.
+/// Upper bound on the shares that can be sold: as many of each company as the pool takes.
 const SALES_MOST: usize = COMPANIES * POOL_SHARES_MOST as usize;
 
-/// Sells shares of the president one at a time, until they do not fall short or may sell none.
+/// Sells shares of the president one at a time, until they no longer fall short or may sell none.
 #[tactic(auto, unfolding(crate::specs::Forced::sold_singly))]
 fn sell_singly(history: &mut History, by: Operator) -> Result<(), AllocError>
     requires few { history.old.seats ≤ 6 }
@@ -103,7 +105,7 @@ fn share_of(company: Company) -> Sale
     Sale { company, shares: 1 }
 }
 
-/// Returns the first company in roster order of which the president may sell a share.
+/// Returns the first company in roster order whose share the president may sell.
 #[tactic(auto, unfolding(crate::specs::Forced::next_to_sell))]
 fn next_to_sell(history: &History, by: Operator) -> Option<Company>
     ensures { result ≡ next_to_sell by history.now }
@@ -111,7 +113,7 @@ fn next_to_sell(history: &History, by: Operator) -> Option<Company>
     first_to_sell(history, by, &Company::ALL)
 }
 
-/// Returns the first of these companies of which the president may sell a share.
+/// Returns the first of these companies whose share the president may sell.
 fn first_to_sell(history: &History, by: Operator, among: &[Company]) -> Option<Company>
     ensures { result ≡ first_to_sell by history.now among.now }
 {

@@ -1,10 +1,10 @@
 //! The train that a company without one must buy, for which its president may have to pay.
 //!
-//! It is the cheapest that the bank or the pool sells. The president pays what the company lacks.
-//! While they fall short they sell shares, by the RAISE lines of their sheet and then one at a
-//! time. If they still fall short they are bankrupt.
+//! It is the cheapest train that the bank or the pool sells. The president pays what the company
+//! lacks. A president who falls short sells shares: first by the RAISE lines of the company's
+//! orders, then one share at a time. A president who still falls short is bankrupt.
 //!
-//! The caller checks whether a company must buy: here it has no train.
+//! The caller checks whether a company must buy; these functions take a company without a train.
 //!
 //! Reading order: `operator` (the company and its president), `shortfall` (what it lacks), `raise`
 //! (the order RAISE), `forced` (the purchase), `laws`.

@@ -1,9 +1,9 @@
 //! RAISE: the president of a company sells shares to pay for the train that it must buy.
 //!
-//! The RAISE lines of its orders are used in order, once the turn ends: each is held over to then
-//! as it is read. A line is refused, whatever its condition, if no purchase is due, and once the
-//! president does not fall short. Then come its condition and the rules of a sale. No sale may move
-//! the presidency of the company.
+//! The RAISE lines of its orders are used in order, once the turn ends: until then each line is
+//! held. A line is refused, whatever its condition, if no purchase is due or the president does not
+//! fall short. After that its condition and the rules of a sale are checked. No sale may move the
+//! presidency of the company.
 ghost use Rattle.std.specs.Prelude.{◌≡◌, ◌≤◌, ◌<◌, ◌++◌, ◌∷◌, [], OnOk};
 ghost use Rattle.std.specs.Option.{option_copied};
 ghost use Rattle.history.specs.Sound.{IsSound};
@@ -21,7 +21,7 @@ use std::alloc::AllocError;
 use std::marker::Model;
 use turns::record_packed;
 
-/// A RAISE of a company's orders that is held over to the end of the turn, in few bytes.
+/// A RAISE of a company's orders that is held until the end of the turn, in few bytes.
 #[derive(Drop)]
 pub struct HeldRaise {
     line: ReadLine,
@@ -45,8 +45,8 @@ impl Model for HeldRaise {
         ≡ ordered held.line.condition (Raise held.sale.company held.sale.shares) };
 }
 
-/// Holds the order of this line over to the end of the turn if it is a RAISE: adds it to those that
-/// are held. Fails only if allocation fails.
+/// Holds the order of this line until the end of the turn if it is a RAISE: adds it to those held.
+/// Fails only if allocation fails.
 pub fn hold_if_raise(
     raises: &mut Vec<HeldRaise>,
     history: &History,
@@ -71,8 +71,8 @@ pub fn hold_if_raise(
     }
 }
 
-/// Returns the first rule that a RAISE under this condition breaks, given whether a purchase is
-/// due. One that is not needed is refused whatever its condition.
+/// Returns the first rule that a RAISE with this condition breaks, given whether a purchase is due.
+/// A RAISE that is not needed is refused whatever its condition.
 #[tactic(auto, unfolding(crate::specs::Raise::raise_rule))]
 pub fn raise_rule(
     history: &History,
@@ -91,7 +91,7 @@ pub fn raise_rule(
     }
 }
 
-/// Returns the first rule that a RAISE under this condition breaks, if it is needed.
+/// Returns the first rule that a RAISE with this condition breaks, if it is needed.
 fn needed_rule(
     history: &History,
     by: Operator,
@@ -119,8 +119,8 @@ pub fn sale_rule(history: &History, by: Operator, sale: Sale) -> Option<StockRul
     }
 }
 
-/// Rules the RAISE lines of a company's orders, those that were held, given whether a purchase is
-/// due. Fails only if allocation fails.
+/// Rules the RAISE lines of a company's orders that were held, given whether a purchase is due.
+/// Fails only if allocation fails.
 pub fn rule_raises(
     history: &mut History,
     by: Operator,

@@ -1,4 +1,4 @@
-//! What a company lacks that must buy a train, and whether its president falls short of that.
+//! What a company that must buy a train lacks, and whether its president falls short of that.
 ghost use Rattle.std.specs.Prelude.{◌≡◌};
 ghost use Rattle.forced_purchase.specs.Shortfall.{cheapest, falls_short, first_on_sale, lack_of, plain};
 ghost use Rattle.purchases.specs.Train.{IsSmallPurchase};
@@ -8,7 +8,7 @@ use history::{GameView, History, Party, TrainSeller};
 use purchases::{NUMBERED, TrainPurchase, sells};
 use tables::{Company, Kind, Money};
 
-/// Returns whether the president has less cash free of standing bids than the company lacks.
+/// Returns whether the president's cash, minus bids, is less than the company lacks.
 #[tactic(auto, unfolding(crate::specs::Shortfall::falls_short))]
 pub fn falls_short(history: &History, by: Operator) -> bool
     ensures { result ≡ falls_short by history.now }
@@ -36,7 +36,7 @@ pub fn cheapest(view: &GameView) -> TrainPurchase
     first_on_sale(view, &NUMBERED)
 }
 
-/// Returns the purchase of the first of these kinds that is for sale; of a D of the bank if none
+/// Returns the purchase of the first of these kinds that is for sale; of a D from the bank if none
 /// is.
 #[tactic(auto, unfolding(crate::specs::Shortfall::first_on_sale))]
 fn first_on_sale(view: &GameView, kinds: &[Kind]) -> TrainPurchase
@@ -54,7 +54,7 @@ fn first_on_sale(view: &GameView, kinds: &[Kind]) -> TrainPurchase
     plain(Kind::Diesel, TrainSeller::Bank)
 }
 
-/// Returns the purchase of a train for which none is traded in.
+/// Returns the purchase of a train without a trade-in.
 fn plain(kind: Kind, from: TrainSeller) -> TrainPurchase
     ensures { result ≡ plain kind from }
 {

@@ -1,5 +1,5 @@
-//! The sheet that is looked at for the round that comes, if any, and the orders in it that are
-//! ruled ahead of play.
+//! The sheet for the coming round that is looked at, if any, and its orders, which are ruled ahead
+//! of play.
 ghost use Rattle.std.specs.Prelude.{◌≡◌, ◌≤◌, [], IfOk, OnOk, if◌then◌else◌};
 ghost use Rattle.foresight.specs.Draft.{after_standing_of, file_of, is_drafters, opened_ahead, orders_of};
 ghost use Rattle.forced_purchase.specs.Raise.{raises_in};
@@ -18,17 +18,17 @@ use sheets::Sheets;
 use std::alloc::{AllocError, Global};
 use tables::{Company, Round, Seat};
 
-/// Whose sheets for the round that comes are looked at.
+/// Which sheet for the coming round is looked at.
 #[derive(Clone, Copy)]
 pub struct Draft<'a> {
     /// The sheets of the order file.
     pub sheets: &'a Sheets<'a>,
-    /// The player whose own sheet for that round is looked at; `None` if nobody's is.
+    /// The player whose own sheet for that round is looked at; `None` if no sheet is.
     pub drafter: Option<Seat>,
 }
 
 impl Draft<'_> {
-    /// Returns whether a company's orders are looked at: its president's sheet is.
+    /// Returns whether a company's orders are looked at, because its president's sheet is.
     pub(crate) fn has_orders(&self, history: &History, company: Company) -> bool
         ensures { file_of self.now.sheets.now (president_of history.now.events company)
             self.now.drafter ≡ (if result then self.now.sheets.now else []) }
@@ -39,7 +39,7 @@ impl Draft<'_> {
         }
     }
 
-    /// Rules the orders of a company in the sheet that is looked at, if its president sent that.
+    /// Rules the orders of a company in the sheet that is looked at, if that is its president's.
     /// Returns the RAISE lines among them, which are ruled at the end of the turn. Fails only if
     /// allocation fails.
     pub(crate) fn rule_orders(

@@ -1,14 +1,15 @@
-//! As things stand: a game at the head of a turn of the round that comes, which is not played yet.
+//! A game ahead of play: at the head of a turn of the coming round, which has not been played yet.
 //!
-//! An answer to "may I" is true of a position. It is not the game as the last round left it: in the
-//! round that comes the privates pay first, what was sold in the last round is forgotten, home
-//! tokens are placed, and companies before one's own operate. So a call steps there. Nobody else's
-//! sheet for that round is looked at, and a player's own only if they ask for it.
+//! "May I?" is a question about a position, and that is not the game as the last round left it: in
+//! the coming round the privates pay first, what was sold in the last round no longer matters, home
+//! tokens are placed, and other companies operate earlier. So each call plays up to that position.
+//! It does not look at anybody else's sheet for that round, and at the player's own only if they
+//! ask for that.
 //!
-//! Reading order: `draft` (whose sheet is looked at), `round_ahead` (an operating round that comes,
-//! turn by turn), `orders_ahead` (a company's turn in it, at the head of its orders or behind those
-//! that are drafted), `turn_ahead` (an opening or a stock round up to a seat's first turn),
-//! `trial_file` (the files that trials play).
+//! Reading order: `draft` (whose sheet is looked at), `round_ahead` (a coming operating round, turn
+//! by turn), `orders_ahead` (a company's turn in it, at the head of its orders or after those
+//! drafted), `turn_ahead` (an opening or a stock round up to a seat's first turn), `trial_file`
+//! (the files that trials play).
 #![tactic(auto)]
 
 mod draft;

@@ -1,6 +1,5 @@
-//! A company's turn in an operating round that comes, at the head of its orders or behind those
-//! that are drafted. From there the company may withhold, be found to need a train, or finish its
-//! turn.
+//! A company's turn in a coming operating round, at the head of its orders or after those drafted.
+//! From there the company can withhold, turn out to need a train, or finish its turn.
 ghost use Rattle.std.specs.Prelude.{◌≡◌, ◌↔◌, IfOk, IsTrue};
 ghost use Rattle.board_state.specs.MapState.{position_of};
 ghost use Rattle.foresight.specs.Ahead.{HasEnded, withheld_in};
@@ -21,8 +20,8 @@ use std::alloc::{AllocError, Global};
 use std::marker::Model;
 use tables::Round;
 
-/// A company's turn in an operating round that comes, at the head of its orders, or behind those
-/// that are looked at.
+/// A company's turn in a coming operating round, at the head of its orders, or after those that are
+/// looked at.
 #[derive(Drop)]
 pub struct OrdersAhead<'a> {
     pub(crate) alloc: Global,
@@ -34,7 +33,7 @@ pub struct OrdersAhead<'a> {
 }
 
 /// In a contract it is whose sheet is looked at, the round, the company with its president, its
-/// turn as far as it has come, and the RAISE lines so far.
+/// turn so far, and the RAISE lines so far.
 impl<'a> Model for OrdersAhead<'a> {
     ghost use Rattle.std.specs.Prelude.{◌≡◌, ◌<◌, length};
     ghost use Rattle.foresight.specs.Ahead.{OrdersState};
@@ -80,7 +79,7 @@ impl<'a> OrdersAhead<'a> {
         &self.turn.history
     }
 
-    /// Returns the company as the rules of the board see it, with its turn as far as it has come.
+    /// Returns the company as the rules of the board see it, with its turn so far.
     pub fn asker(&self) -> Asker
         ensures { result
             ≡ asker_of self.now.turn.game self.now.by.company self.now.turn.progress }
@@ -88,8 +87,8 @@ impl<'a> OrdersAhead<'a> {
         self.turn.asker()
     }
 
-    /// Returns the turn once the company has withheld what it earned, if the turn was not past its
-    /// pay: so it does before it buys a train. Fails only if allocation fails.
+    /// Returns the turn once the company has withheld what it earned, unless it has paid or
+    /// withheld already, as it does before it buys a train. Fails only if allocation fails.
     pub fn withheld(self) -> Result<OrdersAhead<'a>, AllocError>
         ensures { IfOk result (λ orders. orders ≡ withheld_in self.entry) }
     {
@@ -110,7 +109,7 @@ impl<'a> OrdersAhead<'a> {
         })
     }
 
-    /// Returns the turn, and whether the company must buy a train if it ends as it stands: the
+    /// Returns the turn, and whether the company must buy a train if the turn ends here: the
     /// company has none, and could run one. Fails only if allocation fails.
     pub fn must_buy(self) -> Result<(OrdersAhead<'a>, bool), AllocError>
         ensures due { IfOk result (λ found. IsTrue found.1
@@ -161,12 +160,12 @@ impl<'a> OrdersAhead<'a> {
         Ok((orders, could))
     }
 
-    /// Ends the turn: the company withholds if it has neither paid nor withheld, and buys a train if
-    /// it must. Fails only if allocation fails.
+    /// Ends the turn: the company withholds if it has neither paid nor withheld, and buys a train
+    /// if it must. Fails only if allocation fails.
     pub fn finish(self) -> Result<RoundAhead<'a>, AllocError>
         ensures { IfOk result (HasEnded self.entry) }
     {
-        // For the proof alone: the seats are at most six.
+        // For the proof only: the seats are at most six.
         let _few = self.draft.sheets.seats();
         let OrdersAhead {
             alloc,

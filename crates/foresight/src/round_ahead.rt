@@ -1,4 +1,4 @@
-//! An operating round that comes, played turn by turn up to the orders of a company.
+//! A coming operating round, played turn by turn up to the orders of a company.
 ghost use Rattle.std.specs.Prelude.{◌≡◌, IfOk, Some, length, true};
 ghost use Rattle.foresight.specs.Ahead.{HasTurn, IsBehindDraft, opened_state};
 ghost use Rattle.foresight.specs.Orders.{IsAhead, IsLed};
@@ -23,7 +23,7 @@ use std::alloc::{AllocError, Global};
 use std::marker::Model;
 use tables::{Company, Round, Seat};
 
-/// An operating round that comes, as far as it has been played.
+/// A coming operating round, as far as it has been played.
 #[derive(Drop)]
 pub struct RoundAhead<'a> {
     pub(crate) alloc: Global,
@@ -53,9 +53,9 @@ impl<'a> Model for RoundAhead<'a> {
 }
 
 impl<'a> RoundAhead<'a> {
-    /// Opens an operating round that comes: the standing lines of the sheet that is looked at are
-    /// ruled, and the privates pay. The list of events must be sound, and its seats those of the
-    /// sheets' players. Fails only if allocation fails.
+    /// Opens a coming operating round: the standing lines of the sheet that is looked at are ruled,
+    /// and the privates pay. The list of events must be sound, and its seats those of the sheets'
+    /// players. Fails only if allocation fails.
     pub fn open(
         alloc: Global,
         history: History,
@@ -101,14 +101,14 @@ impl<'a> RoundAhead<'a> {
         is_president(self.game.history.now().president(company), seat)
     }
 
-    /// Plays the turn of the next company, with the orders of the sheet that is looked at, if its
-    /// president sent that. Fails only if allocation fails.
+    /// Plays the turn of the next company, with the orders of the sheet that is looked at, if that
+    /// is its president's. Fails only if allocation fails.
     pub fn take_turn(self, company: Company) -> Result<RoundAhead<'a>, AllocError>
         requires { next_company self.game.events ≡ Some company }
         ensures { IfOk result (HasTurn company self.entry) }
     {
-        // For the proof alone: by the first a company that comes next has floated; by the second
-        // the seats are at most six.
+        // For the proof only: by the first law the next company has floated; by the second the
+        // seats are at most six.
         market::laws::floated_companies_in_order();
         let _few = self.draft.sheets.seats();
         let RoundAhead {
@@ -130,8 +130,8 @@ impl<'a> RoundAhead<'a> {
         })
     }
 
-    /// Returns the turn of the next company behind the orders of the sheet that is looked at, or at
-    /// the head of its orders if its president did not send that. Fails only if allocation fails.
+    /// Returns the turn of the next company after the orders of the sheet that is looked at, or at
+    /// the head of its orders if that is not its president's. Fails only if allocation fails.
     pub fn turn_of(self, by: Operator) -> Result<OrdersAhead<'a>, AllocError>
         requires next { next_company self.game.events ≡ Some by.company }
         requires led { is_president (president_of self.game.events by.company) by.president
@@ -157,11 +157,12 @@ impl<'a> RoundAhead<'a> {
         })
     }
 
-    /// Plays on to the orders of a company. Returns how it fares. Fails only if allocation fails.
+    /// Plays on to the orders of a company. Returns what becomes of it. Fails only if allocation
+    /// fails.
     pub fn orders_of(self, company: Company) -> Result<Ahead<'a>, AllocError>
         ensures { IfOk result (IsAhead company self.entry) }
     {
-        // Laws, which do nothing when they run: by them the loop reaches an end.
+        // Laws, which do nothing when they run: they show that the loop ends.
         market::laws::floated_companies_in_order();
         operating::laws::company_operates();
         let mut ahead = self;
@@ -174,7 +175,7 @@ impl<'a> RoundAhead<'a> {
         Ok(Ahead::NoTurn)
     }
 
-    /// Returns how the next company fares.
+    /// Returns what becomes of the next company.
     fn led(self, company: Company) -> Result<Ahead<'a>, AllocError>
         requires { next_company self.game.events ≡ Some company }
         ensures { IfOk result (IsLed company self.entry) }
@@ -212,12 +213,12 @@ fn played(
     }
 }
 
-/// How a company fares in an operating round that comes.
+/// What becomes of a company in a coming operating round.
 #[derive(Drop)]
 pub enum Ahead<'a> {
-    /// It is at the head of its orders, or behind those that are looked at.
+    /// It is at the head of its orders, or after those that are looked at.
     AtOrders(OrdersAhead<'a>),
-    /// It has a turn, and no president to give its orders.
+    /// It has a turn, but no president to give its orders.
     NoPresident,
     /// It has no turn: it does not operate, or the game ends before.
     NoTurn,

@@ -14,26 +14,27 @@ const SHEET_LINE_MOST: usize = 32 + NAME_MOST;
 /// Who gets an empty sheet at the end of the file.
 #[derive(Clone, Copy)]
 enum Emptied {
-    /// Each player but that of this seat.
+    /// Each player but the one of this seat.
     Others(Seat),
-    /// Each player who owes one.
+    /// Each player who owes a sheet.
     Owing,
 }
 
-/// The file of a trial: an order file, and behind it empty sheets. The trial alone of a player's
-/// sheet has one for each other player, and that of all sheets one for each player who owes one.
-/// The sheets of the next trial overwrite those of the last, so that there is one copy of the file.
+/// The file of a trial: an order file, followed by empty sheets. In the trial of a player's sheet
+/// alone each other player has one, and in that of all sheets each player who owes a sheet. The
+/// sheets of the next trial overwrite those of the last, so that there is only one copy of the
+/// file.
 #[derive(Drop)]
 pub struct TrialFile {
     /// The file with its sheets.
     pub bytes: Vec<u8>,
-    /// How many bytes are before the empty sheets.
+    /// The number of bytes before the empty sheets.
     begun: usize,
 }
 
 impl TrialFile {
-    /// Returns a copy of an order file whose last line has an end, with room for empty sheets.
-    /// Fails only if allocation fails.
+    /// Returns a copy of an order file whose last line is ended, with room for empty sheets. Fails
+    /// only if allocation fails.
     pub fn begin(alloc: Global, file: &[u8]) -> Result<TrialFile, AllocError>
         ensures { IfOk result (IsBegun file.now) }
     {
@@ -60,8 +61,8 @@ impl TrialFile {
         Ok(())
     }
 
-    /// Makes it the file of the trial alone of the sheet of a seat for a round. Fails only if
-    /// allocation fails.
+    /// Makes it the file of the trial of a seat's sheet for a round alone. Fails only if allocation
+    /// fails.
     pub fn put_alone(&mut self, sheets: &Sheets, round: Round, seat: Seat) -> Result<(), AllocError>
         requires { IsBegun sheets.now self.old }
         ensures file { OnOk result (self.new.bytes.items ≡ alone_file sheets.now round seat) }
@@ -70,7 +71,7 @@ impl TrialFile {
         self.put(sheets, round, Emptied::Others(seat))
     }
 
-    /// Makes it the file of the trial of all sheets for a round that are there. Fails only if
+    /// Makes it the file of the trial of all sheets for a round that the file has. Fails only if
     /// allocation fails.
     pub fn put_all(&mut self, sheets: &Sheets, round: Round) -> Result<(), AllocError>
         requires { IsBegun sheets.now self.old }
@@ -81,7 +82,7 @@ impl TrialFile {
     }
 }
 
-/// Ends the last line of a text, if it has no end.
+/// Ends the last line of a text, if it is not ended.
 fn end_line(text: &mut Vec<u8>) -> Result<(), AllocError>
     ensures { OnOk result (text.new.items ≡ with_line_end text.old.items) }
 {
@@ -91,7 +92,7 @@ fn end_line(text: &mut Vec<u8>) -> Result<(), AllocError>
     Ok(())
 }
 
-/// Returns whether the last line of a text has no end.
+/// Returns whether the last line of a text is not ended.
 fn has_open_line(text: &[u8]) -> bool
     ensures { result ≡ has_open_line text.now }
 {

@@ -1,4 +1,4 @@
-//! An opening or a stock round that comes, up to a seat's first turn.
+//! A coming opening or stock round, up to a seat's first turn.
 ghost use Rattle.std.specs.Prelude.{◌≡◌, ◌≤◌, ◌<◌, IfOk};
 ghost use Rattle.foresight.specs.Turn.{IsAtTurn};
 ghost use Rattle.history.specs.Sound.{IsSound};
@@ -7,9 +7,9 @@ use history::{Event, History};
 use std::alloc::AllocError;
 use tables::{Round, Seat};
 
-/// Returns a game at the head of a seat's first turn, in the opening or the stock round that comes:
-/// each seat before it has passed. The list of events must be sound, its seats at most six, and the
-/// seat at the table. Fails only if allocation fails.
+/// Returns a game at the head of a seat's first turn, in the coming opening or stock round: each
+/// seat before it has passed. The list of events must be sound, its seats at most six, and the seat
+/// at the table. Fails only if allocation fails.
 pub fn at_turn(history: History, round: Round, seat: Seat) -> Result<History, AllocError>
     requires sound { IsSound history }
     requires few { history.seats ≤ 6 }

@@ -13,7 +13,7 @@ pub(crate) fn is_order(version: Version, line: &[u8]) -> bool
     has_word(line) && read_order_in(version, line, &mut order).is_ok()
 }
 
-/// Returns the only one of some lines that is an order; `None` if none is, or several are.
+/// Returns the only one of some lines that is an order; `None` if none or several are.
 pub(crate) fn only_order<'a>(version: Version, lines: &[&'a [u8]]) -> Option<&'a [u8]>
     ensures { option_map text result ≡ only_order version (texts lines.now) }
 {

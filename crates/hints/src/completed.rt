@@ -16,7 +16,7 @@ pub(crate) struct Completed {
 
 impl Completed {
     /// Returns the lines that complete a line of these words, each with an ending that makes it an
-    /// order of a file of some version; none if its first word is not that of an order. Fails only
+    /// order of a file of some version; none if its first word does not begin an order. Fails only
     /// if allocation fails.
     pub(crate) fn of(
         alloc: Global,
@@ -40,8 +40,8 @@ impl Completed {
     }
 }
 
-/// Returns whether some words are a condition without an order: with an order behind them they are
-/// one under a condition. Fails only if allocation fails.
+/// Returns whether some words are a condition without an order: with an order after them they are a
+/// conditional order. Fails only if allocation fails.
 pub(crate) fn is_condition_alone(
     alloc: Global,
     version: Version,
@@ -53,7 +53,7 @@ pub(crate) fn is_condition_alone(
     Ok(begins_with_if && is_order(version, with_words(alloc, words, "PAY")?.as_slice()))
 }
 
-/// Returns whether some words begin with a place, as those of no order do. Fails only if allocation
+/// Returns whether some words begin with a place, which no order does. Fails only if allocation
 /// fails.
 pub(crate) fn begins_with_place(
     alloc: Global,
@@ -68,7 +68,7 @@ pub(crate) fn begins_with_place(
     Ok(is_order(version, token.as_slice()))
 }
 
-/// Returns the line of some words and others behind them.
+/// Returns the line of some words, followed by others.
 fn with_words(alloc: Global, words: &[&[u8]], others: &str) -> Result<Vec<u8>, AllocError> {
     let mut line = Vec::new(alloc);
     for word in words {

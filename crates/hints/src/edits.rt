@@ -7,7 +7,7 @@ use crate::vocabulary::{CODES, FIRSTS};
 use crate::words::has_digit;
 use std::alloc::{AllocError, Global};
 
-/// The sign > as a mail of HTML writes it.
+/// The sign > as HTML mail writes it.
 const HTML_SIGN: &[u8] = b"&gt;";
 
 /// Some lines, no two of which are equal.
@@ -57,7 +57,7 @@ impl Edited {
         self.add(line)
     }
 
-    /// Adds the line of some words with one word in place of that at a place.
+    /// Adds the line of some words with another word at a place.
     fn push_with(&mut self, words: &[&[u8]], place: usize, other: &[u8]) -> Result<(), AllocError> {
         let mut line = Vec::new(self.alloc);
         for (at, word) in words.iter().enumerate() {
@@ -66,7 +66,7 @@ impl Edited {
         self.add(line)
     }
 
-    /// Adds the lines in which one word is a word of orders that is a slip away.
+    /// Adds the lines in which one word is replaced by a word of orders that is a slip away.
     pub(crate) fn push_respelled(&mut self, words: &[&[u8]]) -> Result<(), AllocError> {
         for (place, word) in words.iter().enumerate() {
             if place == 0 {
@@ -98,8 +98,8 @@ impl Edited {
         Ok(())
     }
 
-    /// Adds the lines of the words of a SHEET line with the name of one of these players, of whom
-    /// its own name is nearly that.
+    /// Adds the lines of the words of a SHEET line with the name of one of these players, if its
+    /// own name is a slip away from it.
     pub(crate) fn push_named(
         &mut self,
         words: &[&[u8]],
@@ -115,7 +115,7 @@ impl Edited {
     }
 
     /// Adds the line without the signs around its words; the line whose signs for "at least" are
-    /// words of their own, and `>=`; and the lines in which two words are joined, or one is parted.
+    /// words of their own, and `>=`; and the lines in which two words are joined, or one is split.
     pub(crate) fn push_parted(&mut self, words: &[&[u8]]) -> Result<(), AllocError> {
         self.push_bare(words)?;
         self.push_at_least(words)?;
@@ -175,8 +175,8 @@ impl Edited {
         self.add(line)
     }
 
-    /// Adds the line of some words in which the word at a place is two, of which the first has this
-    /// many bytes.
+    /// Adds the line of some words in which the word at a place is split in two, the first part
+    /// with this many bytes.
     fn push_split(
         &mut self,
         words: &[&[u8]],
@@ -196,11 +196,11 @@ impl Edited {
         self.add(line)
     }
 
-    /// Adds the lines in which one word stands at another place.
+    /// Adds the lines in which one word is moved to another place.
     pub(crate) fn push_moved(&mut self, words: &[&[u8]]) -> Result<(), AllocError> {
         for (from, word) in words.iter().enumerate() {
             for to in 0..words.len() {
-                // One place forward is the next word one place back.
+                // Moving a word one place forward is moving the next word one place back.
                 if to != from && to.saturating_add(1) != from {
                     self.push_with_moved(words, from, to, word)?;
                 }
@@ -209,7 +209,7 @@ impl Edited {
         Ok(())
     }
 
-    /// Adds the line of some words in which the word at a place stands at another.
+    /// Adds the line of some words in which the word at a place is moved to another.
     fn push_with_moved(
         &mut self,
         words: &[&[u8]],
@@ -263,7 +263,8 @@ pub(crate) fn push_word(line: &mut Vec<u8>, word: &[u8]) -> Result<(), AllocErro
     Ok(())
 }
 
-/// Returns a word without the signs around it, as a colon, a comma, a full stop and quotation marks.
+/// Returns a word without the signs around it, such as a colon, a comma, a full stop or quotation
+/// marks.
 fn bare(word: &[u8]) -> &[u8] {
     let start = word.iter().position(|byte| !is_around(*byte));
     let rest = word.get(start.unwrap_or(word.len())..).unwrap_or(&[]);
@@ -272,7 +273,7 @@ fn bare(word: &[u8]) -> &[u8] {
         .unwrap_or(&[])
 }
 
-/// Returns whether a byte is a sign that may stand around a word.
+/// Returns whether a byte is a sign that may be around a word.
 fn is_around(byte: u8) -> bool {
     !byte.is_ascii_alphanumeric() && !is_sign(byte)
 }
@@ -282,7 +283,7 @@ fn is_sign(byte: u8) -> bool {
     matches!(byte, b'<' | b'>' | b'=')
 }
 
-/// Returns a word in three: what is before a sign for "at least", the sign, and what is after it.
+/// Splits a word in three: what is before a sign for "at least", the sign, and what is after it.
 /// The sign is empty if the word has none.
 fn by_sign(word: &[u8]) -> (&[u8], &[u8], &[u8]) {
     if let Some(after) = word.strip_prefix(HTML_SIGN) {
@@ -307,8 +308,8 @@ fn by_sign(word: &[u8]) -> (&[u8], &[u8], &[u8]) {
     )
 }
 
-/// Returns the player whose name a word nearly is: one slip away, or longer or shorter at its end;
-/// `None` if there is none, or there are several.
+/// Returns the player whose name is nearly this word: one slip away, or longer or shorter at its
+/// end; `None` if there is no such player, or several.
 fn player_meant<'a>(word: &[u8], players: &[&'a [u8]]) -> Option<&'a [u8]> {
     if let Some(player) = nearest(word, players) {
         return Some(player);
@@ -325,8 +326,8 @@ fn player_meant<'a>(word: &[u8], players: &[&'a [u8]]) -> Option<&'a [u8]> {
     meant
 }
 
-/// Returns whether one of two words begins with the other, which has over one letter. Letters of
-/// either case are equal.
+/// Returns whether one of two words begins with the other, which has over one letter. Case does not
+/// matter.
 fn begins_alike(word: &[u8], name: &[u8]) -> bool {
     let shorter = word.len().min(name.len());
     shorter > 1 && word[..shorter].eq_ignore_ascii_case(&name[..shorter])

@@ -16,7 +16,7 @@ use std::alloc::{AllocError, Global};
 /// How many bytes of a word are shown.
 const SHOWN: usize = 12;
 
-/// What is said of a line that would be a pass.
+/// What is said of a line that was meant as a pass.
 const PASS: &[u8] = b"; to pass, write TURN alone, and nothing among the orders for a company";
 
 /// A line with a fault, and where it is.
@@ -37,17 +37,17 @@ pub struct Faulty<'a> {
 /// What was meant by a line.
 #[derive(Drop)]
 enum Meant {
-    /// This line: its words, but for one edit.
+    /// This line, with one edit.
     Line(Vec<u8>),
     /// One of these lines, which complete it.
     Completed(Completed),
-    /// Nothing that is known.
+    /// It is not known what was meant.
     Unknown,
 }
 
 /// Adds what to write in place of a line with a fault, if that is known: its own words with one
-/// slip mended or its end added, where that is an order and no other is as near. Nothing for a
-/// fault that is no matter of its words. Fails only if allocation fails.
+/// slip mended or its end added, if that is an order and no other line is as near. Adds nothing for
+/// a fault that does not come from its words. Fails only if allocation fails.
 pub fn push_hint(out: &mut Vec<u8>, faulty: Faulty) -> Result<(), AllocError> {
     match faulty.fault {
         Fault::StrayByte => push_stray(out, faulty),
@@ -69,8 +69,8 @@ pub fn line_meant(alloc: Global, faulty: Faulty) -> Result<Option<Vec<u8>>, Allo
     }
 }
 
-/// Adds the name of the first stray byte of a line, and the line without stray bytes if it is an
-/// order then.
+/// Adds the name of the first stray byte of a line, and the line without stray bytes if that is an
+/// order.
 fn push_stray(out: &mut Vec<u8>, faulty: Faulty) -> Result<(), AllocError> {
     if let Some(stray) = stray_in(faulty.line) {
         out.extend_from_slice(b", here ")?;
@@ -113,8 +113,7 @@ fn push_of_words(out: &mut Vec<u8>, faulty: Faulty) -> Result<(), AllocError> {
     push_meant(out, faulty)
 }
 
-/// Adds what was meant by a line; the nearest words to its unknown ones, if no line is known that
-/// was meant.
+/// Adds what was meant by a line, or if that is not known the nearest words to its unknown ones.
 fn push_meant(out: &mut Vec<u8>, faulty: Faulty) -> Result<(), AllocError> {
     match meant_by(*out.allocator(), faulty)? {
         Meant::Line(line) => push_line(out, line.as_slice()),
@@ -149,8 +148,8 @@ fn meant_by(alloc: Global, faulty: Faulty) -> Result<Meant, AllocError>
 }
 
 /// Returns what was meant by words that spell no order: with one of them respelled, completed, with
-/// words parted otherwise, with one at another place, or without one. The first of these of which
-/// there is an order decides.
+/// words split or joined, with one moved, or without one. The first of these edits that gives an
+/// order decides.
 fn meant_by_words(alloc: Global, faulty: Faulty, words: &[&[u8]]) -> Result<Meant, AllocError>
     ensures { IfOk result (IsMeant faulty.entry.version) }
 {
@@ -179,7 +178,7 @@ fn meant_by_words(alloc: Global, faulty: Faulty, words: &[&[u8]]) -> Result<Mean
     only_of(faulty.version, &shortened)
 }
 
-/// Returns the only one of some lines that is an order; `Unknown` if none is, or several are.
+/// Returns the only one of some lines that is an order; `Unknown` if none or several are.
 #[tactic(auto, using(crate::proofs::ChoiceLemmas::only_one_is_order))]
 fn only_of(version: Version, edited: &Edited) -> Result<Meant, AllocError>
     ensures { IfOk result (IsMeant version) }
@@ -191,7 +190,7 @@ fn only_of(version: Version, edited: &Edited) -> Result<Meant, AllocError>
     }
 }
 
-/// Adds the lines that complete a line, of which each is as near.
+/// Adds the lines that complete a line, all equally near.
 fn push_completed(out: &mut Vec<u8>, completed: &Completed) -> Result<(), AllocError> {
     let count = completed.said.len();
     for (place, said) in completed.said.iter().enumerate() {
@@ -247,7 +246,7 @@ fn push_write(out: &mut Vec<u8>, word: &[u8], code: &[u8]) -> Result<(), AllocEr
     out.extend_from_slice(code)
 }
 
-/// Returns whether a word begins some form of line, as that of an order under a condition does.
+/// Returns whether a word begins some form of line, as IF begins a conditional order.
 fn is_first(word: &[u8]) -> bool {
     FIRSTS.iter().any(|first| word.eq_ignore_ascii_case(first))
 }

@@ -3,11 +3,11 @@ ghost use Rattle.std.specs.Prelude.{◌≡◌};
 
 use order_grammar::{Fault, begins_with_word};
 
-/// What parts a sentence from what it says of lines that begin with IF.
+/// What separates a sentence from its part about lines that begin with IF.
 const PARTED: &str = ";";
 
 /// Returns what is wrong with a line that has a fault, in a player's words: the sentence of the
-/// fault. What it says of lines that begin with IF is left out if this line does not.
+/// fault. The part about lines that begin with IF is left out if this line does not.
 pub fn sentence_of(line: &[u8], fault: Fault) -> &'static str {
     let sentence = fault.sentence();
     match fault {

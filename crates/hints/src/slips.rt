@@ -1,14 +1,14 @@
-//! Words that are nearly one that is known: `C&O` for CO, `NYHN` for NYNH.
+//! Words that are nearly a known one: `C&O` for CO, `NYHN` for NYNH.
 ghost use Rattle.std.specs.Prelude.{◌≡◌, drop, option_map};
 ghost use Rattle.std.specs.Str.{str_eq_ignore_ascii_case};
 ghost use Rattle.hints.specs.Slip.{are_turned, differ_at_first, is_code, is_near, is_slip, is_slip_in};
 ghost use Rattle.hints.specs.Slip.{nearest_code, only_slip, text, texts};
 
-/// The most bytes of a word that is read as a slip in another.
+/// The most bytes of a word that can be a slip in another.
 const WORD_MOST: usize = 9;
 
 /// Returns whether a word becomes a code by one slip: a letter more, a letter less, another letter,
-/// or two letters that change places. Letters of either case are equal.
+/// or two letters swapped. Case does not matter.
 fn is_slip_of(word: &[u8], code: &[u8]) -> bool
     ensures { result ≡ is_slip word.now code.now }
 {
@@ -21,8 +21,8 @@ fn is_slip_of(word: &[u8], code: &[u8]) -> bool
     }
 }
 
-/// Returns whether a word and a code differ at their first letter alone: it is one more, one less
-/// or another.
+/// Returns whether a word and a code differ only at their first letter, which is added, missing or
+/// another one.
 fn differ_at_first(word: &[u8], code: &[u8]) -> bool
     ensures { result ≡ differ_at_first word.now code.now }
 {
@@ -44,7 +44,7 @@ fn are_turned(word: &[u8], code: &[u8]) -> bool
     }
 }
 
-/// Returns whether two words are equal, letters of either case alike.
+/// Returns whether two words are equal. Case does not matter.
 fn are_equal(word: &[u8], other: &[u8]) -> bool
     ensures { result ≡ str_eq_ignore_ascii_case word.now other.now }
 {
@@ -65,8 +65,8 @@ pub(crate) fn is_near(word: &[u8], code: &[u8]) -> bool
     word.len() <= WORD_MOST && is_slip_of(word, code)
 }
 
-/// Returns the only code that is one slip away from a word; `None` if the word is itself a code, or
-/// no code or several are one slip away, or the word has over 9 bytes.
+/// Returns the only code that is one slip away from a word; `None` if the word is itself a code, if
+/// no code or several are one slip away, or if the word has over 9 bytes.
 pub(crate) fn nearest<'a>(word: &[u8], codes: &[&'a [u8]]) -> Option<&'a [u8]>
     ensures { option_map text result ≡ nearest_code word.now (texts codes.now) }
 {
@@ -77,7 +77,7 @@ pub(crate) fn nearest<'a>(word: &[u8], codes: &[&'a [u8]]) -> Option<&'a [u8]>
 }
 
 /// Returns the only one of some codes that is one slip away from a word; `None` if there is none,
-/// or there are several.
+/// or several.
 fn only_slip<'a>(word: &[u8], codes: &[&'a [u8]]) -> Option<&'a [u8]>
     ensures { option_map text result ≡ only_slip word.now (texts codes.now) }
 {

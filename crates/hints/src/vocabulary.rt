@@ -1,4 +1,4 @@
-//! The words of orders, as they are compared with those of a line.
+//! The words of orders, with which those of a line are compared.
 
 /// The first words of lines.
 pub(crate) static FIRSTS: [&[u8]; 20] = [
@@ -34,19 +34,19 @@ pub(crate) static CODES: [&[u8]; 25] = [
 /// Words that complete a line, with what is said of them.
 #[derive(Clone, Copy)]
 pub(crate) struct Ending {
-    /// One or more words, of which each stands for those of its class.
+    /// One or more words, each standing for its class.
     pub(crate) words: &'static str,
-    /// What is said of them in place of the words themselves; nothing if the words are shown.
+    /// What is said instead of the words themselves; empty if the words are shown.
     pub(crate) said: &'static str,
 }
 
-/// An ending: its words, which are shown, or before what is said of their class.
+/// An ending: its words alone, which are shown, or its words and what is said of their class.
 macro_rules! ending {
     ($words:expr) => { ending!($words, "") };
     ($words:expr, $said:expr) => { Ending { words: $words, said: $said } };
 }
 
-/// The endings that are tried. Of those of one line the first that completes an order is meant.
+/// The endings that are tried. In each row the first that completes an order is taken.
 pub(crate) static ENDINGS: [&[Ending]; 9] = [
     &[ending!("IPO")],
     &[ending!("BANK")],

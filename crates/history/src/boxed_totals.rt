@@ -1,5 +1,4 @@
-//! The totals of a game as the game keeps them: in a box, so that the game is passed on in few
-//! bytes.
+//! The totals of a game as the game keeps them: in a box, so that a game is few bytes to pass on.
 ghost use Rattle.std.specs.Prelude.{◌++◌, ◌∷◌, ◌<◌, ◌^◌, [], ◌≡◌, IfOk, List, MatchOption, OnOk, length};
 ghost use Rattle.events.specs.declared.event.Event.{Event as TheEvent};
 ghost use Rattle.totals.specs.Totals.{AreTotalsOf};
@@ -34,8 +33,8 @@ impl BoxedTotals {
         }
     }
 
-    /// Makes the box, if there is none, so that an event can be applied. The totals stay those of
-    /// the same events, even if the allocation of the box fails.
+    /// Makes the box, if there is none, so that an event can be applied. The totals do not change,
+    /// even if the allocation of the box fails.
     pub(crate) fn reserve(&mut self, alloc: Global) -> Result<(), AllocError>
         ensures same { (events : List TheEvent) →
             HasTotalsOf self.old events → HasTotalsOf self.new events }
@@ -60,8 +59,8 @@ impl BoxedTotals {
     }
 }
 
-/// Returns the totals of no events in a box. No other function has a game's totals among its
-/// locals, since every call of it would pay for them.
+/// Returns the totals of no events in a box. No other function keeps a game's totals among its
+/// locals, since each of its calls would pay for their bytes.
 #[inline(never)]
 fn boxed(alloc: Global) -> Result<Box<Totals>, AllocError>
     ensures { IfOk result (λ totals. AreTotalsOf totals.value []) }

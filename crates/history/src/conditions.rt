@@ -1,4 +1,4 @@
-//! Conditions of orders, as they are checked against a list.
+//! Conditions of orders, checked against a list.
 ghost use Rattle.std.specs.Prelude.{◌≡◌};
 ghost use Rattle.std.specs.Option.{option_copied};
 ghost use Rattle.history.specs.Conditions.{has_begun, holds, is_met, is_priced_at_least};
@@ -30,7 +30,7 @@ impl History {
     }
 }
 
-/// Returns whether a token has a square, and the price there is at least a sum.
+/// Returns whether a token has a square whose price is at least a sum.
 fn is_priced_at_least(sum: Amount, square: Option<Square>) -> bool
     ensures { result ≡ is_priced_at_least sum square }
 {
@@ -40,7 +40,7 @@ fn is_priced_at_least(sum: Amount, square: Option<Square>) -> bool
     }
 }
 
-/// Returns whether a phase is that of a kind or a later one.
+/// Returns whether a phase is the one of a kind of train, or a later one.
 fn has_begun(kind: Kind, phase: Kind) -> bool
     ensures { result ≡ has_begun kind phase }
 {

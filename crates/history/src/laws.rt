@@ -15,8 +15,8 @@ ghost use Rattle.totals.specs.AtEnd.{CashMoves, LastWordIsLast, LaysGrow, QuietS
 ghost use Rattle.totals.specs.AtEnd.{TokensGrow};
 ghost use Rattle.totals.specs.Trains.{AllTrainsStay};
 
-/// States that what was said last of a thing is what the last event says, or otherwise what was
-/// said before it.
+/// States that the last word on something is what the last event says of it, or if that says
+/// nothing what was said before.
 pub fn last_word_is_last<T>()
     ensures { LastWordIsLast T }
 {}
@@ -27,28 +27,28 @@ pub fn cash_moves()
     ensures { CashMoves }
 {}
 
-/// States that the bank, the seats at the table and the companies have 12,000 together, as long as
-/// money goes only between them.
+/// States that the bank, the seats at the table and the companies together have 12,000 dollars, as
+/// long as money moves only between them.
 #[tactic(auto, using(crate::proofs::Money::money_stays))]
 pub fn all_money_stays()
     ensures { AllMoneyStays }
 {}
 
-/// States that the trains of a kind that the bank has sold are those of the bank pool and the
+/// States that the trains of a kind that the bank has sold are those in the bank pool, those of the
 /// companies, and those that have left play.
 pub fn all_trains_stay()
     ensures { AllTrainsStay }
 {}
 
-/// States that the parties of a sound list have 12,000 together, and that the owner of a private is
-/// one of them.
+/// States that the parties of a sound list together have 12,000 dollars, and that the owner of a
+/// private is one of them.
 pub fn money_of_sound_lists()
     ensures together { SoundMoneyStays }
     ensures owners { OwnersAreParties }
 {}
 
 /// States that a quiet event changes nothing that parties have and own, and leaves SV's price. A
-/// quiet event says nothing of these or of the tiles and tokens on the map.
+/// quiet event does not mention these, nor the tiles and tokens on the map.
 pub fn quiet_says_the_same()
     ensures { QuietSaysTheSame }
 {}
@@ -60,14 +60,14 @@ pub fn quiet_keeps_sound()
 {}
 
 /// States that a bid that differs from those of other seats on the private keeps a list sound, if
-/// the seat has its sum free of its other bids.
+/// the seat has its sum besides its other bids.
 #[tactic(auto, using(crate::proofs::Acts::bid_sound))]
 pub fn bid_keeps_sound()
     ensures { BidKeepsSound }
 {}
 
 /// States that a sale of an unsold private to a seat at the table keeps a list sound, if the seat
-/// has the price free of its other bids.
+/// has the price besides its other bids.
 #[tactic(auto, using(crate::proofs::Acts::sale_sound))]
 pub fn sale_keeps_sound()
     ensures { SaleKeepsSound }
@@ -79,8 +79,8 @@ pub fn revenue_keeps_sound()
     ensures { RevenueKeepsSound }
 {}
 
-/// States that a price that SV may have keeps a list sound, and so does 0 with the gift of SV to a
-/// seat at the table.
+/// States that a price that SV may have keeps a list sound, and that a price of 0 followed by the
+/// gift of SV to a seat at the table does.
 #[tactic(auto, using(crate::proofs::Acts::price_sound, crate::proofs::Acts::gift_sound))]
 pub fn price_keeps_sound()
     ensures price { PriceKeepsSound }
@@ -104,7 +104,7 @@ pub fn start_keeps_sound()
 {}
 
 /// States that a purchase of shares of a started company keeps a list sound under two conditions.
-/// There are this many, and a seat at the table has their price free of its bids.
+/// There are that many, and a seat at the table has their price besides its bids.
 pub fn purchase_keeps_sound()
     ensures { PurchaseKeepsSound }
 {}
@@ -167,15 +167,15 @@ pub fn dividend_keeps_sound()
     ensures dividend { DividendKeepsSound }
 {}
 
-/// States that the purchase of a train that is there keeps a list sound, if the company can pay for
-/// it. So does a train of the company that is traded in.
+/// States that the purchase of an available train keeps a list sound, if the company can pay for
+/// it. So does trading in a train of the company.
 #[tactic(auto, using(crate::proofs::TrainActs::train_purchase_sound, crate::proofs::TrainActs::trade_sound))]
 pub fn train_purchase_keeps_sound()
     ensures purchase { TrainPurchaseKeepsSound }
     ensures trade { TradeKeepsSound }
 {}
 
-/// States that what a new phase brings keeps a list sound: that it begins, that trains rust, that
+/// States that the effects of a new phase keep a list sound: that it begins, that trains rust, that
 /// privates close, and that companies discard trains.
 #[tactic(auto, using(crate::proofs::TrainActs::phase_sound, crate::proofs::TrainActs::rusting_sound, crate::proofs::TrainActs::closing_sound, crate::proofs::TrainActs::discard_sound))]
 pub fn phase_keeps_sound()
@@ -193,7 +193,7 @@ pub fn private_keeps_sound()
 {}
 
 /// States that a forced purchase keeps a list sound: that it is due, and that the president is
-/// bankrupt. So does what the president pays of it, if they have the sum free of their bids.
+/// bankrupt. So does what the president pays of it, if they have the sum besides their bids.
 #[tactic(auto, using(crate::proofs::ForcedActs::forcing_sound, crate::proofs::ForcedActs::aid_sound, crate::proofs::ForcedActs::bankruptcy_sound))]
 pub fn forcing_keeps_sound()
     ensures due { ForcingKeepsSound }
@@ -209,15 +209,15 @@ pub fn map_state_grows()
     ensures tokens { TokensGrow }
 {}
 
-/// States that a line of a seat's sheet that is ruled is one more in the round, and that a round
-/// begins the count again.
+/// States that each ruled line of a seat's sheet adds one to its count for the round, and that a
+/// new round restarts the count.
 #[tactic(auto, using(totals::proofs::InOrder::rulings_at_end))]
 pub fn rulings_are_counted()
     ensures { RulingsAreCounted }
 {}
 
-/// States that companies with squares have come there by different events, so that one came
-/// earlier. An event at the end by which a company reaches a square is later than all before it.
+/// States that companies with squares reached them by different events, so that one was earlier. If
+/// the last event moves a company to a square, that company arrived last.
 #[tactic(auto, using(crate::proofs::Arrivals::arrivals_differ_law, crate::proofs::Arrivals::arrival_at_end))]
 pub fn arrivals_differ()
     ensures differ { ArrivalsDiffer }

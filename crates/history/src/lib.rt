@@ -1,13 +1,13 @@
-//! The one value that a game is: the number of its seats, and the list of its events, oldest first.
+//! A game as one value: the number of its seats, and the list of its events, oldest first.
 //!
-//! The crate `totals` has what the list says, and the totals that say the same at once. The crate
-//! `events` has what happens, an event at a time. This crate names both again. A list is sound if
-//! nothing that it says is against the rules, as `specs/Sound.antt` defines it. Most events leave
-//! most facts alone, and the laws say which event keeps a list sound.
+//! The crate `totals` defines what the list says, and has the totals that say the same at once. The
+//! crate `events` has what happens, an event at a time. This crate re-exports both. A list is sound
+//! if nothing in it is against the rules, as `specs/Sound.antt` defines. Most events leave most
+//! facts alone; the laws say which events keep a list sound.
 //!
-//! Reading order: `list` (`History`), `boxed_totals` and `offers_of_round` (what it keeps beside
-//! the list), `record_event` (events that follow from the list alone), `conditions` (of orders, as
-//! they are checked against a list), `walk` (along a list, with its totals), `laws`.
+//! Reading order: `list` (`History`), `boxed_totals` and `offers_of_round` (what it keeps besides
+//! the list), `record_event` (events that follow from the list alone), `conditions` (of orders,
+//! checked against a list), `walk` (along a list, with its totals), `laws`.
 #![tactic(auto)]
 
 mod boxed_totals;

@@ -1,5 +1,5 @@
-//! The game as one value: its seats and its events, with totals beside them that answer at once
-//! what the list says.
+//! The game as one value: its seats and its events, with totals beside them that give at once what
+//! the list says.
 ghost use Rattle.std.specs.Prelude.{◌≡◌, ◌↔◌, ◌≤◌, ◌<◌, ◌++◌, IsTrue, IsOk, MatchResult, OnOk, OnErr, option_map, pos};
 ghost use Rattle.std.specs.Prelude.{is_some, slice_get, vec_capacity, vec_len, []};
 ghost use Rattle.std.specs.List.{cons_option};
@@ -28,9 +28,9 @@ use std::marker::Model;
 use tables::{Company, Kind, Money, Private, Seat, Square};
 use totals::{GameView, ShareCount, TrainCount};
 
-/// A game: the number of its seats and the list of its events, oldest first. Beside the list it
-/// keeps its totals, the tiles and the tokens that lie on the map, and the sales that were offered
-/// in the round. It is passed by value, so it has few bytes.
+/// A game: the number of its seats and the list of its events, oldest first. Besides the list it
+/// keeps its totals, the tiles and the tokens that lie on the map, and the sales offered in the
+/// current round. It is passed by value, so it has few bytes.
 #[derive(Drop)]
 pub struct History {
     seats: usize,
@@ -85,7 +85,7 @@ impl History {
         event.sum() <= SUM_MOST
     }
 
-    /// Adds an event at the end. Fails only if allocation fails, which leaves the list as it was.
+    /// Adds an event at the end. Fails only if allocation fails, which leaves the list unchanged.
     pub fn append(&mut self, event: Event) -> Result<(), AllocError>
         requires { sum_of event ≤ 1000000 }
         ensures ok { OnOk result (self.new ≡ with_event self.old event) }
@@ -115,7 +115,7 @@ impl History {
         self.seats
     }
 
-    /// Returns the game as it stands.
+    /// Returns a view of the game now.
     pub fn now(&self) -> GameView<'_>
         ensures seats { result.seats ≡ self.now.seats }
         ensures events { result.events.now ≡ self.now.events }
@@ -128,7 +128,7 @@ impl History {
         )
     }
 
-    /// Returns what a party has, in dollars; the bank's cash may be under 0.
+    /// Returns a party's cash, in dollars; the bank's may be negative.
     pub fn cash(&self, party: Party) -> Money
         ensures sum { result ≡ cash_of self.now.seats self.now.events party }
         ensures within { IsModerate result }
@@ -143,9 +143,8 @@ impl History {
         self.now().owner(private)
     }
 
-    /// Returns the price of SV, in dollars, at first its face. It is `Money`, like a cash that it
-    /// is compared with; `GameView::sv_price` returns the same price as the `Amount` that a payment
-    /// names.
+    /// Returns the price of SV, in dollars, at first its face value. It is `Money`, like the cash
+    /// that it is compared with; `GameView::sv_price` returns it as the `Amount` of a payment.
     pub fn sv_price(&self) -> Money
         ensures { result ≡ pos (sv_price_of self.now.events) }
     {
@@ -160,8 +159,8 @@ impl History {
     }
 
     /// Packs a copy of an order with its condition, if it has one, with the list's own allocator.
-    /// Fails only if the allocation of a box fails. Of the orders that are ruled, only one under a
-    /// condition and a run of more than five places need a box.
+    /// Fails only if the allocation of a box fails. Of the orders that are ruled, only conditional
+    /// ones and runs of more than five places need a box.
     pub fn pack(
         &self,
         condition: Option<&Condition>,
@@ -216,7 +215,7 @@ impl History {
         self.lays.as_slice()
     }
 
-    /// Returns the tokens that were placed, oldest first, including those of homes.
+    /// Returns the tokens that were placed, oldest first, including home tokens.
     pub fn tokens(&self) -> &[(Place, Company)]
         ensures { result.now ≡ tokens_of self.now.events }
     {
@@ -231,8 +230,8 @@ impl History {
         self.lays.get(place).copied()
     }
 
-    /// Returns the token that was placed at this place in the order of tokens, those of homes
-    /// included, from 0 for the oldest; `None` if there are fewer.
+    /// Returns the token that was placed at this place in the order of tokens, including home
+    /// tokens, from 0 for the oldest; `None` if there are fewer.
     pub fn token(&self, place: usize) -> Option<(Place, Company)>
         ensures { result ≡ slice_get (tokens_of self.now.events) place }
     {
@@ -297,7 +296,7 @@ fn keep(
     apply_offer(offers, event)
 }
 
-/// Adds one thing at the end of a list that has room for it, if there is one.
+/// Adds an item, if there is one, at the end of a list that has room for it.
 pub(crate) fn push_any<T>(list: &mut Vec<T>, one: Option<T>) -> Result<(), AllocError>
 where
     T: Drop,

@@ -1,4 +1,4 @@
-//! The sales offered in the round, as a game keeps them.
+//! The sales offered in the current round, as a game keeps them.
 ghost use Rattle.std.specs.Prelude.{◌≡◌, ◌<◌, IsOk, is_some, vec_capacity, vec_len};
 ghost use Rattle.events.specs.Event.{obeyed_of};
 ghost use Rattle.events.specs.Offers.{offered_in};
@@ -12,7 +12,7 @@ use order_grammar::Offer;
 use std::alloc::AllocError;
 use tables::Seat;
 
-/// Returns the sale that is offered by the line that an event rules, with the seat that offers it.
+/// Returns the sale that an event's line offers, with the seat that offers it, if it is obeyed.
 fn offer_in_event(event: &Event) -> Option<(Seat, Offer)>
     ensures { (seat : Seat) (sale : Offer) → says_offer seat sale result
         ≡ is_some (said_by seat (offered_in sale) (obeyed_of event.now)) }
@@ -26,8 +26,8 @@ fn offer_in_event(event: &Event) -> Option<(Seat, Offer)>
     }
 }
 
-/// Applies the sale that is offered by an event in a list that has room for one more; one that
-/// begins a round clears the list.
+/// Adds the sale that an event offers to a list that has room for one more. An event that begins a
+/// round clears the list.
 pub(crate) fn apply_offer(offers: &mut Vec<(Seat, Offer)>, event: &Event) -> Result<(), AllocError>
     requires { vec_len offers.old < vec_capacity offers.old }
     ensures applied { (seat : Seat) (sale : Offer) → is_among seat sale offers.new.items

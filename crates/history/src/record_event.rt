@@ -12,7 +12,7 @@ use tables::{Private, Seat, revenue};
 
 impl History {
     /// Adds an event that changes nothing that parties have and own, and nothing on the map. Fails
-    /// only if allocation fails, which leaves the list as it was.
+    /// only if allocation fails, which leaves the list unchanged.
     pub fn record_event(&mut self, event: Event) -> Result<(), AllocError>
         requires sum { sum_of event ≤ 1000000 }
         requires quiet { IsQuiet event }
@@ -25,8 +25,9 @@ impl History {
         Ok(())
     }
 
-    /// Records that the bank is broken, once, if its cash is 0 or less. It is called after each
-    /// payment of the bank. Fails only if allocation fails, which leaves the list as it was.
+    /// Records that the bank is broken if its cash is 0 or less, unless that is recorded already.
+    /// It is called after each payment of the bank. Fails only if allocation fails, which leaves
+    /// the list unchanged.
     pub fn record_broken(&mut self) -> Result<(), AllocError>
         ensures ok { OnOk result (self.new ≡ broken_recorded self.old) }
         ensures err { OnErr result (self.new ≡ self.old) }
@@ -39,9 +40,9 @@ impl History {
         Ok(())
     }
 
-    /// Records that each private that has an owner pays it its revenue, in roster order; perhaps
-    /// that breaks the bank. Fails only if allocation fails; then the list may have the first of
-    /// these revenues.
+    /// Records that each private with an owner pays its revenue to them, in roster order; that may
+    /// break the bank. Fails only if allocation fails; then the list may have the first of these
+    /// revenues.
     pub fn record_revenues(&mut self) -> Result<(), AllocError>
         requires { IsSound self.old }
         ensures ok { OnOk result (self.new ≡ revenues_recorded self.old) }
@@ -71,7 +72,7 @@ impl History {
     }
 
     /// Records that this many lines of a seat's sheet were not taken up, if there are any. Fails
-    /// only if allocation fails, which leaves the list as it was.
+    /// only if allocation fails, which leaves the list unchanged.
     pub fn record_left(&mut self, seat: Seat, lines: u32) -> Result<(), AllocError>
         requires { IsSound self.old }
         ensures ok { OnOk result (self.new ≡ left_recorded seat lines self.old) }

@@ -1,4 +1,4 @@
-//! A way along a list of events, with the totals of those that were passed.
+//! A walk along a list of events, with the totals of those passed so far.
 ghost use Rattle.std.specs.Prelude.{◌≡◌, ◌+◌, ◌<◌, ◌≤◌, length, take};
 ghost use Rattle.totals.specs.Totals.{AreTotalsOf};
 ghost use Rattle.totals.specs.LookBack.{FitsMemory};
@@ -6,13 +6,13 @@ ghost use Rattle.totals.specs.LookBack.{FitsMemory};
 use events::Event;
 use totals::{GameView, Totals};
 
-/// A list of events, the first of which were passed, and the totals of those. A reader who looks at
-/// a game as it stood, and then at the same game later, applies each event once.
+/// A list of events, the number passed so far, and the totals of those. To look at a game at one
+/// point and then at a later one, it applies each event only once.
 #[derive(Clone, Copy)]
 pub struct Walk<'a> {
     /// All events.
     pub events: &'a [Event],
-    /// How many of them were passed.
+    /// How many of them have been passed.
     pub passed: usize,
     totals: Totals,
     ghost short: { FitsMemory events.now },
@@ -21,7 +21,7 @@ pub struct Walk<'a> {
 }
 
 impl<'a> Walk<'a> {
-    /// Returns a walk that is before the first of these events.
+    /// Returns a walk before the first of these events.
     pub fn along(events: &'a [Event]) -> Walk<'a>
         requires { FitsMemory events.now }
         ensures events { result.events.now ≡ events.now }
@@ -69,7 +69,7 @@ impl<'a> Walk<'a> {
         self.passed += 1;
     }
 
-    /// Returns the game as it stood after the events that were passed.
+    /// Returns a view of the game after the events passed so far.
     pub fn view(&self, seats: usize) -> GameView<'_>
         ensures seats { result.seats ≡ seats }
         ensures events { result.events.now ≡ take self.now.passed self.now.events.now }

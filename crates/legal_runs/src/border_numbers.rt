@@ -5,10 +5,10 @@ ghost use Rattle.map_tables.specs.Border.{neighbour_of};
 
 use map_tables::{HEXES, Hex, Side, neighbour};
 
-/// How many of its borders a hex numbers: those at its sides 0, 1 and 2.
+/// The number of borders that get their numbers from one hex: those at its sides 0, 1 and 2.
 const NUMBERED: usize = 3;
 
-/// How many borders the hexes of the map have.
+/// The number of border numbers.
 pub const BORDERS: usize = NUMBERED * HEXES;
 
 /// Returns the number of the border at a side of a hex.
@@ -19,7 +19,7 @@ pub(crate) fn border(hex: Hex, side: Side) -> usize
     border_to(hex, side, neighbour(hex, side))
 }
 
-/// Returns the number of the border at a side of a hex, given the neighbour that the hex has there.
+/// Returns the number of the border at a side of a hex, given its neighbour there.
 #[tactic(auto, unfolding(crate::specs::Legal::border_of))]
 pub fn border_to(hex: Hex, side: Side, beyond: Option<Hex>) -> usize
     requires { beyond ≡ neighbour_of hex side }

@@ -1,4 +1,4 @@
-//! The check of a run that is written out: what the run earns, or the first rule that it breaks.
+//! The check of a run place by place: what the run earns, or the first rule that it breaks.
 ghost use Rattle.std.specs.Prelude.{◌≡◌, ◌↔◌, IfOk, IfErr, IsOk, None, Some, pos};
 ghost use Rattle.legal_runs.specs.Fault.{named_steps, run_fault};
 ghost use Rattle.legal_runs.specs.Law.{NameLegalRun};
@@ -14,13 +14,13 @@ use map_tables::{Run, RunRule, TrackEnd};
 use reach::{Network, Spot};
 use tables::{Company, Kind, Money};
 
-/// The first rule that a run breaks: one of those that look at the map state, R3 to R9.
+/// The first rule that a run breaks, of R3 to R9, which depend on the map state.
 pub type RunFault = RunRule;
 
-/// Rules a run of a company's train of a kind, as it is written out place by place. It returns `Ok`
-/// exactly if the run is legal over the borders that are used. The value is what it earns, in
-/// dollars, and from then on the borders that it crosses are used, and no others. Otherwise the
-/// error is the first rule that the run breaks, and `used` is as it was.
+/// Rules a run of a company's train of a kind, written out place by place. Returns `Ok` exactly if
+/// the run is legal given the used borders. The value is what it earns, in dollars, and `used`
+/// gains the borders that it crosses and no others. Otherwise the error is the first rule that the
+/// run breaks, and `used` does not change.
 pub fn check_run<N: Network>(
     network: &N,
     company: Company,

@@ -1,4 +1,4 @@
-//! A claim: a revenue of a company's trains, and the runs that are said to earn it.
+//! A claim: a revenue of a company's trains, and the runs said to earn it.
 ghost use Rattle.std.specs.Prelude.{◌≡◌, [], ◌∷◌, ◌++◌, OnOk, OnErr};
 
 use map_tables::Run;
@@ -6,7 +6,7 @@ use std::alloc::{AllocError, Global};
 use std::marker::Model;
 use tables::{Amount, Kind};
 
-/// A run that is claimed: a train's kind, and the run as it would be written out.
+/// A run that is claimed: a train's kind, and the run, written out.
 #[derive(Drop)]
 pub struct ClaimedRun {
     pub kind: Kind,
@@ -38,7 +38,7 @@ impl ClaimedRuns {
         }
     }
 
-    /// Adds a run at the end. Fails only if allocation fails, which leaves the runs as they were.
+    /// Adds a run at the end. Fails only if allocation fails, which leaves the runs unchanged.
     pub fn push(&mut self, run: ClaimedRun) -> Result<(), AllocError>
         ensures added { OnOk result (self.new ≡ self.old ++ run ∷ []) }
         ensures kept { OnErr result (self.new ≡ self.old) }

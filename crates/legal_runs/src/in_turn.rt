@@ -1,4 +1,4 @@
-//! Whether a claim holds: its runs are checked one after the other, and its trains counted.
+//! Whether a claim holds: the check rules its runs one after another, and counts its trains.
 ghost use Rattle.std.specs.List.{list_all};
 ghost use Rattle.std.specs.Prelude.{◌≡◌, ◌↔◌, IsTrue};
 ghost use Rattle.legal_runs.specs.Claim.{ClaimHolds};
@@ -13,7 +13,7 @@ use reach::Network;
 use tables::{Amount, Company, Kind, Money, same_kind};
 
 /// Returns whether a claim for a company's trains holds: its places name the walks of a legal set
-/// of runs for them, which earns what is claimed. Allocates nothing.
+/// of runs for them that earns the claimed revenue. Allocates nothing.
 pub fn claim_holds<N: Network>(
     network: &N,
     company: Company,
@@ -27,7 +27,7 @@ pub fn claim_holds<N: Network>(
     are_taken(trains, claimed) && are_legal_in_turn(network, company, claimed, claim.revenue)
 }
 
-/// Returns whether claimed runs are legal one after the other, and earn this much together.
+/// Returns whether claimed runs are legal one after another, and together earn this much.
 fn are_legal_in_turn<N: Network>(
     network: &N,
     company: Company,
@@ -48,7 +48,7 @@ fn are_legal_in_turn<N: Network>(
     left == 0
 }
 
-/// Returns whether there are as many trains of each kind as claimed runs.
+/// Returns whether there are at least as many trains of each kind as claimed runs of that kind.
 fn are_taken(trains: &[Kind], claimed: &[ClaimedRun]) -> bool
     ensures { result ≡ list_all (has_enough trains.now claimed.now) kinds }
 {
@@ -57,7 +57,7 @@ fn are_taken(trains: &[Kind], claimed: &[ClaimedRun]) -> bool
         .all(|kind| has_enough(trains, claimed, *kind))
 }
 
-/// Returns whether there are as many trains of a kind as claimed runs.
+/// Returns whether there are at least as many trains of a kind as claimed runs of that kind.
 fn has_enough(trains: &[Kind], claimed: &[ClaimedRun], kind: Kind) -> bool
     ensures { result ≡ has_enough trains.now claimed.now kind }
 {

@@ -18,23 +18,23 @@ ghost use Rattle.legal_runs.specs.Greatest.{
 ghost use Rattle.legal_runs.specs.InTurn.{ClaimHoldsInTurn};
 ghost use Rattle.legal_runs.specs.Places.{ClaimsHavePlaces};
 
-/// States that what some places name is a legal run exactly if they break no rule. The walk that
-/// they name then leads from a stop to a stop and keeps all that a legal run must keep.
+/// States that some places name a legal run exactly if they break no rule. The walk that they name
+/// then leads from a stop to a stop and has every property of a legal run.
 #[tactic(auto, using(crate::proofs::Lawful::legal_where_unbroken))]
 pub fn legal_where_no_rule_is_broken()
     ensures { LegalWhereNoRuleIsBroken }
 {}
 
-/// States that each border has a number of its own. Two sides of hexes that each lie at a border
-/// have one number exactly if they are one side, or the two sides of one border.
+/// States that each border has its own number. Two sides of hexes that are at borders have the same
+/// number exactly if they are the same side, or the two sides of one border.
 pub fn borders_have_own_numbers()
     ensures { BordersHaveOwnNumbers }
 {
     map_tables::laws::neighbours_pair();
 }
 
-/// States that after a run the used borders are those that were used before it and those that it
-/// crosses: its borders are marked, and no others.
+/// States that after a run the used borders are those used before it and those that it crosses, and
+/// no others.
 pub fn crossed_borders_are_used()
     ensures { CrossedBordersAreUsed }
 {}
@@ -45,7 +45,7 @@ pub fn legal_by_marks()
     ensures { LegalByMarks }
 {}
 
-/// States that a run that is legal once the borders of another are used shares no border with it.
+/// States that a run that is legal after another shares no border with it.
 pub fn runs_share_no_border()
     ensures { RunsShareNoBorder }
 {}
@@ -62,14 +62,14 @@ pub fn each_legal_run_is_named()
     ensures { EachLegalRunIsNamed }
 {}
 
-/// States that there is a greatest revenue that a company's trains can earn, whatever lies: some
-/// legal set of runs earns it and none earns more. It is under 50,000 dollars.
+/// States that there is a greatest revenue that a company's trains can earn, whatever is on the
+/// map: some legal set of runs earns it and none earns more. It is under 50,000 dollars.
 #[tactic(auto, using(crate::proofs::Greatest::a_greatest_exists))]
 pub fn a_greatest_exists()
     ensures { AGreatestExists }
 {}
 
-/// States that there is no second greatest revenue.
+/// States that there is only one greatest revenue.
 #[tactic(auto, using(crate::proofs::Greatest::one_greatest))]
 pub fn one_greatest()
     ensures { OneGreatest }
@@ -93,8 +93,8 @@ pub fn order_of_trains_changes_nothing()
     ensures { OrderOfTrainsChangesNothing }
 {}
 
-/// States that a claim holds exactly if its trains are no more than there are, and its runs are
-/// legal one after the other and together earn what is claimed.
+/// States that a claim holds exactly if it has no more runs of each kind than there are trains, its
+/// runs are legal one after another, and together they earn the claimed revenue.
 pub fn claim_holds_in_turn()
     ensures { ClaimHoldsInTurn }
 {}

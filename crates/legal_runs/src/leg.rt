@@ -21,7 +21,7 @@ pub(crate) struct Leg {
 
 /// Returns the leg that leads a train to a place, if there is such track. `links` has the links of
 /// the hex where the train is, and then those of the place's hex, so that the network is asked for
-/// the links of a hex once.
+/// the links of a hex only once.
 #[tactic(auto, unfolding(crate::specs::Named::leg_to))]
 pub(crate) fn leg_to<N: Network>(
     network: &N,
@@ -62,7 +62,7 @@ pub(crate) fn leg_to<N: Network>(
     }
 }
 
-/// Returns the side of a hex at which another lies; `None` if they are no neighbours.
+/// Returns the side of a hex at which another lies; `None` if they are not neighbours.
 #[tactic(auto, unfolding(crate::specs::Named::side_towards))]
 fn side_towards(hex: Hex, other: Hex) -> Option<Side>
     ensures { result ≡ side_towards hex other }
@@ -81,7 +81,7 @@ fn first_towards(sides: &[Side], hex: Hex, other: Hex) -> Option<Side>
         .find(|side| is_hex(other, neighbour(hex, *side)))
 }
 
-/// Returns whether a hex is the one that is looked for.
+/// Returns whether a hex is the one sought.
 fn is_hex(hex: Hex, found: Option<Hex>) -> bool
     ensures { result ≡ is_hex hex found }
 {
@@ -91,8 +91,8 @@ fn is_hex(hex: Hex, found: Option<Hex>) -> bool
     }
 }
 
-/// Returns the step from one end of a hex to another, if they are joined by one of these links,
-/// which are those of the hex.
+/// Returns the step from one end of a hex to another, if one of these links, which are those of the
+/// hex, joins them.
 #[tactic(auto, unfolding(crate::specs::Named::step_between))]
 #[inline(always)]
 fn step_between<N: Network>(
@@ -120,7 +120,7 @@ fn has_link(links: &[Link], link: Link) -> bool
     links.iter().any(|other| same_link(*other, link))
 }
 
-/// Returns whether two links are one. (By their numbers, which the prover knows at once.)
+/// Returns whether two links are the same, by their numbers, with which the prover can compute.
 fn same_link(link: Link, other: Link) -> bool
     ensures { result ≡ same_link link other }
 {

@@ -1,5 +1,5 @@
 //! Runners, which find the greatest revenue of a company's trains: their trait, and why they may
-//! return none.
+//! fail.
 ghost use Rattle.std.specs.Prelude.{◌≡◌, Bool, true, List, Result, IfOk, IfErr, ℤ};
 ghost use Rattle.legal_runs.specs.Set.{IsGreatestMoney};
 ghost use Rattle.legal_runs.specs.declared.runner.RunnerFault.{RunnerFault};
@@ -20,7 +20,7 @@ pub enum RunnerFault {
     /// An allocation failed.
     #[error("an allocation failed")]
     Memory,
-    /// The runner refused this round and company.
+    /// The runner has no accepted result for this round and company.
     #[error("the runner refused a company in an operating round")]
     Refused,
 }

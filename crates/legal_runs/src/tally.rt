@@ -19,14 +19,14 @@ use tables::{Amount, Company, Kind, rules};
 pub(crate) struct Tally {
     /// Whether it has followed a step.
     begun: bool,
-    /// How many stops it has visited; one that it visited again counts again.
+    /// How many stops it has visited; a stop counts once for each visit.
     stops: usize,
     /// What these are worth, in dollars.
     pub(crate) value: Amount,
     /// The stops that it has visited, by their order on the map.
     seen: [bool; STOPS],
     stop_twice: bool,
-    /// The borders that it and the trains before it have crossed.
+    /// The borders that it and earlier trains have crossed.
     pub(crate) crossed: [bool; BORDERS],
     border_twice: bool,
     passes_full: bool,

@@ -15,7 +15,7 @@ use reach::{Network, Spot, WalkStep, stop_order};
 use tables::Company;
 
 /// Returns whether some run of a company is legal for a 2-train if no border is used. Track then
-/// leads from a stop with its token to another, and no stop lies between. Allocates nothing.
+/// leads from a stop with its token to another stop, with no stop between. Allocates nothing.
 pub fn can_run<N: Network>(network: &N, company: Company) -> bool
     ensures { IsTrue result ↔ CanRun (N.position network.now) company }
 {
@@ -28,8 +28,8 @@ pub fn can_run<N: Network>(network: &N, company: Company) -> bool
     false
 }
 
-/// Returns whether such a run leaves its first stop by a link of a hex. A hex without a token of
-/// the company is not asked for its links.
+/// Returns whether such a run leaves its first stop by a link of a hex. It does not look at the
+/// links of a hex without a token of the company.
 fn leaves_hex<N: Network>(network: &N, company: Company, hex: Hex) -> bool
     requires { IsLawful (N.position network.now) }
     ensures { let position = N.position network.now in
@@ -108,8 +108,8 @@ fn leaves_stop<N: Network>(network: &N, company: Company, start: Stop, step: Wal
     network.token(start, company) && leads_on(network, start, step, &Used::new())
 }
 
-/// Returns whether a step, and others after it, lead to a stop that is not the first one, over
-/// borders that are not used.
+/// Returns whether a step, and others after it, lead over unused borders to a stop that is not the
+/// first one.
 #[cycle(track)]
 fn leads_on<N: Network>(network: &N, start: Stop, step: WalkStep, used: &Used) -> bool
     requires { IsLawful (N.position network.now) }

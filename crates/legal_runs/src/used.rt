@@ -27,7 +27,7 @@ impl Model for Used {
 }
 
 impl Used {
-    /// Returns marks by which no border has been crossed yet.
+    /// Returns marks for no border.
     pub fn new() -> Used
         ensures { result ≡ replicate 279 false }
     {
@@ -36,8 +36,8 @@ impl Used {
         }
     }
 
-    /// Returns the borders that are used once the one at a spot is used too; `None` if it is used
-    /// already, and at a stop.
+    /// Returns the used borders with the one at a spot added; `None` if that is used already, or if
+    /// the spot is a stop.
     #[tactic(auto, using(crate::proofs::Fewer::fewer_free))]
     pub(crate) fn over(&self, spot: Spot) -> Option<Used>
         ensures crossing { result ≡ crossing self.now spot }
@@ -55,7 +55,7 @@ impl Used {
         Some(over)
     }
 
-    /// Returns whether a border is used, by its number.
+    /// Returns whether the border with a number is used.
     pub fn has(&self, border: usize) -> bool
         requires { border < 279 }
         ensures { result ≡ get_or self.now border false }

@@ -8,7 +8,7 @@ use map_tables::{Place, Run, StopNumber, TrackEnd};
 use reach::{Spot, WalkStep};
 
 /// Writes out a run by its places, from the steps of its walk. The latest step comes first, as in
-/// the definitions. The places of each legal run are from 2 to 280, and name its walk.
+/// the definitions. Each legal run has 2 to 280 places, which name its walk.
 pub fn write_run(steps: &[WalkStep]) -> Run
     requires least { 2 ≤ length (places_of steps.now) }
     requires most { length (places_of steps.now) ≤ 280 }
@@ -25,7 +25,7 @@ pub fn write_run(steps: &[WalkStep]) -> Run
     Run::from_places(places).unwrap()
 }
 
-/// Returns the place to which a step comes over a border; `None` if it is entered at a stop.
+/// Returns the place that a step reaches over a border; `None` if it is entered at a stop.
 fn place_over(step: WalkStep) -> Option<Place>
     ensures { result ≡ place_over (entered_at step).end (left_at step) }
 {

@@ -1,4 +1,4 @@
-//! The hexes at the sides of each hex, with those across a closed border or without them.
+//! The hexes at the sides of each hex, with or without those across a closed border.
 ghost use Rattle.std.specs.Prelude.{◌≡◌};
 ghost use Rattle.map_tables.specs.Border.{adjacent, neighbour_of};
 
@@ -7,7 +7,8 @@ use crate::hex::{HEXES, Hex};
 use crate::side::{PerSide, Side};
 
 /// The hexes at the sides of each hex, south-west first; `None` off the map, and if the border
-/// between the two is closed. A hex here is found at once, and not by its row and column.
+/// between the two is closed. With this table a neighbour is found at once, and not by row and
+/// column.
 static NEIGHBOURS: [PerSide<Option<Hex>>; HEXES] = [
     [None, None, None, None, Some(A11), Some(B10)],
     [Some(B10), Some(A9), None, None, None, Some(B12)],
@@ -350,7 +351,7 @@ pub fn neighbour(hex: Hex, side: Side) -> Option<Hex>
     NEIGHBOURS[hex.index()][side.number()]
 }
 
-/// Returns the hex that lies at a side of a hex, also if the border between the two is closed;
+/// Returns the hex that lies at a side of a hex, even if the border between the two is closed;
 /// `None` off the map.
 #[tactic(auto, unfolding(crate::specs::Border::adjacent))]
 pub fn adjacent(hex: Hex, side: Side) -> Option<Hex>

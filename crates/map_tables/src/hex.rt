@@ -272,7 +272,7 @@ impl Hex {
     }
 }
 
-/// Returns the only hex that may lie in this row and column; `None` if none may.
+/// Returns the only hex that can be in this row and column; `None` if none can.
 #[tactic(auto, unfolding(crate::specs::Hex::hexes))]
 fn guess(row: u8, column: u8) -> Option<Hex>
     ensures { result ≡ guess_at row column }
@@ -288,8 +288,7 @@ fn guess(row: u8, column: u8) -> Option<Hex>
     }
 }
 
-/// Returns the first hex of a row, with no gap between it and the column. Row A has a gap in the
-/// middle.
+/// Returns the first hex of the part of a row that the column is in. Row A has a gap in the middle.
 fn first_of_row(row: u8, column: u8) -> Option<Hex>
     ensures { result ≡ first_at row column }
 {

@@ -1,5 +1,5 @@
-//! Where each company places its home token, and on which hexes no tile is laid while a player owns
-//! a private.
+//! Where each company places its home token, and the hexes on which no tile may be laid while a
+//! player owns a private.
 ghost use Rattle.std.specs.Prelude.{◌≡◌};
 ghost use Rattle.map_tables.specs.Home.{hexes_of_private, home_of};
 
@@ -27,7 +27,7 @@ pub fn home(company: Company) -> Stop
     }
 }
 
-/// Returns the hexes on which no tile is laid while a player owns the private.
+/// Returns the hexes on which no tile may be laid while a player owns the private.
 pub fn private_hexes(private: Private) -> &'static [Hex]
     ensures { result.now ≡ hexes_of_private private }
 {

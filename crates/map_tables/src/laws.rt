@@ -60,24 +60,24 @@ pub fn sides_and_rotations_are_all()
     ensures rotations { Rotation.ALL ≡ rotations }
 {}
 
-/// States that a tile that is turned six times by a sixth is as it was.
+/// States that six turns by a sixth leave a tile unchanged.
 pub fn six_turns_are_none()
     ensures { SixTurnsAreNone }
 {}
 
-/// States that a tile that is turned by some sixths is the tile turned by one sixth as often.
+/// States that turning a tile by a number of sixths is turning it by one sixth that many times.
 pub fn turns_add_up()
     ensures { TurnsAddUp }
 {}
 
-/// States that the links of each print are in order without repeats. The first end of each comes
-/// first, and it is a side.
+/// States that the links of each print are in order without repeats. The ends of each are in order,
+/// and the first is a side.
 pub fn printed_links_are_in_order()
     ensures { PrintedLinksAreInOrder }
 {}
 
-/// States that the links of each tile, however it lies, are in order without repeats. The first end
-/// of each comes first, and it is a side.
+/// States that the links of each tile, in every rotation and swapped or not, are in order without
+/// repeats. The ends of each are in order, and the first is a side.
 pub fn laid_links_are_in_order()
     ensures { LaidLinksAreInOrder }
 {}
@@ -87,22 +87,23 @@ pub fn values_are_at_most_80()
     ensures { ValuesAreAtMost80 }
 {}
 
-/// States that a stop whose name is also another stop's is red, and so is that stop.
+/// States that if two stops are one, both are red.
 pub fn red_areas_are_joined()
     ensures { RedAreasAreJoined }
 {}
 
-/// States that each company's home takes a token by its print.
+/// States that the printed home of each company takes a token.
 pub fn homes_take_tokens()
     ensures { HomesTakeTokens }
 {}
 
-/// States that before anything is laid the map state fits: each home has a slot for its token.
+/// States that the empty map is a fit map state: each home has a slot for its token.
 pub fn nothing_fits()
     ensures { NothingFits }
 {}
 
-/// States that a text names a hex, a place, a tile or a rotation exactly if it is the text of that.
+/// States that a text names a hex, a place, a tile or a rotation exactly if it is that thing's
+/// text.
 pub fn texts_are_read()
     ensures { TextsAreRead }
 {}

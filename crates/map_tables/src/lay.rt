@@ -1,4 +1,4 @@
-//! A tile as it lies on a hex, or is to be laid there, and the links that it gives the hex.
+//! A tile on a hex, laid or to be laid, and the links that it gives the hex.
 ghost use Rattle.std.specs.Prelude.{◌≡◌, ◌≤◌, length};
 ghost use Rattle.map_tables.specs.Lay.{laid_links_of, laid_track_of};
 
@@ -7,7 +7,7 @@ use crate::side::Rotation;
 use crate::tiles::{TileNo, tile_track};
 use crate::track::{Links, Track, links_in, swapped, turned};
 
-/// A tile as it lies, or is to be laid, on a hex.
+/// A tile on a hex, laid or to be laid.
 #[derive(Clone, Copy, Debug, PartialEq, Eq)]
 pub struct Lay {
     pub hex: Hex,
@@ -26,7 +26,7 @@ pub fn laid_links(lay: Lay) -> Links
     links_in(lay.hex, laid_track(lay).as_slice())
 }
 
-/// Returns the track of a tile as it lies.
+/// Returns the track of a tile as laid.
 #[tactic(auto, unfolding(crate::specs::Lay::laid_track_of))]
 fn laid_track(lay: Lay) -> Track
     ensures track { result.items ≡ laid_track_of lay }

@@ -6,9 +6,9 @@
 //! Reading order: `hex` (the hexes of the map), `side` (sides and rotations), `border` (which hexes
 //! are neighbours), `place` (stops), `track` (what joins sides and stops), `print` (what is printed
 //! on the map), `tiles`, `segments` (each piece of track by its ends), `lay` (a tile on a hex),
-//! `run` (the places of a run), `homes` (what the roster says of the map), `rules` (of lays, tokens
-//! and runs: which one is broken), `text` (the texts of hexes, places, tiles and rotations), `laws`
-//! (what holds of all these tables).
+//! `run` (the places of a run), `homes` (home stops, and hexes of privates), `rules` (of lays,
+//! tokens and runs: which one is broken), `text` (the texts of hexes, places, tiles and rotations),
+//! `laws` (what holds of all these tables).
 #![tactic(auto)]
 
 mod border;

@@ -94,7 +94,7 @@ pub fn joined_stop(stop: Stop) -> Stop
 impl Default for Place {
     ghost is_default = { λ p. p ≡ record { hex = A9; stop = None } };
 
-    /// Returns the filler for the unused room of a run.
+    /// Returns what fills the unused part of a run.
     fn default() -> Place {
         Place {
             hex: Hex::A9,

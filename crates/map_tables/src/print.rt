@@ -15,9 +15,9 @@ use tables::Amount;
 pub enum HexKind {
     /// Tiles of this kind may be laid on it.
     Open(TileKind),
-    /// Grey: its print stays.
+    /// Grey: no tile is ever laid on it.
     Grey,
-    /// Red, at the edge of the map: its print stays.
+    /// Red, at the edge of the map: no tile is ever laid on it.
     Red,
 }
 
@@ -50,21 +50,21 @@ pub fn printed_colour(hex: Hex) -> Colour
     print(hex).colour
 }
 
-/// Returns how many stops a hex has, from 0 to 2; tiles do not change it.
+/// Returns how many stops a hex has, from 0 to 2. Tiles do not change that.
 pub fn printed_stops(hex: Hex) -> usize
     ensures { result ≡ (print_of hex).stops }
 {
     print(hex).stops
 }
 
-/// Returns how many tokens each stop of a hex takes until a tile lies.
+/// Returns how many tokens each stop of a hex takes until a tile is laid there.
 pub fn printed_slots(hex: Hex) -> u8
     ensures { result ≡ (print_of hex).slots }
 {
     print(hex).slots
 }
 
-/// Returns what each stop of a hex is worth until a tile lies.
+/// Returns what each stop of a hex is worth until a tile is laid there.
 pub fn printed_value(hex: Hex) -> PrintedValue
     ensures { result ≡ (print_of hex).value }
 {
@@ -148,8 +148,8 @@ macro_rules! yellow {
     };
 }
 
-/// A hex without track, whose stops are worth nothing until a tile lies. It has the tiles that it
-/// takes, how many stops it has and how many tokens each takes, and its cost.
+/// A hex without track, whose stops are worth nothing until a tile is laid there. It has the tiles
+/// that it takes, how many stops it has and how many tokens each takes, and its cost.
 macro_rules! white {
     ($kind:expr, $stops:expr, $slots:expr, $cost:expr) => {
         &PrintedHex {

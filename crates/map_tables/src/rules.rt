@@ -8,28 +8,29 @@ use std::fmt::{self, Display, Formatter, Write};
 use tables::{Printed, RuleRow, rule_rows};
 use thiserror::Error;
 
-/// A rule that the lay of a tile may break. `sentence` returns what each asks.
+/// A rule that the lay of a tile may break, in the order of the checks.
 #[derive(Clone, Copy, Debug, PartialEq, Eq, Drop, Error)]
 pub enum LayRule {
-    /// L1.
+    /// L1: the lay of the turn is used, or its step is past.
     StepUsed,
-    /// L2.
+    /// L2: the hex is grey or red.
     GreyOrRed,
-    /// L3.
+    /// L3: no such tile is left.
     NoneLeft,
-    /// L4.
+    /// L4: tiles of the colour are not available yet.
     ColourClosed,
-    /// L5.
+    /// L5: the tile is not of the hex's next colour or kind; or SWAP is used without two stops.
     WrongTile,
-    /// L6.
+    /// L6: track that the hex has would be lost.
     TrackLost,
-    /// L7.
+    /// L7: track would lead off the map, over a closed border, or to a grey or red hex that has
+    /// none there.
     BadSide,
-    /// L8.
+    /// L8: a player owns the private of that hex.
     Blocked,
-    /// L9.
+    /// L9: the company reaches neither the tile's track nor a stop of the hex.
     NotReached,
-    /// L10.
+    /// L10: it costs more than the company's cash.
     CashTooSmall,
 }
 
@@ -66,8 +67,8 @@ impl LayRule {
         LAY_RULES[self as usize].code
     }
 
-    /// Returns what is wrong, in a player's words. The desk and the tables of the docs print no
-    /// other.
+    /// Returns what is wrong, in a player's words. The desk and the tables of the docs print these
+    /// words and no others.
     pub fn sentence(self) -> &'static str
         ensures { result.now ≡ sentence_of_lay_rule self }
     {
@@ -90,20 +91,21 @@ impl Display for LayRule {
     }
 }
 
-/// A rule that the placing of a token may break. `sentence` returns what each asks.
+/// A rule that the placing of a token may break, in the order of the checks.
 #[derive(Clone, Copy, Debug, PartialEq, Eq, Drop, Error)]
 pub enum TokenRule {
-    /// K1.
+    /// K1: the step of the token is past.
     StepUsed,
-    /// K2.
+    /// K2: the company has no token left.
     NoTokenLeft,
-    /// K3.
+    /// K3: it is at no stop of a city, or no slot is free; one that is kept for a home counts as
+    /// taken.
     NoFreeSlot,
-    /// K4.
+    /// K4: the company has a token in the hex.
     InHexAlready,
-    /// K5.
+    /// K5: the company does not reach the stop.
     NotReached,
-    /// K6.
+    /// K6: it costs more than the company's cash: 40 the second, 100 each later one.
     CashTooSmall,
 }
 
@@ -134,8 +136,8 @@ impl TokenRule {
         TOKEN_RULES[self as usize].code
     }
 
-    /// Returns what is wrong, in a player's words. The desk and the tables of the docs print no
-    /// other.
+    /// Returns what is wrong, in a player's words. The desk and the tables of the docs print these
+    /// words and no others.
     pub fn sentence(self) -> &'static str
         ensures { result.now ≡ sentence_of_token_rule self }
     {
@@ -158,27 +160,28 @@ impl Display for TokenRule {
     }
 }
 
-/// A rule that the run of a train may break: the first two ask what the turn has done, the others
-/// the tiles and tokens on the map.
+/// A rule that the run of a train may break: the first two look at what has happened in the turn,
+/// the others at the tiles and tokens on the map.
 #[derive(Clone, Copy, Debug, PartialEq, Eq, Drop, Error)]
 pub enum RunRule {
-    /// R1.
+    /// R1: the step of the runs is past.
     StepUsed,
-    /// R2.
+    /// R2: no train of the kind is left that has not run; of RUN BEST: the company has no train, or
+    /// one has run.
     NoTrain,
-    /// R3.
+    /// R3: there is no such track, or an end is no stop.
     NoTrack,
-    /// R4.
+    /// R4: it visits under two stops, or more than the train may.
     WrongNumber,
-    /// R5.
+    /// R5: it visits a stop twice.
     StopTwice,
-    /// R6.
+    /// R6: it crosses a border that it or another run of the turn has crossed.
     BorderTwice,
-    /// R7.
+    /// R7: it passes a city that is full of other companies' tokens.
     PassesFull,
-    /// R8.
+    /// R8: it visits no token of the company.
     NoToken,
-    /// R9.
+    /// R9: it passes a red area.
     RedInside,
 }
 
@@ -212,8 +215,8 @@ impl RunRule {
         RUN_RULES[self as usize].code
     }
 
-    /// Returns what is wrong, in a player's words. The desk and the tables of the docs print no
-    /// other.
+    /// Returns what is wrong, in a player's words. The desk and the tables of the docs print these
+    /// words and no others.
     pub fn sentence(self) -> &'static str
         ensures { result.now ≡ sentence_of_run_rule self }
     {

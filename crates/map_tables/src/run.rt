@@ -1,4 +1,4 @@
-//! The run of a train, as the places to which it comes.
+//! The run of a train, by the places that it comes to.
 ghost use Rattle.std.specs.Prelude.{
   ◌≡◌,
   ◌≤◌,
@@ -31,7 +31,7 @@ pub struct Run {
     places: ArrayVec<Place, RUN_MOST>,
 }
 
-/// To a contract a run is the list of its places.
+/// In a contract a run is the list of its places.
 impl Model for Run {
     ghost use Rattle.std.specs.Prelude.{◌≤◌, List, length};
     ghost use Rattle.map_tables.specs.declared.place.Place.{Place};
@@ -56,7 +56,7 @@ impl Run {
         Run { places }
     }
 
-    /// Returns the run of these places; `None` if they are fewer than two.
+    /// Returns the run of these places; `None` if there are fewer than two.
     pub fn from_places(places: ArrayVec<Place, RUN_MOST>) -> Option<Run>
         ensures { result ≡ (if nat_le 2 (length places.items) then Some places.items else None) }
     {

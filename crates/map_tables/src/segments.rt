@@ -1,4 +1,4 @@
-//! Each piece of track that may lie in a hex, by its two ends: a side and a farther side, or a side
+//! Each piece of track that a hex can have, by its two ends: a side and a farther side, or a side
 //! and stop 0 or 1.
 
 use crate::place::StopNumber;

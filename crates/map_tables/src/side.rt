@@ -5,7 +5,7 @@ ghost use Rattle.map_tables.specs.Side.{facing_of, number_of, rotation_of, turne
 /// How many sides a hex has.
 pub const SIDES: usize = 6;
 
-/// A value for each side of a hex: that of a side is at its number.
+/// A value for each side of a hex, at the side's number.
 pub type PerSide<T> = [T; SIDES];
 
 /// A side of a hex, in order round the hex from 0 to 5.
@@ -38,7 +38,7 @@ impl Side {
         self as usize
     }
 
-    /// Returns the side of the neighbour at which this side lies: three sides on.
+    /// Returns the side of the neighbour at which this side lies: the opposite side.
     pub fn facing(self) -> Side
         ensures { result ≡ facing_of self }
     {

@@ -1,5 +1,5 @@
-//! The tiles by number: how many there are of each, its colour, its kind and its track. The colours
-//! of hexes are here too.
+//! The tiles by number: how many there are of each, its colour, its kind and its track. It also has
+//! the colours of hexes.
 ghost use Rattle.std.specs.Prelude.{◌≡◌, ◌<◌, ◌≤◌, length};
 ghost use Rattle.map_tables.specs.Tile.{entry, entry_of, number_of_tile, stops_of_kind, tile_index_of, tile_numbered};
 ghost use Rattle.map_tables.specs.Tile.{tile_track_of};
@@ -11,8 +11,8 @@ use crate::segments::{
 use crate::track::TrackSegment;
 use tables::Amount;
 
-/// The colour of a hex. It begins white, or yellow where the map prints it so, and takes the colour
-/// of the tile that lies on it.
+/// The colour of a hex. It is at first white, or yellow where the map is printed so, and then the
+/// colour of the tile that lies on it.
 #[derive(Clone, Copy, Debug, PartialEq, Eq)]
 pub enum Colour {
     White,
@@ -24,7 +24,7 @@ pub enum Colour {
 /// What a tile shows. It is laid only on hexes of its kind.
 #[derive(Clone, Copy, Debug, PartialEq, Eq)]
 pub enum TileKind {
-    /// Track alone.
+    /// Only track.
     Plain,
     /// A town.
     Town,
@@ -164,7 +164,7 @@ impl TileNo {
         TileNo::T70,
     ];
 
-    /// Returns the place of the tile in that order, from 0 to 45.
+    /// Returns the place of the tile in the order of numbers, from 0 to 45.
     pub fn index(self) -> usize
         ensures value { result ≡ tile_index_of self }
         ensures bound { result < 46 }

@@ -14,14 +14,14 @@ pub fn moves_stay_on_chart()
     ensures fall { (squares : ℕ) → StaysOnChart (fallen squares) }
 {}
 
-/// States that the operating order has each floated company with a square once, and no other, and
-/// that each comes before all that are after it.
+/// States that the operating order has each floated company with a square once, and no others, and
+/// is sorted.
 pub fn floated_companies_in_order()
     ensures { (events : List Event) → IsOperatingOrder events (operating_order_of events) }
 {}
 
-/// States an example, computed: BO operates before PRR in a list in which both are started at 67,
-/// BO first, and float there. `floated_companies_in_order` states it for every list.
+/// States an example, computed: BO operates before PRR in a list in which both start at 67, BO
+/// first, and float there. `floated_companies_in_order` states it for every list.
 pub fn first_there_operates_first()
     ensures { operating_order_of both_at_67 ≡ BaltimoreOhio ∷ Pennsylvania ∷ [] }
 {}

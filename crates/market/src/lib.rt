@@ -1,12 +1,12 @@
 //! The stock market: how a company's token moves over the chart, and the order in which companies
 //! operate.
 //!
-//! A move returns the square to which a token comes. A move for which the chart has no square is
-//! not made: the token stays. The order is that of the floated companies by their squares; the next
-//! company is the first in it that has not operated in the round.
+//! A move returns the square that a token reaches. If the chart has no such square, the token
+//! stays. The order is that of the floated companies by their squares; the next company is the
+//! first in it that has not operated in the round.
 //!
-//! Reading order: `moves`, `token` (a company's token moves, which is recorded), `order`, `laws` (a
-//! token on the chart stays on it; the order is one).
+//! Reading order: `moves`, `token` (moves of a company's token, recorded), `order`, `laws` (a token
+//! on the chart stays on it; the order is one).
 #![tactic(auto)]
 
 pub mod laws;

@@ -34,7 +34,7 @@ pub fn down(from: Square) -> Square
     square_below(from).unwrap_or(from)
 }
 
-/// Returns the square to which a token comes by this many single moves down.
+/// Returns the square that a token reaches by this many single moves down.
 pub fn fall(from: Square, squares: u8) -> Square
     ensures { result ≡ fallen squares from }
 {

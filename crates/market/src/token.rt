@@ -34,7 +34,7 @@ pub fn move_token_left(history: &mut History, company: Company) -> Result<(), Al
     }
 }
 
-/// Moves a company's token up, if there is a square, and records it. Fails only if allocation
+/// Moves a company's token up, if there is a square, and records that. Fails only if allocation
 /// fails.
 pub fn move_token_up(history: &mut History, company: Company) -> Result<(), AllocError>
     ensures seats { OnOk result (history.new.seats ≡ history.old.seats) }
@@ -47,8 +47,8 @@ pub fn move_token_up(history: &mut History, company: Company) -> Result<(), Allo
     }
 }
 
-/// Moves a company's token down this many squares, as far as there are squares; records it once.
-/// Fails only if allocation fails.
+/// Moves a company's token down this many squares, or as far as there are squares, and records that
+/// as one move. Fails only if allocation fails.
 pub fn move_token_down(
     history: &mut History,
     company: Company,

@@ -8,13 +8,13 @@ use crate::writer::Writer;
 use tables::Company;
 
 impl Writer {
-    /// Adds a value to the start tag of the element that was begun last.
+    /// Adds a value to the start tag of the last element begun.
     pub fn value(&mut self, attr: Attr, pieces: &[PagePiece]) {
         self.attr(attr);
         self.put(pieces);
     }
 
-    /// Begins an element of a class.
+    /// Begins an element with a class.
     pub fn begin_as(&mut self, tag: Tag, class: &'static str) {
         self.begin(tag);
         self.value(Attr::Class, &[Words(class)]);
@@ -28,7 +28,7 @@ impl Writer {
         self.end();
     }
 
-    /// Adds an element of a class with a text.
+    /// Adds an element with a class and a text.
     pub fn element_as(&mut self, tag: Tag, class: &'static str, pieces: &[PagePiece]) {
         self.begin_as(tag, class);
         self.within();
@@ -36,13 +36,13 @@ impl Writer {
         self.end();
     }
 
-    /// Adds where an element is.
+    /// Adds the position of an element.
     pub fn place_at(&mut self, place: Point) {
         self.value(Attr::X, &[At(place.x)]);
         self.value(Attr::Y, &[At(place.y)]);
     }
 
-    /// Adds a text of a class at a point.
+    /// Adds a text with a class at a point.
     pub fn label(&mut self, class: &'static str, place: Point, pieces: &[PagePiece]) {
         self.begin_as(Tag::Text, class);
         self.place_at(place);
@@ -64,7 +64,8 @@ impl Writer {
         self.end();
     }
 
-    /// Adds a token of a company at a point, by what its reference begins with: `#t`, `#m` or `#r`.
+    /// Adds a token of a company at a point, given the beginning of its reference: `#t`, `#m` or
+    /// `#r`.
     pub fn token(&mut self, sign: &'static str, company: Company, place: Point) {
         self.begin(Tag::Use);
         self.value(Attr::Href, &[Words(sign), Words(company.letter())]);
@@ -72,7 +73,7 @@ impl Writer {
         self.end();
     }
 
-    /// Adds a path of a class by its data.
+    /// Adds a path with a class, given its data.
     pub fn path(&mut self, class: &'static str, data: &[PagePiece]) {
         self.begin_as(Tag::Path, class);
         self.value(Attr::D, data);

@@ -2,7 +2,8 @@
 ghost use Rattle.std.specs.Prelude.{ℕ, List};
 ghost use Rattle.markup.specs.Escaped.{ReadsAs, escaped};
 
-/// States that what is written of a text has no bare `&`, `<`, `>` or quotation mark, and reads as that text.
+/// States that a text is written without a bare `&`, `<`, `>` or quotation mark, and reads back as
+/// itself.
 pub fn texts_read_back()
     ensures { (text : List ℕ) → ReadsAs (escaped text) text }
 {}

@@ -1,10 +1,10 @@
-//! A writer of the elements of a page, which leaves none open and lets no text into a tag.
+//! A writer of the elements of a page. It leaves none open, and lets no text into a tag.
 //!
 //! `Writer` writes elements: `begin` and `end` keep a list of those that are open, and `finish`
-//! ends what is left. In a contract a reader that knows nothing of the writer goes over the bytes:
-//! what it finds open is what the writer holds open, so that no page is ill-formed. Beside constant
-//! words only numbers, rounds, places and names get in, and texts of any bytes, escaped. Of a name
-//! only letters and digits are written.
+//! ends what is left. In the contracts a reader that does not know the writer goes over the bytes
+//! and finds open exactly what the writer holds open, so that no page is ill-formed. Besides
+//! constant words, a page gets only numbers, rounds, places and names, and escaped texts of any
+//! bytes. Of a name only letters and digits are written.
 //!
 //! The definitions, in `specs/`: `Tags` (the names of elements), `Reading` (the reader), `Written`
 //! (what a writer keeps), `Escaped` (a text of any bytes, and how it reads).

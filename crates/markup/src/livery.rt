@@ -1,17 +1,16 @@
-//! What a company's token and its lines look like.
+//! What a company's token and lines look like.
 
 use crate::piece::PagePiece::Words;
 use crate::tag::Attr;
 use crate::writer::Writer;
 use tables::{Company, PerCompany};
 
-/// What the token of a company looks like, and its lines.
+/// What the token and the lines of a company look like.
 pub struct Livery {
     pub fill: &'static str,
     /// Whether its letter is white.
     pub is_dark: bool,
-    /// The dash of its lines: how long the strokes and the gaps are by turns. Nothing for a whole
-    /// line.
+    /// The dashes of its lines: the lengths of strokes and gaps in turn. Empty for a solid line.
     dash: &'static str,
 }
 

@@ -1,4 +1,4 @@
-//! What a writer puts into a page beside tags.
+//! What a writer puts into a page besides tags.
 ghost use Rattle.std.specs.Prelude.{◌≡◌, ◌++◌, filter, true};
 ghost use Rattle.std.specs.List.{flat_map};
 ghost use Rattle.std.specs.Char.{is_ascii_alphanumeric};
@@ -17,16 +17,16 @@ pub enum PagePiece<'a> {
     Words(&'static str),
     /// The name of a player. Only its letters and digits are written.
     Name(&'a [u8]),
-    /// A letter, as that of a row.
+    /// A letter, such as that of a row.
     Letter(u8),
     /// A number in digits.
     Number(Money),
-    /// How many there are, or the number of a line, of a side or of a rotation, in digits.
+    /// A count, or the number of a line, a side or a rotation, in digits.
     Count(usize),
-    /// A small number in digits, as a coordinate.
+    /// A small number in digits, such as a coordinate.
     At(i32),
-    /// A point as it stands in the data of a path: its coordinates, parted by a space or by the
-    /// minus of the second.
+    /// A point as the data of a path have it: its coordinates, separated by a space or by the minus
+    /// of the second.
     Point(Point),
     /// A round: `OR2.1`.
     Round(Round),
@@ -56,7 +56,7 @@ pub(crate) fn put_piece(out: &mut Writer, piece: PagePiece) {
     }
 }
 
-/// Adds bytes of constant words or of digits, but for those that have a meaning in tags.
+/// Adds bytes of constant words or of digits, except those that have a meaning in tags.
 #[tactic(auto, using(crate::proofs::TextLemmas::pieces_step))]
 pub(crate) fn put_bytes(out: &mut Writer, bytes: &[u8])
     ensures spot { is_apart out.old.spot ≡ true → out.new.spot ≡ out.old.spot }
@@ -69,7 +69,7 @@ pub(crate) fn put_bytes(out: &mut Writer, bytes: &[u8])
     }
 }
 
-/// Adds a text of any bytes where a writer is apart from tags.
+/// Adds a text of any bytes where a writer is outside tags.
 #[tactic(auto, using(crate::proofs::TextLemmas::pieces_step))]
 pub(crate) fn put_text(out: &mut Writer, text: &[u8])
     requires { is_apart out.old.spot ≡ true }
@@ -83,7 +83,7 @@ pub(crate) fn put_text(out: &mut Writer, text: &[u8])
     }
 }
 
-/// Adds a byte of a text; one that has a meaning in a page as a reference.
+/// Adds a byte of a text, as a reference if it has a meaning in a page.
 fn put_escaped(out: &mut Writer, byte: u8)
     requires { is_apart out.old.spot ≡ true }
     ensures spot { out.new.spot ≡ out.old.spot }

@@ -1,6 +1,6 @@
 //! Points of a picture.
 
-/// A point of a picture. A side of a hex is 60 long; `x` grows to the right and `y` downwards.
+/// A point of a picture. A side of a hex is 60 long; `x` grows to the right, `y` downwards.
 #[derive(Clone, Copy, Default)]
 pub struct Point {
     pub x: i32,
@@ -11,7 +11,7 @@ impl Point {
     /// The centre of a hex.
     pub const CENTRE: Point = Point { x: 0, y: 0 };
 
-    /// Returns the point that lies as far from this one as another lies from the centre.
+    /// Returns the sum of this point and another, taken from the centre.
     pub fn plus(self, other: Point) -> Point {
         Point {
             x: self.x.saturating_add(other.x),
@@ -19,7 +19,7 @@ impl Point {
         }
     }
 
-    /// Returns the point that lies as far from this one, the other way.
+    /// Returns this point minus another, taken from the centre.
     pub fn minus(self, other: Point) -> Point {
         Point {
             x: self.x.saturating_sub(other.x),

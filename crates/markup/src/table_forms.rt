@@ -7,13 +7,13 @@ use crate::tag::{Attr, Tag};
 use crate::writer::Writer;
 use tables::{Company, Money};
 
-/// Begins a line among the children of the innermost element, for a reader of the page's text.
+/// Begins a new line of the page's source among the children of the innermost element.
 fn begin_line(out: &mut Writer) {
     out.within();
     out.put(&[Words("\n")]);
 }
 
-/// Begins a table of a name, and of a class if there is one.
+/// Begins a table with a name, and a class if there is one.
 pub fn begin_table(out: &mut Writer, name: &'static str, class: &'static str) {
     begin_line(out);
     out.begin(Tag::Table);
@@ -35,8 +35,8 @@ pub fn put_caption(out: &mut Writer, words: &'static str, remark: &'static str) 
     out.end();
 }
 
-/// Adds the head of a table; a word that begins with `#` heads a column of numbers, without that
-/// sign.
+/// Adds the head of a table; a word that begins with `#` heads a column of numbers, and is printed
+/// without that sign.
 pub fn put_head(out: &mut Writer, words: &[&'static str]) {
     begin_head(out);
     for word in words {
@@ -78,7 +78,7 @@ pub fn begin_heading(out: &mut Writer, class: &'static str) {
     }
 }
 
-/// Begins a row of a table, of a class if there is one, on a line of its own.
+/// Begins a row of a table, with a class if there is one, on its own line.
 pub fn begin_row(out: &mut Writer, class: &'static str) {
     begin_line(out);
     out.begin(Tag::Row);
@@ -123,16 +123,16 @@ pub fn put_number(out: &mut Writer, number: Money) {
     }
 }
 
-/// What stands where there is nothing.
+/// What is shown for nothing: a dot.
 pub const NOTHING: &str = "&#183;";
 
-/// Adds a cell with a number, if there is one; else a dot.
+/// Adds a cell with a number, if there is one, or a dot.
 pub fn put_some(out: &mut Writer, number: Option<Money>) {
     put_number(out, number.unwrap_or(0));
 }
 
-/// Begins a section of a name that a keyboard can scroll, with its heading and a remark in small
-/// letters, if there is one.
+/// Begins a named section that can be scrolled by keyboard, with its heading and a remark in small
+/// letters if there is one.
 pub fn begin_section(
     out: &mut Writer,
     name: &'static str,
@@ -150,8 +150,8 @@ pub fn begin_section(
     out.end();
 }
 
-/// Begins a section of a name that a keyboard can scroll, without a heading; a screen reader has
-/// these words for it.
+/// Begins a named section that can be scrolled by keyboard, without a heading; these words name it
+/// for a screen reader.
 pub fn begin_plain_section(out: &mut Writer, name: &'static str, words: &'static str) {
     begin_line(out);
     out.begin(Tag::Section);

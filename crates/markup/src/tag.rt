@@ -1,8 +1,8 @@
-//! The elements of a page, and what may stand in their start tags.
+//! The elements of a page, and the attributes of their start tags.
 ghost use Rattle.std.specs.Prelude.{◌≡◌};
 ghost use Rattle.markup.specs.Tags.{name_of_tag, opening_of};
 
-/// An element, by what its tag means.
+/// An element, by the meaning of its tag.
 #[derive(Clone, Copy)]
 pub enum Tag {
     Html,
@@ -45,7 +45,7 @@ pub enum Tag {
     Preformatted,
 }
 
-/// What stands in a start tag before a value.
+/// An attribute of a start tag.
 #[derive(Clone, Copy)]
 pub enum Attr {
     Class,
@@ -73,7 +73,7 @@ pub enum Attr {
 }
 
 impl Tag {
-    /// Returns the name that stands in its tags.
+    /// Returns the name in its tags.
     pub(crate) fn name(self) -> &'static str
         ensures { result.now ≡ name_of_tag self }
     {
@@ -119,14 +119,15 @@ impl Tag {
         }
     }
 
-    /// Returns whether its start tag may end it too, as an element of a picture without children.
+    /// Returns whether its start tag may also end it, as for an element of a picture without
+    /// children.
     pub(crate) fn is_sole(self) -> bool {
         matches!(self, Tag::Path | Tag::Circle | Tag::Use | Tag::Polyline)
     }
 }
 
 impl Attr {
-    /// Returns what stands in front of its value: a space, its name, `=` and a quotation mark.
+    /// Returns what comes before its value: a space, its name, `=` and a quotation mark.
     pub(crate) fn opening(self) -> &'static str
         ensures { result.now ≡ opening_of self }
     {

@@ -10,7 +10,7 @@ use crate::piece::{PagePiece, put_bytes, put_piece, put_text};
 use crate::tag::{Attr, Tag};
 use std::alloc::{AllocError, Global};
 
-/// What stands at the head of each page, within which its title and style are written.
+/// The beginning of each page, up to the head in which its title and style are written.
 const PROLOGUE: &str = "<!DOCTYPE html>\n<html lang=\"en\">\n<head>\n<meta charset=\"utf-8\">\n\
     <meta name=\"viewport\" content=\"width=device-width, initial-scale=1\">\n";
 
@@ -19,14 +19,14 @@ const PROLOGUE: &str = "<!DOCTYPE html>\n<html lang=\"en\">\n<head>\n<meta chars
 pub enum WriterPlace {
     /// Between tags.
     Between,
-    /// Behind the name in the start tag of this element.
+    /// After the name in the start tag of this element.
     Naming(Tag),
     /// In a value of that start tag.
     Valued(Tag),
 }
 
-/// A writer of a page. It keeps the elements that are open, so that each is ended, the innermost
-/// first. Once an allocation has failed it writes nothing more, and `finish` returns the error.
+/// A writer of a page. It keeps the open elements, so that each is ended, the innermost first. Once
+/// an allocation has failed it writes nothing more, and `finish` returns the error.
 #[derive(Drop)]
 pub struct Writer {
     text: Vec<u8>,
@@ -38,7 +38,7 @@ pub struct Writer {
 }
 
 impl Writer {
-    /// Returns a writer of a page, in its head.
+    /// Returns a writer of a page, at the place for its title and style.
     pub fn page(alloc: Global) -> Writer {
         let mut text = Vec::new(alloc);
         let mut stack = Vec::new(alloc);
@@ -54,7 +54,7 @@ impl Writer {
         }
     }
 
-    /// Begins an element in the innermost one that is open.
+    /// Begins an element in the innermost open one.
     #[tactic(auto, using(crate::proofs::ReadLemmas::begun))]
     pub fn begin(&mut self, tag: Tag) {
         self.within();
@@ -63,8 +63,8 @@ impl Writer {
         self.spot = WriterPlace::Naming(tag);
     }
 
-    /// Begins a value in the start tag of the element that was begun last. It does nothing where
-    /// that tag has ended.
+    /// Begins a value in the start tag of the last element begun. Does nothing if that tag has
+    /// ended.
     pub fn attr(&mut self, attr: Attr) {
         match self.spot {
             WriterPlace::Between => {}
@@ -79,7 +79,7 @@ impl Writer {
         }
     }
 
-    /// Ends the start tag in which the writer is, if it is in one: what follows is a child.
+    /// Ends the start tag that the writer is in, if it is in one: what follows is a child.
     pub fn within(&mut self)
         ensures spot { self.new.spot ≡ Between }
         ensures before { self.new.fault ≡ None → self.old.fault ≡ None }
@@ -100,7 +100,7 @@ impl Writer {
         self.spot = WriterPlace::Between;
     }
 
-    /// Adds pieces to the value in which the writer is, or else to the children of the innermost
+    /// Adds pieces to the value that the writer is in, or else to the children of the innermost
     /// open element.
     pub fn put(&mut self, pieces: &[PagePiece]) {
         for piece in pieces {
@@ -108,7 +108,7 @@ impl Writer {
         }
     }
 
-    /// Adds words to the children of the innermost open element, but for signs that have a meaning
+    /// Adds words to the children of the innermost open element, except signs that have a meaning
     /// in tags.
     pub fn words(&mut self, words: &'static str)
         ensures spot { self.new.spot ≡ Between }
@@ -121,7 +121,7 @@ impl Writer {
     }
 
     /// Adds a text of any bytes to the children of the innermost open element. Signs that have a
-    /// meaning in a page are written as references, so that the usual reading gives the text.
+    /// meaning in a page are written as references, so that a browser shows the text.
     pub fn text(&mut self, text: &[u8])
         ensures spot { self.new.spot ≡ Between }
         ensures before { self.new.fault ≡ None → self.old.fault ≡ None }
@@ -146,7 +146,7 @@ impl Writer {
         }
     }
 
-    /// Ends a start tag that has no values so far, if the writer is in one.
+    /// Ends the start tag that the writer is in, if it is in one that has no values so far.
     pub(crate) fn settle(&mut self)
         ensures spot { is_apart self.new.spot ≡ true }
         ensures same_spot { is_apart self.old.spot ≡ true → self.new.spot ≡ self.old.spot }
@@ -206,7 +206,7 @@ impl Writer {
         }
     }
 
-    /// Ends all that is open. Returns the page, or the error if an allocation has failed.
+    /// Ends all open elements. Returns the page, or the error if an allocation has failed.
     pub fn finish(self) -> Result<Vec<u8>, AllocError>
         ensures { IfOk result (λ page. IsWellFormed page.items) }
     {
@@ -223,7 +223,7 @@ impl Writer {
     }
 }
 
-/// Adds words to a text, unless an allocation has failed before.
+/// Adds words to a text, unless an allocation has failed already.
 fn add(text: &mut Vec<u8>, fault: &mut Option<AllocError>, words: &str)
     ensures before { fault.new ≡ None → fault.old ≡ None }
     ensures added { fault.new ≡ None → text.new.items ≡ text.old.items ++ words.now }
@@ -235,7 +235,7 @@ fn add(text: &mut Vec<u8>, fault: &mut Option<AllocError>, words: &str)
     }
 }
 
-/// Adds an element to those that are open, unless an allocation has failed before.
+/// Adds an element to the open ones, unless an allocation has failed already.
 fn keep(stack: &mut Vec<Tag>, fault: &mut Option<AllocError>, tag: Tag)
     ensures before { fault.new ≡ None → fault.old ≡ None }
     ensures kept { fault.new ≡ None → stack.new.items ≡ stack.old.items ++ tag ∷ [] }
@@ -248,7 +248,7 @@ fn keep(stack: &mut Vec<Tag>, fault: &mut Option<AllocError>, tag: Tag)
     }
 }
 
-/// Returns whether a byte has no meaning in tags: it is no `<` and no quotation mark.
+/// Returns whether a byte has no meaning in tags: it is not `<` or a quotation mark.
 fn is_plain(byte: u8) -> bool
     ensures { result ≡ is_plain byte }
 {

@@ -16,7 +16,7 @@ use purchases::{Consents, has_train, judge_private, judge_purchase, purchase_of}
 use std::alloc::{AllocError, Global};
 use tables::{Amount, Company, Kind, Money, Private, Seat, face};
 
-/// The places of a train but other companies.
+/// Where a train can be bought, other than from companies, with each trade-in.
 const SOURCES: [TrainSource; 5] = [
     TrainSource::Bank,
     TrainSource::Trade(Kind::Four),
@@ -28,9 +28,9 @@ const SOURCES: [TrainSource; 5] = [
 /// The price of a train of another company: its president may ask for more.
 const LEAST: Amount = 1;
 
-/// Returns what becomes of each order of a company to buy a train: from the bank with and without a
+/// Returns the outcome of each order of a company to buy a train: from the bank with and without a
 /// trade-in, from the pool, and from each company that has one, at 1 dollar. A company withholds
-/// before it buys, so the game is that after it has. Fails only if allocation fails.
+/// before it buys, so the game given is the one after that. Fails only if allocation fails.
 pub fn train_rows(
     alloc: Global,
     history: &History,
@@ -44,8 +44,8 @@ pub fn train_rows(
     Ok(rows)
 }
 
-/// Returns what becomes of each order of a company to buy a private, at half of its face value and
-/// at twice that. Fails only if allocation fails.
+/// Returns the outcome of each order of a company to buy a private, at half and at twice its face
+/// value. Fails only if allocation fails.
 pub fn private_rows(
     alloc: Global,
     history: &History,
@@ -117,7 +117,7 @@ fn push_trains_of_sellers(
     Ok(())
 }
 
-/// Adds the row of a train of a kind of this company, if it has one.
+/// Adds the row of this company's train of a kind, if it has one.
 fn push_train_of(
     rows: &mut Vec<Row>,
     history: &History,
@@ -157,7 +157,7 @@ fn push_train(
     push_row(rows, Order::BuyTrain { kind, from }, answer)
 }
 
-/// Returns what becomes of the order to buy a train as the first line of a company's orders.
+/// Returns the outcome of the order to buy a train as the first line of a company's orders.
 fn answer_to_train(history: &History, company: Company, kind: Kind, from: TrainSource) -> Answer
     requires { IsSmallOrder (BuyTrain kind from) }
     ensures { result ≡ train_answer history.now company kind from }
@@ -178,7 +178,7 @@ fn train_cost(kind: Kind, from: TrainSource) -> Money
     Money::from(purchase_of(kind, from).price())
 }
 
-/// Returns the first rule that the order to buy a train breaks, by these consents; `None` if it
+/// Returns the first rule that the order to buy a train breaks, given these consents; `None` if it
 /// breaks none.
 #[tactic(auto, unfolding(crate::specs::CompanyRows::train_refusal_by))]
 fn judge_train(
@@ -227,7 +227,7 @@ fn push_privates(rows: &mut Vec<Row>, history: &History, company: Company) -> Re
     Ok(())
 }
 
-/// Adds the rows of a private: at half of its face value, and at twice that.
+/// Adds the rows of a private: at half and at twice its face value.
 fn push_private(
     rows: &mut Vec<Row>,
     history: &History,
@@ -257,7 +257,7 @@ fn push_private_at(
     push_row(rows, Order::BuyOwnedPrivate { private, price }, answer)
 }
 
-/// Returns what becomes of the order to buy a private as the first line of a company's orders.
+/// Returns the outcome of the order to buy a private as the first line of a company's orders.
 fn answer_to_private(history: &History, company: Company, private: Private, price: Amount) -> Answer
     ensures { result ≡ private_answer history.now company private price }
 {
@@ -269,8 +269,8 @@ fn answer_to_private(history: &History, company: Company, private: Private, pric
     )
 }
 
-/// Returns the first rule that the order to buy a private breaks, by these consents; `None` if it
-/// breaks none.
+/// Returns the first rule that the order to buy a private breaks, given these consents; `None` if
+/// it breaks none.
 #[tactic(auto, unfolding(crate::specs::CompanyRows::private_refusal_by))]
 fn judge_owned(
     history: &History,
@@ -304,8 +304,8 @@ fn asked_for_private(
     Some((giver, sale))
 }
 
-/// Returns what becomes of an order of this price, in dollars, that breaks the first rule in the
-/// game, or none, and the second if everybody consents, or none.
+/// Returns the outcome of an order at this price, in dollars, given the rule that it breaks in the
+/// game, if any, and the rule that it breaks if everybody consents, if any.
 fn answer_if_given(
     price: Money,
     broken: Option<Refusal>,

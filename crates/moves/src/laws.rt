@@ -7,7 +7,7 @@ ghost use Rattle.moves.specs.RowLaws.{StandingRowsAreRuled, StockRowsAreRuled, T
 ghost use Rattle.moves.specs.TurnLaws.{ListedLaysAreObeyed, ListedTokensAreObeyed, OtherLaysAreRefused};
 ghost use Rattle.moves.specs.TurnLaws.{OtherTokensAreRefused};
 
-/// A lay is in the list with a price exactly where `try_lay` returns that price.
+/// A lay is in the list with a price exactly if `try_lay` returns that price.
 pub fn lays_are_exact()
     ensures { LaysAreExact }
 {
@@ -15,15 +15,15 @@ pub fn lays_are_exact()
     map_tables::laws::tiles_are_listed_once();
 }
 
-/// A place is in the list with a price exactly where `try_token` returns that price.
+/// A place is in the list with a price exactly if `try_token` returns that price.
 pub fn tokens_are_exact()
     ensures { TokensAreExact }
 {
     map_tables::laws::hexes_are_listed_once();
 }
 
-/// A lay that is listed as a company's turn begins is obeyed at its price in the first line of its
-/// orders, and one that is not listed is refused there.
+/// The first line of a company's orders may lay exactly the lays listed as its turn begins, at the
+/// listed price.
 pub fn first_lay_is_by_the_list()
     ensures obeyed { ListedLaysAreObeyed }
     ensures refused { OtherLaysAreRefused }
@@ -32,8 +32,8 @@ pub fn first_lay_is_by_the_list()
     map_tables::laws::tiles_are_listed_once();
 }
 
-/// A token that is listed as a company's turn begins is obeyed at its price in the first line of
-/// its orders, and one that is not listed is refused there.
+/// The first line of a company's orders may place exactly the tokens listed as its turn begins, at
+/// the listed price.
 pub fn first_token_is_by_the_list()
     ensures obeyed { ListedTokensAreObeyed }
     ensures refused { OtherTokensAreRefused }
@@ -41,13 +41,13 @@ pub fn first_token_is_by_the_list()
     map_tables::laws::hexes_are_listed_once();
 }
 
-/// If a seat may bid some sum on a private, it may make the least bid on it, which is no more.
+/// If a seat may bid some sum on a private, it may make the lowest bid on it, which is not greater.
 pub fn least_bid_is_least()
     ensures { LeastBidIsLeast }
 {}
 
-/// What a row of an opening or a stock round tells becomes of its line, as the first of a seat's
-/// turn or as a standing line.
+/// A row of an opening or a stock round gives the true outcome of its line, as the first of a
+/// seat's turn or as a standing line.
 pub fn rows_are_ruled()
     ensures opening { OpeningRowsAreRuled }
     ensures stock { StockRowsAreRuled }
@@ -55,15 +55,16 @@ pub fn rows_are_ruled()
     ensures standing { StandingRowsAreRuled }
 {}
 
-/// What a row of a private or of a train tells becomes of it in the first line of a company's
-/// orders.
+/// A row of a private or a train gives the true outcome of its order as the first line of a
+/// company's orders.
 pub fn company_rows_are_ruled()
     ensures privates { PrivateRowsAreRuled }
     ensures trains { TrainRowsAreRuled }
 {}
 
-/// A sale of more shares than a seat has, a start of a company at another sum than a par value, and
-/// a price of a private under half of its face value or over twice that are refused.
+/// Three kinds of orders without rows are refused: to sell more shares than a seat has, to start a
+/// company at a sum that is not a par value, and to buy a private for under half or over twice its
+/// face value.
 pub fn beyond_the_rows_is_refused()
     ensures sales { SalesAreOfWhatIsHeld }
     ensures starts { StartsAreAtParValues }

@@ -14,12 +14,12 @@ use std::alloc::{AllocError, Global};
 pub type Lays = Vec<Priced<Lay>>;
 
 /// Returns every tile that a company may lay, with its cost in dollars: of all hexes, tiles and
-/// rotations, with SWAP and without, those of which `try_lay` returns a cost. Fails only if
+/// rotations, with and without SWAP, those for which `try_lay` returns a cost. Fails only if
 /// allocation fails.
 pub fn lays(alloc: Global, board: &Board, asker: &Asker) -> Result<Lays, AllocError>
     ensures { IfOk result (λ lays. AreListed (IsLayAnswer board.now asker.now) all_lays lays.items) }
 {
-    // Does nothing when it runs: these are all hexes.
+    // A law, which does nothing when it runs: these are all hexes.
     map_tables::laws::hexes_are_listed_once();
     let mut lays = Vec::new(alloc);
     for hex in &Hex::ALL {
@@ -33,7 +33,7 @@ fn push_lays_on(lays: &mut Lays, board: &Board, asker: &Asker, hex: Hex) -> Resu
     ensures { OnOk result
         (Lists (IsLayAnswer board.now asker.now) (lays_on hex) lays.old.items lays.new.items) }
 {
-    // Does nothing when it runs: these are all tiles.
+    // A law, which does nothing when it runs: these are all tiles.
     map_tables::laws::tiles_are_listed_once();
     for tile in &TileNo::ALL {
         push_lays_of_tile(lays, board, asker, hex, *tile)?;

@@ -1,10 +1,10 @@
 //! What may be done: which tiles a company may lay and where it may place a token; what a seat may
-//! buy, sell and bid; which trains and privates a company may buy. It is all of that and nothing
-//! else.
+//! buy, sell and bid; which trains and privates a company may buy. The lists are complete, and have
+//! nothing else.
 //!
-//! No rule is written here. Each list asks the call that rules a line, of every candidate in order,
-//! and its contract says so. A lay or a token is listed exactly where that call refuses it by no
-//! rule. Of other orders there is a row for each candidate: the order, and what becomes of it. It is
+//! This crate has no rules of its own. For every candidate in order it uses the call that rules a
+//! line, as the contracts say. A lay or a token is listed exactly if that call refuses it by no
+//! rule. For other orders there is a row for each candidate: the order and its outcome. It is
 //! obeyed, it lacks a consent, or a rule refuses it.
 //!
 //! Reading order: `priced` (what may be done, with its price), `lay_list`, `token_list`; `row`,

@@ -1,5 +1,5 @@
-//! The rows of an opening: of each private its purchase, the least bid on it, and a bid that is
-//! lower by one.
+//! The rows of an opening: for each private its purchase, the lowest bid on it, and a bid that is a
+//! dollar lower.
 ghost use Rattle.std.specs.Prelude.{◌≡◌, ◌++◌, ◌∷◌, [], IfOk, OnOk, map, pos};
 ghost use Rattle.moves.specs.Bids.{least_bid_of};
 ghost use Rattle.moves.specs.OpeningRows.{opening_answer, opening_cost, opening_orders, opening_row, orders_on};
@@ -11,7 +11,7 @@ use privates::{judge, price_of};
 use std::alloc::{AllocError, Global};
 use tables::{Amount, BID_STEP, Money, Private, Seat, face};
 
-/// Returns what becomes of each order to buy a private, to make the least bid on it, and to bid a
+/// Returns the outcome of each order to buy a private, to make the lowest bid on it, and to bid a
 /// dollar less, as the first line of a seat's turn of an opening. Fails only if allocation fails.
 pub fn opening_rows(alloc: Global, history: &History, seat: Seat) -> Result<Vec<Row>, AllocError>
     ensures { IfOk result (λ rows. rows.items
@@ -75,7 +75,7 @@ fn push_order(
     push_row(rows, order, answer)
 }
 
-/// Returns what becomes of an order as the first line of a seat's turn.
+/// Returns the outcome of an order as the first line of a seat's turn.
 fn answer_to(history: &History, seat: Seat, order: &Order) -> Answer
     ensures { result ≡ opening_answer history.now.seats history.now.events seat order.now }
 {
@@ -94,8 +94,8 @@ fn cost(history: &History, order: &Order) -> Money
     }
 }
 
-/// Returns the least bid on a private that is not too low, in dollars: 5 over its face and over the
-/// greatest earlier bid on it.
+/// Returns the lowest bid on a private, in dollars: 5 above its face value and the highest earlier
+/// bid.
 pub fn least_bid(history: &History, private: Private) -> Amount
     ensures { result ≡ least_bid_of history.now.events private }
 {

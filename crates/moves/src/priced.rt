@@ -1,15 +1,15 @@
-//! Something that may be done, with its price, and how it is added to a list.
+//! Something that may be done, with its price.
 ghost use Rattle.std.specs.Prelude.{◌≡◌, ◌++◌, ◌∷◌, [], OnOk};
 
 use std::alloc::AllocError;
 use tables::Money;
 
-/// What may be done, with what it costs.
+/// What may be done, with its price.
 #[derive(Clone, Copy, Debug, PartialEq, Eq)]
 pub struct Priced<T> {
     /// What may be done: a tile to lay, a place for a token, a purchase.
     pub what: T,
-    /// In dollars.
+    /// Its price, in dollars.
     pub price: Money,
 }
 

@@ -14,10 +14,10 @@ use purchases::{has_train, is_president, judge_standing};
 use std::alloc::{AllocError, Global};
 use tables::{Company, Kind, Money, Private, Round, Seat, face, train};
 
-/// Returns what becomes of the standing lines that a seat may think of for a round. In an opening
-/// these are LIMIT lines of the bids that it holds. In an operating round they are DISCARD of each
-/// train of its companies, and OFFER of their trains and of its own privates, to each started
-/// company, at the face price. A stock round has none. Fails only if allocation fails.
+/// Returns the outcome of the standing lines that a seat may consider for a round. In an opening
+/// these are LIMIT lines for its bids. In an operating round they are DISCARD for each train of its
+/// companies, and OFFER of their trains and of its own privates to each started company, at face
+/// value. A stock round has none. Fails only if allocation fails.
 pub fn standing_rows(
     alloc: Global,
     history: &History,
@@ -59,7 +59,7 @@ fn push_limits(rows: &mut Vec<Row>, history: &History, seat: Seat) -> Result<(),
     Ok(())
 }
 
-/// Adds the row of a LIMIT line of a private at the bid of a seat on it, if it has one.
+/// Adds the row of a LIMIT line for a private at a seat's bid on it, if it has one.
 fn push_limit(
     rows: &mut Vec<Row>,
     history: &History,
@@ -77,7 +77,7 @@ fn push_limit(
     push_row(rows, order, answer)
 }
 
-/// Returns what becomes of an order as a standing line of an opening.
+/// Returns the outcome of an order as a standing line of an opening.
 fn answer_before(history: &History, order: &Order) -> Answer
     ensures { result ≡ before_answer history.now.events order.now }
 {
@@ -134,7 +134,8 @@ fn push_discards_of(
     Ok(())
 }
 
-/// Adds the row of a DISCARD line, if the seat presides over the company and it has such a train.
+/// Adds the row of a DISCARD line, if the seat presides over the company and the company has such a
+/// train.
 fn push_discard(
     rows: &mut Vec<Row>,
     history: &History,
@@ -206,8 +207,8 @@ fn push_offers_of_kind(
     Ok(())
 }
 
-/// Adds the row of an OFFER line of a train to a company, if the seat presides over the seller,
-/// which has such a train, and the buyer is another company that is started.
+/// Adds the row of an OFFER line of a train to a company, if the seat presides over the seller, the
+/// seller has such a train, and the buyer is another company that has started.
 fn push_train_offer(
     rows: &mut Vec<Row>,
     history: &History,
@@ -232,7 +233,7 @@ fn push_train_offer(
     push_order(rows, history, seat, Order::Offer(offer))
 }
 
-/// Returns whether a company is started and is not the seller.
+/// Returns whether a company has started and is not the seller.
 fn may_take_train(history: &History, seller: Company, buyer: Company) -> bool
     ensures { result ≡ may_take_train history.now.events seller buyer }
 {
@@ -268,7 +269,7 @@ fn push_private_offers_of(
 }
 
 /// Adds the row of an OFFER line of a private to a company, if the seat owns the private and the
-/// company is started.
+/// company has started.
 fn push_private_offer(
     rows: &mut Vec<Row>,
     history: &History,

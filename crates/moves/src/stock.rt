@@ -1,4 +1,4 @@
-//! The rows of a stock round: of each company the purchases and sales, and the exchange of MH.
+//! The rows of a stock round: for each company the purchases and sales, and the exchange of MH.
 ghost use Rattle.std.specs.Prelude.{◌≡◌, ◌++◌, ◌∷◌, [], IfOk, None, OnOk, map, pos};
 ghost use Rattle.moves.specs.Deals.{brought_by};
 ghost use Rattle.moves.specs.StockRows.{is_number_asked, orders_of, orders_of_companies, orders_of_sale};
@@ -14,12 +14,13 @@ use std::alloc::{AllocError, Global};
 use stock_round::is_no_exchange;
 use tables::{Amount, Company, Money, PAR_VALUES, Seat};
 
-/// The numbers of shares of which a sale is shown: a company has ten, and one more is refused.
+/// The numbers of shares whose sale is considered: a company has ten, and a sale of one more is
+/// refused.
 const NUMBERS: [Amount; 11] = [1, 2, 3, 4, 5, 6, 7, 8, 9, 10, 11];
 
-/// Returns what becomes of each purchase of each company, of each sale of it up to one more share
-/// than the seat has, and of the exchange of MH, as the first line of a seat's turn of a stock
-/// round. Fails only if allocation fails.
+/// Returns the outcome of each purchase from each company, of each sale up to one more share than
+/// the seat has, and of the exchange of MH, as the first line of a seat's turn of a stock round.
+/// Fails only if allocation fails.
 pub fn stock_rows(alloc: Global, history: &History, seat: Seat) -> Result<Vec<Row>, AllocError>
     ensures { IfOk result (λ rows. rows.items
         ≡ map (stock_row history.now.seats history.now.events seat)
@@ -121,7 +122,7 @@ fn push_sales(
     Ok(())
 }
 
-/// Adds the row of a sale of this many shares, if it is shown.
+/// Adds the row of a sale of this many shares, if it is considered.
 fn push_sale(
     rows: &mut Vec<Row>,
     history: &History,
@@ -139,7 +140,7 @@ fn push_sale(
     push_order(rows, history, seat, Order::Sell { company, shares })
 }
 
-/// Returns whether a sale of this many shares is shown: of one, and of up to one more than the seat
+/// Returns whether a sale of this many shares is considered: from one up to one more than the seat
 /// has.
 fn is_number_asked(history: &History, seat: Seat, company: Company, shares: Amount) -> bool
     ensures { result ≡ is_number_asked history.now.events seat company shares }
@@ -162,7 +163,7 @@ fn push_order(
     push_row(rows, order, answer)
 }
 
-/// Returns what becomes of an order as the first line of a seat's turn.
+/// Returns the outcome of an order as the first line of a seat's turn.
 fn answer_to(history: &History, seat: Seat, order: &Order) -> Answer
     ensures { result ≡ stock_answer history.now.seats history.now.events seat order.now }
 {

@@ -14,13 +14,13 @@ use std::alloc::{AllocError, Global};
 pub type Tokens = Vec<Priced<Place>>;
 
 /// Returns every place where a company may put its next token, with its cost in dollars: of all
-/// hexes and their stops, those of which `try_token` returns a cost. Fails only if allocation
+/// hexes and their stops, those for which `try_token` returns a cost. Fails only if allocation
 /// fails.
 pub fn tokens(alloc: Global, board: &Board, asker: &Asker) -> Result<Tokens, AllocError>
     ensures { IfOk result (λ tokens.
         AreListed (IsTokenAnswer board.now asker.now) all_places tokens.items) }
 {
-    // Does nothing when it runs: these are all hexes.
+    // A law, which does nothing when it runs: these are all hexes.
     map_tables::laws::hexes_are_listed_once();
     let mut tokens = Vec::new(alloc);
     for hex in &Hex::ALL {
@@ -29,7 +29,7 @@ pub fn tokens(alloc: Global, board: &Board, asker: &Asker) -> Result<Tokens, All
     Ok(tokens)
 }
 
-/// Adds the tokens in a hex: of the hex as such, which no token takes, and of its stops.
+/// Adds the places in a hex: the hex without a stop, which takes no token, and its stops.
 fn push_tokens_in(
     tokens: &mut Tokens,
     board: &Board,

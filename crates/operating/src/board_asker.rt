@@ -10,7 +10,7 @@ use board::Asker;
 use history::{History, Holder, Owners, Party};
 use tables::{Company, PerPrivate, Private};
 
-/// Returns a company as the rules of the board see it, with its turn as far as it has come.
+/// Returns a company as the rules of the board see it, with its turn so far.
 pub(crate) fn asker(history: &History, company: Company, progress: Progress) -> Asker
     ensures { result ≡ asker_of history.now company progress }
 {
@@ -26,8 +26,8 @@ pub(crate) fn asker(history: &History, company: Company, progress: Progress) -> 
     }
 }
 
-/// Returns a company as the rules of the board see it, by the list as it is, with a turn that
-/// begins.
+/// Returns a company as the rules of the board see it, by the list as it is, at the start of a
+/// turn.
 pub fn asker_now(history: &History, company: Company) -> Asker
     ensures { result ≡ asker_of history.now company at_start }
 {

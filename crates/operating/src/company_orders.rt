@@ -1,5 +1,5 @@
-//! The orders that a president has for a company, ruled line by line. First comes a line's own
-//! fault, then its place, then its condition, and then the rules of its order.
+//! The orders that a president has for a company, ruled line by line. The checks of a line are in
+//! this order: its own fault, its place, its condition, and the rules of its order.
 ghost use Rattle.std.specs.Prelude.{◌≡◌, ◌≢◌, ◌≤◌, ◌++◌, ◌∷◌, [], IfErr, OnOk, true};
 ghost use Rattle.std.specs.Option.{option_copied};
 ghost use Rattle.legal_runs.specs.declared.runner.RunnerFault.TheVariants.{Refused};
@@ -53,7 +53,7 @@ impl CompanyTurn {
         Ok(())
     }
 
-    /// Rules a line of the company's orders, and does what it orders if it is obeyed. Adds it to
+    /// Rules a line of the company's orders, and carries it out if it is obeyed. Adds it to
     /// `raises` if it is a RAISE. Overwrites `order`.
     fn rule_line<R: Runner>(
         &mut self,
@@ -83,8 +83,8 @@ impl CompanyTurn {
         }
     }
 
-    /// Rules an order in this line. If it is ruled at its place, its condition comes first: if that
-    /// is not met the order is refused, and nothing else happens.
+    /// Rules an order in this line. If it is ruled at its place, its condition is checked first. If
+    /// that is not met, the order is refused and nothing else happens.
     fn rule_asked<R: Runner>(
         &mut self,
         line: ReadLine,
@@ -133,8 +133,8 @@ impl CompanyTurn {
         record_fault(&mut self.history, self.by.president, line, fault)
     }
 
-    /// Rules an order in this line whose condition is met or absent, and does it if it is obeyed.
-    /// The runner is called only for the best runs.
+    /// Rules an order in this line whose condition is met or absent, and carries it out if it is
+    /// obeyed. The runner is called only for the best runs.
     fn rule_order<R: Runner>(
         &mut self,
         line: ReadLine,
@@ -158,8 +158,8 @@ impl CompanyTurn {
         }
     }
 
-    /// Rules an order other than RUN BEST. A RAISE is ruled at the end of the turn. An order that
-    /// is not named here has no place.
+    /// Rules an order other than RUN BEST. A RAISE is ruled at the end of the turn. Any other order
+    /// is out of place.
     fn rule_other(&mut self, line: ReadLine, order: &Order) -> Result<(), AllocError>
         requires few { self.old.history.seats ≤ 6 }
         requires small { IsSmallOrder order.now }
@@ -190,8 +190,8 @@ impl CompanyTurn {
 }
 
 /// Returns whether an order that is ruled at its place in a company's orders has a condition that
-/// is not met. The condition of a RAISE is checked at the end of the turn, and that of an order
-/// without a place never.
+/// is not met. The condition of a RAISE is checked at the end of the turn, and that of an order out
+/// of place never.
 fn is_held(history: &History, condition: Option<&Condition>, order: &Order) -> bool
     ensures { result
         ≡ is_held history.now.events (option_copied condition.entry) order.now }
@@ -200,7 +200,7 @@ fn is_held(history: &History, condition: Option<&Condition>, order: &Order) -> b
 }
 
 /// Returns whether an order is ruled at its place in a company's orders: a RAISE waits for the end
-/// of the turn, and others have no place.
+/// of the turn, and some orders are out of place.
 fn is_ruled_there(order: &Order) -> bool
     ensures { result ≡ is_ruled_there order.now }
 {

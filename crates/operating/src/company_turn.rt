@@ -9,7 +9,8 @@ use history::History;
 use std::alloc::Global;
 use tables::Round;
 
-/// The turn of a company that has a president. The runner is no part of it: only RUN BEST calls it.
+/// The turn of a company that has a president. The runner is not part of it, since only RUN BEST
+/// calls it.
 #[derive(Drop)]
 pub struct CompanyTurn {
     pub(crate) alloc: Global,
@@ -19,15 +20,15 @@ pub struct CompanyTurn {
     pub round: Round,
     /// The game so far.
     pub history: History,
-    /// How far the turn has come.
+    /// The step of the turn, and what its trains have done.
     pub progress: Progress,
-    /// The tiles and tokens that lie on the map, or the first of them: in a box, so that the turn
-    /// is passed on in few bytes.
+    /// The tiles and tokens that lie on the map, or the first of them: in a box, so that a turn is
+    /// few bytes to pass on.
     pub board: Box<Board>,
 }
 
 impl CompanyTurn {
-    /// Returns a turn that begins once the company's home token lies, with a board that has the
+    /// Returns a turn at its start, once the company's home token lies, with a board that has the
     /// first of the tiles and tokens.
     pub(crate) fn begin(
         alloc: Global,

@@ -14,7 +14,7 @@ pub(crate) struct CompletedRun {
     pub(crate) kind: Kind,
     /// What it earned, in dollars.
     pub(crate) earned: Amount,
-    /// The borders that are used once it has run.
+    /// The used borders after its run.
     pub(crate) borders: Used,
 }
 
@@ -25,8 +25,8 @@ pub struct Runs {
     trains: PerKind<TrainCount>,
     /// The borders that they have crossed.
     pub(crate) borders: Used,
-    /// What they have earned, in dollars: at most 160 for each border that is used, or otherwise
-    /// the greatest revenue.
+    /// What they have earned, in dollars: at most 160 for each used border, or after RUN BEST the
+    /// greatest revenue.
     pub(crate) revenue: Amount,
 }
 
@@ -57,7 +57,7 @@ impl Runs {
     ghost use Rattle.std.specs.Prelude.{◌≤◌, pos};
     ghost use lib.Signed.{lt_z};
 
-    /// Returns runs of no train.
+    /// Returns no runs.
     pub(crate) fn none() -> Runs
         ensures { result ≡ no_runs }
     {
@@ -86,7 +86,7 @@ impl Runs {
         self.revenue = revenue;
     }
 
-    /// Returns whether some train has run by an order of its own.
+    /// Returns whether some train has run by a RUN order.
     pub(crate) fn are_any(&self) -> bool
         ensures { result ≡ list_any (λ count. lt_z (pos 0) count) self.now.trains }
     {

@@ -1,9 +1,8 @@
-//! The laws of turns in which a company is made to buy. Each is the contract of a function that
-//! does nothing.
+//! The laws of forced purchases. Each is the contract of a function that does nothing.
 ghost use Rattle.operating.specs.ForcedLaws.{BankruptcyEndsTurns, PresidentStays, TurnsEndWithTrains};
 
-/// States that whoever presides over a company as its turn begins does so at its end: no sale to
-/// raise money for its train moves its presidency.
+/// States that whoever presides over a company as its turn begins also does so at its end: no sale
+/// to raise money for its train moves its presidency.
 pub fn presidents_stay()
     ensures { PresidentStays }
 {}
@@ -14,9 +13,9 @@ pub fn bankruptcy_ends_turns()
     ensures { BankruptcyEndsTurns }
 {}
 
-/// States that a company that has a president owns a train after its turn, or a president is
-/// bankrupt, or it could run no train of kind 2. All trains must be there before the turn, as play
-/// keeps them.
+/// States that after its turn a company with a president owns a train, unless a president is
+/// bankrupt or it could not run a 2-train. Before the turn no train may be missing, which holds
+/// throughout play.
 pub fn turns_end_with_trains()
     ensures { TurnsEndWithTrains }
 {}

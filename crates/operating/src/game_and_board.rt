@@ -11,12 +11,12 @@ use std::alloc::{AllocError, Global};
 use tables::Kind;
 
 /// A game, and a board with the first of the tiles and tokens that were laid in it. Both go from
-/// the turn of one company to that of the next, so that a round lays out its board once.
+/// the turn of one company to that of the next, so that a round builds its board only once.
 #[derive(Drop)]
 pub struct GameAndBoard {
     /// The game so far.
     pub history: History,
-    /// The board, in a box, so that the game and the board are passed on in few bytes.
+    /// The board, in a box, so that the game and the board are few bytes to pass on.
     pub board: Box<Board>,
 }
 
@@ -32,8 +32,8 @@ impl GameAndBoard {
     }
 }
 
-/// Returns a board on which nothing lies, in a box. No other function has a board among its locals,
-/// since every call of it would pay for the board's bytes.
+/// Returns a board on which nothing lies, in a box. No other function keeps a board among its
+/// locals, since each of its calls would pay for the board's bytes.
 #[inline(never)]
 fn empty_board(alloc: Global) -> Result<Box<Board>, AllocError>
     ensures { IfOk result (λ board. board.value ≡ map_state_of [] [] kind.Two) }

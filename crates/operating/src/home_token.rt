@@ -9,9 +9,9 @@ use map_tables::home;
 use std::alloc::AllocError;
 use tables::Company;
 
-/// Places a token of a company without one at its home there, for nothing. The tokens on the map
-/// decide, and not whether the company had a turn. In play the two are the same: the first token
-/// that a company places is that of its home, so it has placed none if none lies there.
+/// Places a company's home token, for nothing, unless the company has a token at its home. The
+/// tokens on the map decide that, not whether the company had a turn. In play the two are the same,
+/// since a company places its home token first.
 pub(crate) fn place_home(history: &mut History, company: Company) -> Result<(), AllocError>
     requires { IsSound history.old }
     ensures seats { OnOk result (history.new.seats ≡ history.old.seats) }

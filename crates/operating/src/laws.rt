@@ -10,8 +10,8 @@ pub use crate::sale_laws::{sellers_agree_in_turns, turns_say_no_bid};
 pub use crate::tile_laws::all_tiles_are_there;
 pub use crate::train_laws::{phases_go_on_in_turns, turns_keep_all_trains};
 
-/// States that after a company's turn that company has operated, and of the others only those that
-/// had before.
+/// States that after a company's turn that company has operated, and no other company that had not
+/// before.
 pub fn company_operates()
     ensures { CompanyOperates }
 {}
@@ -21,8 +21,8 @@ pub fn turn_only_adds()
     ensures { TurnOnlyAdds }
 {}
 
-/// States that after a company's turn a token of it lies at its home, whatever comes after: it
-/// places no second one there for nothing.
+/// States that after a company's turn its home token lies for good, so that it never places a
+/// second one there for nothing.
 pub fn home_token_lies()
     ensures { HomeTokenLies }
 {}
@@ -47,8 +47,8 @@ pub fn company_turn_ends()
     map_tables::laws::values_are_at_most_80();
 }
 
-/// States that a company's turn makes one list of calls of its runner, and that there is one for
-/// each turn. If the turn is broken off, the calls made are a prefix of that list.
+/// States that each turn of a company has exactly one list of calls of its runner. If the turn is
+/// broken off, the calls made are a prefix of that list.
 pub fn one_list_of_turn_calls()
     ensures one { OneListOfTurnCalls }
     ensures some { SomeTurnCalls }
@@ -60,8 +60,8 @@ pub fn one_list_of_turn_calls()
     map_tables::laws::values_are_at_most_80();
 }
 
-/// States that a run that is obeyed is legal over the borders that the runs obeyed before it in the
-/// turn have left free. So the runs of a turn share no border.
+/// States that an obeyed run is legal given the borders used by the runs obeyed earlier in the
+/// turn. So the runs of a turn share no border.
 pub fn obeyed_runs_are_legal()
     ensures { ObeyedRunsAreLegal }
 {}

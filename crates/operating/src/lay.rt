@@ -1,6 +1,5 @@
-//! LAY: a company lays a tile, or puts one in the place of another, at the step of lays. Its rules
-//! are those of the map, as rows in `board` (`Board::try_lay`). The company pays the bank what the
-//! terrain costs.
+//! LAY: a company lays a tile, or replaces one, at the step of lays. `Board::try_lay` checks its
+//! rules. The company pays the bank what the terrain costs.
 ghost use Rattle.std.specs.Prelude.{◌≡◌, OnOk};
 ghost use Rattle.operating.specs.CompanyTurn.{GoesOn, IsInOrder, state};
 ghost use Rattle.operating.specs.Lay.{LayLeads};

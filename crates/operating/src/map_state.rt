@@ -1,5 +1,5 @@
-//! What lies on the map, as a board that is kept through a turn. Before a line uses the board, it
-//! is brought up to date.
+//! The tiles and tokens on the map, as a board that is kept through a turn. It is brought up to
+//! date before a line uses it.
 ghost use Rattle.std.specs.Prelude.{◌≡◌, OnOk};
 ghost use Rattle.totals.specs.Operating.{lays_of, tokens_of};
 ghost use Rattle.operating.specs.MapState.{BeginsWith, IsPrefix, map_state_now};
@@ -8,8 +8,8 @@ use board::Board;
 use history::History;
 use std::alloc::AllocError;
 
-/// Brings the board up to date: it has the first of the tiles and tokens that were laid, and gets
-/// the others and the phase. Fails only if allocation fails.
+/// Brings the board up to date: adds the tiles and tokens that it lacks, and sets the phase. Fails
+/// only if allocation fails.
 pub(crate) fn update_map_state(board: &mut Board, history: &History) -> Result<(), AllocError>
     requires { IsPrefix board.old history.now.events }
     ensures map_state { OnOk result (board.new ≡ map_state_now history.now.events) }

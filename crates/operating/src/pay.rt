@@ -1,8 +1,7 @@
-//! PAY and WITHHOLD: a company pays out what its trains earned in its turn, or withholds it. Either
-//! needs a turn that is not past its pay, and to pay needs a revenue; the turn is then past it. A
-//! company that withholds gets all of it from the bank, and its token on the chart moves left. A
-//! company that has done neither withholds by itself before it buys a train, and when its orders
-//! end.
+//! PAY and WITHHOLD: a company pays out what its trains earned in its turn, or withholds it. Both
+//! are allowed only once in a turn, and PAY only with a revenue. A company that withholds gets all
+//! of it from the bank, and its token on the chart moves left. A company that has done neither
+//! withholds by itself before it buys a train, and when its orders end.
 ghost use Rattle.std.specs.Prelude.{◌≡◌, ◌≤◌, OnOk};
 ghost use Rattle.history.specs.Sound.{IsSound};
 ghost use Rattle.operating.specs.CompanyTurn.{GoesOn, IsInOrder, state};
@@ -69,7 +68,7 @@ impl CompanyTurn {
         Ok(())
     }
 
-    /// Withholds what the company earned, by itself, if its turn is not past its pay.
+    /// Withholds what the company earned, unless it has paid or withheld already.
     pub fn withhold_if_unpaid(&mut self) -> Result<(), AllocError>
         requires { IsInOrder self.old }
         ensures turn { OnOk result (state self.new
@@ -90,7 +89,7 @@ impl CompanyTurn {
     }
 }
 
-/// Rules a PAY in this line, and pays if it is obeyed: the turn is then past its pay.
+/// Rules a PAY in this line, and pays if it is obeyed: that ends the step of payment.
 fn rule_pay(
     history: &mut History,
     by: Operator,

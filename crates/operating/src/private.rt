@@ -1,5 +1,5 @@
-//! PRIVATE: a company buys a private from a player, at any step. The rules are those of a purchase,
-//! as rows in `purchases` (`judge_private`). The turn stays as far as it had come.
+//! PRIVATE: a company buys a private from a player, at any step. `purchases::judge_private` checks
+//! its rules. The step of the turn does not change.
 ghost use Rattle.std.specs.Prelude.{◌≡◌, OnOk};
 ghost use Rattle.operating.specs.CompanyTurn.{GoesOn, IsInOrder, state};
 ghost use Rattle.operating.specs.Private.{after_private};
@@ -16,8 +16,8 @@ use tables::{Amount, Private};
 use turns::record;
 
 impl CompanyTurn {
-    /// Rules a PRIVATE of this line, and buys the private if it is obeyed. The turn stays as far as
-    /// it had come.
+    /// Rules a PRIVATE of this line, and buys the private if it is obeyed. The step of the turn
+    /// does not change.
     pub(crate) fn rule_private(
         &mut self,
         line: ReadLine,

@@ -1,4 +1,4 @@
-//! How far a company's turn has come: the first step that it may still take, and what it has done.
+//! The progress of a company's turn: the first step still open to it, and what it has done.
 ghost use Rattle.std.specs.Prelude.{◌≡◌, ◌≤◌};
 ghost use Rattle.operating.specs.Progress.{at_start, best_done, has_any_run, is_past_pay};
 ghost use Rattle.operating.specs.Progress.{is_past_runs, is_unpaid, lay_done, pay_done, run_done};
@@ -10,23 +10,23 @@ use board::{Asker, Board, TurnStep, is_dh_lay};
 use map_tables::Lay;
 use tables::Amount;
 
-/// How far a company's turn has come.
+/// The progress of a company's turn.
 #[derive(Clone, Copy, Debug)]
 pub struct Progress {
-    /// The first step that the turn may still take.
+    /// The first step that is still open.
     pub(crate) pointer: TurnStep,
     /// Whether the company has used its lay.
     pub(crate) lay_used: bool,
     /// Whether that was DH's lay, so that the turn's token may be DH's.
     pub(crate) dh_laid: bool,
-    /// Whether the company has run its best, which leaves no train to run.
+    /// Whether the company has obeyed RUN BEST, after which no train is left to run.
     pub(crate) best_run: bool,
     /// What the trains of the company have done.
     pub(crate) runs: Runs,
 }
 
 impl Progress {
-    /// Returns the progress of a turn that begins.
+    /// Returns the progress at the start of a turn.
     pub(crate) fn start() -> Progress
         ensures { result ≡ at_start }
     {
@@ -39,7 +39,7 @@ impl Progress {
         }
     }
 
-    /// Counts a tile that is laid: CS's lay leaves the lay of the turn as it is, and DH's is
+    /// Counts a tile that is laid. CS's lay does not count as the lay of the turn, and DH's is
     /// remembered for its token.
     pub(crate) fn count_lay(&mut self, board: &Board, asker: &Asker, lay: Lay)
         ensures { self.new ≡ lay_done board.now.lays asker.now lay self.old }
@@ -48,14 +48,14 @@ impl Progress {
         self.dh_laid = self.dh_laid || is_dh_lay(asker, lay);
     }
 
-    /// Moves the turn past its lay and its token.
+    /// Ends the steps of lay and token.
     pub(crate) fn pass_token(&mut self)
         ensures { self.new ≡ token_done self.old }
     {
         self.pointer = TurnStep::Run;
     }
 
-    /// Counts a train that has run: the turn is past its token, too.
+    /// Counts a train that has run, which also ends the step of tokens.
     pub(crate) fn count_run(&mut self, ran: &CompletedRun)
         requires { IsCounted self.old.runs ran.now }
         ensures { self.new ≡ run_done self.old ran.now }
@@ -64,7 +64,7 @@ impl Progress {
         self.pass_token();
     }
 
-    /// Counts the best runs, which earned this much: the turn is past its token, too.
+    /// Counts the best runs, which earned this much; that also ends the step of tokens.
     pub(crate) fn count_best(&mut self, revenue: Amount)
         requires { revenue ≤ 50000 }
         ensures { self.new ≡ best_done self.old revenue }
@@ -74,14 +74,14 @@ impl Progress {
         self.pass_token();
     }
 
-    /// Moves the turn past its pay, once the company has paid or withheld.
+    /// Ends the step of payment, once the company has paid or withheld.
     pub(crate) fn pass_pay(&mut self)
         ensures { self.new ≡ pay_done self.old }
     {
         self.pointer = TurnStep::Trains;
     }
 
-    /// Returns whether the turn is past its runs.
+    /// Returns whether the step of runs is over.
     pub(crate) fn is_past_runs(&self) -> bool
         ensures { result ≡ is_past_runs self.now }
     {
@@ -95,14 +95,14 @@ impl Progress {
         self.best_run || self.runs.are_any()
     }
 
-    /// Returns whether the turn is past its pay.
+    /// Returns whether the company has paid or withheld.
     pub(crate) fn is_past_pay(&self) -> bool
         ensures { result ≡ is_past_pay self.now }
     {
         TurnStep::Pay.number() < self.pointer.number()
     }
 
-    /// Returns whether the turn is not past its pay.
+    /// Returns whether the company has neither paid nor withheld.
     pub(crate) fn is_unpaid(&self) -> bool
         ensures { result ≡ is_unpaid self.now }
     {

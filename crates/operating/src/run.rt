@@ -1,7 +1,7 @@
-//! RUN: a train of a company runs. It needs the step of runs or one before it, and a train of its
-//! kind that has not run in the turn: these are the rules of the turn. The run itself may break no
-//! rule of runs (`legal_runs::check_run`), over the borders that the runs before it have left. It
-//! earns what its stops are worth, and the turn is then past its token.
+//! RUN: a train of a company runs. The rules of the turn are that the step of runs is not over, and
+//! that a train of the kind has not run. The run itself must keep the rules of runs
+//! (`legal_runs::check_run`), given the borders used by earlier runs. It earns what its stops are
+//! worth, and ends the step of tokens.
 ghost use Rattle.std.specs.Prelude.{◌≡◌, ◌≤◌, ◌≤ℤ◌, false, IfOk, None, OnOk};
 ghost use Rattle.events.specs.declared.event.Event.TheVariants as event;
 ghost use Rattle.board_state.specs.MapState.{position_of};
@@ -45,8 +45,8 @@ fn rule_of_turn(
     }
 }
 
-/// Returns whether each train of a kind that a company has, if any, has run in the turn: by an
-/// order of its own, or since the best has been run.
+/// Returns whether all trains of a kind that a company has, if any, have run in the turn, by RUN or
+/// by RUN BEST.
 fn have_all_run(history: &History, company: Company, kind: Kind, progress: &Progress) -> bool
     ensures all { result ≡ have_all_run history.now company progress.now kind }
     ensures few { result ≡ false → has_run progress.now.runs kind ≤ℤ runs_most }
@@ -54,8 +54,7 @@ fn have_all_run(history: &History, company: Company, kind: Kind, progress: &Prog
     progress.best_run || history.now().trains(Some(company), kind) <= progress.runs.of_kind(kind)
 }
 
-/// Returns what a run does by the map state, or the first rule of runs that it breaks. Few trains
-/// of its kind have run before.
+/// Returns what a run does in this map state, or the first rule of runs that it breaks.
 fn run_on(
     board: &Board,
     company: Company,
@@ -124,7 +123,7 @@ impl CompanyTurn {
         Ok(run_on(board, company, kind, run, &self.progress.runs))
     }
 
-    /// Rules the order of this line, by which a train has run or which broke a rule of runs.
+    /// Rules the order of this line, given what its run does or which rule it breaks.
     fn rule_judged_run(
         &mut self,
         line: ReadLine,

@@ -1,7 +1,7 @@
-//! RUN BEST: a company runs its trains at their best. It needs the step of runs or one before it, a
-//! train, and that no train has run in the turn. The company is credited the greatest revenue that
-//! any legal set of runs for its trains earns by the map state, which the runner finds. The turn is
-//! then past its token, and no train is left to run.
+//! RUN BEST: a company runs its trains at their best. The step of runs must not be over, the
+//! company must have a train, and no train may have run in the turn. The company is credited the
+//! greatest revenue that any legal set of runs for its trains earns in this map state, which the
+//! runner finds. That ends the step of tokens, and no train is left to run.
 ghost use Rattle.std.specs.Prelude.{◌≡◌, ◌++◌, ◌≤◌, ◌≤ℤ◌, IfErr, IfOk, OnOk, pos, replicate, true};
 ghost use Rattle.legal_runs.specs.Set.{IsGreatest};
 ghost use Rattle.legal_runs.specs.declared.runner.RunnerFault.TheVariants.{Refused as runner_refuses};
@@ -33,7 +33,7 @@ use std::alloc::{AllocError, Global};
 use tables::{Amount, Company, Kind, Money, rules};
 use turns::record;
 
-/// The most trains that a company may have in any phase. This many are kept without allocating.
+/// The most trains that a company may have in any phase. That many are kept without allocating.
 const TRAINS_MOST: usize = 4;
 
 /// The trains of a company.
@@ -57,9 +57,8 @@ fn has_none_to_run(history: &History, company: Company, progress: &Progress) -> 
 }
 
 impl CompanyTurn {
-    /// Rules a RUN BEST in this line, and runs it if it is obeyed: the company is credited the
-    /// greatest revenue, which the runner finds. The errors are the runner's, and a failed
-    /// allocation.
+    /// Rules a RUN BEST in this line, and carries it out if it is obeyed: the company is credited
+    /// the greatest revenue, which the runner finds. Fails if the runner fails or allocation fails.
     pub(crate) fn rule_best<R: Runner>(
         &mut self,
         line: ReadLine,
@@ -119,8 +118,8 @@ impl CompanyTurn {
         Ok(())
     }
 
-    /// Returns the greatest revenue of the company's trains by the map state, in dollars: at most
-    /// 50,000. The errors are the runner's, and a failed allocation.
+    /// Returns the greatest revenue of the company's trains in this map state, in dollars: at most
+    /// 50,000. Fails if the runner fails or allocation fails.
     fn best_revenue<R: Runner>(&mut self, runner: &mut R) -> Result<Amount, RunnerFault>
         requires { IsInOrder self.old }
         ensures greatest { let events = self.old.history.events in
@@ -133,7 +132,7 @@ impl CompanyTurn {
             (Asks self.old.by.company self.old.round self.old.history.events result) runner.new }
         ensures refuses { IfErr result (λ fault. fault ≡ runner_refuses → R.may_refuse ≡ true) }
     {
-        // Laws, which do nothing when they run: by them the greatest revenue is small.
+        // Laws, which do nothing when they run: they bound the greatest revenue.
         legal_runs::laws::a_greatest_exists();
         legal_runs::laws::one_greatest();
         let board = &mut *self.board;
@@ -146,7 +145,7 @@ impl CompanyTurn {
     }
 }
 
-/// Returns a sum of money that is not too great, in dollars.
+/// Returns a sum of money, in dollars, as an amount, which it fits.
 fn amount(money: Money) -> Amount
     requires least { pos 0 ≤ℤ money }
     requires most { money ≤ℤ pos 50000 }
@@ -166,7 +165,7 @@ fn trains_of(alloc: Global, view: &GameView, company: Company) -> Result<Company
     Ok(trains)
 }
 
-/// Adds this many trains of a kind at the end; none if the number is under 0.
+/// Adds this many trains of a kind at the end; adds none if the number is negative.
 fn push_trains(trains: &mut CompanyTrains, kind: Kind, count: TrainCount) -> Result<(), AllocError>
     ensures { OnOk result (trains.new.items
         ≡ trains.old.items ++ replicate (at_least_zero count) kind) }

@@ -9,7 +9,7 @@ pub fn turns_say_no_bid()
 {}
 
 /// States that whoever sells a train or a private to a company in its turn has agreed to exactly
-/// this sale, by the list of events before it.
+/// this sale, in the list of events before it.
 pub fn sellers_agree_in_turns()
     ensures { TurnsKeepAgreed }
 {}

@@ -1,6 +1,5 @@
-//! TOKEN: a company places a further token, at the step of lays or that of tokens; the turn is then
-//! past both. Its rules are those of the map, as rows in `board` (`Board::try_token`). The company
-//! pays the bank what the token costs.
+//! TOKEN: a company places a further token, at the step of lays or of tokens, which ends both.
+//! `Board::try_token` checks its rules. The company pays the bank what the token costs.
 ghost use Rattle.std.specs.Prelude.{◌≡◌, OnOk};
 ghost use Rattle.operating.specs.CompanyTurn.{GoesOn, IsInOrder, state};
 ghost use Rattle.operating.specs.Token.{TokenLeads};

@@ -1,7 +1,6 @@
-//! TRAIN: a company buys a train, from the bank, the pool or another company. What it earned is
-//! paid or withheld before. The rules are those of a purchase, as rows in `purchases`
-//! (`judge_purchase`), which also does what a purchase brings (`buy_train`). The turn stays as far
-//! as it had come.
+//! TRAIN: a company buys a train, from the bank, the pool or another company. It has paid or
+//! withheld what it earned before. `purchases::judge_purchase` checks its rules, and `buy_train`
+//! carries it out with its consequences. The step of the turn does not change.
 ghost use Rattle.std.specs.Prelude.{◌≡◌, OnOk};
 ghost use Rattle.operating.specs.CompanyTurn.{GoesOn, IsInOrder, state};
 ghost use Rattle.order_grammar.specs.declared.order.Order.TheVariants.{BuyTrain};
@@ -19,8 +18,8 @@ use tables::Kind;
 use turns::record;
 
 impl CompanyTurn {
-    /// Rules a TRAIN of this line, in a turn that is past its pay, and buys the train if it is
-    /// obeyed.
+    /// Rules a TRAIN of this line, after the company has paid or withheld, and buys the train if it
+    /// is obeyed.
     pub(crate) fn rule_train(
         &mut self,
         line: ReadLine,

@@ -24,12 +24,12 @@ use std::alloc::Global;
 use tables::{Company, Round};
 
 /// Plays the turn of a company in an operating round, with the sheets for it. The list of events
-/// must be sound, and its seats must be those of the sheets' players; the company has floated. It
-/// is meant for one that has not operated in this round. The turn begins with HOME if no token of
-/// the company lies at its home. In play that is at its first turn. In a list that no play makes,
-/// the tokens on the map decide, and not which turns or HOME events there were. The runner finds
-/// the greatest revenue if the company is ordered to run its best. The error comes from a failed
-/// allocation, or from a runner that refuses, and the game is dropped.
+/// must be sound, and its seats must be those of the sheets' players; the company must have
+/// floated. It is meant for a company that has not operated in this round. The turn begins with
+/// HOME if the company has no token at its home: in play, at its first turn. (In lists that no play
+/// makes, the tokens on the map decide that, not earlier turns or HOME events.) The runner finds
+/// the greatest revenue for a RUN BEST. Fails if allocation fails or the runner refuses, and then
+/// drops the game.
 pub fn play_company<R: Runner>(
     alloc: Global,
     history: History,
@@ -53,8 +53,8 @@ pub fn play_company<R: Runner>(
     Ok(played.history)
 }
 
-/// Plays the turn of a company as `play_company` does, with a board that has the first of what was
-/// laid before. The board that comes back has the first of what was laid since.
+/// Plays the turn of a company as `play_company` does, with a board that has the first of the tiles
+/// and tokens laid so far. So has the board that it returns.
 pub fn play_on<R: Runner>(
     alloc: Global,
     game: GameAndBoard,
@@ -76,7 +76,7 @@ pub fn play_on<R: Runner>(
 {
     let GameAndBoard { mut history, board } = game;
     let president = history.now().president(company);
-    // For the proof alone: the number is at most six, and so is that of the seats of the game.
+    // For the proof only: the number is at most six, and so is that of the seats of the game.
     let _few = sheets.seats();
     place_home(&mut history, company)?;
     let Some(president) = president else {
@@ -94,7 +94,7 @@ pub fn play_on<R: Runner>(
 }
 
 impl CompanyTurn {
-    /// Plays the turn once the company's home token lies: rules its orders, lets it withhold if it
+    /// Plays the turn after the home token is placed: rules the orders, withholds if the company
     /// has neither paid nor withheld, and ends the turn.
     fn play<R: Runner>(&mut self, orders: &PartsLeft, runner: &mut R) -> Result<(), RunnerFault>
         requires few { self.old.history.seats ≤ 6 }

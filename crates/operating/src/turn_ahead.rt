@@ -1,5 +1,5 @@
-//! A company's turn in parts, for those who look ahead of play: how it begins, what some of its
-//! orders lead to, how it ends, and the turn of a company for which nobody has orders.
+//! A company's turn in parts, for looking ahead of play: its beginning, the effect of some of its
+//! orders, its end, and a whole turn without orders.
 ghost use Rattle.std.specs.Prelude.{◌≡◌, ◌≤◌, ◌<◌, [], IfErr, IfOk, OnOk, true};
 ghost use Rattle.forced_purchase.specs.Raise.{raises_in};
 ghost use Rattle.history.specs.Sound.{IsSound};
@@ -26,8 +26,8 @@ use sheets::PartsLeft;
 use std::alloc::{AllocError, Global};
 use tables::{Company, Round};
 
-/// Returns the turn of a company at the head of its orders: its home token lies. Fails only if
-/// allocation fails.
+/// Returns the turn of a company at the head of its orders, with its home token placed. Fails only
+/// if allocation fails.
 pub fn begin_turn(
     alloc: Global,
     game: GameAndBoard,
@@ -46,8 +46,8 @@ pub fn begin_turn(
     Ok(CompanyTurn::begin(alloc, by, round, history, board))
 }
 
-/// Plays the turn of a company for which nobody has orders: as if the order file had no sheet.
-/// Fails only if allocation fails.
+/// Plays the turn of a company without orders, as if the order file had no sheet. Fails only if
+/// allocation fails.
 pub fn pass_turn(
     alloc: Global,
     game: GameAndBoard,
@@ -75,7 +75,7 @@ pub fn pass_turn(
 }
 
 impl CompanyTurn {
-    /// Returns the company as the rules of the board see it, with its turn as far as it has come.
+    /// Returns the company as the rules of the board see it, with its turn so far.
     pub fn asker(&self) -> Asker
         ensures { result ≡ asker_of self.now.history self.now.by.company self.now.progress }
     {
@@ -83,7 +83,7 @@ impl CompanyTurn {
     }
 
     /// Rules the lines of some orders of the company. Returns the RAISE lines among them, which are
-    /// ruled at the end of the turn. The error is a failed allocation, or that the runner refuses.
+    /// ruled at the end of the turn. Fails if allocation fails or the runner refuses.
     pub fn rule_orders<R: Runner>(
         &mut self,
         orders: &PartsLeft,
@@ -106,9 +106,8 @@ impl CompanyTurn {
         Ok(raises)
     }
 
-    /// Ends the turn with the RAISE lines of its orders, those that were held: the company
-    /// withholds if it has neither paid nor withheld, and buys a train if it must. Fails only if
-    /// allocation fails.
+    /// Ends the turn with the RAISE lines of its orders that were held: the company withholds if it
+    /// has neither paid nor withheld, and buys a train if it must. Fails only if allocation fails.
     pub fn finish(self, raises: Vec<HeldRaise>) -> Result<GameAndBoard, AllocError>
         requires few { self.history.seats ≤ 6 }
         requires at_table { self.by.president.0 < self.history.seats }

@@ -18,8 +18,8 @@ use std::alloc::AllocError;
 use tables::Company;
 
 impl CompanyTurn {
-    /// Returns whether the company must buy a train if its turn ends as it stands: it has none, and
-    /// could run one. Fails only if allocation fails.
+    /// Returns whether the company must buy a train if its turn ends here: it has none, and could
+    /// run one. Fails only if allocation fails.
     pub fn must_buy(&mut self) -> Result<bool, AllocError>
         requires { IsInOrder self.old }
         ensures due { IfOk result (λ due. IsTrue due ↔ IsDue self.old.history self.old.by.company) }
@@ -46,7 +46,7 @@ impl CompanyTurn {
     }
 
     /// Ends the turn once the company has paid or withheld: it buys a train if it must, and the
-    /// RAISE lines of its orders, those that were held, are ruled. Fails only if allocation fails.
+    /// RAISE lines of its orders that were held are ruled. Fails only if allocation fails.
     pub(crate) fn end(&mut self, raises: Vec<HeldRaise>) -> Result<(), AllocError>
         requires few { self.old.history.seats ≤ 6 }
         requires at_table { self.old.by.president.0 < self.old.history.seats }

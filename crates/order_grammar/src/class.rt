@@ -31,7 +31,7 @@ pub const MARKS_DIGITS_MOST: usize = 1000;
 /// A class of words: the texts that may be at one place of a form.
 #[derive(Clone, Copy)]
 pub(crate) enum Class {
-    /// Digits, with leading zeros allowed, of a value up to 99,999.
+    /// Digits, with leading zeros allowed; the value is at most 99,999.
     Number,
     /// A letter, then up to seven letters or digits.
     Name,
@@ -46,11 +46,11 @@ pub(crate) enum Class {
     Kind,
     /// The number of a tile of the manifest, without leading zeros.
     Tile,
-    /// A hex of the map, as `H12`.
+    /// A hex of the map, such as `H12`.
     Hex,
     /// 0 to 5.
     Rotation,
-    /// A hex of the map, as `H12`, or one with the number of a stop, `H12.0` or `H12.1`.
+    /// A hex of the map, such as `H12`, or one with the number of a stop, `H12.0` or `H12.1`.
     Place,
     /// 1 to 1,000 hexadecimal digits, in either case.
     HexDigits,
@@ -87,9 +87,9 @@ impl Series {
 pub(crate) enum Reading {
     /// It is a text of the class.
     Value(Value),
-    /// It would be a text of the class if numbers had no greatest value.
+    /// It would be a text of the class if its number were not too large.
     TooLarge,
-    /// It is no text of the class.
+    /// It is not a text of the class.
     Wrong,
 }
 

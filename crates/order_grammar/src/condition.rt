@@ -1,4 +1,4 @@
-//! The versions of order files, and the condition that a line of version 2 may put before its
+//! The versions of order files, and the condition that a line of version 2 may have before its
 //! order.
 ghost use Rattle.std.specs.Prelude.{◌≡◌};
 ghost use Rattle.order_grammar.specs.Condition.{
@@ -29,16 +29,16 @@ use tables::{Amount, Company, Kind};
 pub enum Version {
     /// `GAME 1830 1`: orders without conditions.
     One,
-    /// `GAME 1830 2`: an order may be under a condition.
+    /// `GAME 1830 2`: an order may have a condition.
     Two,
 }
 
-/// What an order depends on. It is checked as the order's line is taken up.
+/// What an order depends on. It is checked when the order's line is taken up.
 #[derive(Clone, Copy, Debug, PartialEq, Eq)]
 pub enum Condition {
-    /// `IF PRICE co >= n`: the company has a price, and that is at least this many dollars.
+    /// `IF PRICE co >= n`: the company has a price, which is at least this many dollars.
     Price(Company, Amount),
-    /// `IF PHASE kind`: the phase is that of this kind of train or a later one.
+    /// `IF PHASE kind`: the phase is the one of this kind of train, or a later one.
     Phase(Kind),
     /// `IF FLOATED co`: the company has floated.
     Floated(Company),
@@ -102,7 +102,7 @@ fn read_price(words: &mut Words, order: &mut Order) -> Result<Condition, Fault>
 }
 
 /// Overwrites `order` with the order that the words after PHASE or FLOATED spell, and returns its
-/// condition. The first of the words, a text of a class, gives the condition.
+/// condition. The first of the words gives the condition.
 fn read_of_one(class: Class, words: &mut Words, order: &mut Order) -> Result<Condition, Fault>
     ensures { put_conditional result order.new ≡ reading_of_one class (texts_of words.old) }
 {
@@ -126,8 +126,8 @@ fn price_of(company: Reading, price: Reading) -> Result<Condition, Fault>
     }
 }
 
-/// Returns the condition that one word gives: a kind of train gives the phase, and a company that
-/// it has floated.
+/// Returns the condition that one word gives: a kind of train gives a phase, and a company that it
+/// has floated.
 fn condition_of(word: Reading) -> Result<Condition, Fault>
     ensures { result ≡ condition_of word }
 {
@@ -139,7 +139,7 @@ fn condition_of(word: Reading) -> Result<Condition, Fault>
 }
 
 /// Overwrites `order` with the order that the words after a condition spell, and returns the
-/// condition. A word with which no order begins is wrong there, and so is a missing word.
+/// condition. A word that begins no order is wrong there, and so is a missing word.
 fn read_under(
     condition: Result<Condition, Fault>,
     words: &Words,
@@ -156,7 +156,8 @@ fn read_under(
     condition_if_read(condition, read)
 }
 
-/// Returns a condition, if it was read and an order after it; otherwise the fault of both together.
+/// Returns a condition, if it and an order after it were read; otherwise the fault of the two
+/// together.
 fn condition_if_read(
     condition: Result<Condition, Fault>,
     read: Result<(), Fault>,

@@ -1,4 +1,4 @@
-//! The faults for which a line is obeyed in no game, each with its code and its sentence.
+//! The faults of lines that are obeyed in no game, each with its code and its sentence.
 ghost use Rattle.std.specs.Prelude.{◌≡◌};
 ghost use Rattle.order_grammar.specs.Fault.{code_of, sentence_of};
 ghost use Rattle.tables.specs.RuleTexts.{ListsEachRule};
@@ -7,25 +7,26 @@ use std::fmt::{self, Display, Formatter, Write};
 use tables::{Printed, RuleRow, rule_rows};
 use thiserror::Error;
 
-/// Why a line is not obeyed in any game: the first of these that applies. `sentence` returns what
-/// each means. In the text of a certificate a line has up to 2,048 bytes.
+/// Why a line is not obeyed in any game: the first of these that applies. In the text of a
+/// certificate a line may have up to 2,048 bytes.
 #[derive(Clone, Copy, Debug, PartialEq, Eq, Drop, Error)]
 pub enum Fault {
-    /// G1.
+    /// G1: the line has over 1,024 bytes, its comment counted.
     TooLong,
-    /// G2.
+    /// G2: a byte before its comment is not printable ASCII: a tab, a hard space, an accent.
     StrayByte,
-    /// G3.
+    /// G3: no order begins with its first word. In a file of version 1 none begins with IF.
     UnknownWord,
-    /// G4.
+    /// G4: the words after the first fit no form; or after IF they are not a condition followed by
+    /// an order.
     WrongWords,
-    /// G5.
+    /// G5: a number is over 99,999.
     NumberTooLarge,
-    /// G6.
+    /// G6: the order is out of place, with or without a condition, or the line is in no sheet.
     OutOfPlace,
-    /// G7.
+    /// G7: the SHEET line does not name a player.
     UnknownPlayer,
-    /// G8.
+    /// G8: the line is past the 512th of its sheet.
     PastLastLine,
 }
 
@@ -71,8 +72,8 @@ impl Fault {
         self.row().code
     }
 
-    /// Returns what is wrong, in a player's words. The desk and the tables of the docs print no
-    /// other.
+    /// Returns what is wrong, in a player's words. The desk and the tables of the docs print these
+    /// words and no others.
     pub fn sentence(self) -> &'static str
         ensures { result.now ≡ sentence_of self }
     {

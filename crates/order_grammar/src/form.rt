@@ -1,4 +1,4 @@
-//! The table of the forms of lines, and how the words of a line are read by it.
+//! The table of the forms of lines, and how a line's words are read by it.
 ghost use Rattle.std.specs.Prelude.{◌≡◌, ◌≤◌, IsTrue, map};
 ghost use Rattle.std.specs.List.{list_all};
 ghost use Rattle.order_grammar.specs.Form.{
@@ -27,15 +27,15 @@ use arrayvec::ArrayVec;
 use map_tables::{Place, Run};
 use tables::{PLAYERS_LEAST, PLAYERS_MOST};
 
-/// A form of line: its first word, the classes of the words after it, and the class that is
-/// repeated at the end.
+/// A form of line: its first word, the classes of the words after it, and the class repeated at the
+/// end.
 pub(crate) struct Form {
     pub(crate) keyword: Keyword,
     pub(crate) classes: &'static [Class],
     pub(crate) trailing_class: TrailingClass,
 }
 
-/// A class that is repeated at the end of a form, at least and at most this many times.
+/// A class repeated at the end of a form, with its least and its greatest number.
 #[derive(Clone, Copy)]
 pub(crate) enum TrailingClass {
     Nothing,
@@ -49,7 +49,7 @@ pub(crate) enum TrailingClass {
 pub(crate) enum Grammar {
     /// Those of an order file: all but CERTS and MARKS.
     OrderFile,
-    /// Those of orders, which may be under a condition.
+    /// Those of orders, which may have a condition.
     Play,
     /// Those of the text of a certificate: CERT, CLAIM, CERTS and MARKS.
     Certificate,
@@ -68,7 +68,8 @@ impl Grammar {
         }
     }
 
-    /// Returns whether it has all forms whose first word is a keyword; otherwise it has none.
+    /// Returns whether it has the forms whose first word is a keyword. It has either all or none of
+    /// them.
     fn has(self, keyword: Keyword) -> bool
         ensures { result ≡ has_forms self keyword }
     {
@@ -111,9 +112,9 @@ macro_rules! form {
     };
 }
 
-/// Returns all forms whose first word is a keyword. These are the forms of lines: those of the file
-/// and of the heads of its parts, those of orders, CERT and CLAIM, and then those of a
-/// certificate's text alone. A line spells an order if its words fit a form.
+/// Returns all forms whose first word is a keyword. In order: the lines of a file and the heads of
+/// its parts, orders, CERT and CLAIM, and then the lines that only a certificate's text has. A line
+/// spells an order if its words fit a form.
 fn forms_with(keyword: Keyword) -> &'static [Form]
     ensures rows { map row_of result.now ≡ rows_with keyword forms }
     ensures short { IsTrue (list_all is_short_row (map row_of result.now)) }
@@ -172,7 +173,7 @@ fn forms_with(keyword: Keyword) -> &'static [Form]
 }
 
 /// Overwrites `order` with the order that the words of a line spell. The error says why they spell
-/// none: the one that is nearest to an order over the forms of a grammar.
+/// none: the fault nearest to an order, over the forms of a grammar.
 pub(crate) fn read_order(grammar: Grammar, words: &Words, order: &mut Order) -> Result<(), Fault>
     ensures { put_reading result order.new
         ≡ words_reading (rows_of grammar) (texts_of words.now) }
@@ -199,7 +200,7 @@ pub(crate) fn read_nearest(
     let Some(keyword) = Keyword::of_word(first) else {
         return Err(Fault::UnknownWord);
     };
-    // A form with another first word is no nearer.
+    // Forms with another first word are never nearer.
     let forms = grammar.forms(keyword);
     let mut nearest = Fault::UnknownWord;
     for form in forms {
@@ -211,7 +212,7 @@ pub(crate) fn read_nearest(
     Err(nearest)
 }
 
-/// Returns the fault that is nearer to an order; the first if both are as near.
+/// Returns the fault that is nearer to an order; the first if both are equally near.
 fn nearer(first: Fault, second: Fault) -> Fault
     ensures { Err result ≡ nearer (Err first) (Err second) }
 {
@@ -222,7 +223,7 @@ fn nearer(first: Fault, second: Fault) -> Fault
     }
 }
 
-/// What a line has after its first word and before what is repeated.
+/// What a line has between its first word and the repeated part.
 #[derive(Drop)]
 pub(crate) struct Prefix {
     /// The values of its words.
@@ -292,8 +293,8 @@ impl Form {
         }
     }
 
-    /// Overwrites `order` with the order that words spell by a form. It alone has room for what is
-    /// repeated, so that other forms need not pay for that.
+    /// Overwrites `order` with the order that words spell by a form. Only this function has room
+    /// for the repeated part, so that other forms do not pay for it.
     #[inline(never)]
     fn read_with_trailing(&self, words: &Words, order: &mut Order) -> Result<(), Fault>
         requires { IsTrue (is_short_row (row_of self.now)) }
@@ -341,7 +342,7 @@ impl TrailingClass {
     }
 }
 
-/// Reads words as names; `None` if one is no name, or they are too few or too many.
+/// Reads words as names; `None` if one is not a name, or there are too few or too many.
 fn read_names(words: &Words, least: usize, most: usize) -> Option<ArrayVec<Name, PLAYERS_MOST>>
     requires { most ≤ 6 }
     ensures { result ≡ names_reading least most (texts_of words.now) }
@@ -360,7 +361,8 @@ fn read_names(words: &Words, least: usize, most: usize) -> Option<ArrayVec<Name,
     Some(names)
 }
 
-/// Reads words as the places of a run; `None` if one is no place, or they are too few or too many.
+/// Reads words as the places of a run; `None` if one is not a place, or there are too few or too
+/// many.
 fn read_run(words: &Words) -> Option<Run>
     ensures { result ≡ run_reading (texts_of words.now) }
 {

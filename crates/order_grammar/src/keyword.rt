@@ -5,8 +5,8 @@ ghost use Rattle.order_grammar.specs.Words.{raised};
 
 use crate::words::is_word;
 
-/// A literal word of a form or a condition: the first word of a line, or one after it that stands
-/// for itself.
+/// A literal word of a form or a condition: the first word of a line, or a later word of fixed
+/// spelling.
 #[derive(Clone, Copy, PartialEq, Eq)]
 pub(crate) enum Keyword {
     Game,

@@ -51,14 +51,14 @@ pub fn cert_line_faulty_where_it_has_one()
         (cert_reading_of line ≡ Err fault) ↔ IsFaultIn certificate line fault }
 {}
 
-/// States that the printed text of an order under a condition is read in version 2 as that order
-/// under it.
+/// States that the printed text of an order with a condition is read in version 2 as that order
+/// with that condition.
 pub fn conditional_spelling_is_read_again()
     ensures { (condition : Option Condition) (order : Order) → IsOrderUnder condition order →
         reading_in Two (conditional_spelling condition order) ≡ Ok (ordered condition order) }
 {}
 
-/// States that a line of a file of some version is read as an order under a condition exactly if it
+/// States that a line of a file of some version is read as an order with a condition exactly if it
 /// spells that.
 pub fn read_in_version_where_spelt()
     ensures { (version : Version) (line : List ℕ) (spelt : Ordered) →

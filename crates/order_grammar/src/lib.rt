@@ -1,11 +1,11 @@
-//! Lines of order sheets and of the text of a certificate. A line is read as an order exactly if it
-//! has no fault, and an order is printed in its one spelling.
+//! The lines of order sheets and of the text of a certificate. A line is read as an order exactly
+//! if it has no fault, and an order is printed in its one spelling.
 //!
-//! Spaces separate a line's words, which end before the first `#`; letters of either case are
-//! equal. The forms of lines are in one table; a line spells the order of the row that its words
-//! fit. An order file has all forms but CERTS and MARKS. The text of a certificate has these two,
-//! CERT and CLAIM. In an order file of version 2 an order may be under a condition. Reading
-//! allocates nothing; printing allocates only its text.
+//! Spaces separate a line's words, which end before the first `#`; case does not matter. The forms
+//! of lines are in one table; a line spells the order of the row that its words fit. An order file
+//! has all forms but CERTS and MARKS. The text of a certificate has these two, CERT and CLAIM. In
+//! an order file of version 2 an order may have a condition. Reading allocates nothing; printing
+//! allocates only its text.
 //!
 //! A line read, and printed in its one spelling:
 //!
@@ -18,9 +18,8 @@
 //! ```
 //!
 //! Reading order: `name`, `fault`, `words` (a line and its words), `keyword` (the literal words),
-//! `order` (orders), `short` (those that need few bytes), `class` (the texts of each class of
-//! words), `form` (the table), `condition` (versions, and an order under a condition), `read`,
-//! `print`, `laws`.
+//! `order` (orders), `short` (orders of few bytes), `class` (the texts of each class of words),
+//! `form` (the table), `condition` (versions, and conditional orders), `read`, `print`, `laws`.
 #![tactic(auto)]
 
 mod class;

@@ -1,4 +1,4 @@
-//! The names of players, and which words spell one.
+//! The names of players, and the words that spell one.
 ghost use Rattle.std.specs.Bool.{OnTrue};
 ghost use Rattle.std.specs.Prelude.{◌≡◌, ◌≤◌, [], None, Some, if◌then◌else◌, length};
 ghost use Rattle.order_grammar.specs.Name.{is_name};
@@ -68,8 +68,7 @@ impl Name {
 impl Default for Name {
     ghost is_default = { λ name. name ≡ [] };
 
-    /// Returns no letters at all. It is the filler for the unused room of a list of names, and no
-    /// player's name.
+    /// Returns an empty name, which fills the unused part of a list of names. No player has it.
     fn default() -> Name {
         Name {
             letters: [0; NAME_MOST],

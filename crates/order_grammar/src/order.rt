@@ -1,5 +1,5 @@
-//! Orders: what a line of an order file or of a certificate says, and how the values of its words
-//! make it.
+//! Orders: what a line of an order file or of a certificate says, and how it is made from the
+//! values of its words.
 ghost use Rattle.std.specs.Prelude.{◌≡◌, false};
 ghost use Rattle.order_grammar.specs.Family.{IsOfAmount, IsOfCertificate, IsOfFile, IsOfOne, IsOfTrains};
 ghost use Rattle.order_grammar.specs.Order.{keyword_of_source, order_from, put_if, text_of_source};
@@ -115,13 +115,12 @@ pub enum Order {
         company: Company,
         revenue: Amount,
     },
-    /// `CLAIM kind place place ..`: one of those runs, of a train of a kind through 2 to 280
-    /// places.
+    /// `CLAIM kind place place ..`: one of those runs: a train of a kind, through 2 to 280 places.
     Claim {
         kind: Kind,
         run: Run,
     },
-    /// `MARKS digits`: 1 to 1,000 hexadecimal digits, which only the words of the line keep.
+    /// `MARKS digits`: 1 to 1,000 hexadecimal digits, which are kept only as words of the line.
     Marks,
 }
 
@@ -144,10 +143,10 @@ pub enum Offer {
     },
 }
 
-/// Where a share is bought that no seat owns.
+/// Where a share that no seat owns is bought.
 #[derive(Clone, Copy, Debug, PartialEq, Eq)]
 pub enum ShareSource {
-    /// `IPO`: shares that the bank has not sold yet.
+    /// `IPO`: shares that the bank has never sold.
     InitialOffering,
     /// `POOL`: shares that seats have sold to the bank.
     BankPool,
@@ -211,7 +210,7 @@ impl Default for Value {
     }
 }
 
-/// The most values of an order before those of a class that is repeated.
+/// The most values of an order before the repeated part.
 pub(crate) const VALUES_MOST: usize = 5;
 
 /// The values of an order, in the order of its words.
@@ -275,14 +274,14 @@ impl Order {
                 run: run.duplicate(),
             },
             Order::Marks => Order::Marks,
-            // A line without words; the rest has a short form.
+            // A line without words; all others have a short form.
             _ => Order::Blank,
         }
     }
 }
 
 /// Overwrites `order` with the order of these parts, if there is one, and returns whether there is.
-/// (An order has room for a run, so it is not passed by value here.)
+/// (An order has room for a run, so it is not passed by value.)
 pub(crate) fn put_order(
     keyword: Keyword,
     values: &[Value],
@@ -396,7 +395,7 @@ fn put_purchase(values: &[Value], order: &mut Order) -> bool
     true
 }
 
-/// Overwrites `order` with the order of these parts, if it names a number of dollars or of shares.
+/// Overwrites `order` with the order of these parts, if it names an amount of dollars or shares.
 fn put_amount(keyword: Keyword, values: &[Value], order: &mut Order) -> bool
     requires { IsOfAmount keyword }
     ensures { put_if result order.new ≡ order_from keyword values.now Nothing }
@@ -437,8 +436,8 @@ fn put_amount(keyword: Keyword, values: &[Value], order: &mut Order) -> bool
     true
 }
 
-/// Overwrites `order` with the order of these parts, if it names one thing: what is exchanged,
-/// where a token is placed, or the best runs.
+/// Overwrites `order` with the order of these parts, if it has one value: what is exchanged, where
+/// a token is placed, or BEST.
 fn order_from_one(keyword: Keyword, values: &[Value], order: &mut Order) -> bool
     requires { IsOfOne keyword }
     ensures { put_if result order.new ≡ order_from keyword values.now Nothing }
@@ -475,8 +474,7 @@ fn put_lay(values: &[Value], order: &mut Order) -> bool
     true
 }
 
-/// Overwrites `order` with the order of these parts, if it says what becomes of what trains earn,
-/// or discards one.
+/// Overwrites `order` with the order of these parts, if it pays, withholds, or discards a train.
 fn put_revenue_or_discard(keyword: Keyword, values: &[Value], order: &mut Order) -> bool
     requires { IsOfTrains keyword }
     ensures { put_if result order.new ≡ order_from keyword values.now Nothing }

@@ -25,7 +25,7 @@ use std::alloc::{AllocError, Global};
 use tables::{Kind, Round};
 
 /// Returns the one spelling of an order: upper case, single spaces, no leading zeros. `Marks` has
-/// none: its digits are in the line that was read. Fails only if allocation fails.
+/// none: its digits are in the line itself. Fails only if allocation fails.
 pub fn print_line(alloc: Global, order: &Order) -> Result<Vec<u8>, AllocError>
     ensures { IfOk result (λ text. text.items ≡ spelling_of order.now) }
 {
@@ -34,7 +34,7 @@ pub fn print_line(alloc: Global, order: &Order) -> Result<Vec<u8>, AllocError>
     Ok(text)
 }
 
-/// Returns the one spelling of an order under a condition, if there is one: upper case, single
+/// Returns the one spelling of an order with its condition, if it has one: upper case, single
 /// spaces, no leading zeros. Fails only if allocation fails.
 pub fn print_conditional(
     alloc: Global,
@@ -143,7 +143,7 @@ fn print_other_order(text: &mut Vec<u8>, order: &Order) -> Result<(), AllocError
         }
         Order::Claim { kind, run } => print_of_places(text, Keyword::Claim, *kind, run.as_slice()),
         Order::Marks => print_words(text, Keyword::Marks, &[Value::HexDigits]),
-        // A line without words; the rest has a short form.
+        // A line without words; all others have a short form.
         _ => Ok(()),
     }
 }
@@ -184,8 +184,8 @@ pub fn print_run_prefix(text: &mut Vec<u8>, kind: Kind) -> Result<(), AllocError
     print_words(text, Keyword::Run, &[Value::Kind(kind)])
 }
 
-/// Adds the spelling of an order that needs few bytes: upper case, single spaces, no leading zeros.
-/// If allocation fails, a prefix of that may have been added.
+/// Adds the spelling of an order of few bytes: upper case, single spaces, no leading zeros. If
+/// allocation fails, a prefix of that may have been added.
 pub fn print_short_order(text: &mut Vec<u8>, order: ShortOrder) -> Result<(), AllocError>
     ensures ok { OnOk result (text.new.items
         ≡ text.old.items ++ spelling_of (order_in_short order)) }
@@ -235,7 +235,7 @@ pub fn print_short_order(text: &mut Vec<u8>, order: ShortOrder) -> Result<(), Al
     }
 }
 
-/// Adds the order that names one thing and a number of dollars or of shares.
+/// Adds an order that names one thing and an amount of dollars or shares.
 fn print_amount(
     text: &mut Vec<u8>,
     keyword: Keyword,
@@ -380,7 +380,7 @@ fn print_places(text: &mut Vec<u8>, places: &[Place]) -> Result<(), AllocError>
     Ok(())
 }
 
-/// Adds a place. If allocation fails, the text is as it was.
+/// Adds a place. If allocation fails, the text does not change.
 fn print_place(text: &mut Vec<u8>, place: Place) -> Result<(), AllocError>
     ensures ok { OnOk result (text.new.items ≡ text.old.items ++ text_of_place place) }
     ensures err { OnErr result (text.new.items ≡ text.old.items) }
@@ -435,8 +435,8 @@ pub fn print_round(text: &mut Vec<u8>, round: &Round) -> Result<(), AllocError>
     }
 }
 
-/// Adds a number in digits, with a minus sign if it is under 0. If allocation fails, the text is as
-/// it was.
+/// Adds a number in digits, with a minus sign if it is negative. If allocation fails, the text does
+/// not change.
 pub fn print_number<I: Integer>(text: &mut Vec<u8>, number: I) -> Result<(), AllocError>
     ensures ok { OnOk result (text.new.items ≡ text.old.items ++ I.text number) }
     ensures err { OnErr result (text.new.items ≡ text.old.items) }

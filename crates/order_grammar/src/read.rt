@@ -25,7 +25,7 @@ const _: () = prove!(size_of::<Line>() <= 1024);
 
 const _: () = prove!(size_of::<Words>() <= 1024);
 
-/// A line that was read: its order with its condition, and its words as they are written.
+/// A line that was read: its order with its condition, and its words as written.
 #[derive(Drop)]
 pub struct Line<'a> {
     pub condition: Option<Condition>,
@@ -38,7 +38,7 @@ pub struct Line<'a> {
 pub fn read_line(line: &[u8]) -> Result<Line<'_>, Fault>
     // The order, or the fault.
     ensures order { order_of result ≡ reading_of line.now }
-    // The order is under no condition.
+    // The order has no condition.
     ensures condition { IfOk result (λ read. read.condition ≡ None) }
     // The words, at their places before the comment.
     ensures words { IfOk result (λ read. AreWordsOf line.now read.words) }
@@ -47,8 +47,8 @@ pub fn read_line(line: &[u8]) -> Result<Line<'_>, Fault>
 }
 
 /// Reads a line of an order file of some version, without its LF and a CR before that. A line of
-/// version 1 is read as `read_line` does. In version 2 an order may be under a condition, and IF
-/// is a known word.
+/// version 1 is read as `read_line` does. In version 2 an order may have a condition, and IF is a
+/// known word.
 pub fn read_line_in(version: Version, line: &[u8]) -> Result<Line<'_>, Fault>
     // The order with its condition, or the fault.
     ensures order { ordered_of result ≡ reading_in version line.now }
@@ -102,7 +102,7 @@ fn read_words(
 pub fn read_cert_line(line: &[u8]) -> Result<Line<'_>, Fault>
     // What the line says, or the fault.
     ensures order { order_of result ≡ cert_reading_of line.now }
-    // It is under no condition.
+    // It has no condition.
     ensures condition { IfOk result (λ read. read.condition ≡ None) }
     // The words, at their places before the comment.
     ensures words { IfOk result (λ read. AreWordsOf line.now read.words) }
@@ -167,7 +167,7 @@ fn printable_length(line: &[u8]) -> usize
         .unwrap_or(line.len())
 }
 
-/// Returns whether a byte may stand before a comment.
+/// Returns whether a byte may be before a comment.
 pub fn is_printable(byte: u8) -> bool
     ensures { result ≡ is_printable byte }
 {

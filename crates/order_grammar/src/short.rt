@@ -1,4 +1,4 @@
-//! The short form of orders, for all orders of play but a run through places.
+//! The short form of orders: all orders of play but a run through places.
 ghost use Rattle.std.specs.Prelude.{◌≡◌, false, MatchOption};
 ghost use Rattle.order_grammar.specs.Short.{has_short_form, order_in_short};
 
@@ -6,8 +6,7 @@ use crate::order::{Offer, Order, ShareSource, TrainSource};
 use map_tables::{Lay, Place};
 use tables::{Amount, Company, Kind, Private};
 
-/// An order of play that needs few bytes: any but a run through places. (An `Order` has room for a
-/// run.)
+/// An order of play in few bytes: any but a run through places. (An `Order` has room for a run.)
 #[derive(Clone, Copy)]
 pub enum ShortOrder {
     BuyPrivate(Private),

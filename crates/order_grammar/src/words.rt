@@ -16,14 +16,14 @@ ghost use Rattle.order_grammar.specs.Words.{
 
 use std::marker::Model;
 
-/// Where a word is in its line: from `start`, up to and without `end`.
+/// Where a word is in its line: from `start` up to, but not including, `end`.
 #[derive(Clone, Copy, Debug, PartialEq, Eq)]
 pub struct Span {
     pub start: usize,
     pub end: usize,
 }
 
-/// A word of a line, as it is written there, with its place.
+/// A word of a line as written, with its place.
 #[derive(Clone, Copy, Debug)]
 pub struct Token<'a> {
     pub text: &'a [u8],
@@ -35,7 +35,7 @@ pub struct Token<'a> {
 pub struct Words<'a> {
     /// The part of the line before its comment.
     text: &'a [u8],
-    /// Where the rest of it begins: no word, or a word from its first byte on.
+    /// Where the rest begins, which has no word or begins outside or at the start of one.
     at: usize,
 }
 
@@ -129,7 +129,7 @@ fn before_comment(line: &[u8]) -> &[u8]
     &line[..length_before(line, b'#')]
 }
 
-/// Returns the first byte of a text that is no space; `None` if there is none.
+/// Returns the first byte of a text that is not a space; `None` if there is none.
 fn first_byte(text: &[u8]) -> Option<u8>
     ensures { result ≡ first_byte text.now }
 {
@@ -160,7 +160,7 @@ pub fn begins_with_word(line: &[u8], word: &[u8]) -> bool
 }
 
 /// Returns whether the first word of a line begins with another byte than this word, given in upper
-/// case. Most lines are told apart by that alone.
+/// case. That alone rules out most lines.
 fn begins_otherwise(line: &[u8], word: &[u8]) -> bool
     ensures { OnTrue result (same_word (first_of_words (words_of line.now)) word.now ≡ false) }
 {
@@ -170,7 +170,7 @@ fn begins_otherwise(line: &[u8], word: &[u8]) -> bool
     }
 }
 
-/// Returns whether a word as it is written, in either case, is this one, given in upper case.
+/// Returns whether a word as written, in either case, is this one, given in upper case.
 pub(crate) fn is_word(written: &[u8], word: &[u8]) -> bool
     ensures { result ≡ same_word (raised written.now) word.now }
 {

@@ -1,4 +1,4 @@
-//! The bulletin of a round: its turns as its players read them, and a statement of how they stand
+//! The bulletin of a round: its turns as its players read them, and a statement of what they have
 //! after it; and the same on a page.
 ghost use Rattle.std.specs.Prelude.{IfErr, OnOk};
 ghost use Rattle.desk_base.specs.Refusal.{HasNoState, IsOfGame};
@@ -15,10 +15,10 @@ use sheets::{Sheets, collect};
 use std::alloc::{AllocError, Global};
 use tables::Round;
 
-/// Returns the bulletin of a round of the game of a file, of the last that was played if none is
-/// named, in lines of at most 80 columns. `due` says when the next sheets are due; it may be empty.
-/// Fails with `File` if the file is refused, with `Round` if the round is not played or none is, and
-/// with `Memory` if allocation fails.
+/// Returns the bulletin of a round of the game of a file, the named one or else the last one
+/// played, in lines of at most 80 columns. `due` says when the next sheets are due; it may be
+/// empty. Fails with `File` if the file is refused, with `Round` if that round was not played or no
+/// round was, and with `Memory` if allocation fails.
 #[tactic(auto, using(desk_base::proofs::Refusals::no_state_where_it_fails, desk_base::proofs::Refusals::no_state_of_game))]
 pub fn bulletin(
     alloc: Global,
@@ -123,7 +123,7 @@ pub(crate) fn put_bulletin(out: &mut Writer, round: Option<Round>, text: &[u8]) 
     out.end();
 }
 
-/// Adds a text as it is printed.
+/// Adds a text as printed.
 fn put_told(out: &mut Writer, text: &[u8]) {
     out.begin_as(Tag::Preformatted, "told");
     out.text(text);

@@ -1,12 +1,12 @@
-//! Which file a page is of: how many lines it has, and a checksum of its bytes.
+//! What identifies the file of a page: its number of lines, and a checksum of its bytes.
 ghost use Rattle.std.specs.Prelude.{◌≡◌};
 ghost use Rattle.page.specs.Checksum.{after_bit, after_byte, checksum_of, line_count};
 
-/// The polynomial of the checksum, its bits in the order in which they are used.
+/// The polynomial of the checksum, with its bits in the order of use.
 const POLYNOMIAL: u32 = 0xedb8_8320;
 
-/// Returns the checksum of 32 bits of a text that other programs name `crc32`: the cyclic
-/// redundancy check of gzip, PNG and Ethernet.
+/// Returns the checksum of a text, 32 bits, that other programs call `crc32`: the cyclic redundancy
+/// check of gzip, PNG and Ethernet.
 pub(crate) fn checksum(text: &[u8]) -> u32
     ensures { result ≡ checksum_of text.now }
 {
@@ -17,7 +17,7 @@ pub(crate) fn checksum(text: &[u8]) -> u32
     rest ^ 0xffff_ffff
 }
 
-/// Returns the remainder after a byte, by that before it.
+/// Returns the remainder after a byte, given that before it.
 fn after_byte(rest: u32, byte: u8) -> u32
     ensures { result ≡ after_byte rest byte }
 {
@@ -37,7 +37,7 @@ fn after_bit(rest: u32) -> u32
     }
 }
 
-/// Returns how many lines a text has; an end without a line feed counts as one.
+/// Returns how many lines a text has. A last line without a line feed counts.
 pub(crate) fn line_count(text: &[u8]) -> usize
     ensures { result ≡ line_count text.now }
 {

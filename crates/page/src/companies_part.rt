@@ -87,7 +87,7 @@ fn put_row(out: &mut Writer, scene: &Scene, company: Company) {
 const FLOATS_AT: Money = 4;
 
 /// Adds a cell for a company that does not operate: how many more shares must be sold before it
-/// floats, or that it is not started.
+/// floats, or that it has not started.
 fn put_waiting(out: &mut Writer, scene: &Scene, company: Company) {
     let offered = scene.history.shares(company, Shareholder::InitialOffering);
     if !scene.history.now().is_started(company) {
@@ -156,7 +156,7 @@ fn put_treasury(out: &mut Writer, scene: &Scene, company: Company) {
     out.end();
 }
 
-/// Adds a cell with the places of a company's tokens; before the first with its home.
+/// Adds a cell with the places of a company's tokens; before its first token with its home.
 fn put_places(out: &mut Writer, scene: &Scene, company: Company) {
     out.begin(Tag::Cell);
     out.within();

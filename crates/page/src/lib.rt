@@ -1,12 +1,11 @@
 //! The page of a game: one file of HTML with the map, the routes of the last operating round, what
-//! happened in the round, the stock chart, the history, the tables and the tiles, all of it text,
-//! with no script and nothing from elsewhere.
+//! happened in the round, the stock chart, the history, the tables and the tiles. All of it is
+//! text, without scripts or anything loaded from elsewhere.
 //!
 //! `page` makes it from the bytes of an order file, and `tile_sheet` makes the page of all tiles. A
-//! page is well-formed: `markup` says how a reader finds it so. The only text of a sheet in it is
-//! that of the bulletin, which is escaped. The map is from `page_map`, the routes are from
-//! `page_routes`, and the charts from `page_charts`. How a page is laid out is tested by the pages
-//! of `games/page/`.
+//! page is well-formed: `markup` defines that. The only text of a sheet in it is that in the
+//! bulletin, which is escaped. The map is from `page_map`, the routes are from `page_routes`, and
+//! the charts from `page_charts`. The pages of `games/page/` test the layout.
 //!
 //! The definitions, in `specs/`: `Checksum` (of the bytes of a file), `Revenue` (what a company
 //! earned in a round).

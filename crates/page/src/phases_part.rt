@@ -1,4 +1,4 @@
-//! The phases, each with what it brings.
+//! The phases, each with its limits and effects.
 
 use history::History;
 use markup::PagePiece::{Count, Number, Words};

@@ -130,7 +130,7 @@ enum Figure {
     Price,
 }
 
-/// Adds the shares that nobody has, the par values and the prices.
+/// Adds the shares that the bank has, the par values and the prices.
 fn put_places(out: &mut Writer, scene: &Scene) {
     let rows = [
         ("Initial offering", Figure::Offering),
@@ -153,7 +153,7 @@ fn put_places(out: &mut Writer, scene: &Scene) {
     }
 }
 
-/// Returns a figure of a company; `None` where it has none.
+/// Returns a figure of a company; `None` if it has none.
 fn figure_of(scene: &Scene, company: Company, figure: Figure) -> Option<Money> {
     match figure {
         Figure::Offering => Some(scene.history.shares(company, Shareholder::InitialOffering)),

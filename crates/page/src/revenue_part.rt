@@ -23,7 +23,7 @@ pub(crate) struct Revenue {
 }
 
 impl Revenue {
-    /// Returns what the company has earned after an event, by what it had before.
+    /// Returns what the company has earned after an event, given what it had before.
     fn then(self, company: Company, event: &Event) -> Revenue
         requires { self.dollars < 2 ^ 127 }
         ensures revenue { result ≡ revenue_then company self event.now }
@@ -64,7 +64,7 @@ pub(crate) fn revenue_in(events: &[Event], company: Company) -> Revenue
     revenue
 }
 
-/// An operating round, with the places of its events in the list: from one up to another.
+/// An operating round, with the places of its events in the list, as a range.
 #[derive(Clone, Copy)]
 struct Span {
     round: Round,
@@ -72,7 +72,7 @@ struct Span {
     to: usize,
 }
 
-/// The most operating rounds of which the table tells.
+/// The most operating rounds that the table shows.
 const ROUNDS_MOST: usize = 60;
 
 /// Returns the operating rounds of a list of events. Fails only if allocation fails.

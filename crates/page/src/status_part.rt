@@ -1,4 +1,4 @@
-//! The head of a page: whose game it is, what comes next, and how it stands in short.
+//! The head of a page: the players, what comes next, and a summary.
 
 use crate::phases_part::colours_of;
 use desk::operates;
@@ -19,7 +19,7 @@ pub(crate) struct Source {
     pub(crate) checksum: u32,
 }
 
-/// Adds the title of the page, in the head and above its body: the round that was played last.
+/// Adds the title of the page, in its head and above its body: the last round played.
 pub(crate) fn put_title(out: &mut Writer, scene: &Scene, tag: Tag) {
     match scene.history.now().round() {
         Some(round) => out.element(tag, &[Words("1830: after "), Named(round)]),
@@ -56,7 +56,7 @@ const LINKS: [(&str, &str); 13] = [
     ("#hexes", "Hexes"),
 ];
 
-/// Adds a link past the head, for a keyboard and a screen reader.
+/// Adds a link past the head, for keyboard and screen reader users.
 pub(crate) fn put_skip(out: &mut Writer) {
     out.begin_as(Tag::Anchor, "skip");
     out.value(Attr::Href, &[Words("#map")]);
@@ -79,7 +79,7 @@ pub(crate) fn put_links(out: &mut Writer) {
     out.end();
 }
 
-/// Adds how the game stands in short, with the file's number of lines and its checksum.
+/// Adds a summary of the game, with the file's number of lines and its checksum.
 pub(crate) fn put_status(out: &mut Writer, scene: &Scene, order: &[Company], source: Source) {
     let history = scene.history;
     let phase = history.phase();
@@ -190,7 +190,7 @@ fn put_count(out: &mut Writer, label: &'static str, number: Money, words: &'stat
     put_item(out, label, &[Number(number), Words(words)]);
 }
 
-/// Adds the round that comes next and who owes a sheet for it, or how the game ended.
+/// Adds the next round and who owes a sheet for it, or how the game ended.
 fn put_next(out: &mut Writer, scene: &Scene) {
     out.begin_as(Tag::Item, "next");
     let (words, round) = match scene.end {

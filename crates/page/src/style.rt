@@ -1,7 +1,7 @@
-//! The style of a page, for the screen, for a dark one, and for paper.
+//! The style of a page, for a screen, a dark screen, and paper.
 
-/// The style of a page. No rule for what a `use` shows needs an ancestor, since none is there for
-/// it.
+/// The style of a page. No rule for the content of a `use` depends on an ancestor, since it has
+/// none there.
 pub(crate) const STYLE: &str = "\n\
     :root{--P:#1f7a3d;--N:#3a3a3c;--C:#c8102e;--B:#0a57a4;--O:#5fb4dc;--E:#e6c700;\
     --H:#f0913a;--M:#7a3b8f;\n\

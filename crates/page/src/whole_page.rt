@@ -31,7 +31,7 @@ use sheets::{Sheets, collect};
 use std::alloc::{AllocError, Global};
 use tables::{COMPANIES, Company, Round};
 
-/// What a page tells of the order file beside its game.
+/// What a page shows of the order file besides its game.
 #[derive(Clone, Copy)]
 struct Told<'a> {
     source: Source,
@@ -72,7 +72,7 @@ fn page_of(
     page_of_play(alloc, &played.play, source, played.entries.as_slice())
 }
 
-/// Returns the page of a game that was played up to here, with how it stood after each round.
+/// Returns the page of a game played up to here, with its history round by round.
 fn page_of_play(
     alloc: Global,
     play: &Play,
@@ -88,7 +88,7 @@ fn page_of_play(
     }
 }
 
-/// Returns the page of a game at a moment, with how it stood after each round.
+/// Returns the page of a game at a moment, with its history round by round.
 fn page_of_stood(
     alloc: Global,
     stood: &Stood,
@@ -105,7 +105,7 @@ fn page_of_stood(
     page_text(alloc, &Scene::of(stood), told, entries)
 }
 
-/// Returns the page of what a scene shows, with how the game stood after each round.
+/// Returns the page of what a scene shows, with the game's history round by round.
 fn page_text(
     alloc: Global,
     scene: &Scene,
@@ -134,7 +134,7 @@ fn page_text(
     out.finish()
 }
 
-/// Returns who plays.
+/// Returns the players.
 fn players_of<'a>(scene: &Scene<'a>) -> Players<'a> {
     Players {
         names: scene.names,
@@ -166,7 +166,7 @@ fn token_of(history: &History, company: Company) -> Option<ChartToken>
     })
 }
 
-/// Adds what stands before the sections.
+/// Adds what comes before the sections.
 fn begin_page(out: &mut Writer, scene: &Scene, order: &[Company], source: Source) {
     status_part::put_title(out, scene, Tag::Title);
     out.element(Tag::Style, &[Words(STYLE)]);
@@ -178,7 +178,7 @@ fn begin_page(out: &mut Writer, scene: &Scene, order: &[Company], source: Source
     status_part::put_status(out, scene, order, source);
 }
 
-/// Adds what stands above the sections.
+/// Adds what is above the sections.
 fn put_head(out: &mut Writer, scene: &Scene) {
     out.begin(Tag::Header);
     status_part::put_title(out, scene, Tag::H1);

@@ -1,4 +1,4 @@
-//! What each player was worth and what each share cost after each round, noted as the game is
+//! What each player was worth and what each share cost after each round, recorded as the game is
 //! played.
 ghost use Rattle.std.specs.Prelude.{IfErr};
 ghost use Rattle.desk_base.specs.Refusal.{IsOfGame};
@@ -13,7 +13,7 @@ use sheets::Sheets;
 use std::alloc::{AllocError, Global};
 use tables::{COMPANIES, Company, PLAYERS_MOST, Round, Seat, price};
 
-/// A game that is played up to a round, with how it stood after each.
+/// A game played up to a round, with an entry for each round.
 #[derive(Drop)]
 pub(crate) struct Played<'a> {
     pub(crate) play: Play<'a>,
@@ -21,7 +21,7 @@ pub(crate) struct Played<'a> {
 }
 
 /// Plays the game of some sheets up to the end of a round, or as far as they go if none is named.
-/// Fails with `Round` if the round is not played, and with `Memory` if allocation fails.
+/// Fails with `Round` if the round was not played, and with `Memory` if allocation fails.
 pub(crate) fn play_to<'a>(
     alloc: Global,
     sheets: &'a Sheets<'a>,
@@ -54,8 +54,7 @@ fn note(entries: &mut Vec<Entry>, entry: Entry) -> Result<(), AllocError> {
     Ok(())
 }
 
-/// Returns a game that has ended, or is stopped for a sheet, unless a round was asked for that is
-/// not played.
+/// Returns a game that has ended, or waits for a sheet, unless a requested round was not played.
 fn ended<'a>(
     play: Play<'a>,
     entries: Vec<Entry>,
@@ -69,7 +68,7 @@ fn ended<'a>(
     }
 }
 
-/// Returns how a game stands after a round.
+/// Returns the entry of a game after a round.
 fn entry_of(history: &History, round: Round) -> Entry {
     let view = history.now();
     let mut worths = [0; PLAYERS_MOST];
@@ -92,10 +91,10 @@ fn entry_of(history: &History, round: Round) -> Entry {
     }
 }
 
-/// The most rounds of which the page tells.
+/// The most rounds that the page shows.
 const ROUNDS_MOST: usize = 48;
 
-/// Returns the entries of which the page tells: all, or every second or third and so on, with the
+/// Returns the entries that the page shows: all, or every second, third and so on, and always the
 /// last.
 pub(crate) fn thinned(alloc: Global, entries: &[Entry]) -> Result<Vec<Entry>, AllocError> {
     let step = entries.len() / ROUNDS_MOST + 1;

@@ -13,15 +13,15 @@ use tables::{
 pub struct ChartToken {
     pub company: Company,
     pub square: Square,
-    /// How many tokens of the square came there before it.
+    /// How many tokens arrived at the square before it.
     pub place: usize,
-    /// Whether it was moved in the last round, or came to the chart.
+    /// Whether it was moved or put on the chart in the last round.
     pub is_new: bool,
     /// Where it was before that round, if it was on the chart.
     pub from: Option<Square>,
 }
 
-/// The tokens on the chart, in the order of the roster; `None` of a company that is not started.
+/// The tokens on the chart, in the order of the roster; `None` for a company that has not started.
 pub type ChartTokens = PerCompany<Option<ChartToken>>;
 
 /// The width of a square.
@@ -146,7 +146,7 @@ fn corner_of(square: Square) -> Point {
     }
 }
 
-/// Returns the token of a square before which this many came there.
+/// Returns the token of a square that arrived after this many others.
 fn token_at(tokens: &ChartTokens, square: Square, place: usize) -> Option<&ChartToken> {
     tokens
         .iter()
@@ -154,7 +154,7 @@ fn token_at(tokens: &ChartTokens, square: Square, place: usize) -> Option<&Chart
         .find(|token| token.square == square && token.place == place)
 }
 
-/// Returns where a token lies: in rows of four, closer together where there are more than three.
+/// Returns where a token lies: in rows of four, closer together if there are more than three.
 fn place_of(tokens: &ChartTokens, token: &ChartToken) -> Point {
     let step = if token_at(tokens, token.square, 3).is_some() {
         13
@@ -168,7 +168,7 @@ fn place_of(tokens: &ChartTokens, token: &ChartToken) -> Point {
     })
 }
 
-/// Adds the tokens of a square: the earlier lies above, so that it is drawn later.
+/// Adds the tokens of a square: earlier ones lie on top, so they are drawn later.
 fn put_stack(out: &mut Writer, tokens: &ChartTokens, square: Square) {
     for place in (0..Company::ALL.len()).rev() {
         if let Some(token) = token_at(tokens, square, place) {
@@ -181,7 +181,7 @@ fn put_stack(out: &mut Writer, tokens: &ChartTokens, square: Square) {
     }
 }
 
-/// Adds an arrow to a token that was moved in the last round, from the square where it was.
+/// Adds an arrow to a token that was moved in the last round, from its earlier square.
 fn put_arrow(out: &mut Writer, tokens: &ChartTokens, token: &ChartToken) {
     let Some(from) = token.from else {
         return;
@@ -219,7 +219,7 @@ fn put_arrow(out: &mut Writer, tokens: &ChartTokens, token: &ChartToken) {
     );
 }
 
-/// Returns 1 for a number above 0, -1 for one below, and 0 for 0.
+/// Returns 1 for a positive number, -1 for a negative one, and 0 for 0.
 fn sign_of(number: i32) -> i32
     ensures least { negsuc 0 ≤ℤ result }
     ensures most { result ≤ℤ pos 1 }

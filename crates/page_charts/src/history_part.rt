@@ -9,19 +9,19 @@ use markup::{
 };
 use tables::{Amount, COMPANIES, Company, Kind, Money, PLAYERS_MOST, PerCompany, PerSeat, Round};
 
-/// How a game stood after a round.
+/// The figures of a game after a round.
 #[derive(Clone, Copy)]
 pub struct Entry {
     pub round: Round,
     /// What the players were worth, by their seats.
     pub worths: [Money; PLAYERS_MOST],
-    /// The prices of the companies' shares, in the order of the roster; `None` before a company is
+    /// The prices of the companies' shares, in the order of the roster; `None` before a company has
     /// started.
     pub prices: PerCompany<Option<Amount>>,
     pub phase: Kind,
 }
 
-/// Who plays.
+/// The players.
 #[derive(Clone, Copy)]
 pub struct Players<'a> {
     /// Their names, by their seats.
@@ -67,10 +67,10 @@ const INKS: PerSeat<&str> = [
     "#1f4e9c", "#b3261e", "#1f7a3d", "#7a3b8f", "#9a5b00", "#333",
 ];
 
-/// The dashes of the players' lines, by their seats; nothing for a whole line.
+/// The dashes of the players' lines, by their seats; empty for a solid line.
 const SEAT_DASHES: PerSeat<&str> = ["", "18 6", "7 5", "18 5 5 5", "3 5", "12 4 3 4 3 4"];
 
-/// The left end of the lines, how wide they are, where 0 is, and how high the greatest value.
+/// The left end of the lines, their width, the height of 0, and that of the greatest value.
 const LEFT: usize = 60;
 
 const WIDTH: usize = 780;
@@ -79,7 +79,7 @@ const BOTTOM: usize = 320;
 
 const HEIGHT: usize = 300;
 
-/// The least distance of the names at the ends of the lines, and the lowest place of one.
+/// The least distance between the names at the ends of the lines, and the lowest place of one.
 const APART: usize = 17;
 
 const LOWEST: usize = 345;
@@ -87,14 +87,14 @@ const LOWEST: usize = 345;
 /// The greatest value that a chart shows, in dollars.
 const VALUE_MOST: usize = 1_000_000;
 
-/// How many parts a chart has from 0 to its greatest value.
+/// How many parts a chart is divided into from 0 to its greatest value.
 const PARTS: usize = 4;
 
-/// The most rounds whose names stand below a chart.
+/// The most rounds that are named below a chart.
 const NAMES_MOST: usize = 14;
 
 impl<'a> Players<'a> {
-    /// Returns the name of the player of a seat; no letters for a seat that nobody has.
+    /// Returns the name of the player of a seat; empty for an empty seat.
     fn name(&self, seat: usize) -> &'a [u8] {
         match self.names.get(seat) {
             Some(name) => name,
@@ -175,7 +175,7 @@ fn put_plot(
     out.end();
 }
 
-/// Adds a mark at each round in which a phase began, with the train whose first purchase began it.
+/// Adds a mark at each round in which a phase began, with its kind of train.
 fn put_phases(out: &mut Writer, entries: &[Entry]) {
     let mut before = Kind::Two;
     for (number, entry) in entries.iter().enumerate() {
@@ -216,7 +216,7 @@ fn within(sum: Money) -> usize
     }
 }
 
-/// Returns the greatest value that a chart has room for: at least each value of its lines.
+/// Returns the greatest value on a chart's scale, which is at least each value of its lines.
 fn top_of(entries: &[Entry], series: &[Series]) -> usize
     ensures { 0 < result }
 {
@@ -231,7 +231,7 @@ fn top_of(entries: &[Entry], series: &[Series]) -> usize
     PARTS * rounded(most / PARTS + 1)
 }
 
-/// Returns a round number that is at least as great, if there is one up to `VALUE_MOST`.
+/// Returns a round number that is at least this great, if there is one up to `VALUE_MOST`.
 fn rounded(least: usize) -> usize
     ensures least { 0 < result }
     ensures most { result ≤ 1000000 }
@@ -256,7 +256,7 @@ fn height_of(value: usize, most: usize) -> usize
     BOTTOM.saturating_sub(HEIGHT * value / most)
 }
 
-/// Returns how far to the right a round is drawn, of so many.
+/// Returns how far to the right a round is drawn, given the number of rounds.
 fn across(number: usize, count: usize) -> usize {
     let last = count.saturating_sub(1).max(1);
     LEFT.saturating_add(WIDTH.saturating_mul(number) / last)
@@ -316,7 +316,7 @@ fn put_line(out: &mut Writer, entries: &[Entry], line: Series, most: usize)
     out.end();
 }
 
-/// Adds a point of a line, apart from the one before.
+/// Adds a point of a line, with a separator unless it is the first.
 fn put_point(out: &mut Writer, is_first: bool, x: Money, y: Money) {
     if !is_first {
         out.put(&[Words(" ")]);
@@ -324,9 +324,9 @@ fn put_point(out: &mut Writer, is_first: bool, x: Money, y: Money) {
     out.put(&[Number(x), Words(","), Number(y)]);
 }
 
-/// Adds the names at the ends of the lines, apart from one another: from the greatest value down,
-/// each at the end of its line or below the name before, and so high that there is room for those
-/// that follow.
+/// Adds the names at the ends of the lines, without overlap: from the greatest value down, each at
+/// the end of its line or below the previous name, and high enough to leave room for the names that
+/// follow.
 fn put_names(out: &mut Writer, players: &Players, entries: &[Entry], series: &[Series], most: usize)
     requires { 0 < most }
 {
@@ -351,7 +351,7 @@ fn put_names(out: &mut Writer, players: &Players, entries: &[Entry], series: &[S
     }
 }
 
-/// Returns the line of the greatest last value that has no name yet; `None` if each has one.
+/// Returns the line with the greatest last value that has no name yet; `None` if each has one.
 fn next_name(last: &Entry, series: &[Series], is_named: &PerCompany<bool>) -> Option<usize> {
     let mut found = None;
     let mut greatest = 0;
@@ -366,7 +366,7 @@ fn next_name(last: &Entry, series: &[Series], is_named: &PerCompany<bool>) -> Op
     found
 }
 
-/// Adds the name of a line, and what leads from its end to it.
+/// Adds the name of a line, and a leader from the line's end to it.
 fn put_name(out: &mut Writer, players: &Players, line: Series, end: usize, y: usize) {
     let from = Count(end);
     let to = Count(y);

@@ -1,8 +1,8 @@
 //! The charts of a page: the stock chart with its tokens, and lines of what the players were worth
 //! and what the shares cost, round by round, with a table of the figures.
 //!
-//! Both are drawn from plain values: `ChartToken`, `Entry`. Who makes these says where they come
-//! from. How they are laid out is tested by the pages of `games/page/`.
+//! Both are drawn from plain values, `ChartToken` and `Entry`; the caller says where they come
+//! from. The pages of `games/page/` test the layout.
 //!
 //! Reading order: `chart_part`, `history_part`.
 #![tactic(auto)]

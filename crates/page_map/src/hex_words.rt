@@ -48,7 +48,7 @@ pub(crate) fn is_new(scene: &Scene, look: &Look) -> bool
     look.lay.is_some() && laid_in_last_round(scene.history.events(), look.hex)
 }
 
-/// Adds the sides of a hex whose borders are closed, if there are some.
+/// Adds the sides of a hex whose borders are closed, if there are any.
 fn put_closed(out: &mut Writer, hex: Hex)
     ensures { out.new.fault ≡ None → out.new.text.items
         ≡ with_closed_sides (out.old.text.items ++ closing_of out.old.spot) hex }
@@ -77,7 +77,7 @@ fn has_closed_side(hex: Hex) -> bool
         || is_closed_side(hex, Side::SouthEast)
 }
 
-/// Adds the number of a side behind a space, if its border is closed.
+/// Adds a space and the number of a side, if its border is closed.
 fn put_closed_side(out: &mut Writer, hex: Hex, side: Side)
     requires { out.old.spot ≡ Between }
     ensures spot { out.new.spot ≡ Between }
@@ -90,7 +90,7 @@ fn put_closed_side(out: &mut Writer, hex: Hex, side: Side)
     }
 }
 
-/// Returns the number of a side behind a space.
+/// Returns a space and the number of a side.
 fn side_word(side: Side) -> &'static str
     ensures { result.now ≡ side_word side }
 {
@@ -144,7 +144,7 @@ fn shade_word(shade: Shade) -> &'static str {
     }
 }
 
-/// Returns the kind by which a hex takes tiles, if it is one of those with letters.
+/// Returns the letters of the kind of tiles that a hex takes, if the kind has letters.
 pub(crate) fn kind_letters(look: &Look) -> Option<&'static str> {
     let kind = match (look.lay, hex_kind(look.hex)) {
         (Some(lay), _) => tile(lay.tile).kind,
@@ -159,7 +159,7 @@ pub(crate) fn kind_letters(look: &Look) -> Option<&'static str> {
     }
 }
 
-/// Adds the kind by which a hex takes tiles.
+/// Adds the kind of tiles that a hex takes.
 fn put_kind(out: &mut Writer, look: &Look) {
     if let Some(letters) = kind_letters(look) {
         out.put(&[Words("; kind "), Words(letters)]);
@@ -227,7 +227,7 @@ fn put_sides(out: &mut Writer, look: &Look, stop: StopNumber) {
     }
 }
 
-/// Adds the tokens of a city, and the companies for which a slot is kept.
+/// Adds the tokens of a city, and the companies for which a slot is reserved.
 fn put_tokens(out: &mut Writer, scene: &Scene, stop: Stop) {
     let mut before = ": ";
     for company in tokens_at(scene.history, stop).as_slice() {
@@ -241,7 +241,7 @@ fn put_tokens(out: &mut Writer, scene: &Scene, stop: Stop) {
     }
 }
 
-/// Adds the cost of the terrain, where no tile lies, and the private of the hex.
+/// Adds the cost of the terrain if no tile lies there, and the private of the hex.
 fn put_terrain(out: &mut Writer, scene: &Scene, look: &Look) {
     let cost = terrain_cost(look.hex);
     if look.lay.is_none() && cost > 0 {
@@ -254,7 +254,7 @@ fn put_terrain(out: &mut Writer, scene: &Scene, look: &Look) {
     }
 }
 
-/// Adds a private of the hex, if a player owns it or nobody does yet.
+/// Adds a private of the hex, if a player owns it or it is unsold.
 fn put_private(out: &mut Writer, scene: &Scene, private: Private) {
     let view = scene.history.now();
     match view.owner(private) {
@@ -276,7 +276,7 @@ fn put_private(out: &mut Writer, scene: &Scene, private: Private) {
     }
 }
 
-/// Adds each hex in words, as a list to which the hexes of the map lead.
+/// Adds each hex in words, as a list that the hexes of the map link to.
 pub fn put_hexes(out: &mut Writer, scene: &Scene) {
     begin_section(out, "hexes", "Hexes in words", "");
     out.begin_as(Tag::Listing, "hexes");

@@ -5,7 +5,7 @@ use markup::PagePiece::{Count, Words};
 use markup::{Attr, Point, Tag, Writer};
 use tables::Company;
 
-/// The numbers of the sides in the legend: a tick and where the number stands.
+/// The numbers of the sides in the legend: a tick, and the place of the number.
 const SIDES: PerSide<(&str, Point)> = [
     ("M-39 67l6-10", Point { x: -28, y: 56 }),
     ("M-78 0l11 0", Point { x: -56, y: 8 }),
@@ -15,7 +15,7 @@ const SIDES: PerSide<(&str, Point)> = [
     ("M39 67l-6-10", Point { x: 28, y: 56 }),
 ];
 
-/// A part of the legend: its name, and where it stands on the map and on a picture of its own.
+/// A part of the legend: its name, and its places on the map and in the separate picture.
 struct Part {
     name: &'static str,
     sign: &'static str,
@@ -71,7 +71,7 @@ pub(crate) fn put_legend(out: &mut Writer) {
     }
 }
 
-/// Adds the legend as a picture of its own, for a screen that is too narrow for it on the map.
+/// Adds the legend as a separate picture, for screens too narrow for it on the map.
 pub fn put_key(out: &mut Writer) {
     out.begin_as(Tag::Svg, "key");
     out.value(Attr::ViewBox, &[Words("0 0 620 420")]);
@@ -111,21 +111,21 @@ fn put_companies(out: &mut Writer) {
     }
 }
 
-/// What stands in a row of the legend.
+/// What a row of the legend shows.
 enum Sample {
     /// A sign, moved down.
     Sign(&'static str, i32),
-    /// A sign with a text in it, moved down, of a class.
+    /// A sign with a text in it, moved down, with a class.
     Marked(&'static str, &'static str, i32, &'static str),
-    /// A path of a class with a text in it, moved down, of a class.
+    /// A path with a class, and a text in it, moved down, with a class.
     Boxed(&'static str, &'static str, &'static str, &'static str),
-    /// A text of a class.
+    /// A text with a class.
     Text(&'static str, &'static str),
     /// A closed border.
     Border,
     /// A red area.
     Area,
-    /// A kept slot.
+    /// A reserved slot.
     Kept,
     /// The grounds of hexes.
     Grounds,
@@ -172,7 +172,7 @@ const ROWS: [(Sample, &str); 15] = [
     (Sample::Train, "a tick: the second train; its sum"),
 ];
 
-/// How far the rows of the legend are apart.
+/// The distance between rows of the legend.
 const ROW: i32 = 25;
 
 /// Adds the signs of the map, each with its words.
@@ -187,7 +187,7 @@ fn put_sign_rows(out: &mut Writer) {
     }
 }
 
-/// Adds what stands in a row of the legend.
+/// Adds what a row of the legend shows.
 fn put_sample(out: &mut Writer, sample: &Sample) {
     match sample {
         Sample::Sign(sign, y) => out.sign(sign, Point { x: 0, y: *y }),
@@ -220,7 +220,7 @@ fn put_sample(out: &mut Writer, sample: &Sample) {
     }
 }
 
-/// Adds the rims by which the grounds are told apart, with their names below.
+/// Adds the rims that distinguish the grounds, with their names below.
 fn put_grounds(out: &mut Writer) {
     out.path("fg", &[Words("M-22-9H22")]);
     out.path("fb", &[Words("M-22-3H22")]);

@@ -1,16 +1,16 @@
 //! The map of a game as a picture: its grounds, track, stops and labels, each hex in words, and the
 //! tiles that are left.
 //!
-//! The routes lie between the track and the stops, and are no part of this crate. What a page shows
-//! is a `Scene`, which has of the sheets the names of the players alone; so no other byte of a sheet
-//! gets in. The track of a hex is that of the tile that lies there, or of the print. What is marked
-//! as new is what the events of the last round laid and placed.
+//! The routes lie between the track and the stops, and are not part of this crate. What a page
+//! shows is a `Scene`, which has only the players' names from the sheets, so that no other byte of
+//! a sheet gets in. The track of a hex is that of the tile that lies there, or the printed track.
+//! The tiles and tokens of the last round are marked as new.
 //!
 //! The definitions, in `specs/`: `News` (what the last round laid, placed and moved), `TokensShown`
 //! (the tokens of a stop).
 //!
-//! Reading order: `scene` (what a page shows), `tokens` (what lies in slots), `news`, `hex_words`
-//! (a hex in words), `signs`, `legend`, `map_part`, `tiles_part`.
+//! Reading order: `scene` (what a page shows), `tokens` (the contents of slots), `news`,
+//! `hex_words` (a hex in words), `signs`, `legend`, `map_part`, `tiles_part`.
 #![tactic(auto)]
 
 mod hex_words;

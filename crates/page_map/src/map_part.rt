@@ -19,7 +19,7 @@ use tables::{Kind, Money, Private, Round};
 /// The closed borders of the map.
 const CLOSED: &str = "M378 474L402 460M586 294L610 280M662 294L638 280M846 204L870 190";
 
-/// Begins the map: its signs, its grounds and its track, up to where the routes are drawn.
+/// Begins the map: its signs, its grounds and its track, up to the layer of the routes.
 pub fn begin_map(out: &mut Writer, scene: &Scene, routes_of: Option<Round>) {
     out.begin_as(Tag::Svg, "map");
     out.value(Attr::ViewBox, &[Words("0 0 1302 1040")]);
@@ -32,7 +32,7 @@ pub fn begin_map(out: &mut Writer, scene: &Scene, routes_of: Option<Round>) {
     put_tracks(out, scene);
 }
 
-/// Adds the stops and labels of all hexes, above the routes, and begins what lies above them.
+/// Adds the stops and labels of all hexes, above the routes, and begins the layers above them.
 pub fn put_labels(out: &mut Writer, scene: &Scene) {
     out.begin_as(Tag::Group, "top");
     for &hex in &Hex::ALL {
@@ -68,8 +68,8 @@ fn put_grounds(out: &mut Writer, scene: &Scene) {
     out.end();
 }
 
-/// Adds the ground of a hex, with its words as its title. It is a link to the same words in the
-/// list of hexes.
+/// Adds the ground of a hex, with the hex in words as its title. It is a link to the same words in
+/// the list of hexes.
 fn put_ground(out: &mut Writer, scene: &Scene, hex: Hex) {
     let look = Look::on(scene.history.lays(), hex);
     out.begin(Tag::Anchor);
@@ -100,7 +100,7 @@ pub fn put_shade(out: &mut Writer, shade: Shade) {
     out.value(Attr::Class, &[Words(class)]);
 }
 
-/// Adds the rim by which a ground is known without its colour, if it has one.
+/// Adds the rim that shows a ground without its colour, if it has one.
 pub fn put_rim(out: &mut Writer, shade: Shade) {
     match shade {
         Shade::White | Shade::Yellow => {}
@@ -156,8 +156,7 @@ fn put_hex(out: &mut Writer, scene: &Scene, look: &Look) {
     out.end();
 }
 
-/// Adds the two values of a red area, of which the one that counts now is white on black, and its
-/// name.
+/// Adds the two values of a red area, the present one white on black, and its name.
 fn put_area(out: &mut Writer, scene: &Scene, hex: Hex) {
     let is_late = matches!(scene.history.phase(), Kind::Five | Kind::Six | Kind::Diesel);
     let (left, right) = if is_late {
@@ -183,8 +182,7 @@ fn put_area(out: &mut Writer, scene: &Scene, hex: Hex) {
     }
 }
 
-/// Returns how far down the name of a red area stands, and a short one, of those that lie in two
-/// hexes.
+/// Returns how far down the name of a red area is, with a short name, for those in two hexes.
 fn area_name(hex: Hex) -> Option<(i32, &'static str)> {
     match hex {
         Hex::I1 | Hex::J2 => Some((28, "Gulf")),
@@ -204,7 +202,7 @@ pub fn put_value(out: &mut Writer, look: &Look) {
     }
 }
 
-/// Adds the cost of the terrain, where no tile lies.
+/// Adds the cost of the terrain if no tile lies there.
 fn put_cost(out: &mut Writer, look: &Look) {
     let cost = terrain_cost(look.hex);
     if look.lay.is_some() || cost == 0 {
@@ -215,7 +213,7 @@ fn put_cost(out: &mut Writer, look: &Look) {
     out.label("a", place.down(12), &[Number(Money::from(cost))]);
 }
 
-/// Adds the codes of the privates of a hex that players own, or nobody yet.
+/// Adds the codes of the privates of a hex that players own or that are unsold.
 fn put_privates(out: &mut Writer, scene: &Scene, hex: Hex) {
     let view = scene.history.now();
     for &private in &Private::ALL {
@@ -251,7 +249,7 @@ fn put_private(
     out.label(within, place.down(4), &[Words(private.code())]);
 }
 
-/// Adds the number of a tile and its rotation; an `s` where its stops are swapped.
+/// Adds the number of a tile and its rotation; an `s` if its stops are swapped.
 fn put_tile(out: &mut Writer, lay: Lay) {
     out.label(
         "i",

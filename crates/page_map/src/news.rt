@@ -49,7 +49,7 @@ fn is_token_at(stop: Stop, company: Company, event: &Event) -> bool
     }
 }
 
-/// Returns whether a stop, if there is one, is another.
+/// Returns whether a stop, if there is one, is this one.
 fn names_stop(stop: Stop, other: Option<Stop>) -> bool
     ensures { result ≡ names_stop stop other }
 {
@@ -59,8 +59,7 @@ fn names_stop(stop: Stop, other: Option<Stop>) -> bool
     }
 }
 
-/// Returns whether the token of a company was moved on the stock chart in the last round, or came
-/// to it.
+/// Returns whether the token of a company was moved or put on the stock chart in the last round.
 pub fn moved_in_last_round(events: &[Event], company: Company) -> bool
     ensures { result ≡ in_last_round (is_move_of company) events.now }
 {
@@ -82,7 +81,7 @@ fn is_move_of(company: Company, event: &Event) -> bool
 }
 
 /// Returns the square on which the token of a company was before the last round; `None` if it was
-/// on none.
+/// not on the chart.
 pub fn square_before_round(events: &[Event], company: Company) -> Option<Square>
     ensures { result ≡ square_before_round events.now company }
 {
@@ -97,7 +96,7 @@ pub fn square_before_round(events: &[Event], company: Company) -> Option<Square>
     before
 }
 
-/// Returns the square of a company after an event, by that before it.
+/// Returns the square of a company after an event, given that before it.
 fn square_then(company: Company, now: Option<Square>, event: &Event) -> Option<Square>
     ensures { result ≡ square_then company now event.now }
 {

@@ -1,4 +1,4 @@
-//! What a page shows: the game as it stands, and of its sheets the players' names and who owes one.
+//! What a page shows: the game, the players' names, and who owes a sheet.
 ghost use Rattle.std.specs.Prelude.{◌≤◌};
 
 use desk_base::{Stood, owes};
@@ -7,7 +7,7 @@ use report::name;
 use rounds::End;
 use tables::{PLAYERS_MOST, Seat};
 
-/// What a page shows. Of the order file it has the names of the players alone.
+/// What a page shows. From the sheets it has only the players' names.
 #[derive(Clone, Copy)]
 pub struct Scene<'a> {
     /// The players' names, by their seats.
@@ -16,9 +16,9 @@ pub struct Scene<'a> {
     pub owe: [bool; PLAYERS_MOST],
     /// How many players there are.
     pub seats: usize,
-    /// What had happened.
+    /// The events so far.
     pub history: &'a History,
-    /// The round that came next, or how the game ended.
+    /// The next round, or how the game ended.
     pub end: End,
     /// How many operating rounds the set has.
     pub in_set: u8,
@@ -26,7 +26,7 @@ pub struct Scene<'a> {
 }
 
 impl<'a> Scene<'a> {
-    /// Returns what a page shows of a game as it stood.
+    /// Returns what a page shows of a game at a moment.
     pub fn of(stood: &Stood<'a>) -> Scene<'a> {
         let mut names: [&'a [u8]; PLAYERS_MOST] = [&[], &[], &[], &[], &[], &[]];
         let mut owe = [false; PLAYERS_MOST];

@@ -1,15 +1,15 @@
-//! The signs that pictures of a page refer to.
+//! The signs that the pictures of a page refer to.
 
 use markup::PagePiece::{At, Words};
 use markup::{Attr, PagePiece, Tag, Writer, livery_of};
 use tables::Company;
 
-/// The rim of a hex, open where its name and its tile stand.
+/// The rim of a hex, open at its name and its tile's number.
 const RIM: &str = "M17-45L48-27V27L17 45M-17-45L-48-27V27L-17 45";
 
 /// Signs that are one path: their names and their data. Those whose names begin with `f` are the
-/// rims that tell the grounds of hexes apart without their colours; `nh` is that of a new
-/// tile, and `nw` the white edge below it.
+/// rims that distinguish the grounds of hexes without colour; `nh` is the rim of a new tile, and
+/// `nw` the white edge below it.
 const PATHS: [(&str, &str); 11] = [
     ("h", "M0-60L52-30V30L0 60-52 30V-30z"),
     ("fg", RIM),
@@ -71,7 +71,7 @@ fn put_tokens(out: &mut Writer, company: Company) {
     put_ring(out, company);
 }
 
-/// Adds the ring that keeps a slot for a company.
+/// Adds the ring that marks a slot as reserved for a company.
 fn put_ring(out: &mut Writer, company: Company) {
     begin_sign(out, "r", company);
     out.begin(Tag::Circle);
@@ -85,7 +85,7 @@ fn put_ring(out: &mut Writer, company: Company) {
     out.end();
 }
 
-/// Begins a sign of a company, whose name is a letter and that of the company.
+/// Begins a sign of a company, named by a letter and the company.
 fn begin_sign(out: &mut Writer, name: &'static str, company: Company) {
     out.begin(Tag::Group);
     out.value(Attr::Id, &[Words(name), Words(company.letter())]);

@@ -8,14 +8,14 @@ use markup::{Attr, Tag, Writer, begin_section};
 use picture::{Look, Marker, Ring, city_name, draw_stops, draw_track, on_ring};
 use tables::Money;
 
-/// The colours of tiles in the order in which phases bring them.
+/// The colours of tiles in the order of the phases.
 pub const TILE_COLOURS: [(Colour, &str); 3] = [
     (Colour::Yellow, "Yellow tiles"),
     (Colour::Green, "Green tiles"),
     (Colour::Brown, "Brown tiles"),
 ];
 
-/// A hex of which pictures of tiles show nothing else.
+/// A hex for the pictures of tiles, which show nothing else of it.
 const ANY: Hex = Hex::I13;
 
 /// Adds a picture of a tile in a rotation, with the numbers of its sides.

@@ -1,4 +1,4 @@
-//! What lies in the slots of cities, and the privates of hexes.
+//! The contents of the slots of cities, and the privates of hexes.
 ghost use Rattle.std.specs.Prelude.{◌≡◌, ◌<◌, ◌≤◌, ◌+◌, ◌++◌, length};
 ghost use Rattle.page_map.specs.TokensShown.{marker_of, token_there, tokens_there};
 
@@ -11,14 +11,13 @@ use map_tables::{Hex, Stop, StopNumber, home, private_hexes};
 use picture::Marker;
 use tables::{COMPANIES, Company, Private};
 
-/// Returns whether a slot of a stop is kept for the home token of a company, which it has not
-/// placed.
+/// Returns whether a slot of a stop is reserved for a company's home token that is not placed yet.
 pub(crate) fn is_kept(history: &History, stop: Stop, company: Company) -> bool {
     history.now().tokens_placed(company) == 0 && same_stop(home(company), stop)
 }
 
-/// Returns what lies in the slots of the stops of a hex, each of which has this many: the tokens of
-/// the board first, in the order of the roster, and last the slots that are kept.
+/// Returns the contents of the slots of a hex's stops, this many each: first the tokens on the
+/// board, in roster order, and last the reserved slots.
 pub(crate) fn markers_in(history: &History, hex: Hex, slots: u8) -> [[Marker; 2]; 2] {
     [
         markers_at(
@@ -40,7 +39,7 @@ pub(crate) fn markers_in(history: &History, hex: Hex, slots: u8) -> [[Marker; 2]
     ]
 }
 
-/// Returns what lies in the slots of a stop.
+/// Returns the contents of the slots of a stop.
 fn markers_at(history: &History, stop: Stop, slots: u8) -> [Marker; 2] {
     let mut markers = [Marker::Free, Marker::Free];
     let tokens = tokens_at(history, stop);
@@ -56,7 +55,7 @@ fn markers_at(history: &History, stop: Stop, slots: u8) -> [Marker; 2] {
     markers
 }
 
-/// Returns the token of a company at a stop, as one that was placed in the last round if it was.
+/// Returns the token of a company at a stop, marked as new if it was placed in the last round.
 fn marker_of(history: &History, stop: Stop, company: Company) -> Marker
     ensures { result ≡ marker_of history.now.events stop company }
 {
@@ -95,7 +94,7 @@ fn add_token(
     }
 }
 
-/// Returns whether a private has a hex.
+/// Returns whether a hex belongs to a private.
 pub(crate) fn private_in(private: Private, hex: Hex) -> bool {
     for its in private_hexes(private) {
         if same_hex(*its, hex) {

@@ -1,5 +1,4 @@
-//! What the picture of the map takes up with what is to be read: stops, values, names, and the
-//! legend.
+//! The parts of the map's picture that must stay readable: stops, values, names, and the legend.
 
 use board_state::same_hex;
 use history::History;
@@ -9,7 +8,7 @@ use picture::{Look, Stops, centre, cost_point, kind_point, private_point, value_
 use std::alloc::{AllocError, Global};
 use tables::Private;
 
-/// A part of the map, between its upper left and its lower right corner.
+/// A rectangle of the map, by its upper left and lower right corners.
 #[derive(Clone, Copy)]
 pub(crate) struct Frame {
     pub(crate) from: Point,
@@ -17,7 +16,7 @@ pub(crate) struct Frame {
 }
 
 impl Frame {
-    /// Returns the frame this far to both sides of a point, and above and below it.
+    /// Returns the frame around a point, this far to both sides and up and down.
     pub(crate) fn around(place: Point, across: i32, down: i32) -> Frame {
         let half = Point { x: across, y: down };
         Frame {
@@ -26,7 +25,7 @@ impl Frame {
         }
     }
 
-    /// Returns whether it has a part in common with another.
+    /// Returns whether it overlaps another.
     pub(crate) fn meets(self, other: Frame) -> bool {
         self.from.x < other.to.x
             && other.from.x < self.to.x
@@ -35,7 +34,7 @@ impl Frame {
     }
 }
 
-/// What the legend of the map takes up.
+/// The frames of the map's legend.
 const LEGEND: [Frame; 3] = [
     Frame {
         from: Point { x: 20, y: 0 },
@@ -51,7 +50,7 @@ const LEGEND: [Frame; 3] = [
     },
 ];
 
-/// Returns what the map takes up with what is to be read. Fails only if allocation fails.
+/// Returns the parts of the map that must stay readable. Fails only if allocation fails.
 pub(crate) fn obstacles(alloc: Global, history: &History) -> Result<Vec<Frame>, AllocError> {
     let mut frames = Vec::new(alloc);
     for frame in &LEGEND {
@@ -63,7 +62,7 @@ pub(crate) fn obstacles(alloc: Global, history: &History) -> Result<Vec<Frame>, 
     Ok(frames)
 }
 
-/// Adds what a hex takes up with what is to be read.
+/// Adds the parts of a hex that must stay readable.
 fn add_frames(frames: &mut Vec<Frame>, look: &Look) -> Result<(), AllocError> {
     let middle = centre(look.hex);
     frames.push(Frame::around(middle.down(-49), 14, 7))?;
@@ -93,7 +92,7 @@ fn add_frames(frames: &mut Vec<Frame>, look: &Look) -> Result<(), AllocError> {
     Ok(())
 }
 
-/// Adds what the stops of a hex take up.
+/// Adds the frames of the stops of a hex.
 fn add_stops(frames: &mut Vec<Frame>, look: &Look, middle: Point) -> Result<(), AllocError> {
     let stops = [StopNumber::First, StopNumber::Second];
     for stop in stops.iter().take(look.count) {

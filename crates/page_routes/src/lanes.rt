@@ -9,7 +9,7 @@ use markup::Point;
 use picture::{border_point, centre, lane_shift};
 use std::alloc::{AllocError, Global};
 
-/// A border between two hexes, by a side of one of them.
+/// A border between two hexes, named by a side of one of them.
 #[derive(Clone, Copy)]
 pub struct Border {
     pub hex: Hex,
@@ -30,7 +30,7 @@ pub(crate) fn border_at(hex: Hex, side: Side) -> Border
     }
 }
 
-/// Returns whether two borders are one.
+/// Returns whether two borders are the same.
 fn same_border(one: Border, other: Border) -> bool
     ensures { result ≡ same_border one other }
 {
@@ -87,14 +87,14 @@ fn is_among(border: Border, borders: &[Border]) -> bool
 /// A lane of a border.
 #[derive(Clone, Copy)]
 pub(crate) struct Lane {
-    /// How many lanes the border has: as many as runs cross it.
+    /// How many lanes the border has: one for each run that crosses it.
     pub(crate) lanes: usize,
     /// The number of the lane, from 0.
     pub(crate) lane: usize,
 }
 
-/// Returns the lane that the run of a number has at a border: at first the order of the runs, and
-/// the other way round where the border is turned.
+/// Returns the lane of a run at a border: in the order of the runs, or in reverse if the border is
+/// turned.
 pub(crate) fn lane_at(routes: &[Route], turned: &[Border], number: usize, border: Border) -> Lane
     requires { number ≤ length routes.now }
     ensures lane { result.lane ≡ lane_of border routes.now turned.now number }
@@ -162,8 +162,8 @@ pub(crate) fn crossings_of(
     Ok(crossings)
 }
 
-/// A border that several runs cross. Borders of one group are turned or not by one another, so that
-/// runs lie side by side between them.
+/// A border that several runs cross. Whether a border of a group is turned depends on the others,
+/// so that runs lie side by side between them.
 #[derive(Clone, Copy)]
 struct Shared {
     border: Border,
@@ -171,10 +171,9 @@ struct Shared {
     is_turned: bool,
 }
 
-/// Returns the borders whose lanes are in the order of the runs from the other end on: as many as
-/// are needed that runs lie side by side on their way through a hex without a stop, and do not
-/// cross there. Where two ways say different things of a border, that of the earlier run counts.
-/// Fails only if allocation fails.
+/// Returns the turned borders, whose lanes are numbered from the other end. With these turned, runs
+/// lie side by side on their way through a hex without a stop, and do not cross there. If two runs
+/// disagree about a border, the earlier run counts. Fails only if allocation fails.
 pub(crate) fn turned_borders(alloc: Global, routes: &[Route]) -> Result<Vec<Border>, AllocError> {
     let mut shared = shared_borders(alloc, routes)?;
     for route in routes {
@@ -198,8 +197,7 @@ pub(crate) fn turned_borders(alloc: Global, routes: &[Route]) -> Result<Vec<Bord
     Ok(turned)
 }
 
-/// Returns the borders that several runs cross, none of them turned, and each in a group of its
-/// own.
+/// Returns the borders that several runs cross, none of them turned, each in its own group.
 fn shared_borders(alloc: Global, routes: &[Route]) -> Result<Vec<Shared>, AllocError> {
     let mut shared: Vec<Shared> = Vec::new(alloc);
     for route in routes {
@@ -231,8 +229,8 @@ fn find(shared: &[Shared], border: Border) -> Option<Shared> {
 }
 
 /// Joins the groups of the borders at two sides of a hex, so that runs lie side by side from one to
-/// the other. Lanes that are counted downwards cross between two sides of which both are eastern,
-/// or both western: there one border is turned and the other is not.
+/// the other. Lanes counted downwards cross between two eastern or two western sides: there one
+/// border is turned and the other is not.
 fn join(shared: &mut [Shared], hex: Hex, from: Side, to: Side) {
     let (Some(one), Some(other)) = (
         find(shared, border_at(hex, from)),
@@ -253,7 +251,7 @@ fn join(shared: &mut [Shared], hex: Hex, from: Side, to: Side) {
     }
 }
 
-/// Returns whether a side lies in the east of a hex.
+/// Returns whether a side is in the east of a hex.
 fn is_eastern(side: Side) -> bool {
     matches!(side, Side::NorthEast | Side::East | Side::SouthEast)
 }

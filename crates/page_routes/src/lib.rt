@@ -1,14 +1,14 @@
 //! What the trains of a game ran in its last operating round, as lines on the map and as a table.
 //!
-//! Each run is drawn by its own places. Runs that cross one border lie beside one another there, in
-//! lanes in the order of the runs, and no two in one lane. Their sums stand where they hide nothing
-//! that is to be read. Under `RUN BEST` the runs are legal ones that earn the most.
+//! Each run is drawn through its places. Runs that cross the same border lie side by side there,
+//! each in its own lane, in the order of the runs. Their sums hide nothing that must be readable.
+//! For `RUN BEST` it shows legal runs that earn the most.
 //!
 //! The definitions, in `specs/`: `ShownRuns` (what is shown of runs), `Lanes` (which lane of a
 //! border each run has).
 //!
 //! Reading order: `routes` (what trains ran), `lanes`, `route_lines` (the lines), `frames` (what
-//! the map takes up), `tags` (the sums), `route_table`, `laws`.
+//! must stay readable), `tags` (the sums), `route_table`, `laws`.
 #![tactic(auto)]
 
 mod frames;

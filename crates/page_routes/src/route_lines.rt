@@ -1,5 +1,5 @@
-//! The lines of the routes on the map: each from its first stop over its borders to its last, in a
-//! lane of its own where others share a border.
+//! The lines of the routes on the map: each from its first stop over its borders to its last, in
+//! its own lane where runs share a border.
 ghost use Rattle.std.specs.Prelude.{◌≤◌, length};
 
 use crate::lanes::{Border, shift_at};
@@ -11,7 +11,7 @@ use markup::{Attr, Point, Tag, Writer};
 use picture::{Bend, Look, Way, bend_between, border_point, centre, put_way, towards};
 use tables::Money;
 
-/// A run as it is drawn, among those that share its borders.
+/// A run as drawn, among those that share its borders.
 #[derive(Clone, Copy)]
 struct Course<'a> {
     history: &'a History,
@@ -48,7 +48,7 @@ pub fn put_lines(out: &mut Writer, history: &History, shown: &Routes) {
     }
 }
 
-/// Adds a title that says a route.
+/// Adds a title with a route in words.
 fn put_title(out: &mut Writer, route: &Route) {
     out.begin(Tag::Title);
     out.within();
@@ -105,7 +105,8 @@ impl Course<'_> {
     }
 
     /// Returns the points between which the line goes from a side to the place of a stop. It stays
-    /// beside the track as far as it crosses the border beside the middle, until near the stop.
+    /// as far beside the track as it crosses the border beside the middle, until it is near the
+    /// stop.
     fn between(&self, visit: &Visit, side: Side, place: Point) -> (Point, Point) {
         let hex = visit.place.hex;
         let by = match visit.place.stop {
@@ -133,8 +134,8 @@ impl Course<'_> {
         }
     }
 
-    /// Returns the way through a hex without a stop, from the border at a side to that at another.
-    /// It leaves each of them towards the centre of the hex.
+    /// Returns the way through a hex without a stop, from the border at one side to that at
+    /// another. It leaves both towards the centre of the hex.
     fn way_through(&self, visit: &Visit, from: Side, to: Side) -> Way {
         let twentieths = match bend_between(from, to) {
             Bend::Straight => return Way::Line,
@@ -167,10 +168,10 @@ impl Course<'_> {
     }
 }
 
-/// The most ticks that stand at a border.
+/// The most ticks at a border.
 const TICKS_MOST: usize = 7;
 
-/// Returns how many of the runs before one are of its company, up to `TICKS_MOST`.
+/// Returns how many earlier runs are of the same company, up to `TICKS_MOST`.
 pub(crate) fn trains_before(routes: &[Route], number: usize, route: &Route) -> usize
     ensures { result ≤ 7 }
 {
@@ -183,7 +184,7 @@ pub(crate) fn trains_before(routes: &[Route], number: usize, route: &Route) -> u
     count.min(TICKS_MOST)
 }
 
-/// Adds some ticks across a line where it crosses a border at a side, beside one another along the
+/// Adds ticks across a line where it crosses the border at a side, next to each other along the
 /// line.
 fn put_ticks_at(out: &mut Writer, place: Point, side: Side, count: usize)
     requires { count ≤ 7 }
@@ -200,7 +201,7 @@ fn put_ticks_at(out: &mut Writer, place: Point, side: Side, count: usize)
     }
 }
 
-/// Adds a tick about a point, as far as another point lies from the centre to both sides.
+/// Adds a tick centred on a point, half of it given as a point.
 fn put_tick(out: &mut Writer, middle: Point, half: Point) {
     out.put(&[
         Words("M"),
@@ -210,7 +211,7 @@ fn put_tick(out: &mut Writer, middle: Point, half: Point) {
     ]);
 }
 
-/// Adds ticks across a level line at a point.
+/// Adds ticks across a horizontal line at a point.
 pub(crate) fn put_sample_ticks(out: &mut Writer, place: Point, count: usize)
     requires { count ≤ 7 }
 {

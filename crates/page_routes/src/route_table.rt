@@ -12,8 +12,8 @@ use reach::Network;
 use std::alloc::{AllocError, Global};
 use tables::{Amount, Money};
 
-/// Adds the table of the routes, or why there is none. A value of a stop that is another now than
-/// as the train ran stands beside it. Fails only if allocation fails.
+/// Adds the table of the routes, or why there is none. If a stop's value has changed since the run,
+/// the present value is beside it. Fails only if allocation fails.
 pub fn put_table(
     alloc: Global,
     out: &mut Writer,
@@ -49,11 +49,11 @@ pub fn put_table(
     Ok(())
 }
 
-/// What the caption of the table says of its routes.
+/// What the caption of the table says about its routes.
 const REMARK: &str = "(a stop with its value, and in brackets what it is worth now, if a tile or \
     a phase has changed that since; a hex without a stop is passed)";
 
-/// Adds the row of a route, the one of a number.
+/// Adds the row of the route with a number.
 fn put_row(out: &mut Writer, board: &Board, routes: &[Route], number: usize, route: &Route) {
     begin_row(out, "");
     put_company(out, route.company);

@@ -19,7 +19,7 @@ use tables::{Amount, Company, Kind, Round};
 #[derive(Clone, Copy)]
 pub struct Visit {
     pub place: Place,
-    /// What its stop was worth as the train ran, in dollars; `None` for a hex that the run passes.
+    /// What its stop was worth when the train ran, in dollars; `None` for a hex without a stop.
     pub value: Option<Amount>,
     /// The side by which the run leaves the hex; `None` at its end.
     pub leaves: Option<Side>,
@@ -30,7 +30,7 @@ pub struct Visit {
 pub struct Route {
     pub company: Company,
     pub kind: Kind,
-    /// Whether a RUN BEST ordered it.
+    /// Whether it is from a RUN BEST.
     pub is_best: bool,
     pub visits: Vec<Visit>,
     /// What its stops are worth together, in dollars.
@@ -40,11 +40,11 @@ pub struct Route {
 /// The runs of the last operating round.
 #[derive(Drop)]
 pub struct Routes {
-    /// The round; `None` if none is played.
+    /// The round; `None` if none was played.
     pub round: Option<Round>,
     /// The runs, company by company in operating order, and train by train as they ran.
     pub routes: Vec<Route>,
-    /// The borders whose lanes are in the order of the runs from the other end on.
+    /// The turned borders, whose lanes are numbered from the other end.
     pub turned: Vec<Border>,
 }
 
@@ -89,7 +89,7 @@ fn last_operating(events: &[Event]) -> Option<Round> {
     last
 }
 
-/// Adds the runs of a company by the order that a ruling obeys; none where it obeys none.
+/// Adds the runs of a company by the order that a ruling obeys; none if it obeys none.
 fn add_runs(
     alloc: Global,
     routes: &mut Vec<Route>,

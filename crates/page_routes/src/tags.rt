@@ -1,5 +1,5 @@
-//! The sum of each route on the map: a box with the token of its company, where nothing that is to
-//! be read lies below it.
+//! The sum of each route on the map: a box with the token of its company, which covers nothing that
+//! must stay readable.
 ghost use Rattle.std.specs.Prelude.{pos, ◌≤ℤ◌};
 
 use crate::frames::{Frame, obstacles};
@@ -12,22 +12,22 @@ use markup::{Point, Writer};
 use std::alloc::{AllocError, Global};
 use tables::{Amount, Money};
 
-/// Where the tag of a route is: the middle of its token, and on which side of that the sum is.
+/// The position of a route's tag: the middle of its token, and the side on which the sum is.
 #[derive(Clone, Copy)]
 struct Spot {
     place: Point,
     is_left: bool,
 }
 
-/// What the tags so far and the pictures of the hexes take up, and where runs cross borders.
+/// The frames of earlier tags and of the hexes, and the points where runs cross borders.
 #[derive(Drop)]
 struct Taken {
     frames: Vec<Frame>,
     crossings: Vec<Crossing>,
 }
 
-/// The directions in which a tag may lie beside a stop, from the nearest ones on: to the right, to
-/// the left, below and above, and between these.
+/// The directions in which a tag may be placed beside a stop, nearest first: right, left, below,
+/// above, and between these.
 const DIRECTIONS: [Point; 12] = [
     Point { x: 10, y: 0 },
     Point { x: -10, y: 0 },
@@ -43,7 +43,7 @@ const DIRECTIONS: [Point; 12] = [
     Point { x: 0, y: -10 },
 ];
 
-/// How far from a stop a tag may lie, in tenths of the directions.
+/// How far from a stop a tag may be, in tenths of the directions.
 const DISTANCES: [i32; 6] = [24, 30, 38, 48, 60, 75];
 
 /// Adds the tags of the routes. Fails only if allocation fails.
@@ -69,8 +69,8 @@ pub fn put_tags(
 }
 
 impl Taken {
-    /// Returns whether a tag may lie somewhere: it covers nothing that is taken up, and no border
-    /// where another run crosses.
+    /// Returns whether a tag may be placed at a spot: it covers no taken frame, and no point where
+    /// another run crosses a border.
     fn is_free(&self, spot: Spot, number: usize, width: i32) -> bool
         requires least { pos 0 ≤ℤ width }
         requires most { width ≤ℤ pos 100 }
@@ -89,7 +89,7 @@ impl Taken {
         true
     }
 
-    /// Returns where the tag of a route has room: at a border that no other run crosses, or else
+    /// Returns a free spot for the tag of a route: at a border that no other run crosses, or else
     /// beside its last stop.
     fn spot_for(&self, history: &History, route: &Route, number: usize, width: i32) -> Option<Spot>
         requires least { pos 0 ≤ℤ width }
@@ -112,7 +112,7 @@ impl Taken {
         self.spot_beside(history, last.place, number, width)
     }
 
-    /// Returns where a tag has room beside a stop.
+    /// Returns a free spot for a tag beside a stop.
     fn spot_beside(
         &self,
         history: &History,
@@ -142,7 +142,7 @@ impl Taken {
     }
 }
 
-/// Returns what a tag takes up, with the token at its end.
+/// Returns the frame of a tag, with the token at its end.
 fn frame_of(spot: Spot, width: i32) -> Frame
     requires least { pos 0 ≤ℤ width }
     requires most { width ≤ℤ pos 100 }
@@ -154,7 +154,7 @@ fn frame_of(spot: Spot, width: i32) -> Frame
     }
 }
 
-/// Returns how wide the tag of a sum is beside its token.
+/// Returns the width of a sum's tag beside its token.
 fn width_of(sum: Amount) -> i32
     ensures least { pos 0 ≤ℤ result }
     ensures most { result ≤ℤ pos 100 }

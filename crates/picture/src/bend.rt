@@ -7,13 +7,13 @@ use map_tables::{Rotation, Side};
 pub enum Bend {
     /// Not at all: the sides face each other.
     Straight,
-    /// Round the corner behind this side; the next side is its other end.
+    /// Round the corner after this side, to the next side.
     Sharp(Side),
-    /// Past this side, from one of the sides next to it to the other.
+    /// Past this side, between the two sides next to it.
     Gentle(Side),
 }
 
-/// Returns how the way from one side to another bends. From a side to itself it is straight.
+/// Returns how the way from one side to another bends. From a side to itself it counts as straight.
 pub fn bend_between(from: Side, to: Side) -> Bend {
     match (to.number() + 6 - from.number()) % 6 {
         1 => Bend::Sharp(from),

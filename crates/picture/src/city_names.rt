@@ -2,7 +2,7 @@
 
 use map_tables::Hex;
 
-/// Returns the name that the printed map has for a hex; `None` where it has none.
+/// Returns the name that the printed map has for a hex; `None` if it has none.
 pub fn city_name(hex: Hex) -> Option<&'static str> {
     Some(match hex {
         Hex::A9 | Hex::A11 => "Canadian West",

@@ -15,11 +15,11 @@ pub enum Way {
     /// Straight.
     #[default]
     Line,
-    /// Along a circle of this radius; `clockwise` tells which of two.
+    /// Along a circle of this radius; `clockwise` says which of the two arcs.
     Arc { radius: i32, clockwise: bool },
     /// Towards this point first, and from there to the end.
     Towards(Point),
-    /// Towards the first point at first, and at last from the second to the end.
+    /// First towards the first point, and finally from the second point to the end.
     Between(Point, Point),
 }
 
@@ -61,7 +61,7 @@ pub fn towards(look: &Look, side: Side, stop: StopNumber) -> Point {
     }
 }
 
-/// Returns a link between two ends as a curve, where the stops have these places.
+/// Returns a link between two ends as a curve, given the places of the stops.
 fn curve_of(look: &Look, places: (Point, Point), a: TrackEnd, b: TrackEnd) -> Curve
     ensures from { result.from ≡ end_point places a }
     ensures to { result.to ≡ end_point places b }
@@ -81,8 +81,8 @@ fn curve_of(look: &Look, places: (Point, Point), a: TrackEnd, b: TrackEnd) -> Cu
     }
 }
 
-/// Returns the track of a hex: of each of its links, in order, a curve from the middle of its side
-/// to the middle of another or to the place of its stop, where the stops have these places.
+/// Returns the track of a hex: for each of its links, in order, a curve from the middle of its side
+/// to the middle of another or to the place of its stop, given the places of the stops.
 pub fn track_of(look: &Look, places: (Point, Point)) -> Curves
     ensures { map ends_of_curve result.items ≡ map (ends_of_link places) look.now.links.items }
 {

@@ -8,7 +8,7 @@ use markup::PagePiece::{At, Count, Point as To, Words};
 use markup::{Attr, Point, Tag, Writer};
 use tables::Company;
 
-/// What lies in a slot of a city.
+/// The content of a slot of a city.
 #[derive(Clone, Copy)]
 pub enum Marker {
     /// Nothing.
@@ -17,11 +17,11 @@ pub enum Marker {
     Token(Company),
     /// A token that was placed in the last round.
     NewToken(Company),
-    /// Nothing yet: the slot is kept for the home token of this company.
+    /// Nothing yet: the slot is reserved for this company's home token.
     Kept(Company),
 }
 
-/// Draws the track of a hex, a strand above the other, each black on white.
+/// Draws the track of a hex, strand over strand, each black on white.
 pub fn draw_track(out: &mut Writer, look: &Look) {
     let track = track_of(look, look.places());
     let strands = strands(look.links.as_slice());
@@ -57,7 +57,7 @@ fn has_strand(links: &[Link], strands: &[usize; ENDS], strand: usize) -> bool {
     false
 }
 
-/// Draws the links of a strand as one path of a class, by the curves of all links.
+/// Draws the links of a strand as one path with a class, given the curves of all links.
 fn draw_strand(
     out: &mut Writer,
     links: &[Link],
@@ -102,12 +102,13 @@ pub fn put_way(out: &mut Writer, way: Way, to: Point) {
     }
 }
 
-/// Returns what parts a number from a point behind it: a space, or nothing where a minus follows.
+/// Returns what separates a number from a point after it: a space, or nothing before a minus.
 fn gap(point: Point) -> &'static str {
     if point.x < 0 { "" } else { " " }
 }
 
-/// Draws the stops of a hex with what lies in their slots; in a hex of two with their numbers.
+/// Draws the stops of a hex with the contents of their slots, and with their numbers if there are
+/// two.
 pub fn draw_stops(out: &mut Writer, look: &Look, markers: &[[Marker; 2]; 2]) {
     if look.count > 0 {
         draw_stop(out, look, StopNumber::First, &markers[0]);
@@ -135,7 +136,7 @@ fn draw_town(out: &mut Writer, look: &Look, stop: StopNumber) {
     }
 }
 
-/// Draws a city with what lies in its slots.
+/// Draws a city with the contents of its slots.
 fn draw_city(out: &mut Writer, look: &Look, stop: StopNumber, markers: &[Marker; 2]) {
     let (first, second) = look.slot_places(stop);
     if look.slots > 1 {
@@ -154,7 +155,7 @@ fn draw_city(out: &mut Writer, look: &Look, stop: StopNumber, markers: &[Marker;
     }
 }
 
-/// Draws a slot with what lies in it.
+/// Draws a slot with its content.
 fn draw_slot(out: &mut Writer, place: Point, marker: Marker) {
     out.sign("#s", place);
     match marker {

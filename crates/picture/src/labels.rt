@@ -6,7 +6,7 @@ use map_tables::{Hex, Side, TileNo};
 use markup::Point;
 use tables::Private;
 
-/// Returns the place of a label in the corner of this number; `None` if it is none.
+/// Returns the place of a label in the corner of this number; `None` if there is no such corner.
 fn corner(digit: u8) -> Option<Point> {
     let side = match digit {
         b'0' => Side::SouthWest,
@@ -20,7 +20,7 @@ fn corner(digit: u8) -> Option<Point> {
     Some(on_ring(Ring::Corner, side))
 }
 
-/// Returns where the value of the stops of a hex stands; `None` where there is none.
+/// Returns where the value of the stops of a hex is printed; `None` if it has none.
 pub fn value_point(look: &Look) -> Option<Point> {
     match look.lay {
         Some(lay) => corner(value_corners(lay.tile)[lay.rot.turns()]),
@@ -28,7 +28,8 @@ pub fn value_point(look: &Look) -> Option<Point> {
     }
 }
 
-/// Returns where the kind of a hex stands; `None` where there is no room, or its number tells it.
+/// Returns where the kind of a hex is printed; `None` if there is no room, or if the tile's number
+/// shows the kind.
 pub fn kind_point(look: &Look) -> Option<Point> {
     match look.lay {
         Some(lay) => corner(kind_corners(lay.tile)[lay.rot.turns()]),
@@ -94,7 +95,7 @@ fn printed_kind_corner(hex: Hex) -> u8 {
     }
 }
 
-/// Returns where the cost of the terrain of a hex stands.
+/// Returns where the cost of the terrain of a hex is printed.
 pub fn cost_point(hex: Hex) -> Point {
     match hex {
         Hex::D10 | Hex::E5 => on_ring(Ring::Corner, Side::NorthWest),
@@ -104,7 +105,7 @@ pub fn cost_point(hex: Hex) -> Point {
     }
 }
 
-/// Returns where the code of a private stands in one of its hexes.
+/// Returns where the code of a private is printed in one of its hexes.
 pub fn private_point(private: Private, hex: Hex) -> Point {
     match (private, hex) {
         (Private::SchuylkillValley, _) => Point { x: 0, y: 28 },

@@ -1,4 +1,4 @@
-//! Where runs that share a border cross it: each in a lane of its own.
+//! Where runs that share a border cross it: each in its own lane.
 ghost use Rattle.std.specs.Prelude.{◌≡◌, ◌≤◌, ◌≤ℤ◌, pos, negsuc};
 ghost use Rattle.picture.specs.Lanes.{across, along_side, back, down, lane_shift, tenths, upright};
 
@@ -11,10 +11,10 @@ pub const LANES_MOST: usize = 99;
 /// How many lanes a border may have before they are closer together.
 const WIDE_MOST: usize = 3;
 
-/// Returns how far from the middle of a side the run of a lane crosses it, where the border has
-/// this many lanes. The lanes are numbered from 0. They lie along the border about its middle, 9
-/// apart where there are at most 3 of them, and 7 apart otherwise, the first of them highest.
-/// Beyond `LANES_MOST` lanes none is told apart.
+/// Returns how far from the middle of a side the run in a lane crosses it, given the border's
+/// number of lanes. Lanes are numbered from 0. They are centred on the border's middle, 9 apart if
+/// there are at most 3, otherwise 7 apart, and the first is highest. Lanes beyond `LANES_MOST` are
+/// not distinguished.
 pub fn lane_shift(side: Side, lane: usize, lanes: usize) -> Point
     ensures { lane ≤ 99 → lanes ≤ 99 → result ≡ lane_shift side lane lanes }
 {
@@ -46,7 +46,7 @@ fn along_side(side: Side, is_wide: bool, half_steps: i32) -> Point
     }
 }
 
-/// Returns so many parts of ten of a number of half steps, rounded towards 0.
+/// Returns this many tenths of a number of half steps, rounded towards 0.
 fn tenths(parts: i32, half_steps: i32) -> i32
     requires parts_least { negsuc 39 ≤ℤ parts }
     requires parts_most { parts ≤ℤ pos 39 }
@@ -57,7 +57,7 @@ fn tenths(parts: i32, half_steps: i32) -> i32
     parts * half_steps / 10
 }
 
-/// Returns how far a step goes along an upright border.
+/// Returns the length of a step along a vertical border.
 fn upright(is_wide: bool) -> i32
     ensures value { result ≡ upright is_wide }
     ensures least { negsuc 39 ≤ℤ result }
@@ -66,7 +66,7 @@ fn upright(is_wide: bool) -> i32
     if is_wide { 9 } else { 7 }
 }
 
-/// Returns how far ten half steps go to the right along a border that is not upright.
+/// Returns how far ten half steps go to the right along a slanting border.
 fn across(is_wide: bool) -> i32
     ensures value { result ≡ across is_wide }
     ensures least { negsuc 39 ≤ℤ result }

@@ -1,15 +1,15 @@
 //! Pictures of hexes and tiles, in whole numbers.
 //!
-//! All geometry is tables and a few total functions: `Look` is what shows in a hex, with the place of
-//! each stop; `track_of` is its links as curves, and `strands` says which links hang together.
-//! `lane_shift` is where a run of a lane crosses a border.
+//! The geometry is tables and a few total functions: `Look` is what shows in a hex, with the place
+//! of each stop; `track_of` is its links as curves, and `strands` says which links are connected.
+//! `lane_shift` is where the run in a lane crosses a border.
 //!
 //! The definitions, in `specs/`: `Points` (the points of a hex), `Curves` (the ends of a link, and
 //! how it bends), `Lanes` (where runs cross a border), `ClosedSides` (the closed borders of a hex).
 //!
 //! Reading order: `point`, `bend`, `look` (what shows in a hex, and where), `curve`, `strands`,
-//! `labels` (where there is room for a label), `lanes`, `closed_borders`, `city_names`, `drawing` (a
-//! hex's track and stops).
+//! `labels` (where there is room for a label), `lanes`, `closed_borders`, `city_names`, `drawing`
+//! (a hex's track and stops).
 #![tactic(auto)]
 
 mod bend;

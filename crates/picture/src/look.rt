@@ -45,21 +45,20 @@ pub struct Look {
     pub stops: Stops,
     /// How many stops it has, from 0 to 2.
     pub count: usize,
-    /// How many tokens each of its stops takes, from 0 to 2.
+    /// How many slots each of its stops has, from 0 to 2.
     pub slots: u8,
-    /// What each of its stops is worth, in dollars; of a red area before phase 5.
+    /// What each of its stops is worth, in dollars; for a red area, before phase 5.
     pub value: Amount,
 }
 
-/// How far the slots of a city of two lie from its place.
+/// How far the two slots of a city are from its place.
 const SLOT: Point = Point { x: 15, y: 0 };
 
 /// The place of the city of H12, which has track past it.
 const PAST: Point = Point { x: 0, y: -22 };
 
 impl Look {
-    /// Returns what shows in a hex where these tiles lie: the tile that was laid there last, or the
-    /// print.
+    /// Returns what shows in a hex, given the tiles laid so far: the last one there, or the print.
     pub fn on(lays: &[Lay], hex: Hex) -> Look
         ensures links { result.links.items ≡ links_on lays.now hex }
         ensures lay { result.lay ≡ tile_on lays.now hex }
@@ -139,8 +138,8 @@ impl Look {
         }
     }
 
-    /// Returns whether its stop lies where the hex has room, whatever its sides: an area or a city
-    /// alone.
+    /// Returns whether its stop is placed where the hex has room, whatever its sides: an area, or a
+    /// single city.
     fn is_on_its_own(&self) -> bool {
         match self.stops {
             Stops::Area => true,
@@ -208,8 +207,7 @@ impl Look {
         Some(side.turned(lay.rot))
     }
 
-    /// Returns the places of a city's two slots; where it has one, that is at the place of the
-    /// city.
+    /// Returns the places of a city's two slots. A single slot is at the place of the city.
     pub fn slot_places(&self, stop: StopNumber) -> (Point, Point) {
         let place = self.place(stop);
         let offset = match self.bend_at(stop) {
@@ -268,8 +266,8 @@ const CLOCK: [Point; 12] = [
 ];
 
 /// Returns in which of the twelve directions the numbers of stop 0 and stop 1 of a tile lie at
-/// rotation 0. They were found as those that are farthest from track, slots, value, kind, name and
-/// the sides of the hex, in the worst of the six rotations.
+/// rotation 0. They are as far as possible from track, slots, value, kind, name and the sides of
+/// the hex, in the worst of the six rotations.
 fn tile_hours(tile: TileNo) -> (u8, u8) {
     match tile {
         TileNo::T54 => (11, 3),
@@ -289,7 +287,7 @@ fn printed_hours(hex: Hex) -> (u8, u8) {
     }
 }
 
-/// Returns the side from which a link leads to a stop; `None` where it does not.
+/// Returns the side from which a link leads to a stop; `None` if it does not.
 fn side_to(link: &Link, stop: StopNumber) -> Option<Side> {
     match (link.a, link.b) {
         (TrackEnd::Side(side), TrackEnd::Stop(its)) if its.index() == stop.index() => Some(side),

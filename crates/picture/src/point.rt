@@ -10,7 +10,7 @@ macro_rules! round {
     ($($x:literal $y:literal),*) => { [$(Point { x: $x, y: $y }),*] };
 }
 
-/// Half way from the centre to the middle of each side.
+/// Halfway from the centre to the middle of each side.
 const HALF_WAY: PerSide<Point> = round!(-13 23, -26 0, -13 -23, 13 -23, 26 0, 13 23);
 
 /// Two thirds of that way.
@@ -23,19 +23,19 @@ const GENTLE: PerSide<Point> = round!(-7 12, -14 0, -7 -12, 7 -12, 14 0, 7 12);
 /// goes.
 const LEANING: PerSide<Point> = round!(-2 3, -4 0, -2 -3, 2 -3, 4 0, 2 3);
 
-/// The middle of the sharp curve round the corner behind each side.
+/// The middle of the sharp curve round the corner after each side.
 const SHARP: PerSide<Point> = round!(-26 15, -26 -15, 0 -30, 26 -15, 26 15, 0 30);
 
 /// A city on that curve.
 const SHARP_CITY: PerSide<Point> = round!(-24 14, -24 -14, 0 -28, 24 -14, 24 14, 0 28);
 
-/// How far the slots of a city of two on that curve lie from its place.
+/// How far the two slots of a city on that curve are from its place.
 const SHARP_SLOT: PerSide<Point> = round!(8 13, 8 -13, 15 0, 8 13, 8 -13, 15 0);
 
 /// The number of a city of two slots on that curve.
 const SHARP_NUMBER: PerSide<Point> = round!(-11 6, -11 -6, 0 -13, 11 -6, 11 6, 0 13);
 
-/// Labels in the corners behind the sides.
+/// Labels in the corners after the sides.
 const CORNER: PerSide<Point> = round!(-35 20, -35 -20, 0 -32, 35 -20, 35 20, 0 32);
 
 /// The number of each side, outside, in pictures of tiles.

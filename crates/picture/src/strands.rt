@@ -1,10 +1,10 @@
-//! Which links of a hex hang together.
+//! Which links of a hex are connected.
 ghost use Rattle.std.specs.Prelude.{◌<◌};
 
 use map_tables::{ENDS, Link};
 
-/// Returns for each end of a hex, by its number, the least number of an end that its strand has. A
-/// strand is the links that hang together by common sides or stops.
+/// Returns for each end of a hex, by its number, the least number of an end in its strand. A strand
+/// is a set of links connected by common sides or stops.
 pub fn strands(links: &[Link]) -> [usize; ENDS] {
     let mut strands = [0, 1, 2, 3, 4, 5, 6, 7];
     for link in links {

@@ -7,8 +7,8 @@ ghost use Rattle.privates.specs.Bank.{is_short, is_the, price_of};
 use history::{GameView, Owners};
 use tables::{Amount, Money, Private, Seat, face};
 
-/// Returns the price of a private at the bank, in dollars: SV's price may have fallen, the others'
-/// is their face.
+/// Returns the price of a private at the bank, in dollars: SV's price may have fallen; that of the
+/// others is their face value.
 pub fn price_of(view: &GameView, private: Private) -> Amount
     ensures { result ≡ price_of view.now.events.now private }
 {

@@ -1,5 +1,5 @@
-//! A bid: in a turn a seat bids on an unsold private that is not the cheapest, at least 5 over its
-//! face and over every earlier bid on it. The bid is held until the private is sold.
+//! A bid: in a turn a seat bids on an unsold private that is not the cheapest, at least 5 above its
+//! face value and every earlier bid on it. The bid is held until the private is sold.
 ghost use Rattle.std.specs.Prelude.{◌≡◌, ◌≤◌, ◌<◌, OnOk};
 ghost use Rattle.events.specs.declared.event.Event.TheVariants as event;
 ghost use Rattle.totals.specs.LookBack.{with_event};
@@ -33,7 +33,8 @@ pub(crate) fn judge_bid(
     }
 }
 
-/// Returns whether a bid on a private is too low, by its face and the greatest earlier bid on it.
+/// Returns whether a bid on a private is too low, given its face value and the highest earlier bid
+/// on it.
 #[tactic(auto, using(crate::proofs::BidLemmas::near_greatest))]
 fn is_too_low(view: &GameView, private: Private, amount: Amount) -> bool
     ensures { result ≡ is_too_low view.now.events.now private amount }
@@ -44,7 +45,7 @@ fn is_too_low(view: &GameView, private: Private, amount: Amount) -> bool
     is_near(amount, view.greatest_bid(private))
 }
 
-/// Returns whether a sum is less than the step over a bid, if there is one.
+/// Returns whether a sum is less than 5 above a bid, if there is one.
 fn is_near(amount: Amount, bid: Option<Amount>) -> bool
     ensures { result ≡ is_near amount bid }
 {

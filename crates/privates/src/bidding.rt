@@ -10,11 +10,11 @@ use tables::{BID_STEP, Money, Seat};
 type Bidder = (Seat, Money, Money);
 
 /// Returns the winner of an auction among some bidders, each with a bid and a limit, and what the
-/// winner pays, in dollars. The greatest limit wins, and among equal limits the higher bid. The
-/// price is the larger of the highest bid and of the lesser of the winner's limit and the second
-/// limit plus 5.
+/// winner pays, in dollars. The greatest limit wins; if limits are equal, the higher bid. The price
+/// is the second limit plus 5, but no more than the winner's limit and no less than the highest
+/// bid.
 ///
-/// There are two bidders or more, their bids differ, and no limit is under its bid.
+/// There are at least two bidders, their bids differ, and no limit is under its bid.
 pub fn auction(bidders: &[(Seat, Money, Money)]) -> (Seat, Money)
     requires two { 2 ≤ length bidders.now }
     requires differ { BidsDiffer bidders.now }
@@ -30,7 +30,7 @@ pub fn auction(bidders: &[(Seat, Money, Money)]) -> (Seat, Money)
     (winner.0, price(winner, highest, second))
 }
 
-/// Returns what the winner pays, in dollars, by the highest bid and the second limit.
+/// Returns what the winner pays, in dollars, given the highest bid and the second limit.
 fn price(winner: Bidder, highest: Money, second: Money) -> Money
     ensures { result ≡ int_max highest (int_min (limit_by winner) (second +ℤ pos 5)) }
 {

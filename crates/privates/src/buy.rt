@@ -1,5 +1,5 @@
-//! A purchase: in a turn a seat buys the cheapest unsold private, at the bank's price. It gets what
-//! comes with the private, and the bids on the next are settled at once.
+//! A purchase: in a turn a seat buys the cheapest unsold private, at the bank's price. What comes
+//! with the private follows, and the bids on the next one are settled at once.
 ghost use Rattle.std.specs.Prelude.{◌≡◌, ◌≤◌, ◌<◌, OnOk};
 ghost use Rattle.privates.specs.Bank.{MayPay, price_of as price_asked};
 ghost use Rattle.privates.specs.Buy.{after_purchase, private_purchase_rules};

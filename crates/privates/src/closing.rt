@@ -1,4 +1,4 @@
-//! The end of an opening round that leaves a private unsold: the price of SV falls, or, if SV is
+//! The end of an opening round with a private still unsold: the price of SV falls, or, if SV is
 //! sold, each sold private pays its revenue.
 ghost use Rattle.std.specs.Prelude.{◌≡◌, ◌≢◌, ◌<◌, ◌≤◌, ◌-◌, OnOk, false};
 ghost use Rattle.events.specs.declared.event.Event.TheVariants as event;
@@ -13,10 +13,10 @@ use history::{Event, History};
 use std::alloc::AllocError;
 use tables::{Amount, Private, Seat};
 
-/// What SV's price falls by in a round in which all pass before it is sold.
+/// How much SV's price falls, in dollars, when all pass before it is sold.
 const FALL: u32 = 5;
 
-/// Ends the turns: unless all privates are sold SV falls, or each sold private pays.
+/// Ends the round: unless all privates are sold, SV's price falls, or each sold private pays.
 pub(crate) fn close(history: &mut History) -> Result<(), AllocError>
     requires few { history.old.seats ≤ 6 }
     requires some { 0 < history.old.seats }
@@ -58,7 +58,7 @@ fn lower_price(history: &mut History) -> Result<(), AllocError>
     set_price(history, price)
 }
 
-/// Records that SV's price falls to a sum over 0.
+/// Records that SV's price falls to a positive sum.
 fn set_price(history: &mut History, price: Amount) -> Result<(), AllocError>
     requires fallen { price ≡ sv_price_of history.old.events - 5 }
     requires some { price ≢ 0 }

@@ -11,41 +11,40 @@ ghost use Rattle.tables.specs.declared.round.Round.{Round};
 ghost use Rattle.turns.specs.Acted.{TurnsSayWhoActed};
 
 /// States that an auction is won by the bidder who is ahead of all, by limit and then by bid. The
-/// price is the larger of the highest bid and of the lesser of the winner's limit and the greatest
-/// limit of the others plus 5. It is within the winner's limit and under no bid.
+/// price is the greatest limit of the others plus 5, but no more than the winner's limit and no
+/// less than the highest bid.
 pub fn auction_is_won()
     ensures { AuctionIsWon }
 {}
 
-/// States that the sales that follow from a sale reach an end: after them no bids are left on the
-/// cheapest unsold private.
+/// States that the sales that follow from a sale come to an end, after which there are no bids on
+/// the cheapest unsold private.
 pub fn nothing_is_left_to_settle()
     ensures { (seats : ℕ) (events : List Event) → settle_auctions seats (settled seats events)
         ≡ settled seats events }
 {}
 
-/// States that an opening round has at most one outcome: the sheets and the game before it say what
-/// the game after it is.
+/// States that an opening round has at most one outcome: the sheets and the game before it
+/// determine the game after it.
 pub fn one_opening_round()
     ensures { (file : List ℕ) (round : Round) (old : Game) (a : Game) (b : Game)
         → IsOpeningRound file round old a → IsOpeningRound file round old b → a ≡ b }
 {}
 
-/// States that an opening round has an outcome, whatever the sheets say: its turns reach an end,
-/// after at most 513 for each seat.
+/// States that an opening round has an outcome, whatever the sheets say: its turns end, after at
+/// most 513 for each seat.
 pub fn opening_round_ends()
     ensures { (file : List ℕ) (round : Round) (old : Game) → EndsSoon file round old }
 {}
 
-/// States that a seat acted in its turn exactly if the list of events says so. The new events of
-/// the turn name it as the seat that acted last; if it did not act they name nobody.
+/// States that a seat acted in its turn exactly if the list of events says so. If it acted, the
+/// turn's events name it as the last seat to act; if not, they name nobody.
 pub fn opening_turns_say_who_acted()
     ensures { TurnsSayWhoActed opening_rules }
 {}
 
-/// States that in an opening round each bid that is obeyed is at least 5 over every earlier bid on
-/// its private, whether or not that is held. If that is so of the bids before the round, it is so
-/// after it.
+/// States that an opening round keeps this true: each bid is at least 5 above every earlier bid on
+/// its private, whether or not that still holds.
 pub fn opening_bids_rise()
     ensures { OpeningBidsRise }
 {}

@@ -17,8 +17,8 @@ pub(crate) fn judge_limit(view: &GameView, private: Private) -> Option<OpeningRu
 }
 
 /// Returns how far a bidder goes in the auction of a private, in dollars: to the limit that they
-/// ordered or what they can spend, if that is less. It is at least the bid, and without an order no
-/// more.
+/// ordered, or to what they can spend if that is less; without a limit only to their bid. It is at
+/// least their bid.
 pub(crate) fn limit_of(view: &GameView, private: Private, bid: Bid) -> Money
     ensures { result ≡ limit_of view.now.seats view.now.events.now private bid }
 {

@@ -1,4 +1,4 @@
-//! An opening round, which is a round of turns with rules of its own.
+//! An opening round: a round of turns with its own rules.
 ghost use Rattle.std.specs.Prelude.{◌≡◌, IfOk, false, length, refl};
 ghost use Rattle.history.specs.Sound.{IsSound};
 ghost use Rattle.privates.specs.Keeping.{begins as begins_underway, leaves as leaves_underway};
@@ -76,9 +76,9 @@ impl TurnRules for OpeningTurns {
     ghost idle = { refl };
 }
 
-/// Plays an opening round with the sheets for it. PRR has no square while CA is unsold, nor has BO
-/// while BOP is: they wait for the gifts. Fails only if allocation fails, and the game is dropped.
-/// The game allocates by the allocator with which it began.
+/// Plays an opening round with the sheets for it. PRR must have no square while CA is unsold, nor
+/// BO while BOP is, since these come with a share and a presidency. Fails only if allocation fails,
+/// and then drops the game. The game uses the allocator that it began with.
 pub fn play_opening(
     _alloc: Global,
     history: History,

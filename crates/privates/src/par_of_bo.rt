@@ -1,5 +1,5 @@
-//! A PAR in an opening sheet: a standing line that sets the par value of BO for the case that the
-//! seat buys BOP. It must name BO and a par value.
+//! A PAR in an opening sheet: a standing line that sets the par value of BO in case the seat buys
+//! BOP. It must name BO and a par value.
 ghost use Rattle.std.specs.Prelude.{◌≡◌, ◌≤◌};
 ghost use Rattle.privates.specs.ParOfBo.{is_par_of_baltimore, par_rules, par_set_by};
 ghost use Rattle.tables.specs.Rules.{first_broken};
@@ -7,7 +7,7 @@ ghost use Rattle.tables.specs.Rules.{first_broken};
 use history::{GameView, OpeningRule};
 use tables::{Amount, Company, Seat, par_square, rules};
 
-/// The par value of BO if the buyer of BOP ordered none, in dollars.
+/// The par value of BO if the buyer of BOP did not order one, in dollars.
 const PAR_UNLESS_ORDERED: Amount = 67;
 
 /// Returns the rule that a PAR breaks.
@@ -26,8 +26,8 @@ fn is_par_of_baltimore(company: Company, price: Amount) -> bool
     company == Company::BaltimoreOhio && par_square(price).is_some()
 }
 
-/// Returns the par value that a buyer of BOP sets for BO, in dollars: that of their last obeyed PAR
-/// line, otherwise 67.
+/// Returns the par value that a buyer of BOP sets for BO, in dollars: the one in their last obeyed
+/// PAR line, or else 67.
 pub(crate) fn par_set_by(view: &GameView, buyer: Seat) -> Amount
     ensures par { result ≡ par_set_by view.now.events.now buyer }
     ensures small { result ≤ 1000000 }

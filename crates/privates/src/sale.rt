@@ -17,7 +17,7 @@ use history::{Bid, Event, GameView, History};
 use std::alloc::AllocError;
 use tables::{Amount, Company, Money, PLAYERS_MOST, PRESIDENT_SHARES, Private, Seat};
 
-/// Sells a private that is unsold to a seat that has its price, with what comes with the sale.
+/// Sells an unsold private, with what comes with it, to a seat that has the price.
 pub(crate) fn sell(
     history: &mut History,
     private: Private,
@@ -124,8 +124,8 @@ fn sell_baltimore(history: &mut History, buyer: Seat, price: Amount) -> Result<(
     Ok(())
 }
 
-/// Makes the sales that follow from a sale: as long as there are bids on the cheapest private, it
-/// is sold.
+/// Makes the sales that follow from a sale: as long as there are bids on the cheapest private,
+/// sells it.
 pub(crate) fn settle_all(history: &mut History) -> Result<(), AllocError>
     requires few { history.old.seats ≤ 6 }
     requires underway { IsUnderway history.old }
@@ -155,7 +155,7 @@ fn settle(history: &mut History) -> Result<(), AllocError>
     }
 }
 
-/// Sells the cheapest private, which is this, if there are bids on it.
+/// Sells this private, the cheapest one, if there are bids on it.
 fn settle_bids(history: &mut History, private: Private) -> Result<(), AllocError>
     requires few { history.old.seats ≤ 6 }
     requires cheapest { cheapest_of history.old.events ≡ Some private }

@@ -1,4 +1,4 @@
-//! The standing lines of an opening sheet, those before its first written turn: LIMIT and PAR.
+//! The standing lines of an opening sheet, the lines before its first written turn: LIMIT and PAR.
 ghost use Rattle.std.specs.Prelude.{◌≡◌, OnOk};
 ghost use Rattle.turns.specs.Small.{IsSmallReading};
 ghost use Rattle.privates.specs.Standing.{after_standing_line, has_place_before as may_stand_before};
@@ -15,7 +15,7 @@ use std::alloc::AllocError;
 use tables::Seat;
 use turns::Family;
 
-/// The standing lines of a sheet, those before its first written turn.
+/// The standing lines of a sheet, the lines before its first written turn.
 struct StandingLines;
 
 impl Family for StandingLines {
@@ -52,7 +52,7 @@ pub(crate) fn rule_standing_line(
     Ok(())
 }
 
-/// Returns whether an order may be before the first written turn: LIMIT and PAR.
+/// Returns whether an order may be before the first written turn, as LIMIT and PAR may.
 fn may_stand_before(order: &Order) -> bool
     ensures { result ≡ may_stand_before order.now }
 {
@@ -60,8 +60,8 @@ fn may_stand_before(order: &Order) -> bool
 }
 
 /// Returns the rule that an order breaks as a standing line; `None` if it breaks none. A LIMIT
-/// breaks A2 if its private is sold. A PAR breaks A1 if it is not of BO or sets no par value, and
-/// so does every order that is neither.
+/// breaks A2 if its private is sold. A PAR breaks A1 if it is not for BO or sets no par value, and
+/// so does every other order.
 pub fn judge_standing(history: &History, order: &Order) -> Option<OpeningRule>
     ensures { result ≡ standing_judgement history.now.events order.now }
 {

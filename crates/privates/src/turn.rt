@@ -16,7 +16,7 @@ use std::alloc::AllocError;
 use tables::Seat;
 use turns::Family;
 
-/// The lines of a written turn, in a turn in which the seat has bought or bid, or has not.
+/// The lines of a written turn, with whether the seat has bought or bid in this turn.
 #[derive(Clone, Copy, Debug)]
 struct TurnLines {
     turn_used: bool,
@@ -38,8 +38,8 @@ impl Family for TurnLines {
     }
 }
 
-/// Rules a line of a written turn, and does what it orders if it is obeyed. Overwrites `order`.
-/// Returns whether the seat has bought or bid in its turn by then.
+/// Rules a line of a written turn, and carries it out if it is obeyed. Overwrites `order`. Returns
+/// whether the seat has bought or bid in its turn so far.
 pub(crate) fn rule_line(
     history: &mut History,
     seat: Seat,
@@ -64,8 +64,8 @@ pub(crate) fn rule_line(
     Ok(true)
 }
 
-/// Returns the first rule that an order of a seat breaks in its turn, which is used or not; `None`
-/// if it breaks none. `judge_standing` judges standing lines.
+/// Returns the first rule that an order of a seat breaks in its turn, given whether it has used the
+/// turn; `None` if it breaks none. `judge_standing` judges standing lines.
 pub fn judge(history: &History, seat: Seat, order: &Order, turn_used: bool) -> Option<OpeningRule>
     ensures { result ≡ judgement_of history.now.seats history.now.events seat turn_used order.now }
 {
@@ -77,7 +77,7 @@ pub fn judge(history: &History, seat: Seat, order: &Order, turn_used: bool) -> O
     }
 }
 
-/// Does what a seat orders in its turn.
+/// Carries out what a seat orders in its turn.
 fn act(history: &mut History, seat: Seat, order: &Order) -> Result<(), AllocError>
     requires few { history.old.seats ≤ 6 }
     requires at_table { seat.0 < history.old.seats }

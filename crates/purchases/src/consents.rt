@@ -1,7 +1,7 @@
-//! Which consents there are to a sale to a company: those of the game, or that of everybody.
+//! The consents to a sale to a company: those of the game, or everybody's.
 //!
-//! The umpire rules each line by the consents of the game. To show what a company could buy once it
-//! has a consent, the same rules are applied as if everybody consented.
+//! The umpire rules each line by the consents of the game. To show what a company could buy with a
+//! consent, the same rules are applied as if everybody consented.
 ghost use Rattle.std.specs.Prelude.{◌≡◌};
 ghost use Rattle.purchases.specs.Consents.{agrees_by};
 
@@ -9,14 +9,13 @@ use history::GameView;
 use order_grammar::Offer;
 use tables::Seat;
 
-/// Whether a sale to a company goes by the consents that the game has, or as if everybody who is
-/// asked for one gave it.
+/// Which consents count for a sale to a company: those of the game, or everybody's.
 #[derive(Clone, Copy, Debug, PartialEq, Eq)]
 pub enum Consents {
-    /// Those that the game has: a seat agrees with itself, and to what it has offered in this
+    /// Those of the game: a seat agrees to its own purchases, and to what it has offered in this
     /// round.
     OfGame,
-    /// Everybody who is asked consents.
+    /// Everybody asked consents.
     All,
 }
 

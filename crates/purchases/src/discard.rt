@@ -1,10 +1,10 @@
 //! DISCARD: which trains a company discards if it has too many.
 //!
 //! A standing line DISCARD is obeyed if the seat is president of the company and the company has
-//! such a train. If a company has too many trains, the obeyed lines of its president in this round
-//! come first, in order, each once. A line is passed over if the company has no such train, and may
-//! be used later in the round. If there is no line to use, the company discards a train of its
-//! least kind.
+//! such a train. If a company has too many trains, its president's obeyed lines of this round
+//! decide first, in order, each once. A line is skipped if the company has no such train, and can
+//! be used later in the round. If no line can be used, the company discards a train of its lowest
+//! kind.
 ghost use Rattle.std.specs.Prelude.{◌≡◌, OnOk, IfOk, Some};
 ghost use Rattle.events.specs.Event.{obeyed_of, office_of};
 ghost use Rattle.history.specs.Sound.{IsSound};
@@ -70,8 +70,8 @@ pub(crate) fn discard(
     Ok(())
 }
 
-/// Returns the kind that a company discards next: by a line of its president, otherwise the least
-/// that it has. `None` if it has no train.
+/// Returns the kind that a company discards next: by a line of its president, or else its lowest
+/// kind; `None` if it has no train.
 fn next_discard(
     alloc: Global,
     history: &History,
@@ -99,8 +99,8 @@ fn first_held(view: &GameView, company: Company, kinds: &[Kind]) -> Option<Kind>
     None
 }
 
-/// Returns the kinds of a president's lines for a company that are still to be used in this round,
-/// in order. Fails only if allocation fails.
+/// Returns the kinds of a president's lines for a company that are still unused in this round, in
+/// order. Fails only if allocation fails.
 fn lines_of(
     alloc: Global,
     view: &GameView,
@@ -116,8 +116,8 @@ fn lines_of(
     }
 }
 
-/// Returns the kinds of a seat's lines for a company that are still to be used after some events,
-/// in order. Fails only if allocation fails.
+/// Returns the kinds of a seat's lines for a company that are still unused after some events, in
+/// order. Fails only if allocation fails.
 fn lines_in(
     alloc: Global,
     events: &[Event],
@@ -135,8 +135,7 @@ fn lines_in(
     Ok(lines)
 }
 
-/// Applies an event to the lines of a seat for a company that are still to be used, given whether
-/// the seat presides.
+/// Applies an event to the unused lines of a seat for a company, given whether the seat presides.
 fn apply(
     lines: &mut Vec<Kind>,
     event: &Event,
@@ -172,7 +171,7 @@ fn presides_after(presides: bool, event: &Event, seat: Seat, company: Company) -
     }
 }
 
-/// Returns the kind that a company is to discard as requested by this obeyed line of a seat.
+/// Returns the kind that a company must discard by this obeyed line of a seat.
 fn kind_ordered(event: &Event, seat: Seat, company: Company) -> Option<Kind>
     ensures { result ≡ line_of seat company (obeyed_of event.now) }
 {
@@ -189,7 +188,7 @@ fn kind_ordered(event: &Event, seat: Seat, company: Company) -> Option<Kind>
     }
 }
 
-/// Returns the kind that a company is to discard by an order.
+/// Returns the kind that a company must discard by an order.
 fn discard_in(order: &Order, company: Company) -> Option<Kind>
     ensures { result ≡ discard_in company order.now }
 {

@@ -1,18 +1,18 @@
-//! What a company buys, and what follows from that: a train of the bank, of the pool or of another
-//! company, and a private of a player.
+//! What a company buys, and what follows from that: a train from the bank, the pool or another
+//! company, or a private from a player.
 //!
-//! Each purchase has a table of rules, and the first that it breaks refuses it; one that breaks
-//! none adds its events to the list. The first train of a later kind begins a phase: trains rust,
-//! privates close, and companies discard what they have over the limit. The standing lines of an
-//! operating round's sheets say beforehand which trains a company discards, and to which sales a
-//! seat consents.
+//! Each purchase has a table of rules. The first rule that it breaks refuses it; if it breaks none,
+//! its events are added to the list. The first train of a later kind begins a phase: trains rust,
+//! privates close, and companies discard trains over the limit. The standing lines of an operating
+//! round's sheets say in advance which trains a company discards, and to which sales a seat
+//! consents.
 //!
-//! Nothing here depends on the board, or on how far a company's turn has come.
+//! Nothing here depends on the board, or on the step of a company's turn.
 //!
-//! An order is a file: what it is, its rules as rows, its judgement and its act. So is its file of
-//! definitions in `specs/`.
+//! Each order has a file with its rules, its judgement and its effect, and a file of definitions in
+//! `specs/`.
 //!
-//! Reading order: `consents`, `train`, `phases` (what the first train of a later kind brings),
+//! Reading order: `consents`, `train`, `phases` (the effects of the first train of a later kind),
 //! `discard`, `private`, `offer`, `standing` (the lines before the first company's orders), `laws`.
 #![tactic(auto)]
 

@@ -1,8 +1,8 @@
 //! OFFER: a seat consents to a sale in this round, by a standing line.
 //!
-//! An offer of a train is refused if the seat is not the president of the company that sells, or at
-//! price 0. An offer of a private is refused if the seat does not own it. No other is refused: what
-//! a sale needs besides consent is checked at the sale.
+//! An offer of a train is refused if the seat is not the president of the selling company, or if
+//! the price is 0. An offer of a private is refused if the seat does not own it. All other offers
+//! are obeyed: what a sale needs besides consent is checked at the sale.
 ghost use Rattle.std.specs.Prelude.{◌≡◌};
 ghost use Rattle.purchases.specs.Offer.{is_seats, offer_judgement};
 

@@ -1,5 +1,5 @@
-//! What the first train of a later kind brings: its phase begins, trains rust, privates close, and
-//! companies keep the limit of trains.
+//! The effects of the first train of a later kind: its phase begins, trains rust, privates close,
+//! and companies discard trains over the limit.
 ghost use Rattle.std.specs.Prelude.{◌≡◌, OnOk, None};
 ghost use Rattle.std.specs.List.{fold};
 ghost use Rattle.history.specs.Sound.{IsSound};
@@ -15,8 +15,8 @@ use history::{Event, History, at_least_zero};
 use std::alloc::{AllocError, Global};
 use tables::{Company, Kind, Money, Private, limit, rusts};
 
-/// Begins a phase, by the first train of its kind: trains rust, privates close, and companies keep
-/// the limit of trains.
+/// Begins a phase, by the first train of its kind: trains rust, privates close, and companies
+/// discard trains over the limit.
 pub(crate) fn begin_phase(
     alloc: Global,
     history: &mut History,
@@ -163,7 +163,7 @@ fn keep_limit(alloc: Global, history: &mut History, company: Company) -> Result<
     Ok(())
 }
 
-/// Returns how many trains a company has over the limit of the phase; under 0 if it may have more.
+/// Returns how many trains a company has over the limit of the phase; negative if it may have more.
 fn excess(history: &History, company: Company) -> Money
     ensures { excess_of history.now company ≡ at_least_zero result }
 {

@@ -15,7 +15,7 @@ use order_grammar::Offer;
 use std::alloc::AllocError;
 use tables::{Amount, Company, Kind, Money, Private, Seat, face};
 
-/// Returns the first rule that the purchase of a private by a company breaks, by these consents;
+/// Returns the first rule that the purchase of a private by a company breaks, given these consents;
 /// `None` if it breaks none.
 pub fn judge_private(
     history: &History,
@@ -49,7 +49,7 @@ fn broken_by(
     }
 }
 
-/// Returns whether a company has less than a price.
+/// Returns whether a company has less cash than a price.
 fn is_too_dear(view: &GameView, company: Company, price: Amount) -> bool
     ensures { result ≡ is_too_dear
         (record { seats = view.now.seats; events = view.now.events.now }) company price }
@@ -72,7 +72,7 @@ fn is_wrong_price(private: Private, price: Amount) -> bool
     price + price < face || face + face < price
 }
 
-/// Returns whether a player owns a private, and consents to its sale to a company at a price, by
+/// Returns whether a player owns a private, and consents to its sale to a company at a price, given
 /// these consents.
 fn is_given(
     view: &GameView,
@@ -97,7 +97,8 @@ fn is_given(
     )
 }
 
-/// Returns whether this owner is a player who consents to a sale to this seat, by these consents.
+/// Returns whether this owner is a player who consents to a sale to this seat, given these
+/// consents.
 fn owner_agrees(
     view: &GameView,
     owner: Option<Holder>,

@@ -1,6 +1,6 @@
-//! The standing lines of an operating round's sheets, those before the first head. They are ruled
-//! seat by seat, in order, each by its condition and then by the rules of its order. DISCARD and
-//! OFFER have a place there.
+//! The standing lines of an operating round's sheets, the lines before the first head. They are
+//! ruled seat by seat, in order; for each line its condition is checked first, and then the rules
+//! of its order. Only DISCARD and OFFER are allowed there.
 ghost use Rattle.std.specs.Prelude.{◌≡◌, OnOk, length};
 ghost use Rattle.history.specs.Sound.{IsSound};
 ghost use Rattle.purchases.specs.Standing.{after_standing, after_standing_line, has_place_before, standing_judgement};
@@ -53,7 +53,7 @@ pub fn rule_standing_lines_of(
     rule_standing(history, seat, &mut sheets.parts(seat, round))
 }
 
-/// Rules the standing lines of a seat's sheet, those before its first head.
+/// Rules the standing lines of a seat's sheet, the lines before its first head.
 fn rule_standing(history: &mut History, seat: Seat, sheet: &mut PartsLeft) -> Result<(), AllocError>
     requires { IsSound history.old }
     ensures seats { OnOk result (history.new.seats ≡ history.old.seats) }
@@ -68,8 +68,8 @@ fn rule_standing(history: &mut History, seat: Seat, sheet: &mut PartsLeft) -> Re
     Ok(())
 }
 
-/// The standing lines of a sheet, those before its first head: DISCARD and OFFER have a place
-/// there.
+/// The standing lines of a sheet, the lines before its first head. Only DISCARD and OFFER are
+/// allowed there.
 struct StandingLines;
 
 impl Family for StandingLines {

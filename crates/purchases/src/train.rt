@@ -1,13 +1,12 @@
 //! TRAIN: the purchase of a train by a company.
 //!
-//! The bank sells the least kind of 2 to 6 of which some are left, and from the first 6 that it has
-//! sold also a D, of which there is any number. The bank pool sells what is in it. A 4, 5 or 6 that
-//! the company has may be traded in for a D of the bank, which is cheaper then. Another company
-//! sells a train that it has, if its president consents, at the price that the order names, which
-//! is at least 1.
+//! The bank sells the lowest kind from 2 to 6 that it has left, and once the first 6 is sold also
+//! Ds, without limit. The bank pool sells what it has. A company may trade in a 4, 5 or 6 for a D
+//! from the bank, which is then cheaper. Another company sells a train that it has, if its
+//! president consents, at the price named by the order, at least 1 dollar.
 //!
 //! A train that is traded in goes to the pool, and then the train goes to the company. BOP closes
-//! once BO buys. The first train of a later kind from the bank begins its phase.
+//! when BO buys a train. The first train of a later kind from the bank begins its phase.
 ghost use Rattle.std.specs.Prelude.{◌≡◌, ◌≤◌, OnOk, None, pos};
 ghost use Rattle.history.specs.Sound.{IsSound};
 ghost use Rattle.purchases.specs.Train.{IsSmallPurchase, after_train, begins_phase, bought, cost_of, first_left};
@@ -34,9 +33,9 @@ pub struct TrainPurchase {
     pub kind: Kind,
     /// Where it is bought.
     pub from: TrainSeller,
-    /// The kind of a train that is traded in for it, if one is.
+    /// The kind of train traded in for it, if any.
     pub trade_in: Option<Kind>,
-    /// The price that the order names, if another company sells it, in dollars.
+    /// The price named by the order, in dollars, if another company sells it.
     pub asked: Option<Amount>,
 }
 
@@ -74,7 +73,7 @@ pub fn purchase_of(kind: Kind, from: TrainSource) -> TrainPurchase
     }
 }
 
-/// Returns the first rule that a purchase by a company breaks, by these consents; `None` if it
+/// Returns the first rule that a purchase by a company breaks, given these consents; `None` if it
 /// breaks none.
 pub fn judge_purchase(
     history: &History,
@@ -135,17 +134,17 @@ fn sells_diesels(view: &GameView) -> bool
     view.trains_sold(Kind::Six) > 0
 }
 
-/// The kinds of which the bank sells only the least that is left.
+/// The kinds of which the bank sells only the lowest that is left.
 pub const NUMBERED: [Kind; 5] = [Kind::Two, Kind::Three, Kind::Four, Kind::Five, Kind::Six];
 
-/// Returns the least kind of 2 to 6 of which the bank has some left.
+/// Returns the lowest kind from 2 to 6 that the bank has left.
 fn first_left(view: &GameView) -> Option<Kind>
     ensures { result ≡ first_left view.now.events.now }
 {
     first_of(view, &NUMBERED)
 }
 
-/// Returns the first of these kinds of which the bank has some left.
+/// Returns the first of these kinds that the bank has left.
 fn first_of(view: &GameView, kinds: &[Kind]) -> Option<Kind>
     ensures { result ≡ first_left_of view.now.events.now kinds.now }
 {
@@ -167,8 +166,8 @@ fn is_left(view: &GameView, kind: Kind) -> bool
     }
 }
 
-/// Returns whether a company would have more trains than the phase allows. A train that is to be
-/// traded in does not count, whether the company has it or not.
+/// Returns whether a company would have more trains than the phase allows. A train to be traded in
+/// does not count, whether or not the company has it.
 fn is_full(view: &GameView, company: Company, trade_in: Option<Kind>) -> bool
     ensures { result ≡ is_at_train_limit view.now.events.now company trade_in }
 {
@@ -206,8 +205,8 @@ fn price_of_train(kind: Kind, trade_in: Option<Kind>) -> Amount
     }
 }
 
-/// Returns what a train of a kind costs a company that trades in a train, in dollars: a D is
-/// cheaper then.
+/// Returns what a train of a kind costs a company that trades in a train, in dollars: then a D is
+/// cheaper.
 fn price_for_trade(kind: Kind) -> Amount
     ensures price { result ≡ price_for_trade kind }
     ensures small { result ≤ 1100 }
@@ -218,8 +217,7 @@ fn price_for_trade(kind: Kind) -> Amount
     }
 }
 
-/// Returns whether by these consents a company that is to sell a train has not consented, or the
-/// price is 0.
+/// Returns whether, given these consents, the selling company has not consented, or the price is 0.
 fn lacks_consent(
     view: &GameView,
     buyer: Company,
@@ -243,8 +241,8 @@ fn lacks_consent(
     price == 0 || !presidents_agree(view, giver, taker, sale, consents)
 }
 
-/// Returns whether one president consents to a sale to the other by these consents; `false` if
-/// there are not both.
+/// Returns whether one president consents to a sale to the other, given these consents; `false` if
+/// either is missing.
 fn presidents_agree(
     view: &GameView,
     giver: Option<Seat>,
@@ -260,7 +258,7 @@ fn presidents_agree(
     }
 }
 
-/// Returns whether a company that is to sell a train has none of the kind, or is the buyer.
+/// Returns whether the selling company has no train of the kind, or is the buyer.
 fn is_not_sellers(view: &GameView, buyer: Company, kind: Kind, from: TrainSeller) -> bool
     ensures { result ≡ is_not_sellers view.now.events.now buyer kind from }
 {
@@ -270,7 +268,7 @@ fn is_not_sellers(view: &GameView, buyer: Company, kind: Kind, from: TrainSeller
     }
 }
 
-/// Returns whether a train is to be traded in that is not there, or that may not be traded in.
+/// Returns whether the train to be traded in is missing, or may not be traded in.
 fn is_no_trade_in(view: &GameView, company: Company, kind: Kind, trade_in: Option<Kind>) -> bool
     ensures { result ≡ is_no_trade_in view.now.events.now company kind trade_in }
 {
@@ -322,7 +320,7 @@ pub fn buy_train(
     Ok(())
 }
 
-/// Returns whether a purchase is that of the first train of a later kind from the bank.
+/// Returns whether a purchase is of the first train of a later kind from the bank.
 fn begins_phase(history: &History, from: TrainSeller, kind: Kind) -> bool
     ensures { result ≡ begins_phase history.now.events from kind }
 {
@@ -356,7 +354,7 @@ fn take_train(
     close_bop(history, company)
 }
 
-/// Trades in a train of a company, if one is to be.
+/// Trades in a train of a company, if the order says so.
 fn trade_in(history: &mut History, company: Company, kind: Option<Kind>) -> Result<(), AllocError>
     ensures { OnOk result (history.new ≡ with_trade history.old company kind) }
 {

@@ -1,20 +1,20 @@
-//! What a company of 1830 can reach over the track that lies.
+//! What a company of 1830 can reach over the track on the map.
 //!
 //! A position is the tiles and tokens on the map: the links of each hex, and for each stop its
-//! value, whether it is red, its slots and its tokens. `Network` is any value that keeps a
-//! position; in a contract it is that position and nothing else. `reached` returns exactly what the
-//! walks of a company touch: whatever a walk touches is in the result, and a walk touches whatever
-//! is in the result. `reached_stops` returns only the stops, and allocates nothing. Nor do
-//! `reaches_stop` and `reaches_hex`, which look at one stop or hex, with a list of the tokens.
+//! value, whether it is red, its slots and its tokens. A `Network` is any value that keeps a
+//! position; in a contract it is that position. `reached` returns exactly what the walks of a
+//! company touch, no less and no more. `reached_stops` returns only the stops, and allocates
+//! nothing. `reaches_stop` and `reaches_hex`, which check one stop or hex given a list of the
+//! tokens, do not allocate either.
 //!
-//! The definitions, in `specs/`: `Position` and its laws, `Lawful`; `Walk`, which depends on no
-//! company and no search and is used for legal runs too; `Reached`. `Search` is what the search
-//! keeps; `Stops` has stops as marks, `Tokens` the list in which walks begin, and `Pieces` what is
-//! reached of one hex.
+//! The definitions, in `specs/`: `Position` and its laws, `Lawful`; `Walk`, which does not depend
+//! on companies or the search, and is used for legal runs too; `Reached`. `Search` is what the
+//! search keeps; `Stops` has stops as marks, `Tokens` the tokens where walks begin, and `Pieces`
+//! what is reached of one hex.
 //!
 //! Reading order: `network`, `walk`, `reach_found`, `stops` and `reaches` (the public calls),
-//! `search`, `waiting` (the spots that it is still to look at), `link_visitor` (what it does with
-//! links), `stop_numbers` (of stops and of spots), `stop_marks`.
+//! `search`, `waiting` (the spots still to look at), `link_visitor` (what it does with links),
+//! `stop_numbers` (of stops and of spots), `stop_marks`.
 #![tactic(auto)]
 
 mod link_visitor;

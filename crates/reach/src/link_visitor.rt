@@ -32,8 +32,8 @@ impl Keeper for Vec<Link> {
     }
 }
 
-/// Takes links and forgets them, so it allocates nothing. No contract can tell that it does not
-/// keep a link.
+/// Takes links and forgets them, so it allocates nothing. Its contract does not say which links it
+/// keeps.
 #[derive(Drop)]
 pub(crate) struct Forgetful;
 

@@ -1,4 +1,5 @@
-//! The trait of whatever keeps the tiles and tokens on the map, as a search asks for them.
+//! The trait of values that keep the tiles and tokens on the map, with the calls that a search
+//! uses.
 ghost use Rattle.std.specs.Prelude.{◌≡◌, ◌↔◌, IsTrue};
 ghost use Rattle.reach.specs.Lawful.{IsLawful};
 ghost use Rattle.reach.specs.Position.{HasToken, IsFull, Position, is_red, links_of, value_of};
@@ -7,16 +8,16 @@ use map_tables::{Hex, Links, Stop};
 use tables::{Amount, Company};
 
 /// Keeps a position: the track on the map, and the stops with their tokens. Its calls allocate
-/// nothing. A stop that lies in two hexes may be named by either of its names.
+/// nothing. A stop that lies in two hexes may be given by either of its names.
 pub trait Network {
-    /// The position that is kept. Whatever a contract says of a network, it says of this.
+    /// The position that it keeps. In a contract a network is this position.
     ghost position: { Self → Position };
 
     /// Returns the links of a hex, in order, none twice.
     fn links(&self, hex: Hex) -> Links
         ensures { result.items ≡ links_of (position self.now) hex };
 
-    /// Returns what a stop is worth in this phase, in dollars, 80 at most; 0 if there is no such
+    /// Returns what a stop is worth in this phase, in dollars, at most 80; 0 if there is no such
     /// stop.
     fn value(&self, stop: Stop) -> Amount
         ensures { result ≡ value_of (position self.now) stop };

@@ -11,10 +11,10 @@ use std::alloc::{AllocError, Global};
 use std::marker::Model;
 use tables::Company;
 
-/// How much room for links a search begins with. A usual map needs no more.
+/// How many links a search has room for at first. A usual map needs no more.
 const LINKS_ROOM: usize = 96;
 
-/// What a company reaches: stops and links. In a contract it is the two lists. Each link is there
+/// What a company reaches: stops and links. In a contract it is the two lists. Each link is listed
 /// once, or twice if it was followed in both directions.
 #[derive(Drop)]
 pub struct Reach {
@@ -32,7 +32,7 @@ impl Model for Reach {
 
 impl Reach {
     /// Returns the stops that are reached, in the order of the map. A stop that lies in two hexes
-    /// is there once, as the one that names it.
+    /// is listed once, under its own name.
     pub fn stops(&self) -> &[Stop]
         ensures { result.now ≡ self.now.stops }
     {
@@ -47,9 +47,10 @@ impl Reach {
     }
 }
 
-/// Returns what a company reaches: the stops with a token of it, and each stop and link that a walk
-/// from there touches. Such a walk may end in a city that is full for the company but may not pass
-/// one; it may pass a red stop. Fails only if the allocation of the lists fails.
+/// Returns what a company reaches: the stops where it has tokens, and each stop and link that a
+/// walk from there touches. Such a walk may end in a city that is full for the company, but may not
+/// pass through it. It may pass through a red stop. Fails only if the allocation of the lists
+/// fails.
 pub fn reached<N: Network>(
     alloc: Global,
     network: &N,

@@ -1,5 +1,5 @@
-//! Whether a company reaches a stop, or a piece of a hex. The tokens are given as a list, and
-//! nothing is allocated.
+//! Whether a company reaches a stop, or some track in a hex, given a list of the tokens. Nothing is
+//! allocated.
 ghost use Rattle.std.specs.Prelude.{◌≡◌, ◌↔◌, IsTrue, [], false, replicate};
 ghost use Rattle.map_tables.specs.Place.{joined_hex};
 ghost use Rattle.reach.specs.Pieces.{ReachesIn};
@@ -14,8 +14,8 @@ use crate::search::{Marks, mark_named, search};
 use map_tables::{Hex, Place, Stop};
 use tables::Company;
 
-/// Returns whether a company reaches a stop, if each stop with a token of the company is named by
-/// one of these tokens. Only the stops that they name are asked for a token. Allocates nothing.
+/// Returns whether a company reaches a stop, given tokens that name each stop with a token of the
+/// company. Looks for tokens only at the stops that they name. Allocates nothing.
 pub fn reaches_stop<N: Network>(
     network: &N,
     company: Company,
@@ -31,9 +31,9 @@ pub fn reaches_stop<N: Network>(
     marks.has_stop(stop)
 }
 
-/// Returns whether a company reaches a link or a stop of a hex that is no part of another's stop,
-/// if each stop with a token of the company is named by one of these tokens. Only the stops that
-/// they name are asked for a token. Allocates nothing.
+/// Returns whether a company reaches a link or a stop of a hex that is not part of another hex's
+/// stop, given tokens that name each stop with a token of the company. Looks for tokens only at the
+/// stops that they name. Allocates nothing.
 pub fn reaches_hex<N: Network>(
     network: &N,
     company: Company,
@@ -50,7 +50,7 @@ pub fn reaches_hex<N: Network>(
     marks.has_end(hex)
 }
 
-/// Marks all spots at which walks of a company arrive, where nothing is marked.
+/// Marks all spots where walks of a company arrive; nothing may be marked before.
 fn mark_reached<N: Network>(
     network: &N,
     company: Company,

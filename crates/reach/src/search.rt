@@ -1,5 +1,5 @@
 //! The search for all that a company reaches: from its tokens it follows the links, and marks each
-//! end of a hex at which a walk arrives.
+//! end of a hex where a walk arrives.
 ghost use Rattle.std.specs.Prelude.{◌≡◌, ◌<◌, ◌≤◌, ◌↔◌, IsTrue, OnOk, [], false, true, length, slice_index_or};
 ghost use Rattle.std.specs.Prelude.{replicate};
 ghost use Rattle.map_tables.specs.Hex.{index_of};
@@ -22,7 +22,7 @@ use map_tables::{ENDS, HEXES, Hex, Link, Place, SIDES, Stop, StopNumber, TrackEn
 use tables::Company;
 
 /// The ends of the map's hexes at which some walk of the company has arrived, or may begin, and
-/// which of them are still to be looked at. No more wait than are marked, so the table has room.
+/// those of them still to look at. Only marked ends wait, so the table has room.
 #[derive(Drop)]
 pub(crate) struct Marks {
     marks: [bool; SPOTS],
@@ -31,7 +31,7 @@ pub(crate) struct Marks {
 }
 
 impl Marks {
-    /// Returns marks by which no walk has arrived anywhere yet.
+    /// Returns the marks before the search, when no walk has arrived anywhere.
     pub(crate) fn none() -> Marks
         ensures marks { result.marks ≡ replicate 744 false }
         ensures waiting { result.waiting ≡ [] }
@@ -71,7 +71,7 @@ impl Marks {
         false
     }
 
-    /// Marks a spot, which is to be looked at if it was not marked before.
+    /// Marks a spot, and puts it among those to look at if it was not marked before.
     fn mark(&mut self, spot: Spot)
         ensures { IsMarking spot
             self.old.marks self.old.waiting self.new.marks self.new.waiting }
@@ -84,8 +84,8 @@ impl Marks {
     }
 }
 
-/// Returns the other hex of a stop that lies in two hexes, by the hex that names it; `None` if it
-/// lies in one.
+/// Returns the other hex of a stop that lies in two hexes, given the hex that names it; `None` if
+/// it lies in one.
 pub fn twin(hex: Hex) -> Option<Hex>
     ensures { result ≡ twin_of hex }
 {
@@ -216,8 +216,7 @@ fn look_from_stop<N: Network, K: Keeper>(
     Ok(())
 }
 
-/// Looks at a spot at which a walk has arrived: marks each end to which one more link leads the
-/// walk.
+/// Looks at a spot where a walk has arrived: marks each end that one more link leads to.
 fn look<N: Network, K: Keeper>(
     network: &N,
     company: Company,
@@ -245,8 +244,8 @@ fn look<N: Network, K: Keeper>(
     Ok(())
 }
 
-/// Marks the stops with a token of the company, where its walks begin, where nothing is marked. All
-/// of them are still to be looked at.
+/// Marks the stops with a token of the company, where its walks begin; nothing may be marked
+/// before. All of them are still to look at.
 pub(crate) fn mark_tokens<N: Network>(network: &N, company: Company, marks: &mut Marks)
     requires marks { marks.old.marks ≡ replicate 744 false }
     requires waiting { marks.old.waiting ≡ [] }
@@ -271,8 +270,8 @@ pub(crate) fn mark_tokens<N: Network>(network: &N, company: Company, marks: &mut
     }
 }
 
-/// Marks the stops with a token of the company, where its walks begin, where nothing is marked.
-/// Only the stops that these tokens name are asked for one.
+/// Marks the stops with a token of the company, where its walks begin; nothing may be marked
+/// before. Looks only at the stops that these tokens name.
 pub(crate) fn mark_named<N: Network>(
     network: &N,
     company: Company,
@@ -306,7 +305,7 @@ fn mark_listed<N: Network>(
     }
 }
 
-/// Returns the stop that a token names, if it is one of the company.
+/// Returns the stop that a token names, if it is the company's token.
 fn stop_of(token: (Place, Company), company: Company) -> Option<Stop>
     ensures { result ≡ stop_of_token company token }
 {
@@ -328,10 +327,10 @@ fn mark_token<N: Network>(network: &N, company: Company, stop: Stop, marks: &mut
     }
 }
 
-/// Marks all spots at which walks of the company arrive, where its tokens are marked: from each
-/// spot that is found the ends of the links that go on from there. Each spot is looked at once, and
-/// the links that are followed are kept. The marks are filled in place, since each call that had
-/// them among its locals would pay for their bytes.
+/// Marks all spots where walks of the company arrive, given marks of its tokens: from each spot
+/// found it marks the ends of the links that go on from there. It looks at each spot once, and
+/// keeps the links that it follows. The marks are filled in place, since each call that had them
+/// among its locals would pay for their bytes.
 pub(crate) fn search<N: Network, K: Keeper>(
     network: &N,
     company: Company,

@@ -6,13 +6,13 @@ ghost use Rattle.reach.specs.Search.{spot_number};
 use crate::walk::Spot;
 use map_tables::{ENDS, HEXES, SIDES, Stop, TrackEnd, joined_stop};
 
-/// How many stops the hexes of the map may have.
+/// The number of stop numbers: two for each hex.
 pub const STOPS: usize = 2 * HEXES;
 
-/// How many spots the hexes of the map have: six sides and two stops each.
+/// The number of spots: six sides and two stops for each hex.
 pub const SPOTS: usize = ENDS * HEXES;
 
-/// Returns the place of a stop in the order of the map, by the hex that is named.
+/// Returns the place of a stop in the order of the map, given its hex.
 pub fn stop_order(stop: Stop) -> usize
     ensures value { result ≡ stop_order stop }
     ensures bound { result < 186 }
@@ -20,8 +20,8 @@ pub fn stop_order(stop: Stop) -> usize
     2 * stop.hex.index() + stop.number.index()
 }
 
-/// Returns the number of a spot; there are eight for each hex. A stop that lies in two hexes has
-/// one number.
+/// Returns the number of a spot, of eight for each hex. A stop that lies in two hexes has one
+/// number.
 pub fn spot_number(spot: Spot) -> usize
     ensures value { result ≡ spot_number spot }
     ensures bound { result < 744 }

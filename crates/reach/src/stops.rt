@@ -15,7 +15,7 @@ use std::marker::Model;
 use tables::Company;
 
 /// The stops that a company reaches. In a contract it is the list of them, in the order of the map.
-/// A stop that lies in two hexes is there once, as the one that names it.
+/// A stop that lies in two hexes is listed once, under its own name.
 #[derive(Drop)]
 pub struct ReachedStops {
     stops: [Stop; STOPS],
@@ -78,8 +78,8 @@ impl ReachedStops {
     }
 }
 
-/// Returns the stops that a company reaches: those with a token of it, and each stop that a walk
-/// from there touches. They are those that `reached` finds. Allocates nothing.
+/// Returns the stops that a company reaches: those where it has tokens, and each stop that a walk
+/// from there touches. They are the stops that `reached` finds. Allocates nothing.
 pub fn reached_stops<N: Network>(network: &N, company: Company) -> ReachedStops
     ensures { AreReachedStops (N.position network.now) company result }
 {

@@ -1,4 +1,4 @@
-//! The spots that a search is still to look at, in few bytes.
+//! The spots that a search has still to look at, in few bytes.
 ghost use Rattle.std.specs.Prelude.{◌≡◌, ◌+◌, ◌<◌, ◌++◌, ◌∷◌, [], MatchOption, length};
 ghost use Rattle.reach.specs.HeldSpots.{end_at, held_spot};
 
@@ -14,12 +14,12 @@ struct HeldSpot {
     end: u8,
 }
 
-/// What the unused room is filled with: the place of no end. (With zeros it would be one run of
-/// over 2 KB with the marks beside it, which is cleared byte by byte.)
+/// What fills the unused part: the place of no end. (Zeros would join the marks beside it to one
+/// area of over 2 KB, which is cleared byte by byte.)
 const NO_END: u8 = 255;
 
 impl HeldSpot {
-    /// Returns a spot as it is held.
+    /// Returns a spot in two bytes.
     fn of(spot: Spot) -> HeldSpot
         ensures { held_spot result ≡ spot }
     {
@@ -29,7 +29,7 @@ impl HeldSpot {
         }
     }
 
-    /// Returns the spot that is held.
+    /// Returns the spot.
     fn spot(self) -> Spot
         ensures { result ≡ held_spot self }
     {
@@ -40,7 +40,7 @@ impl HeldSpot {
     }
 }
 
-/// Returns the end at a place in the order of the ends of a hex; the last for a greater number.
+/// Returns the end at a place in the order of the ends of a hex; the last one for a greater number.
 pub fn end_at(place: u8) -> TrackEnd
     ensures { result ≡ end_at place }
 {
@@ -58,7 +58,7 @@ pub fn end_at(place: u8) -> TrackEnd
     }
 }
 
-/// The spots that wait, at most as many as there are. In a contract it is the list of them.
+/// The waiting spots, at most as many as the map has. In a contract they are the list of them.
 #[derive(Drop)]
 pub(crate) struct Waiting {
     spots: [HeldSpot; SPOTS],

@@ -1,4 +1,4 @@
-//! The ends in hexes between which a walk goes, and the links that it takes as its steps.
+//! The ends in hexes that a walk goes between, and the links that are its steps.
 ghost use Rattle.std.specs.Prelude.{◌≡◌};
 ghost use Rattle.map_tables.specs.declared.hex.Hex.TheVariants.{A9};
 ghost use Rattle.map_tables.specs.declared.side.Side.TheVariants.{SouthWest};
@@ -17,7 +17,7 @@ pub struct Spot {
 impl Default for Spot {
     ghost is_default = { λ spot. spot ≡ record { hex = A9; end = AtSide SouthWest } };
 
-    /// Returns the filler for the unused room of a table.
+    /// Returns what fills the unused part of a table.
     fn default() -> Spot {
         Spot {
             hex: Hex::A9,
@@ -27,7 +27,7 @@ impl Default for Spot {
 }
 
 impl Spot {
-    /// Returns the stop there, if it is one; the stop that names it, if it lies in two hexes.
+    /// Returns the stop there, under its own name; `None` for a side.
     pub fn stop(self) -> Option<Stop>
         ensures { result ≡ stop_of self }
     {
@@ -40,8 +40,8 @@ impl Spot {
         }
     }
 
-    /// Returns the other side of the border, if it is a side at one; `None` off the map, or if the
-    /// border is closed.
+    /// Returns the other side of the border, if it is a side; `None` at the edge of the map, or if
+    /// the border is closed.
     pub fn across(self) -> Option<Spot>
         ensures { result ≡ across self }
     {
@@ -58,8 +58,8 @@ impl Spot {
     }
 }
 
-/// A link as a walk takes it: from its first end to its second, or turned, from its second to its
-/// first.
+/// A link in the direction of a walk: from its first end to its second, or turned, from its second
+/// to its first.
 #[derive(Clone, Copy, Debug, PartialEq, Eq)]
 pub struct WalkStep {
     pub link: Link,

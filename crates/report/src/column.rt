@@ -1,11 +1,11 @@
-//! Texts and numbers in columns, filled up with spaces.
+//! Texts and numbers in columns, padded with spaces.
 ghost use Rattle.std.specs.Prelude.{◌≡◌, ◌++◌, OnOk, replicate};
 ghost use Rattle.report.specs.Column.{Adds, at_left, at_right};
 
 use itoa::Integer;
 use std::alloc::AllocError;
 
-/// Adds a text at the left of a column of this many bytes, filled up with spaces. A wider text is
+/// Adds a text at the left of a column of this many bytes, padded with spaces. A wider text is
 /// printed whole.
 #[tactic(auto, unfolding(crate::specs::Column::at_left))]
 pub(crate) fn push_left(out: &mut Vec<u8>, text: &[u8], width: usize) -> Result<(), AllocError>

@@ -57,7 +57,7 @@ pub fn player_worth(view: &GameView, seat: Seat) -> Money
     view.cash(Party::of_seat(seat)) + owned as Money
 }
 
-/// Returns what all shares that a seat has are worth, in dollars.
+/// Returns what all shares of a seat are worth, in dollars.
 fn shares_worth(view: &GameView, seat: Seat) -> u128
     ensures sum { result ≡ worth_of_all_shares view.now.events.now seat }
     ensures small { result ≤ 2 ^ 112 }
@@ -69,8 +69,8 @@ fn shares_worth(view: &GameView, seat: Seat) -> u128
     sum
 }
 
-/// Returns what the shares of a company that a seat has are worth, in dollars: nothing if the
-/// company has no market price.
+/// Returns what a seat's shares of a company are worth, in dollars; 0 if the company has no market
+/// price.
 fn company_worth(view: &GameView, seat: Seat, company: Company) -> u128
     ensures worth { result ≡ worth_of_shares view.now.events.now seat company }
     ensures small { result ≤ 2 ^ 109 }
@@ -79,7 +79,7 @@ fn company_worth(view: &GameView, seat: Seat, company: Company) -> u128
     shares * u128::from(market_price(view, company))
 }
 
-/// Returns what all privates that a seat owns are worth, in dollars.
+/// Returns what all privates of a seat are worth, in dollars.
 fn privates_worth(view: &GameView, seat: Seat) -> Amount
     ensures sum { result ≡ worth_of_privates view.now.events.now seat }
     ensures small { result ≤ 1320 }
@@ -92,7 +92,7 @@ fn privates_worth(view: &GameView, seat: Seat) -> Amount
     sum
 }
 
-/// Returns what a private is worth to a seat, in dollars: nothing if another owns it.
+/// Returns what a private is worth to a seat, in dollars; 0 if the seat does not own it.
 fn private_worth(view: &GameView, owners: &Owners, seat: Seat, private: Private) -> Amount
     requires { AreOwnersIn view.now.events.now owners.now }
     ensures worth { result ≡ worth_of_private view.now.events.now seat private }

@@ -20,7 +20,8 @@ pub fn some_report()
 
 /// States that two accepted files of the same players have reports that differ only in the version
 /// of the first line, under three conditions. Each seat has a sheet for a round in both files or in
-/// none. Its lines are read the same. The unread lines have the same faults in the same order.
+/// none. The lines of these sheets are read the same. The unread lines have the same faults in the
+/// same order.
 pub fn same_parts_same_report()
     ensures { SamePartsSameReport }
 {
@@ -28,8 +29,8 @@ pub fn same_parts_same_report()
 }
 
 /// States that the report of a file of version 1 has that version in its first line, and names no
-/// condition. Each ruling of its game has only the spelling of its order. Each order without a
-/// condition is printed in this way, whatever the version of its file.
+/// condition: each ruling has only the spelling of its order. Orders without a condition are
+/// printed so in files of either version.
 pub fn plain_reports()
     ensures { PlainReports }
 {
@@ -37,9 +38,9 @@ pub fn plain_reports()
 }
 
 /// States that the order in which the sheets of different players arrive changes nothing in the
-/// report. Two accepted files of one version and the same players have one report under two
-/// conditions. Each player sent the same sheets in the same order. The unread lines have the same
-/// faults in the same order.
+/// report. Two accepted files of one version and the same players have the same report under two
+/// conditions. Each player sent the same sheets in the same order, and the unread lines have the
+/// same faults in the same order.
 pub fn arrival_changes_no_report()
     ensures { ArrivalChangesNoReport }
 {
@@ -49,16 +50,16 @@ pub fn arrival_changes_no_report()
 }
 
 /// States that the report of the game of a file is its header, the text of each of its rounds, the
-/// unread lines and the end, one after the other.
+/// unread lines and the end, one after another.
 pub fn report_is_its_parts()
     ensures { ReportIsItsParts }
 {
     rounds::laws::rounds_follow_in_order()
 }
 
-/// States that the parts that are written while a game is played are its report. They are the
-/// header, the text of each round as it was played, and, once play has stopped, what follows them.
-/// Until then they are a prefix of the report.
+/// States that the parts written while a game is played are together its report: the header, the
+/// text of each round as it was played, and, once play has stopped, what follows them. Until then
+/// they are a prefix of the report.
 pub fn parts_are_the_report()
     ensures prefix { PartsAreAPrefix }
     ensures whole { PartsAreTheReport }

@@ -265,7 +265,7 @@ fn push_ruled(
     push_end(out)
 }
 
-/// Adds what became of a line, and its order under its condition, if it has one.
+/// Adds what became of a line, and its order with its condition, if it has one.
 fn push_ruling(out: &mut Vec<u8>, ruling: &PackedRuling) -> Result<(), AllocError>
     ensures { OnOk result (Adds out.old out.new (spaced (ruling_words ruling.now))) }
 {
@@ -368,7 +368,7 @@ fn push_moves(out: &mut Vec<u8>, company: Company, square: Square) -> Result<(),
     push_end(out)
 }
 
-/// Adds the line of the token of a company's home.
+/// Adds the line of a company's home token.
 fn push_home(out: &mut Vec<u8>, company: Company, place: Place) -> Result<(), AllocError>
     ensures { OnOk result (Adds out.old out.new
         (line_of (codes "HOME") (code_of_company company ∷ text_of_place place ∷ []))) }
@@ -487,8 +487,8 @@ fn train_owner(owner: Option<Company>) -> &'static [u8]
     }
 }
 
-/// Adds a square of the stock market: the letter of its row, and its column. A row that is none of
-/// the chart's has no letter.
+/// Adds a square of the stock market: the letter of its row, and its column. A row that is not on
+/// the chart has no letter.
 fn push_square(out: &mut Vec<u8>, square: Square) -> Result<(), AllocError>
     ensures { OnOk result (Adds out.old out.new (text_of_square square)) }
 {
@@ -498,14 +498,14 @@ fn push_square(out: &mut Vec<u8>, square: Square) -> Result<(), AllocError>
     print_number(out, square.column)
 }
 
-/// Adds the name of a seat's player; nothing for a seat that nobody has.
+/// Adds the name of a seat's player; nothing for an empty seat.
 pub(crate) fn push_name(out: &mut Vec<u8>, sheets: &Sheets, seat: Seat) -> Result<(), AllocError>
     ensures { OnOk result (Adds out.old out.new (name_of sheets.now seat)) }
 {
     out.extend_from_slice(name(sheets, seat))
 }
 
-/// Returns the name of a seat's player; no letters for a seat that nobody has.
+/// Returns the name of a seat's player; empty for an empty seat.
 pub fn name<'a>(sheets: &'a Sheets, seat: Seat) -> &'a [u8]
     ensures { result.now ≡ name_of sheets.now seat }
 {

@@ -1,4 +1,4 @@
-//! The report part by part, as the game is played: the header, the text of each round, and what
+//! The report part by part, while the game is played: the header, the text of each round, and what
 //! follows the rounds.
 ghost use Rattle.report.specs.Column.{Adds};
 ghost use Rattle.report.specs.Parts.{end_text_of, next_text_of, outcome_text_of};
@@ -12,7 +12,7 @@ use rounds::Play;
 use sheets::Sheets;
 use std::alloc::{AllocError, Global};
 
-/// How many bytes of a round's text there is room for at first.
+/// How many bytes a round's text has room for at first.
 const ROOM: usize = 512;
 
 /// Returns the header of a report, its first two lines. Fails only if allocation fails.
@@ -24,9 +24,8 @@ pub fn header_text(alloc: Global, sheets: &Sheets) -> Result<Vec<u8>, AllocError
     Ok(out)
 }
 
-/// Returns the text of the round that a play has played last: its events and the statement after
-/// them. It is empty before the first round, and once play was broken off. Fails only if allocation
-/// fails.
+/// Returns the text of the last round played: its events and the statement after them. It is empty
+/// before the first round, and after play was broken off. Fails only if allocation fails.
 pub fn next_text(alloc: Global, play: &Play) -> Result<Vec<u8>, AllocError>
     ensures { IfOk result (λ text. text.items ≡ next_text_of play.now) }
 {
@@ -49,9 +48,9 @@ pub fn end_text(alloc: Global, play: &Play) -> Result<Vec<u8>, AllocError>
     Ok(out)
 }
 
-/// Returns the lines for some of the lines that are in no sheet, by their faults, after `before`
-/// others that came earlier in the file. So `end_text` can be written a few lines at a time. Fails
-/// only if allocation fails.
+/// Returns the report's lines for some of the unread lines, given their faults, after `before`
+/// earlier ones of the file. So `end_text` can be written a few lines at a time. Fails only if
+/// allocation fails.
 pub fn unread_text(alloc: Global, before: usize, unread: &[Fault]) -> Result<Vec<u8>, AllocError>
     requires { before + length unread.now ≤ usize.MAX }
     ensures { IfOk result (λ text. text.items ≡ unread_lines before unread.now) }

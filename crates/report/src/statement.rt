@@ -201,7 +201,7 @@ pub(crate) fn owns(owners: &Owners, seat: Seat, private: Private) -> bool
     }
 }
 
-/// Adds the line of a company, if it is started: code, cash, market price, shares in the initial
+/// Adds the line of a company, if it has started: code, cash, market price, shares in the initial
 /// offering and the bank pool, tokens, president, trains.
 fn push_company(
     out: &mut Vec<u8>,
@@ -266,7 +266,7 @@ fn push_cash(out: &mut Vec<u8>, view: &GameView, party: Party) -> Result<(), All
     push_right(out, view.cash(party), CASH_WIDTH)
 }
 
-/// Adds the shares of a company that lie at a place in their column.
+/// Adds the shares of a company at a place, in their column.
 #[tactic(auto, unfolding(crate::specs::Statement::shares_column))]
 fn push_shares(
     out: &mut Vec<u8>,
@@ -280,7 +280,7 @@ fn push_shares(
     push_count(out, view.shares(company, place))
 }
 
-/// Adds how many certificates of a seat count in their column.
+/// Adds how many certificates of a seat count, in their column.
 #[tactic(auto, unfolding(crate::specs::Statement::counted_column))]
 fn push_counted(out: &mut Vec<u8>, view: &GameView, seat: Seat) -> Result<(), AllocError>
     ensures { OnOk result
@@ -383,7 +383,7 @@ fn push_digits(
     ])
 }
 
-/// Returns the digit of a number that has one.
+/// Returns the digit of a number of one digit; `None` for other numbers.
 #[tactic(auto, using(std::proofs::lemmas::Fmt::decimal_digit))]
 fn digit_of(number: ShareCount) -> Option<u8>
     ensures { ForSome result (λ digit. signed_decimal number ≡ digit ∷ []) }
@@ -417,7 +417,7 @@ fn push_president(
     }
 }
 
-/// Adds the trains of a company, least first, each as its kind after a space.
+/// Adds the trains of a company, lowest kind first, each as its kind after a space.
 #[tactic(auto, unfolding(crate::specs::Statement::trains_text))]
 fn push_trains(out: &mut Vec<u8>, view: &GameView, company: Company) -> Result<(), AllocError>
     ensures { OnOk result

@@ -102,7 +102,7 @@ fn push_rounds(out: &mut Vec<u8>, game: &Game) -> Result<(), AllocError>
 }
 
 /// Adds the text of the round whose events are those from `begun` up to `end`, with the statement
-/// of the game as it stood after them, to which the walk along the events goes.
+/// of the game after them. The walk goes along the events to there.
 fn push_round_between(
     out: &mut Vec<u8>,
     game: &Game,
@@ -123,7 +123,7 @@ fn push_round_between(
     push_round(out, game.sheets(), &stood, &events[begun..end])
 }
 
-/// Adds the text of the round that began last, as the game stands; nothing before the first.
+/// Adds the text of the round that began last, given the present game; nothing before the first.
 pub(crate) fn push_last_round(
     out: &mut Vec<u8>,
     sheets: &Sheets,
@@ -141,8 +141,7 @@ pub(crate) fn push_last_round(
     push_round(out, sheets, &history.now(), last)
 }
 
-/// Adds the text of a round: the lines of its events, and the statement of the game as it stood
-/// after them.
+/// Adds the text of a round: the lines of its events, and the statement of the game after them.
 fn push_round(
     out: &mut Vec<u8>,
     sheets: &Sheets,
@@ -258,7 +257,7 @@ fn push_over(
     push_worths(out, sheets, &history.now())
 }
 
-/// Adds the line of the round that can't be played: the names of those who owe a sheet for it.
+/// Adds the line of the round that can't be played yet: the names of those who owe a sheet for it.
 #[tactic(auto, unfolding(crate::specs::Report::owing))]
 fn push_awaiting(out: &mut Vec<u8>, sheets: &Sheets, round: &Round) -> Result<(), AllocError>
     ensures { OnOk result (Adds out.old out.new (awaiting_text sheets.now round.now)) }

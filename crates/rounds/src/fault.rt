@@ -29,7 +29,7 @@ impl From<AllocError> for PlayFault {
 }
 
 impl PlayFault {
-    /// Returns the error of play whose runner never refuses: an allocation failed.
+    /// Returns the error of play with a runner that never refuses, which is a failed allocation.
     pub fn want_of_memory(self) -> AllocError
         requires { self ≡ Memory }
     {
@@ -37,7 +37,7 @@ impl PlayFault {
         AllocError
     }
 
-    /// Returns why play stops at the turn of a company in a round, by the fault of the runner.
+    /// Returns why play stops at the turn of a company in a round, given the fault of the runner.
     pub(crate) fn in_turn(fault: RunnerFault, round: Round, company: Company) -> PlayFault
         ensures { result ≡ fault_in_turn fault round company }
     {

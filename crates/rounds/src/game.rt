@@ -21,10 +21,10 @@ use tables::Round;
 /// Why play stopped.
 #[derive(Clone, Copy, Debug, PartialEq, Eq)]
 pub enum End {
-    /// This round comes next, and some seat has no sheet for it.
+    /// This round is next, and some seat has no sheet for it.
     Awaiting(Round),
-    /// The game is over: the bank is broken, and the operating rounds of a set are over. It is the
-    /// set in which it broke, or the next if it broke in an opening or a stock round.
+    /// The game is over: the bank is broken, and the operating rounds of its set are over, or of
+    /// the next set if it broke in an opening or a stock round.
     Bank,
     /// The game is over: a president is bankrupt.
     Bankrupt,
@@ -60,7 +60,7 @@ impl<'a> Game<'a> {
         &self.history
     }
 
-    /// Returns its events, and lets the sheets go.
+    /// Returns its events, and drops the sheets.
     pub fn into_history(self) -> History
         ensures events { result ≡ self.entry.game }
         ensures seats { result.seats ≡ length (players_of self.entry.file) }
@@ -83,8 +83,8 @@ impl<'a> Game<'a> {
     }
 }
 
-/// Plays the game of the sheets. Companies that are ordered to run their best are credited the
-/// greatest revenue, which is searched for. Fails only if allocation fails.
+/// Plays the game of the sheets. For each RUN BEST it searches for the greatest revenue. Fails only
+/// if allocation fails.
 pub fn play<'a>(alloc: Global, sheets: &'a Sheets<'a>) -> Result<Game<'a>, AllocError>
     ensures file { IfOk result (λ game. game.file ≡ sheets.now) }
     ensures game { IfOk result IsTheGame }
@@ -97,9 +97,9 @@ pub fn play<'a>(alloc: Global, sheets: &'a Sheets<'a>) -> Result<Game<'a>, Alloc
     }
 }
 
-/// Plays the game of the sheets. A runner finds the greatest revenue of each company that is
-/// ordered to run its best. The error is a failed allocation, or `Refused` with the round and the
-/// company for which the runner refuses.
+/// Plays the game of the sheets. The runner finds the greatest revenue for each RUN BEST. The error
+/// is `Memory` if allocation fails, or `Refused` with the round and the company that the runner
+/// refuses.
 pub fn play_with<'a, R: Runner>(
     alloc: Global,
     sheets: &'a Sheets<'a>,

@@ -44,8 +44,8 @@ pub fn operating_round_ends()
 }
 
 /// States that in an operating round at most eight companies take turns, and none of them a second
-/// one. None is missed that has floated by its end and whose token has a square, unless a president
-/// is bankrupt.
+/// one. Every company that has floated by the round's end and whose token has a square takes one,
+/// unless a president is bankrupt.
 pub fn companies_operate_once()
     ensures { CompaniesOperateOnce }
 {
@@ -62,8 +62,7 @@ pub fn one_game()
     one_operating_round()
 }
 
-/// States that each file that is not refused has a game: each of its rounds reaches an end, and so
-/// does their sequence.
+/// States that each accepted file has a game: each of its rounds ends, and so does their sequence.
 pub fn some_game()
     ensures { SomeGame }
 {
@@ -74,8 +73,8 @@ pub fn some_game()
     operating_round_ends()
 }
 
-/// States that the steps of a play play the one game of its file. After this many steps that played
-/// a round, from the start, the list is that of the game up to this many of its rounds.
+/// States that the steps of a play play the one game of its file. After any number of steps that
+/// played a round, the list is that of the game after the same number of rounds.
 pub fn steps_play_the_game()
     ensures { StepsPlayTheGame }
 {
@@ -85,15 +84,14 @@ pub fn steps_play_the_game()
     some_game()
 }
 
-/// States that a round adds to the list its own ROUND event, and after it events that begin no
-/// round.
+/// States that a round adds its own ROUND event to the list, and then events that begin no round.
 pub fn rounds_only_add()
     ensures { RoundsOnlyAdd }
 {
     operating::laws::turn_only_adds()
 }
 
-/// States that the round that follows a round comes later in the order of all rounds.
+/// States that each round is followed by one that is later in the order of all rounds.
 pub fn sequence_goes_forward()
     ensures { SequenceGoesForward }
 {}
@@ -114,9 +112,9 @@ pub fn sets_keep_their_number()
     ensures { SetsKeepTheirNumber }
 {}
 
-/// States that whenever a round ends, the trains of a kind with the bank, in its pool and with the
-/// companies are as many as at first until they rust. After that there are none. Nobody has a
-/// negative number of them.
+/// States that after each round the bank, its pool and the companies together have the initial
+/// number of trains of each kind until they rust, and none after that. Nobody has a negative number
+/// of them.
 pub fn all_trains_are_there_in_each_game()
     ensures { AllTrainsAreThereInEachGame }
 {
@@ -124,8 +122,8 @@ pub fn all_trains_are_there_in_each_game()
     operating::laws::turns_keep_all_trains()
 }
 
-/// States that whenever a round ends, the tiles of a number that lie on the map and those in the
-/// stock are as many as the manifest has. The stock is never short of one.
+/// States that after each round, for each number, the tiles on the map and those in the stock
+/// together are as many as the manifest has, so that the stock is never short.
 pub fn all_tiles_are_there_in_each_game()
     ensures { AllTilesAreThereInEachGame }
 {
@@ -139,7 +137,7 @@ pub fn phases_go_on_in_rounds()
     operating::laws::phases_go_on_in_turns()
 }
 
-/// States that whenever a round ends, each bid was at least 5 over every earlier bid on its
+/// States that after each round, each bid so far was at least 5 above every earlier bid on its
 /// private.
 pub fn bids_rise_in_each_game()
     ensures { BidsRiseInEachGame }
@@ -149,7 +147,7 @@ pub fn bids_rise_in_each_game()
     operating::laws::turns_say_no_bid()
 }
 
-/// States that a private that is closed has no owner ever after, whatever rounds are played.
+/// States that a closed private never has an owner again, whatever rounds are played.
 pub fn closed_for_good_in_each_game()
     ensures { ClosedForGood }
 {
@@ -157,9 +155,9 @@ pub fn closed_for_good_in_each_game()
     operating::laws::closed_for_good_in_turns()
 }
 
-/// States that whoever sold a train or a private to a company had agreed to exactly that sale, as
-/// the list of events before it says. They presided over the buyer too, or had offered it in the
-/// same round.
+/// States that whoever sold a train or a private to a company had agreed to exactly that sale, by
+/// the list of events before it. They presided over the buyer too, or had offered it in the same
+/// round.
 pub fn sellers_agree_in_each_game()
     ensures { SellersAgreeInEachGame }
 {
@@ -167,28 +165,27 @@ pub fn sellers_agree_in_each_game()
     operating::laws::sellers_agree_in_turns()
 }
 
-/// States that no ruling in the game of a file of version 1 is of an order under a condition, and
-/// none refuses an order because its condition does not hold, however many rounds were played.
+/// States that no ruling in the game of a file of version 1 is of a conditional order, and none
+/// refuses an order because its condition does not hold, however many rounds are played.
 pub fn version_one_is_ruled_plainly()
     ensures { VersionOneIsRuledPlainly }
 {
     sheets::laws::version_one_is_plain()
 }
 
-/// States that a line without a condition is judged by the rules of its family alone, as if there
-/// were no conditions. Each line of a file of version 1 is such a line.
+/// States that a line without a condition is judged only by the rules of its family, as if there
+/// were no conditions. All lines of a file of version 1 are such lines.
 pub fn lines_without_condition_are_judged_alone()
     ensures { FamilyAloneJudges }
 {}
 
-/// States that while the bank is not broken, some round follows each round in the sequence.
+/// States that while the bank is not broken, each round in the sequence is followed by another.
 pub fn bank_alone_ends_it()
     ensures { BankAloneEndsIt }
 {}
 
 /// States that each game ends at most once, and nothing follows its end, whatever the sheets say.
-/// Nothing ends it but a bankruptcy, and a bank that is broken after the last operating round of a
-/// set.
+/// Only a bankruptcy ends it, or a bank that is broken after the last operating round of a set.
 pub fn games_end_once()
     ensures once { GamesEndOnce }
     ensures only { NothingElseEndsGames }
@@ -201,8 +198,8 @@ pub fn bankruptcy_ends_games()
     ensures rounds { BankruptcyEndsGames }
 {}
 
-/// States that a broken bank ends the game once the operating rounds of a set are over, whether
-/// they were under way as it broke or came next. No round of another set is played.
+/// States that a broken bank ends the game once the operating rounds of a set are over, the present
+/// set if they were under way, otherwise the next. No round of another set is played.
 pub fn broken_bank_ends_games()
     ensures sets { NoSetAfterBroken }
     ensures rounds { BrokenBankEndsSets }
@@ -210,7 +207,7 @@ pub fn broken_bank_ends_games()
     operating::laws::turn_only_adds()
 }
 
-/// States that in files of one version the same sheets of a round are read the same.
+/// States that in files of the same version, equal sheets of a round are read the same.
 pub fn same_sheets_are_read_alike()
     ensures { SameSheetsAreReadAlike }
 {}
@@ -222,17 +219,17 @@ pub fn same_parts_same_game()
 {}
 
 /// States that the order in which the sheets of different players arrive changes nothing in the
-/// game. It compares two files of one version and the same players, in which each player sent the
-/// same sheets in the same order.
+/// game. It compares two files of the same version and players, in which each player sent the same
+/// sheets in the same order.
 pub fn arrival_changes_no_game()
     ensures { ArrivalChangesNoGame }
 {
     sheets::laws::arrival_changes_nothing()
 }
 
-/// States that sheets for later rounds change nothing. Two files, the first of which is not
-/// refused, have the same players. Their sheets for the rounds up to one are read the same, and the
-/// first plays that round. Then the second plays it too, and all is the same up to its end.
+/// States that sheets for later rounds change nothing. If two files have the same players, the
+/// first is accepted and plays a round, and their sheets for the rounds up to it are read the same,
+/// then the second plays that round too, and all is the same up to its end.
 pub fn later_sheets_change_nothing()
     ensures { LaterSheetsChangeNothing }
 {
@@ -261,20 +258,20 @@ pub fn calls_are_of_the_game()
     ensures { CallsAreOfTheGame }
 {}
 
-/// States that each call by which play leads to a game, and each of a step that plays a round,
-/// succeeds: one that fails breaks play off.
+/// States that each call of the runner in a game, or in a step that plays a round, succeeds: a call
+/// that fails breaks play off.
 pub fn calls_are_answered()
     ensures games { GamesAreAnswered }
     ensures steps { StepsAreAnswered }
 {}
 
-/// States that the calls of the steps of a play, one step after the other until play stops, are
-/// those of the one game of the file.
+/// States that the calls of the steps of a play, one step after another until play stops, are those
+/// of the one game of the file.
 pub fn steps_call_the_game()
     ensures { StepsCallTheGame }
 {}
 
-/// States that the one game of a file makes one list of calls of its runner.
+/// States that the one game of a file has only one list of calls of its runner.
 pub fn one_list_of_calls()
     ensures { OneListOfCalls }
 {
@@ -283,7 +280,7 @@ pub fn one_list_of_calls()
     operating::laws::one_list_of_turn_calls()
 }
 
-/// States that each game makes such a list, and so there is one for each file that is not refused.
+/// States that each game has such a list, so that there is one for each accepted file.
 pub fn some_calls()
     ensures each { EachGameCalls }
     ensures accepted { SomeCalls }
@@ -293,8 +290,8 @@ pub fn some_calls()
 }
 
 /// States that if allocation fails, or the runner refuses, the calls made by then are a prefix of
-/// those of the one game. They end with the call that failed, if one did, and that has the
-/// arguments of the game's next call.
+/// those of the one game. If a call failed it is the last of them, with the arguments of the game's
+/// next call.
 pub fn refused_calls_are_a_prefix()
     ensures { RefusedCallsAreAPrefix }
 {

@@ -23,9 +23,9 @@ use std::alloc::{AllocError, Global};
 use tables::{Company, Round, Seat};
 
 /// Plays an operating round with the sheets for it. The standing lines and the revenues of the
-/// privates come first, and then the turn of each company, in operating order as it is at the time.
-/// The list of events must be sound, and its seats must be those of the sheets' players. The error
-/// is a failed allocation, or that the runner refuses, and the game is dropped.
+/// privates come first, and then the turn of each company, in the operating order at the time. The
+/// list of events must be sound, and its seats must be those of the sheets' players. Fails if
+/// allocation fails or the runner refuses, and then drops the game.
 pub(crate) fn play_operating<R: Runner>(
     alloc: Global,
     history: History,
@@ -78,8 +78,8 @@ fn take_turns<R: Runner>(
     ensures sound { IfOk result IsSound }
     ensures refuses { IfErr result (λ fault. IsRefused fault → R.may_refuse ≡ true) }
 {
-    // Laws, which do nothing when they run: by them the next company has floated, and the loop
-    // reaches an end.
+    // Laws, which do nothing when they run: they show that the next company has floated, and that
+    // the loop ends.
     market::laws::floated_companies_in_order();
     operating::laws::company_operates();
     let mut game = GameAndBoard::lay_out(alloc, history)?;
@@ -115,7 +115,7 @@ fn take_turn<R: Runner>(
     }
 }
 
-/// Records how many lines of each sheet were not taken up; heads of companies' orders do not count.
+/// Records how many lines of each sheet were not taken up; heads do not count.
 fn record_all_left(history: &mut History, sheets: &Sheets, round: Round) -> Result<(), AllocError>
     requires { IsSound history.old }
     ensures seats { OnOk result (history.new.seats ≡ history.old.seats) }
@@ -123,7 +123,8 @@ fn record_all_left(history: &mut History, sheets: &Sheets, round: Round) -> Resu
         ≡ finished sheets.now round (length (players_of sheets.now)) history.old.events) }
     ensures sound { OnOk result (IsSound history.new) }
 {
-    // A law: a count of lines that were left changes no count of rulings.
+    // A law, which does nothing when it runs: recording the lines left does not change the count of
+    // rulings.
     history::laws::rulings_are_counted();
     for seat in 0..sheets.seats() {
         record_left(history, sheets, round, Seat::at(seat))?;

@@ -7,11 +7,11 @@ ghost use Rattle.tables.specs.Round.{number_most, operating_most};
 use crate::following::Next;
 use tables::Round;
 
-/// Returns what comes after a round. Opening rounds come until all privates are sold, then sets of
-/// a stock round and one to three operating rounds, until a set has ended with the bank broken.
+/// Returns what comes after a round. There are opening rounds until all privates are sold, then
+/// sets of a stock round and one to three operating rounds, until a set ends with the bank broken.
 ///
 /// `in_set` is the number of operating rounds of the set. Rounds are numbered up to `NUMBER_MOST`,
-/// as those of every sheet are.
+/// as in the sheets.
 pub fn next(round: Round, in_set: u8, all_sold: bool, broken: bool) -> Next
     requires number { number_of round ≤ number_most }
     requires least { 1 ≤ in_set }

@@ -1,4 +1,4 @@
-//! A game that is played a round at a time.
+//! A game played a round at a time.
 ghost use Rattle.std.specs.Prelude.{◌≡◌, ◌≤◌, IfErr, IfOk, MatchOption, Ok, Some, false, length, option_map, true};
 ghost use Rattle.std.specs.Option.{ForSome};
 ghost use Rattle.history.specs.Sound.{IsSound};
@@ -30,7 +30,7 @@ use std::mem;
 use stock_round::play_stock;
 use tables::{Round, rounds_in_set};
 
-/// What became of a step of play.
+/// The result of a step of play.
 #[derive(Clone, Copy, Debug, PartialEq, Eq)]
 pub enum Step {
     /// This round was played.
@@ -44,14 +44,14 @@ pub enum Step {
 pub struct Play<'a> {
     alloc: Global,
     sheets: &'a Sheets<'a>,
-    /// The game so far; a game in which nothing has happened, once play was broken off.
+    /// The game so far; after play was broken off, a game without events.
     history: History,
-    /// How many operating rounds the set has.
+    /// The number of operating rounds of the set.
     in_set: u8,
     upcoming: Next,
-    /// Why play was broken off, once it was.
+    /// Why play was broken off, if it was.
     fault: Option<PlayFault>,
-    /// The round that was played last.
+    /// The last round played.
     last_round: Option<Round>,
     /// Why play stopped, once a step has returned that.
     outcome: Option<End>,
@@ -78,8 +78,8 @@ impl<'a> Model for Play<'a> {
 }
 
 impl<'a> Play<'a> {
-    /// Returns the game of these sheets, before its first round. It allocates from the allocator as
-    /// it is played. Fails only if allocation fails.
+    /// Returns the game of these sheets, before its first round. Play uses this allocator. Fails
+    /// only if allocation fails.
     pub fn start(alloc: Global, sheets: &'a Sheets<'a>) -> Result<Play<'a>, AllocError>
         ensures { IfOk result (λ play. play ≡ started sheets.now) }
     {
@@ -97,10 +97,10 @@ impl<'a> Play<'a> {
         })
     }
 
-    /// Plays the round that comes next, if one does and every seat has a sheet for it; otherwise
-    /// returns why play stopped, and so does each later step. A runner finds the greatest revenue
-    /// of each company that is ordered to run its best. The error is a failed allocation, or that
-    /// the runner refuses. It breaks play off, and each later step returns it again.
+    /// Plays the next round, if there is one and every seat has a sheet for it; otherwise returns
+    /// why play stopped, and so does each later step. The runner finds the greatest revenue for
+    /// each RUN BEST. Fails if allocation fails or the runner refuses. That breaks play off, and
+    /// each later step returns the same error.
     pub fn step<R: Runner>(&mut self, runner: &mut R) -> Result<Step, PlayFault>
         ensures step { StepLeads self.old result self.new }
         ensures calls { Makes R.earns runner.old (StepCalls self.old self.new) runner.new }
@@ -117,7 +117,7 @@ impl<'a> Play<'a> {
         }
     }
 
-    /// Plays the round that comes next.
+    /// Plays the next round.
     fn play_next<R: Runner>(&mut self, round: Round, runner: &mut R) -> Result<Step, PlayFault>
         requires { ComesNext self.old round }
         ensures step { StepLeads self.old result self.new }
@@ -125,7 +125,7 @@ impl<'a> Play<'a> {
         ensures nearer { ComesNearer self.old result self.new }
         ensures refuses { IfErr result (λ fault. IsRefused fault → R.may_refuse ≡ true) }
     {
-        // A law, which does nothing when it runs: by it steps reach an end.
+        // A law, which does nothing when it runs: it shows that steps end.
         sheets::laws::sheets_are_numbered();
         let history = mem::replace(&mut self.history, History::start(self.alloc, 0));
         match play_round(self.alloc, history, self.sheets, round, runner) {
@@ -143,7 +143,7 @@ impl<'a> Play<'a> {
         }
     }
 
-    /// Returns that play has stopped, and why.
+    /// Stops play. Returns why.
     fn stop(&mut self) -> Step
         requires { IsOver self.old }
         ensures { StepLeads self.old (Ok result) self.new }
@@ -173,8 +173,8 @@ impl<'a> Play<'a> {
         self.sheets
     }
 
-    /// Returns the round that was played last; `None` before the first. A round in which play was
-    /// broken off was not played.
+    /// Returns the last round played; `None` before the first. A round in which play was broken off
+    /// does not count.
     pub fn last_round(&self) -> Option<Round>
         ensures { result ≡ self.now.last_round }
     {
@@ -188,7 +188,7 @@ impl<'a> Play<'a> {
         self.outcome
     }
 
-    /// Returns the game so far, and lets the sheets go; play must not have been broken off.
+    /// Returns the game so far, and drops the sheets. Play must not have been broken off.
     pub fn into_history(self) -> History
         requires { IsUnbroken self }
         ensures game { game_so_far self.entry ≡ Some result }
@@ -199,7 +199,7 @@ impl<'a> Play<'a> {
     }
 }
 
-/// Returns the round that comes next, if one does and every seat has a sheet for it.
+/// Returns the next round, if there is one and every seat has a sheet for it.
 fn round_to_play(sheets: &Sheets, upcoming: Next) -> Option<Round>
     ensures { MatchOption result (goes_on sheets.now upcoming ≡ false)
         (λ round. IsToPlay sheets.now upcoming round) }
@@ -237,8 +237,8 @@ fn end_after(history: &History, upcoming: Next) -> End
     }
 }
 
-/// Plays a round, by its kind. The error is a failed allocation, or that the runner refuses, and
-/// the game is dropped.
+/// Plays a round, by its kind. Fails if allocation fails or the runner refuses, and then drops the
+/// game.
 fn play_round<R: Runner>(
     alloc: Global,
     history: History,
@@ -264,15 +264,15 @@ fn play_round<R: Runner>(
     }
 }
 
-/// Returns how many operating rounds a set has that begins now; the phase decides.
+/// Returns how many operating rounds a set that begins now has, by the phase.
 fn rounds_of_new_set(history: &History) -> u8
     ensures { result ≡ rounds_of_new_set history.now.events }
 {
     rounds_in_set(history.phase())
 }
 
-/// Returns how many operating rounds the set has, given what comes next. The number is fixed as the
-/// stock round of the set comes.
+/// Returns how many operating rounds the set has, given what comes next. The number is fixed when
+/// the stock round of the set begins.
 fn in_set_before(history: &History, upcoming: Next, in_set: u8) -> u8
     ensures { result ≡ in_set_before upcoming history.now.events in_set }
 {

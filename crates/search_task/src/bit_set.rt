@@ -1,4 +1,4 @@
-//! Marks of numbers, a bit each: of the borders and of the spots of the map.
+//! Sets of numbers, a bit each: of the borders or the spots of the map.
 ghost use Rattle.std.specs.Prelude.{◌≡◌, ℕ, ◌-◌, ◌<◌, ◌||◌, IsTrue, Some, true, false, get_or, length, set, replicate};
 ghost use Rattle.std.specs.Int.{bit_at};
 ghost use Rattle.search_task.specs.Marks.{AreApart, AreBarred, AreBoth, AreOnly, FillWords, Freer, IsOneOf};
@@ -7,10 +7,10 @@ use legal_runs::BORDERS;
 use reach::SPOTS;
 use std::marker::Model;
 
-/// How many words have a bit for each border.
+/// The number of words that hold a bit for each border.
 const BORDER_WORDS: usize = 5;
 
-/// How many words have a bit for each spot.
+/// The number of words that hold a bit for each spot.
 const SPOT_WORDS: usize = 12;
 
 /// How many bits a word has.
@@ -95,7 +95,7 @@ pub fn mixed_with(sum: u64, word: u64) -> u64 {
 }
 
 impl<const COUNT: usize, const WORDS: usize> BitSet<COUNT, WORDS> {
-    /// Returns marks by which no number is marked.
+    /// Returns no marks.
     pub fn none() -> Self
         requires { FillWords COUNT WORDS }
         ensures { result ≡ replicate COUNT false }
@@ -103,7 +103,7 @@ impl<const COUNT: usize, const WORDS: usize> BitSet<COUNT, WORDS> {
         BitSet { words: [0; WORDS] }
     }
 
-    /// Returns marks by which all numbers are marked.
+    /// Returns marks of all numbers.
     pub fn all() -> Self
         requires { FillWords COUNT WORDS }
         ensures { result ≡ replicate COUNT true }
@@ -207,7 +207,7 @@ impl<const COUNT: usize, const WORDS: usize> BitSet<COUNT, WORDS> {
         }
     }
 
-    /// Returns the numbers that are marked here, and all that are not in reach.
+    /// Returns the numbers that are marked here or are not in reach.
     pub fn or_out_of(&self, reach: &Self) -> Self
         ensures { AreBarred self.now reach.now result }
     {

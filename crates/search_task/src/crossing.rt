@@ -1,4 +1,4 @@
-//! Borders that a leg crosses: the set of them.
+//! The set of the borders that a leg crosses.
 ghost use Rattle.std.specs.Prelude.{◌≡◌, ℕ, ◌<◌, IsTrue, Some, length};
 ghost use Rattle.search_task.specs.Crossed.{cleared_all};
 ghost use Rattle.search_task.specs.Crossed.{IsShared, numbers_in};

@@ -1,12 +1,12 @@
-//! Legs that lead back over others: a leg is the same track in both directions.
+//! Reverse legs: each leg should lead over the same track in the other direction too.
 ghost use Rattle.std.specs.Prelude.{◌≡◌, ◌<◌, IsTrue, length};
 ghost use Rattle.search_task.specs.Legs.{AllLeadBack, HasMirror, IsMirrored};
 
 use crate::task::{Leg, Task};
 
 impl Task {
-    /// Returns whether a leg leads back over another, from where that ends, and crosses no borders
-    /// but those of it.
+    /// Returns whether a leg leads back over another, from where that ends, and crosses only its
+    /// borders.
     fn leads_back(&self, leg: &Leg) -> bool
         ensures { IsTrue result → HasMirror self.now leg.now }
     {

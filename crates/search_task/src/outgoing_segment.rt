@@ -1,4 +1,4 @@
-//! A segment of track, as the spot from which it leads keeps it.
+//! A segment of track, as it is kept for the spot where it begins.
 ghost use Rattle.std.specs.Prelude.{◌≡◌, option_to_list};
 ghost use Rattle.search_task.specs.Fit.{BordersFit};
 ghost use Rattle.search_task.specs.Crossed.{marked_all, misses};
@@ -7,7 +7,7 @@ use crate::bit_set::Borders;
 use reach::WalkStep;
 use std::marker::Model;
 
-/// A segment of track that is one step: it crosses one border at most.
+/// A segment of track: one step, which crosses at most one border.
 #[derive(Drop)]
 pub(crate) struct Stretch {
     to: usize,
@@ -50,7 +50,7 @@ impl Stretch {
         self.to
     }
 
-    /// Returns the step that it is.
+    /// Returns its step.
     pub(crate) fn step(&self) -> WalkStep
         ensures { result ≡ self.now.step }
     {

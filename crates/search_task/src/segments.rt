@@ -8,7 +8,7 @@ use reach::SPOTS;
 use std::alloc::{AllocError, Global};
 use std::marker::Model;
 
-/// How many segments there is room for at first.
+/// How many segments a table has room for at first.
 const ROOM: usize = 256;
 
 /// A segment that leads from a spot.
@@ -24,7 +24,7 @@ pub(crate) struct Entry {
     pub(crate) segment: Stretch,
 }
 
-/// What leads from a spot.
+/// The segments that lead from a spot.
 #[derive(Clone, Copy)]
 pub(crate) struct Chain {
     /// How many segments.
@@ -37,7 +37,7 @@ pub(crate) struct Chain {
 #[derive(Drop)]
 pub struct Segments {
     entries: Vec<Entry>,
-    /// For each spot, by its number, what leads from there.
+    /// For each spot, by its number, the segments from there.
     chains: Vec<Chain>,
 }
 

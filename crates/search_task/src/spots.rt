@@ -70,7 +70,7 @@ fn segment_of(step: WalkStep, border: Option<usize>) -> Stretch
     Stretch::of(spot_number(step.left()), step, border)
 }
 
-/// Returns a side, which means nothing to a company.
+/// Returns a side, which is worth nothing and holds no token.
 fn side_node() -> Node
     ensures node { IsSideNode (Some result) }
     ensures value { result.value ≤ 80 }
@@ -83,7 +83,7 @@ fn side_node() -> Node
     }
 }
 
-/// Returns what a stop means to a company.
+/// Returns what a stop is to a company.
 fn stop_node<N: Network>(network: &N, company: Company, stop: Stop) -> Node
     ensures node { IsStopNode (N.position network.now) company stop (Some result) }
     ensures value { result.value ≤ 80 }
@@ -110,7 +110,7 @@ fn stop_numbered(place: usize) -> StopNumber
     }
 }
 
-/// Sets what the next stop means to a company.
+/// Sets what the next stop is to a company.
 fn lay_stop<N: Network>(network: &N, company: Company, stop: usize, nodes: &mut Vec<Node>)
     requires least { 6 ≤ stop % 8 }
     requires most { stop < 744 }
@@ -190,8 +190,8 @@ fn all_segments<N: Network>(alloc: Global, network: &N) -> Result<Segments, Allo
     Ok(segments)
 }
 
-/// Returns the most stops of a run of a train. The borders allow no more than 280, so a Diesel
-/// never has fewer left than there are borders.
+/// Returns the most stops of a run of a train. The number of borders allows no more than 280, so a
+/// D gets more than it can use.
 fn most_of(kind: Kind) -> usize
     ensures { result ≡ most_of (stops_of kind) }
 {

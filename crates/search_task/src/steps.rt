@@ -5,10 +5,10 @@ use reach::WalkStep;
 use std::alloc::{AllocError, Global};
 use std::marker::Model;
 
-/// How many steps are few.
+/// How many steps are kept without allocating.
 const FEW: usize = 4;
 
-/// Some steps, in order. They are the first ones of the few, or the others if these are none.
+/// Some steps, in order. They are the first of `few`, or `others` if there are any of these.
 #[derive(Drop)]
 pub struct Steps {
     few: [WalkStep; FEW],

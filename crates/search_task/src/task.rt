@@ -1,5 +1,5 @@
-//! What a search works on: the spots of the map as a company sees them, the segments and legs that
-//! lead from them, and the trains.
+//! What a search works on: the spots of the map with what they are to a company, the segments and
+//! legs that lead from them, and the trains.
 ghost use Rattle.std.specs.Prelude.{◌≡◌};
 
 use crate::bit_set::BitPlace;
@@ -9,19 +9,18 @@ use crate::steps::Steps;
 use reach::WalkStep;
 use tables::Amount;
 
-/// Track that leads from a spot to another: what a leg reaches, and what each `Stretch` is in a
-/// contract.
+/// Track from one spot to another: the end of a leg, and in a contract each `Stretch`.
 #[derive(Drop)]
 pub struct Segment {
     /// The spot to which it leads, by its number.
     pub to: BitPlace,
-    /// The step that it is; the last one of a leg.
+    /// Its step; for a leg the last one.
     pub step: WalkStep,
     /// The borders that it crosses, by their numbers.
     pub borders: Crossing,
 }
 
-/// A spot as a company sees it: an end of a hex.
+/// A spot, which is an end of a hex, with what it is to a company.
 #[derive(Clone, Copy)]
 pub struct Node {
     /// What it is worth, in dollars.
@@ -30,7 +29,7 @@ pub struct Node {
     pub stop: bool,
     /// Whether the company has a token there.
     pub own: bool,
-    /// Whether no run passes it: it is red, or full for the company.
+    /// Whether no run may pass through it: it is red, or full for the company.
     pub ends: bool,
 }
 
@@ -67,6 +66,6 @@ pub struct Task {
     pub homes: Vec<usize>,
     /// For each train, the most stops of a run.
     pub trains: Vec<usize>,
-    /// Whether a leg leads back over each leg; it is found once.
+    /// Whether each leg has a reverse.
     pub mirrored: bool,
 }

@@ -1,5 +1,5 @@
-//! Collects the sheets of an order file, line by line, from what follows its players line. It also
-//! keeps the fault of each line that is in no sheet.
+//! Collects the sheets of an order file, line by line, from the text after its players line. It
+//! also keeps the fault of each line that is in no sheet.
 ghost use Rattle.std.specs.Prelude.{is_some, ◌≡◌, false, ℕ, ◌+◌, ◌<◌, ◌≤◌, List, [], ◌∷◌, ◌++◌, length, IfOk, Ok, OnOk};
 ghost use Rattle.std.specs.Prelude.{IfErr, MatchOption, MatchResult, option_map};
 ghost use Rattle.std.specs.HashMap.{get};
@@ -27,7 +27,7 @@ use std::collections::HashMap;
 /// The most good SHEET lines of an order file.
 pub const SHEETS_MOST: usize = 65_536;
 
-/// What has been collected of the lines after the players line.
+/// What has been collected so far from the lines after the players line.
 #[derive(Drop)]
 pub(crate) struct Collection<'a> {
     pub(crate) sheets: HashMap<SheetKey, Sheet<'a>>,
@@ -69,7 +69,7 @@ pub(crate) fn collect_body<'a>(
 }
 
 impl<'a> Collection<'a> {
-    /// Takes the next line, which begins a text and leaves its rest.
+    /// Takes the next line of a text, and leaves the rest.
     fn take_line(
         &mut self,
         version: Version,
@@ -105,8 +105,8 @@ impl<'a> Collection<'a> {
         }
     }
 
-    /// Returns what is left of a text behind the lines of the sheet that is open, which goes on in
-    /// it; the whole text if no sheet is open.
+    /// Returns the rest of a text after the lines of the open sheet, which it continues; the whole
+    /// text if no sheet is open.
     fn skip_open_sheet<'b>(&self, text: &'b [u8]) -> &'b [u8]
         ensures shorter { length result.now ≤ length text.now }
         ensures reaches { (version : TheVersion) (players body : List (List ℕ)) →
@@ -122,7 +122,7 @@ impl<'a> Collection<'a> {
         }
     }
 
-    /// Keeps the sheet that is open, which ends where `rest` begins.
+    /// Keeps the open sheet, which ends where `rest` begins.
     fn close(&mut self, version: Version, rest: &[u8]) -> Result<(), AllocError>
         ensures current { self.new.current ≡ None }
         ensures sheets { OnOk result ((sheet_key : SheetKey) →
@@ -208,8 +208,8 @@ fn begins_sheet(players: &Players, line: &[u8]) -> bool
     is_sheet_line(line) && sheet_key_begun(players, line).is_some()
 }
 
-/// Returns what is left of a text from its first line on whose first word is SHEET; nothing is left
-/// if there is no such line.
+/// Returns the part of a text that begins with its first line whose first word is SHEET; empty if
+/// there is no such line.
 fn from_sheet_line(text: &[u8]) -> &[u8]
     ensures shorter { length result.now ≤ length text.now }
     ensures skipped { IsInSheet result.now text.now }
@@ -262,8 +262,8 @@ fn sheet_key_of(players: &Players, order: &Order) -> Option<SheetKey>
     })
 }
 
-/// Returns the fault of a line of a file of some version that is in no sheet: its own, or otherwise
-/// that its sheet is for a player who does not play, or that it is out of place.
+/// Returns the fault of a line of a file of some version that is in no sheet: its own fault, or
+/// else that its sheet is for somebody who is not a player, or that it is out of place.
 #[tactic(auto, unfolding(crate::specs::File::unread_fault))]
 pub fn unread_fault(version: Version, line: &[u8]) -> Fault
     ensures { result ≡ unread_fault version line.now }
@@ -275,8 +275,8 @@ pub fn unread_fault(version: Version, line: &[u8]) -> Fault
     }
 }
 
-/// Returns the code of a line with this order that is in no sheet: its sheet is for a player who
-/// does not play, or it is out of place.
+/// Returns the fault of a line with this order that is in no sheet: its sheet is for somebody who
+/// is not a player, or it is out of place.
 fn fault_of_order(order: &Order) -> Fault
     ensures { result ≡ fault_of_reading (Ok order.now) }
 {

@@ -10,18 +10,18 @@ use tables::{Printed, RuleRow, rule_rows};
 use thiserror::Error;
 
 /// Why a file has no sheets. It is refused as a whole, by the first of F3, F1, F2, F4 that applies.
-/// Or an allocation failed, which says nothing of the file.
+/// After a failed allocation the file may well be accepted.
 #[derive(Clone, Copy, Debug, PartialEq, Eq, Drop, Error)]
 pub enum FileFault {
-    /// F1.
+    /// F1: the first line that is not blank is neither `GAME 1830 1` nor `GAME 1830 2`.
     Header,
-    /// F2.
+    /// F2: the next line does not name three to six different players.
     Players,
-    /// F3.
+    /// F3: the file has over 67,108,864 bytes.
     TooLong,
-    /// F4.
+    /// F4: the file has over 65,536 good SHEET lines.
     TooManySheets,
-    /// F5.
+    /// F5: allocation failed.
     Memory,
 }
 
@@ -42,8 +42,8 @@ impl FileFault {
         &FILE_FAULTS
     }
 
-    /// Returns the code of the fault. The report of a refused file prints it; no report prints that
-    /// of a failed allocation.
+    /// Returns the code of the fault. The report of a refused file prints it. No report prints the
+    /// code of a failed allocation.
     pub fn code(self) -> &'static str
         ensures { result.now ≡ code_of_fault self }
     {

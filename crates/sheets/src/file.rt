@@ -65,8 +65,8 @@ impl<'a> Sheets<'a> {
         self.version
     }
 
-    /// Returns what the player of this seat last sent for this round; `None` if the player sent no
-    /// sheet for it, or nobody has the seat.
+    /// Returns the last sheet that the player of this seat sent for this round; `None` if they sent
+    /// none, or the seat is empty.
     pub fn sheet(&self, seat: Seat, round: &Round) -> Option<&Sheet<'a>>
         ensures sheet { option_copied result
             ≡ option_map (sent_in_version (version_of self.now)) (sheet_of self.now seat.0 round.now) }
@@ -87,7 +87,7 @@ impl<'a> Sheets<'a> {
         (0..self.seats()).all(|seat| self.sheet(Seat::at(seat), round).is_some())
     }
 
-    /// Returns the parts of the sheet of this seat for this round; there are none without a sheet.
+    /// Returns the parts of the sheet of this seat for this round; none without a sheet.
     pub fn parts(&self, seat: Seat, round: Round) -> PartsLeft<'a>
         ensures { result ≡ parts_for self.now round seat.0 }
     {
@@ -97,9 +97,9 @@ impl<'a> Sheets<'a> {
         }
     }
 
-    /// Returns what the sheet of this seat for this round has from the first of a company's orders
-    /// on. It is nothing if the sheet has none for the company, or there is no sheet. If two heads
-    /// name the company the first counts.
+    /// Returns the parts of the sheet of this seat for this round from the first of a company's
+    /// orders on; none if the sheet has no orders for the company, or there is no sheet. If two
+    /// heads name the company, the first counts.
     pub fn company_orders(&self, seat: Seat, round: &Round, company: Company) -> PartsLeft<'a>
         ensures { result.before ≡ company_orders_for self.now round.now seat.0 company }
     {
@@ -124,7 +124,7 @@ impl<'a> Sheets<'a> {
         self.players.len()
     }
 
-    /// Returns the name of the player of a seat, in upper case; `None` if nobody has the seat.
+    /// Returns the name of the player of a seat, in upper case; `None` if the seat is empty.
     pub fn name(&self, seat: Seat) -> Option<&[u8]>
         ensures { option_map (λ name. name.now) result ≡ slice_get (players_of self.now) seat.0 }
     {
@@ -141,7 +141,7 @@ impl<'a> Sheets<'a> {
 }
 
 /// Collects the sheets of an order file. The last good SHEET line for a player and a round counts,
-/// and its sheet goes to the next line whose first word is SHEET.
+/// and its sheet ends before the next line whose first word is SHEET.
 ///
 /// A file is refused by the first of these errors that applies: `TooLong`, `Header`, `Players`,
 /// `TooManySheets`. The error is `Memory` if an allocation fails.
@@ -166,8 +166,8 @@ pub fn collect(alloc: Global, file: &[u8]) -> Result<Sheets<'_>, FileFault>
     })
 }
 
-/// Returns the version of an order file. It fails as `collect` does. No sheet is kept: it allocates
-/// only the names of the players.
+/// Returns the version of an order file. It fails as `collect` does. It keeps no sheet, and
+/// allocates only the names of the players.
 pub fn examine(alloc: Global, file: &[u8]) -> Result<Version, FileFault>
     ensures version { MatchResult result
         (λ version. version ≡ version_of file.now)

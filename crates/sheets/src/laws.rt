@@ -12,20 +12,20 @@ pub fn last_sheet_counts()
 
 /// States that the order in which the sheets of different players arrive changes no player's sheet.
 /// Two files in which each player sent the same sheets in the same order have the same sheet for
-/// each player and round. It does not cover the unread lines: their codes are in the order of the
+/// each player and round. This does not cover the unread lines, whose codes are in the order of the
 /// file.
 pub fn arrival_changes_nothing()
     ensures { ArrivalChangesNothing }
 {}
 
-/// States that this order does not change what is read of a sheet either, if both files are of one
-/// version: each sheet has the same parts.
+/// States that this order does not change the parts of a sheet either, if both files are of the
+/// same version.
 pub fn arrival_changes_no_parts()
     ensures { ArrivalChangesNoParts }
 {}
 
 /// States that a file of version 1 is read as if there were no conditions. Each line has the order
-/// that it spells by itself, or its first fault, and is under no condition.
+/// that it spells by itself, or its first fault, and no condition.
 pub fn version_one_is_plain()
     ensures sheets { VersionOneIsPlain }
     ensures outside { VersionOneIsPlainOutside }
@@ -38,7 +38,7 @@ pub fn long_file_is_refused()
     ensures { LongFileIsRefused }
 {}
 
-/// States that a file that is not refused has 3 to 6 players.
+/// States that an accepted file has 3 to 6 players.
 pub fn three_to_six_play()
     ensures { ThreeToSixPlay }
 {}
@@ -56,8 +56,8 @@ pub fn sheets_have_few_turns()
     ensures { SheetsHaveFewTurns }
 {}
 
-/// States that a file within the former limits, 4,194,304 bytes and 4,096 good SHEET lines, says
-/// what it said then. The larger limits change nothing of it, refused or not.
+/// States that a file within the former limits, 4,194,304 bytes and 4,096 good SHEET lines, means
+/// the same as under those limits, refused or not.
 pub fn larger_limits_change_nothing()
     ensures { LargerLimitsChangeNothing }
 {}

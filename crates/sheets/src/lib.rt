@@ -1,11 +1,11 @@
 //! From the bytes of an order file to sheets: what each player last sent for each round.
 //!
-//! `collect` goes once over the file and keeps for each sheet only where its text lies. A sheet's
-//! lines are read when they are ruled, by the version of the file; this allocates nothing. An order
-//! has room for a run of 280 places, so a line is read into an order that its reader holds. In a
-//! contract `Sheets` is the file that it was collected from, and a `Sheet` the list of its lines,
-//! with the version of its file. `PartsLeft` is what is still to come of a sheet: the lines before
-//! its next head, and the written turns or the companies' orders that heads open.
+//! `collect` goes over the file once, and keeps for each sheet only the place of its text. A
+//! sheet's lines are read when they are ruled, by the version of the file, which allocates nothing.
+//! An order has room for a run of 280 places, so a line is read into an order that the caller
+//! holds. In a contract `Sheets` is the file that it was collected from, and a `Sheet` is the list
+//! of its lines, with the version of its file. `PartsLeft` is the rest of a sheet: the lines before
+//! its next head, and the written turns or companies' orders that heads open.
 //!
 //! The sheets of a file, and the lines of one:
 //!
@@ -26,12 +26,12 @@
 //! assert!(rt; lines.take_line().is_none());
 //! ```
 //!
-//! Reading order: `fault`, `text` (the lines of a text), `sheet`, `parts` (a sheet as the rounds
-//! take it up), `place` (orders that have none), `players`, `sheet_key` and `open_sheet` (whose
-//! sheet it is, and where it began), `collecting` (line after line), `file` (`collect`, `examine`),
-//! `laws`. In `specs/`, `File` says what a file says, `Reading` what is read of a line, `Part` what
-//! the parts of a sheet are, `CompanyOrders` which of them is a company's, `Place` what becomes of
-//! an order without a place, `Limits` the limits of a file, and `Collecting` how far a file was
+//! Reading order: `fault`, `text` (the lines of a text), `sheet`, `parts` (a sheet as rounds take
+//! it up), `place` (orders out of place), `players`, `sheet_key` and `open_sheet` (whose sheet it
+//! is, and where it began), `collecting` (line after line), `file` (`collect`, `examine`), `laws`.
+//! In `specs/`, `File` says what a file says, `Reading` what is read of a line, `Part` what the
+//! parts of a sheet are, `CompanyOrders` which of them is a company's, `Place` what becomes of an
+//! order out of place, `Limits` the limits of a file, and `Collecting` how far a file was
 //! collected.
 #![tactic(auto)]
 

@@ -1,10 +1,10 @@
-//! The sheet that is open while a file is collected.
+//! The open sheet while a file is collected.
 ghost use Rattle.std.specs.Prelude.{◌≤◌, length};
 ghost use Rattle.sheets.specs.Limits.{file_most};
 
 use crate::sheet_key::SheetKey;
 
-/// Where a sheet that is open began.
+/// Where an open sheet began.
 #[derive(Clone, Copy)]
 pub(crate) struct OpenSheet<'a> {
     /// Whose sheet it is.

@@ -13,8 +13,8 @@ use order_grammar::{Order, begins_with_word};
 use std::marker::Model;
 use tables::{Company, Round};
 
-/// What is still to be taken up of a sheet. It is the lines before the next head, and then written
-/// turn after written turn, or one company's orders after another's, each with their head.
+/// The rest of a sheet that is not taken up yet: the lines before the next head, and then the
+/// written turns, or the companies' orders, each with its head.
 ///
 /// In the sheet of an opening or a stock round a TURN line up to line `LINES_MOST` is a head, in
 /// that of an operating round a COMPANY line.
@@ -52,7 +52,7 @@ impl<'a> PartsLeft<'a> {
     }
 
     /// Takes the next line before the next head and returns it; `None` if there is none, and then
-    /// nothing is taken.
+    /// it takes nothing.
     pub fn take_line(&mut self) -> Option<UnreadLine<'a>>
         ensures { TakesOrdinary self.old result self.new }
     {
@@ -101,7 +101,7 @@ impl<'a> PartsLeft<'a> {
     }
 }
 
-/// Returns parts in which nothing is left.
+/// Returns parts with nothing left.
 impl<'a> Default for PartsLeft<'a> {
     ghost is_default = { λ left. left ≡ record { before = []; opened = [] } };
 
@@ -110,8 +110,8 @@ impl<'a> Default for PartsLeft<'a> {
     }
 }
 
-/// Returns whether a line opens a part of a sheet for a round. It is read only if it is in another
-/// spelling than most heads, and its first word may open one.
+/// Returns whether a line opens a part of a sheet for a round. It reads the line only if that is
+/// not in the usual spelling of heads, and its first word may open one.
 fn is_head(round: Round, line: UnreadLine) -> bool
     ensures { result ≡ opens_part round (line_unread line.entry).reading }
 {
@@ -122,8 +122,8 @@ fn is_head(round: Round, line: UnreadLine) -> bool
     begins_with_word(line.text, head_word(round)) && opens_part(round, line)
 }
 
-/// Returns whether a line opens a part of a sheet for a round and is as it is printed, as most
-/// heads are. That is seen without reading it. `false` says nothing of the line.
+/// Returns whether a line opens a part of a sheet for a round in the printed spelling, as most
+/// heads do, without reading it. If it returns `false`, the line may still be a head.
 fn is_plain_head(round: Round, line: UnreadLine) -> bool
     ensures { OnTrue result (opens_part round (line_unread line.entry).reading ≡ true) }
 {
@@ -134,7 +134,8 @@ fn is_plain_head(round: Round, line: UnreadLine) -> bool
     }
 }
 
-/// Returns whether a line is a TURN line as it is printed. `false` says nothing of the line.
+/// Returns whether a line is a TURN line in the printed spelling. If it returns `false`, the line
+/// may still be one.
 fn is_plain_turn(line: UnreadLine) -> bool
     ensures { OnTrue result ((line_unread line.entry).reading ≡ Ok TurnOrder) }
 {
@@ -144,8 +145,8 @@ fn is_plain_turn(line: UnreadLine) -> bool
     line.text == b"TURN".as_slice()
 }
 
-/// Returns the company that a COMPANY line names, if that is as it is printed. `None` says nothing
-/// of the line.
+/// Returns the company that a COMPANY line in the printed spelling names. If it returns `None`, the
+/// line may still name one.
 fn plain_company(line: UnreadLine) -> Option<Company>
     ensures { IfSome result (λ company.
         (line_unread line.entry).reading ≡ Ok (CompanyOrder company)) }
@@ -198,8 +199,8 @@ pub fn is_head_of(round: Round, order: &Order) -> bool
     }
 }
 
-/// Returns whether a line reads as the head of a company's orders. It is read only if it is in
-/// another spelling than most heads, and its first word is theirs.
+/// Returns whether a line reads as the head of a company's orders. It reads the line only if that
+/// is not in the usual spelling of heads, and its first word is theirs.
 fn begins_orders_of(company: Company, line: UnreadLine) -> bool
     ensures { result ≡ opens_orders_of company (line_unread line.entry).reading }
 {

@@ -1,4 +1,4 @@
-//! The players of a file, read from its players line: who has which seat.
+//! The players of a file, read from its players line: their names and seats.
 ghost use Rattle.std.specs.Prelude.{◌≡◌, ◌≤◌, length, slice_get, option_copied, IfOk};
 ghost use Rattle.order_grammar.specs.Line.{reading_of};
 ghost use Rattle.sheets.specs.File.{players_from, players_named, seat_from};

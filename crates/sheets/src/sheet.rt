@@ -1,5 +1,5 @@
-//! A sheet and its lines, numbered. A line may be kept as it is written, and is read by the version
-//! of its file.
+//! A sheet and its lines, numbered. A line may be kept unread; it is read by the version of its
+//! file.
 ghost use Rattle.std.specs.Prelude.{◌≡◌, ◌≤◌, [], length, IfOk, MatchResult, Ok, Err};
 ghost use Rattle.order_grammar.specs.Version.{ordered_of};
 ghost use Rattle.order_grammar.specs.Words.{AreWordsOf};
@@ -24,7 +24,7 @@ pub struct Sheet<'a> {
     text: &'a [u8],
 }
 
-/// In a contract a sheet is its lines, none of which is taken, with the version of its file.
+/// In a contract a sheet is all its lines, with the version of its file.
 impl<'a> Model for Sheet<'a> {
     ghost use Rattle.std.specs.Prelude.{◌≤◌, length};
     ghost use Rattle.sheets.specs.Limits.{file_most};
@@ -65,18 +65,17 @@ impl<'a> Sheet<'a> {
 pub struct NumberedLine<'a> {
     /// Its number in the sheet, from 1; blank lines have none.
     pub number: u32,
-    /// The condition of its order where it stands, if it has one; a line with a fault there has
-    /// none.
+    /// The condition of its order at its place, if it has one; a line with a fault has none.
     pub condition: Option<Condition>,
-    /// Its order, or the first fault that it has by itself.
+    /// Its order, or its first fault, whatever its place.
     pub reading: Result<Line<'a>, Fault>,
 }
 
 impl<'a> NumberedLine<'a> {
-    /// Returns the order of the line where it stands in its sheet.
+    /// Returns the order of the line at its place in the sheet.
     ///
     /// The error is `PastLastLine` if its number is over `LINES_MOST`, whatever it says; otherwise
-    /// the first fault that it has by itself.
+    /// it is the line's own first fault.
     pub fn order(&self) -> Result<&Order, Fault>
         ensures { MatchResult result
             (λ order. (line_read self.now).reading ≡ Ok order.now)
@@ -92,7 +91,7 @@ impl<'a> NumberedLine<'a> {
     }
 }
 
-/// A line of a sheet that is not read.
+/// A line of a sheet that has not been read.
 #[derive(Clone, Copy, Debug)]
 pub struct UnreadLine<'a> {
     /// The version of its file.
@@ -103,7 +102,7 @@ pub struct UnreadLine<'a> {
     pub text: &'a [u8],
 }
 
-/// What a line that was read has besides its order.
+/// What a read line has besides its order.
 #[derive(Clone, Copy, Debug)]
 pub struct ReadLine {
     /// Its number in the sheet, from 1; blank lines have none.
@@ -116,7 +115,7 @@ impl<'a> UnreadLine<'a> {
     /// Reads the line by the version of its file, and overwrites `order` with its order.
     ///
     /// The error is `PastLastLine` if its number is over `LINES_MOST`, whatever it says; otherwise
-    /// the first fault that it has by itself. `order` may then be anything.
+    /// it is the line's own first fault. `order` may then be anything.
     pub fn read_into(self, order: &mut Order) -> Result<ReadLine, Fault>
         ensures { MatchResult result
             (λ read. line_unread self.entry ≡ line_with read order.new)
@@ -146,7 +145,7 @@ impl<'a> UnreadLine<'a> {
     }
 }
 
-/// Returns the condition of the line with this number that by itself reads so.
+/// Returns the condition of the line with this number and this reading.
 fn condition_at(number: u32, reading: &Result<Line, Fault>) -> Option<Condition>
     ensures { result ≡ condition_at number (ordered_of reading.now) }
 {
@@ -167,8 +166,8 @@ pub struct Lines<'a> {
     number: u32,
 }
 
-/// In a contract they are the lines, with the version of their file and the number of those that
-/// came before.
+/// In a contract they are the lines, with the version of their file and the number of lines before
+/// them.
 impl<'a> Model for Lines<'a> {
     ghost use Rattle.std.specs.Prelude.{◌+◌, ◌≤◌, length};
     ghost use Rattle.sheets.specs.Limits.{file_most};
@@ -214,7 +213,7 @@ impl<'a> Lines<'a> {
         Some(line.read())
     }
 
-    /// Takes the next line as it is written and returns it; `None` if there is none.
+    /// Takes the next line unread and returns it; `None` if there is none.
     pub(crate) fn take_unread(&mut self) -> Option<UnreadLine<'a>>
         ensures { TakesUnread self.old result self.new }
     {

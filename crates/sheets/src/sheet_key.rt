@@ -1,4 +1,4 @@
-//! The key by which the sheets of a file are kept.
+//! The key of the sheets of a file.
 
 use tables::{Round, Seat};
 

@@ -60,7 +60,7 @@ fn without_return(line: &[u8]) -> &[u8]
     if *last == b'\r' { prefix } else { line }
 }
 
-/// Returns whether a line counts nowhere: it has no words and at most 1,024 bytes.
+/// Returns whether a line is blank, and so counts nowhere: it has no words and at most 1,024 bytes.
 #[tactic(auto, unfolding(crate::specs::Text::is_blank))]
 pub fn is_blank(line: &[u8]) -> bool
     ensures { result ≡ is_blank line.now }

@@ -1,8 +1,9 @@
-//! BUY: a seat buys a share of a company that is started: one of the initial offering at the par
-//! value, or one of the bank pool at the market price. The presidency passes if the seat then has
-//! more shares than the president, and the company floats once few of its shares are left.
+//! BUY: a seat buys a share of a started company, from the initial offering at the par value, or
+//! from the bank pool at the market price. The presidency passes if the seat then has more shares
+//! than the president, and the company floats once at most four shares are left in the initial
+//! offering.
 //!
-//! The rules are the rows of a purchase in `certs` (`share_purchase_rules`).
+//! The rules are those of a purchase in `certs` (`share_purchase_rules`).
 ghost use Rattle.std.specs.Prelude.{◌≡◌, ◌≤◌, ◌<◌, OnOk};
 ghost use Rattle.history.specs.Sound.{IsSound};
 ghost use Rattle.stock_round.specs.Buy.{MayBuy, after_purchase, bought, buy_judgement};
@@ -15,8 +16,8 @@ use order_grammar::ShareSource;
 use std::alloc::AllocError;
 use tables::{Company, Seat};
 
-/// Returns the first rule that a seat breaks if it buys a share from there, in a turn in which it
-/// has bought of this company or of none; `None` if it breaks none.
+/// Returns the first rule that a seat breaks if it buys a share from this source, given the company
+/// whose share it has bought in this turn, if any; `None` if it breaks none.
 pub(crate) fn judge(
     history: &History,
     seat: Seat,

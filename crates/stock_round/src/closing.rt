@@ -1,4 +1,4 @@
-//! The end of a stock round: the companies that are sold out move up on the chart.
+//! The end of a stock round: sold-out companies move up on the chart.
 ghost use Rattle.std.specs.Prelude.{◌≡◌, OnOk};
 ghost use Rattle.history.specs.Sound.{IsSound};
 ghost use Rattle.stock_round.specs.Closing.{all_risen, closed, is_sold_out, risen};
@@ -8,7 +8,7 @@ use market::{move_token_up, operating_order};
 use std::alloc::AllocError;
 use tables::Company;
 
-/// Ends the turns: each company that is sold out moves up, in operating order.
+/// Ends the round: each sold-out company moves up, in operating order.
 pub(crate) fn close(history: &mut History) -> Result<(), AllocError>
     requires { IsSound history.old }
     ensures seats { OnOk result (history.new.seats ≡ history.old.seats) }
@@ -19,7 +19,7 @@ pub(crate) fn close(history: &mut History) -> Result<(), AllocError>
     raise_all(history, order.as_slice())
 }
 
-/// Moves up each of some companies that is sold out, in order.
+/// Moves up those of some companies that are sold out, in order.
 fn raise_all(history: &mut History, companies: &[Company]) -> Result<(), AllocError>
     requires { IsSound history.old }
     ensures seats { OnOk result (history.new.seats ≡ history.old.seats) }

@@ -4,8 +4,8 @@ ghost use Rattle.stock_round.specs.Deals.{has_acted, with_purchase, with_sale};
 
 use tables::Company;
 
-/// What a seat has done in a turn: of which company it has bought, if of any, and whether it has
-/// sold.
+/// What a seat has done in a turn: the company whose share it has bought, if any, and whether it
+/// has sold shares.
 #[derive(Clone, Copy, Debug, Default)]
 pub(crate) struct ShareDeals {
     /// The company whose share the seat has bought.
@@ -15,7 +15,7 @@ pub(crate) struct ShareDeals {
 }
 
 impl ShareDeals {
-    /// Returns what has been done once a certificate of a company is bought too.
+    /// Returns the deals with a purchase of a certificate of a company added.
     pub(crate) fn with_purchase(self, company: Company) -> ShareDeals
         ensures { result ≡ with_purchase self company }
     {
@@ -25,7 +25,7 @@ impl ShareDeals {
         }
     }
 
-    /// Returns what has been done once shares are sold too.
+    /// Returns the deals with a sale added.
     pub(crate) fn with_sale(self) -> ShareDeals
         ensures { result ≡ with_sale self }
     {

@@ -1,7 +1,7 @@
-//! EXCHANGE: the owner of MH gives it up for a share of NYC, even before NYC is started. The share
+//! EXCHANGE: the owner of MH gives it up for a share of NYC, even before NYC has started. The share
 //! comes from the initial offering, or from the bank pool if the initial offering has none. It
-//! costs nothing, and is neither a purchase nor a sale. The presidency of NYC passes and NYC floats
-//! as after a purchase.
+//! costs nothing, and counts neither as a purchase nor as a sale. The presidency of NYC passes and
+//! NYC floats as after a purchase.
 ghost use Rattle.std.specs.Prelude.{◌≡◌, ◌≤◌, ◌<◌, OnOk};
 ghost use Rattle.history.specs.Sound.{IsSound};
 ghost use Rattle.stock_round.specs.Exchange.{MayExchange, after_exchange, exchange_judgement, exchange_source};
@@ -16,7 +16,7 @@ use order_grammar::ShareSource;
 use std::alloc::AllocError;
 use tables::{Company, Private, Seat, rules};
 
-/// How many shares are given for MH.
+/// How many shares MH is exchanged for.
 const EXCHANGE_SHARES: u8 = 1;
 
 /// Returns the rule that an exchange of MH by a seat breaks; `None` if it breaks none.
@@ -28,8 +28,8 @@ pub(crate) fn judge(history: &History, seat: Seat) -> Option<StockRule>
     }
 }
 
-/// Returns whether a seat may not exchange MH: it does not own it, no share of NYC is there, or the
-/// seat would have over six.
+/// Returns whether a seat may not exchange MH: it does not own MH, no share of NYC is available, or
+/// the seat would have over six.
 pub fn is_no_exchange(history: &History, seat: Seat) -> bool
     ensures { result ≡ is_no_exchange history.now.events seat }
 {

@@ -1,5 +1,5 @@
-//! How a company floats: when few enough of its shares are left in the initial offering, the bank
-//! pays it its capital.
+//! How a company floats: once at most four of its shares are left in the initial offering, the bank
+//! pays its capital.
 ghost use Rattle.std.specs.Prelude.{◌≡◌, OnOk, true, unwrap_or};
 ghost use Rattle.totals.specs.Shares.{par_of};
 ghost use Rattle.history.specs.Sound.{IsSound};
@@ -10,10 +10,10 @@ use history::{Event, History, ShareCount, Shareholder};
 use std::alloc::AllocError;
 use tables::{Company, SHARES};
 
-/// The most shares that are left in the initial offering of a company that floats.
+/// The most shares that a company may have left in the initial offering when it floats.
 const FLOAT_MOST: ShareCount = 4;
 
-/// Floats a company, if few enough of its shares are left in the initial offering and it has not
+/// Floats a company, if at most four of its shares are left in the initial offering and it has not
 /// floated yet: the bank pays it ten times its par value.
 pub(crate) fn record_float(history: &mut History, company: Company) -> Result<(), AllocError>
     requires { IsSound history.old }
@@ -29,7 +29,7 @@ pub(crate) fn record_float(history: &mut History, company: Company) -> Result<()
     }
 }
 
-/// Returns whether a company is to float.
+/// Returns whether a company floats now.
 fn is_to_float(history: &History, company: Company) -> bool
     ensures { result ≡ is_to_float history.now.events company }
 {

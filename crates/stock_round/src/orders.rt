@@ -11,8 +11,8 @@ use order_grammar::Order;
 use std::alloc::AllocError;
 use tables::{Company, Seat};
 
-/// Returns the first rule that an order of a seat breaks in its turn, in which it has bought of
-/// this company or of none; `None` if it breaks none.
+/// Returns the first rule that an order of a seat breaks in its turn, given the company whose share
+/// it has bought in this turn, if any; `None` if it breaks none.
 pub(crate) fn judge(
     history: &History,
     seat: Seat,
@@ -30,8 +30,8 @@ pub(crate) fn judge(
     }
 }
 
-/// Does what a seat orders in its turn, by an order that breaks no rule. Returns what the seat has
-/// done in the turn by then: an exchange is neither a purchase nor a sale.
+/// Carries out an order of a seat that breaks no rule. Returns what the seat has done in the turn
+/// so far; an exchange counts neither as a purchase nor as a sale.
 pub(crate) fn act(
     history: &mut History,
     seat: Seat,

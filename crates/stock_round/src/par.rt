@@ -1,7 +1,7 @@
-//! PAR: a seat sets the par value of a company that is not started, and so buys its president's
-//! certificate, two shares of the initial offering, each at that value. It then presides.
+//! PAR: a seat sets the par value of a company that has not started, and so buys its president's
+//! certificate, two shares of the initial offering, each at that value. It becomes president.
 //!
-//! The rules are the rows of a purchase in `certs` (`share_purchase_rules`).
+//! The rules are those of a purchase in `certs` (`share_purchase_rules`).
 ghost use Rattle.std.specs.Prelude.{◌≡◌, ◌<◌, OnOk};
 ghost use Rattle.history.specs.Sound.{IsSound};
 ghost use Rattle.stock_round.specs.Par.{MayStart, after_start, par_judgement};
@@ -12,8 +12,8 @@ use order_grammar::ShareSource;
 use std::alloc::AllocError;
 use tables::{Amount, Company, PRESIDENT_SHARES, Seat};
 
-/// Returns the first rule that a seat breaks if it sets this par value, in dollars, in a turn in
-/// which it has bought of this company or of none; `None` if it breaks none.
+/// Returns the first rule that a seat breaks if it sets this par value, in dollars, given the
+/// company whose share it has bought in this turn, if any; `None` if it breaks none.
 pub(crate) fn judge(
     history: &History,
     seat: Seat,

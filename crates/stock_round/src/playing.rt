@@ -14,7 +14,7 @@ use std::alloc::{AllocError, Global};
 use tables::{Round, Seat};
 use turns::{TurnRules, play_round};
 
-/// The rules of a stock round. In a turn a seat has made some deals.
+/// The rules of a stock round. `ShareDeals` says what a seat has done in a turn.
 struct StockTurns;
 
 impl TurnRules for StockTurns {
@@ -79,7 +79,7 @@ impl TurnRules for StockTurns {
 
 /// Plays a stock round with the sheets for it. The list of events must be sound, and its seats must
 /// be those of the sheets' players; a seat without a sheet passes. Fails only if allocation fails,
-/// and the game is dropped. The game allocates by the allocator with which it began.
+/// and then drops the game. The game uses the allocator that it began with.
 pub fn play_stock(
     _alloc: Global,
     history: History,

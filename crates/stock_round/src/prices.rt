@@ -10,7 +10,7 @@ use history::History;
 use order_grammar::ShareSource;
 use tables::{Amount, Company, amount_of};
 
-/// Returns what a seat pays for a share of a company that is started, in dollars.
+/// Returns what a seat pays for a share of a started company, in dollars.
 pub(crate) fn share_cost(history: &History, company: Company, from: ShareSource) -> Amount
     requires { IsLed history.now.events company }
     ensures price { result ≡ share_price_of history.now.events company from }
@@ -19,7 +19,7 @@ pub(crate) fn share_cost(history: &History, company: Company, from: ShareSource)
     amount_of(share_price(&history.now(), company, from))
 }
 
-/// Returns the par value of a company that is started, in dollars.
+/// Returns the par value of a started company, in dollars.
 pub(crate) fn par_value(history: &History, company: Company) -> Amount
     requires { IsLed history.now.events company }
     ensures par { result ≡ unwrap_or (par_of history.now.events company) 0 }

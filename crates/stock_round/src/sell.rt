@@ -2,7 +2,7 @@
 //! presidency passes if another seat then has more shares, and the company's token moves down a
 //! square for each share.
 //!
-//! The rules are the rows of a sale in `certs` (`sale_rules`).
+//! The rules are those of a sale in `certs` (`sale_rules`).
 ghost use Rattle.std.specs.Prelude.{◌≡◌, ◌≤◌, ◌<◌, OnOk};
 ghost use Rattle.history.specs.Sound.{IsSound};
 ghost use Rattle.stock_round.specs.Sell.{MaySell, after_sale, sale_of, sell_judgement};

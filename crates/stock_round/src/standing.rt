@@ -1,5 +1,5 @@
-//! The standing lines of a sheet for a stock round. Each has a fault, since no order has a place
-//! among them.
+//! The standing lines of a sheet for a stock round. Each has a fault, since every order is out of
+//! place there.
 ghost use Rattle.std.specs.Prelude.{◌≡◌, OnOk};
 ghost use Rattle.history.specs.Sound.{IsSound};
 ghost use Rattle.sheets.specs.Part.{line_unread};
@@ -12,8 +12,8 @@ use std::alloc::AllocError;
 use tables::Seat;
 use turns::record_fault;
 
-/// Rules a standing line of a seat, one before the first written turn of its sheet. No order has a
-/// place there. Overwrites `order`.
+/// Rules a standing line of a seat, before the first written turn of its sheet. Every order is out
+/// of place there. Overwrites `order`.
 pub(crate) fn rule_standing_line(
     history: &mut History,
     seat: Seat,

@@ -1,4 +1,4 @@
-//! The lines of a written turn of a stock round: which orders have a place in it, by which rules
+//! The lines of a written turn of a stock round: which orders are allowed in it, by which rules
 //! they are judged, and what they do.
 ghost use Rattle.std.specs.Prelude.{◌≡◌, ◌≤◌, ◌<◌, OnOk, IfOk};
 ghost use Rattle.history.specs.Sound.{IsSound};
@@ -17,7 +17,8 @@ use std::alloc::AllocError;
 use tables::{Company, Seat};
 use turns::Family;
 
-/// The lines of a written turn, in a turn in which the seat has bought of this company or of none.
+/// The lines of a written turn, with the company whose share the seat has bought in this turn, if
+/// any.
 #[derive(Clone, Copy, Debug)]
 struct TurnLines {
     bought: Option<Company>,
@@ -39,8 +40,8 @@ impl Family for TurnLines {
     }
 }
 
-/// Rules a line of a written turn, and does what it orders if it is obeyed. Overwrites `order`.
-/// Returns what the seat has done by then.
+/// Rules a line of a written turn, and carries it out if it is obeyed. Overwrites `order`. Returns
+/// what the seat has done so far.
 pub(crate) fn rule_line(
     history: &mut History,
     seat: Seat,

@@ -17,10 +17,10 @@ const PRR: Company = Company::Pennsylvania;
 /// A 3 and a 2, which run from PRR's home to the east and to the west for 60.
 const TRAINS: [Kind; 2] = [Kind::Three, Kind::Two];
 
-/// More tokens than fit in the value of a board, and than a list first has room for.
+/// More tokens than fit in the value of a board, and than a list has room for at first.
 const MANY: usize = 60;
 
-/// How often the best is kept: more often than a list first has room for.
+/// How often the best is kept: more often than a list has room for at first.
 const KEPT: usize = 6;
 
 /// A round.
@@ -95,7 +95,7 @@ pub fn lays_out(rt: &HostRuntime) -> Result<Outcome, OutcomeFault> {
     })
 }
 
-/// Makes the plain board: PRR's token lies on it.
+/// Makes the plain board, with PRR's token on it.
 pub fn lays_out_plain(rt: &HostRuntime) -> Result<Outcome, OutcomeFault> {
     Call::PlainBoardOf.begin(rt)?;
     let answer = PlainBoard::of(rt.alloc(), &line(), &home(), Kind::Two);
@@ -106,8 +106,7 @@ pub fn lays_out_plain(rt: &HostRuntime) -> Result<Outcome, OutcomeFault> {
     })
 }
 
-/// Lays tiles one after the other on an empty board. If one fails, the board is that of those
-/// before it.
+/// Lays tiles one after another on an empty board. If one fails, the board has those before it.
 pub fn puts_lays(rt: &HostRuntime) -> Result<Outcome, OutcomeFault> {
     let mut board = Board::empty(rt.alloc(), Kind::Two);
     let tiles = [Hex::H6, Hex::H8, Hex::H14, Hex::F12, Hex::H16].map(straight);
@@ -134,8 +133,8 @@ fn put_lays(board: &mut Board, tiles: &[Lay]) -> usize {
     tiles.len()
 }
 
-/// Places more tokens than are in the value of a board. If one fails, the board is that of those
-/// before it.
+/// Places more tokens than are in the value of a board. If one fails, the board has those before
+/// it.
 pub fn puts_tokens(rt: &HostRuntime) -> Result<Outcome, OutcomeFault> {
     let mut board = board(rt.alloc())?;
     Call::PutToken.begin(rt)?;

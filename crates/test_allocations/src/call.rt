@@ -124,7 +124,7 @@ impl Call {
         }
     }
 
-    /// Writes its name: the call is to be made now.
+    /// Writes its name: the call is about to be made.
     pub fn begin(self, rt: &HostRuntime) -> Result<(), OutcomeFault> {
         rt.print(self.name())?;
         Ok(())

@@ -1,4 +1,4 @@
-//! Calls on a whole game: one more event, its rounds.
+//! Calls on a whole game: appending events, playing rounds.
 
 use crate::call::{Call, made};
 use crate::fault::OutcomeFault;
@@ -16,13 +16,13 @@ const ANN: Holder = Holder::Seat(Seat(0));
 /// How many events are added; a list grows several times for this many.
 const MANY: usize = 20;
 
-/// Adds events one after the other. If one fails, the game is that of those before it.
+/// Adds events one after another. If one fails, the game has those before it.
 pub fn appends(rt: &HostRuntime) -> Result<Outcome, OutcomeFault> {
     let mut game = History::start(rt.alloc(), 3);
     Call::Append.begin(rt)?;
     let count = append_many(&mut game);
     made(rt)?;
-    // Of two events, one pays ANN 5.
+    // Every second event pays ANN 5.
     let paid = (count.saturating_add(1) / 2).saturating_mul(5);
     let are_as_owed = game.events().len() == count
         && game.lays().len() == count / 2
@@ -67,7 +67,7 @@ fn event(is_revenue: bool) -> Event {
     }
 }
 
-/// Plays the first game, or the same with its order under a condition.
+/// Plays the first game, or the same with a condition on its order.
 pub fn plays(rt: &HostRuntime, sheets: &Sheets, call: Call) -> Result<Outcome, OutcomeFault> {
     call.begin(rt)?;
     let answer = play(rt.alloc(), sheets);
@@ -78,7 +78,7 @@ pub fn plays(rt: &HostRuntime, sheets: &Sheets, call: Call) -> Result<Outcome, O
     })
 }
 
-/// Plays the script with the runner that searches: PRR earns 30, of which ANN has 9.
+/// Plays the script with the runner that searches: PRR earns 30, and ANN gets 9 of it.
 pub fn plays_with(rt: &HostRuntime, sheets: &Sheets) -> Result<Outcome, OutcomeFault> {
     let mut search = Search::new(rt.alloc());
     Call::PlayWith.begin(rt)?;
@@ -91,7 +91,7 @@ pub fn plays_with(rt: &HostRuntime, sheets: &Sheets) -> Result<Outcome, OutcomeF
 }
 
 /// Plays one more round of the script, after this many. If that fails, play is broken off, and the
-/// next step returns the same again.
+/// next step returns the same error.
 pub fn steps(
     rt: &HostRuntime,
     sheets: &Sheets,

@@ -10,10 +10,10 @@ use sheets::{FileFault, collect};
 use std::rt::Runtime;
 use tables::{Round, Seat};
 
-/// An order under its condition, in its one spelling.
+/// A conditional order, in its one spelling.
 const OWED: &[u8; 30] = b"IF PRICE PRR >= 90 BUY PRR IPO";
 
-/// Collects the sheets of the first game: three players, and ANN's sheet is there.
+/// Collects the sheets of the first game: three players, and a sheet of ANN's.
 pub fn collects(rt: &HostRuntime) -> Result<Outcome, OutcomeFault> {
     Call::Collect.begin(rt)?;
     let answer = collect(rt.alloc(), FIRST.as_bytes());
@@ -38,7 +38,7 @@ pub fn collects_unread(rt: &HostRuntime) -> Result<Outcome, OutcomeFault> {
     })
 }
 
-/// Prints the order of a line that is spelt otherwise.
+/// Prints the order of a line in another spelling.
 pub fn prints_line(rt: &HostRuntime) -> Result<Outcome, OutcomeFault> {
     let Ok(line) = read_line(b"run 2 h12.0  H10.0 # x") else {
         return Err(OutcomeFault::Position);
@@ -52,7 +52,7 @@ pub fn prints_line(rt: &HostRuntime) -> Result<Outcome, OutcomeFault> {
     })
 }
 
-/// Prints an order under its condition, of a line that is spelt otherwise.
+/// Prints the conditional order of a line in another spelling.
 pub fn prints_conditional(rt: &HostRuntime) -> Result<Outcome, OutcomeFault> {
     let Ok(line) = read_line_in(Version::Two, b"if price prr  >= 090 buy PRR ipo") else {
         return Err(OutcomeFault::Position);

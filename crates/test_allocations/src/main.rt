@@ -1,16 +1,15 @@
-//! Makes single calls of the umpire's libraries that allocate, each in a position that is built
-//! before it. It prints a line for each: its name, `: made: `, and what became of it. That is one
-//! of these:
+//! Makes single calls of the umpire's libraries that allocate, each in a position built beforehand.
+//! It prints a line for each: its name, `: made: `, and its outcome, which is one of these:
 //!
-//! - `as owed`: it returned what is expected;
-//! - `out of memory, unchanged`: an allocation failed, and what it was called on shows the
-//!   state before the call;
+//! - `as owed`: it returned what was expected;
+//! - `out of memory, unchanged`: an allocation failed, and the value that it was called on is
+//!   unchanged;
 //! - `NOT AS OWED`: neither.
 //!
 //! A word on the command line names the one call that is made. The name is written right before the
-//! call, and the next word right after it, so that whoever runs the program may make only the
-//! call's allocations fail. The status is 1 if a position cannot be built or a word names no call,
-//! 4 if a line cannot be written.
+//! call, and the next word right after it, so that a test can make only the call's allocations
+//! fail. The status is 1 if a position cannot be built or a word names no call, 4 if a line cannot
+//! be written.
 #![tactic(auto)]
 
 mod boards;
@@ -42,7 +41,7 @@ fn main(rt: HostRuntime) -> ExitCode {
     }
 }
 
-/// Makes the call that the command line names, or each if it names none.
+/// Makes the call that the command line names, or all calls if it names none.
 fn make_all(rt: &HostRuntime) -> Result<(), OutcomeFault> {
     let words: Vec<String> = env::args(rt)?.collect(rt.alloc())?;
     let named = words.get(1);
@@ -60,7 +59,7 @@ fn make_all(rt: &HostRuntime) -> Result<(), OutcomeFault> {
     }
 }
 
-/// Prints what became of a call, and ends its line.
+/// Prints the outcome of a call, and ends its line.
 fn print_outcome(rt: &HostRuntime, outcome: Outcome) -> Result<(), OutcomeFault> {
     rt.println(outcome.text())?;
     Ok(())

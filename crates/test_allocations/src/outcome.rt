@@ -1,18 +1,18 @@
 //! The outcomes of a call, and how they are printed.
 
-/// What became of a call.
+/// The outcome of a call.
 #[derive(Clone, Copy, Debug, PartialEq, Eq)]
 pub enum Outcome {
-    /// It returned what is expected.
+    /// It returned what was expected.
     AsOwed,
-    /// Its allocation failed, and it left all as it was before.
+    /// Its allocation failed, and it left everything unchanged.
     AsBefore,
     /// Neither.
     Other,
 }
 
 impl Outcome {
-    /// Returns the outcome of a call that succeeded, by whether it returned what is expected.
+    /// Returns the outcome of a call that succeeded, given whether it returned what was expected.
     pub fn of_answer(is_owed: bool) -> Outcome {
         if is_owed {
             Outcome::AsOwed
@@ -21,8 +21,8 @@ impl Outcome {
         }
     }
 
-    /// Returns the outcome of a call that failed, by whether an allocation failed and all was left
-    /// as it was.
+    /// Returns the outcome of a call that failed, given whether an allocation failed and everything
+    /// was left unchanged.
     pub fn of_refusal(is_before: bool) -> Outcome {
         if is_before {
             Outcome::AsBefore
@@ -31,7 +31,7 @@ impl Outcome {
         }
     }
 
-    /// Returns what is printed of it.
+    /// Returns its words.
     pub fn text(self) -> &'static str {
         match self {
             Outcome::AsOwed => "as owed",

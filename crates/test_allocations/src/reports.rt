@@ -13,7 +13,7 @@ use std::alloc::{AllocError, Global};
 use std::rt::Runtime;
 use tables::Round;
 
-/// Returns the outcome of a text, by the expected text.
+/// Returns the outcome of a text, given the expected text.
 fn outcome_of(answer: Result<Vec<u8>, AllocError>, owed: &str) -> Outcome {
     match answer {
         Ok(text) => Outcome::of_answer(text.as_slice() == owed.as_bytes()),
@@ -67,7 +67,7 @@ fn ends(rt: &HostRuntime, play: &mut Play, search: &mut Search) -> Result<Outcom
     }
 }
 
-/// Writes its round, looked back at.
+/// Writes its round, looking back.
 pub fn writes_round(rt: &HostRuntime, sheets: &Sheets) -> Result<Outcome, OutcomeFault> {
     let game = play(rt.alloc(), sheets)?;
     Call::RoundText.begin(rt)?;

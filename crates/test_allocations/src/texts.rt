@@ -10,7 +10,7 @@ SHEET BOB PR1
 SHEET CYD PR1
 ";
 
-/// The same under a condition, which holds: the order is kept in a block of memory.
+/// The same with a condition that holds, so that the order is kept in a block of memory.
 pub const CONDITIONS: &str = "GAME 1830 2
 PLAYERS ANN BOB CYD
 SHEET ANN PR1
@@ -20,8 +20,8 @@ SHEET BOB PR1
 SHEET CYD PR1
 ";
 
-/// The same behind three lines that are unread: a word that is no order's, an order that stands
-/// outside a sheet, and a sheet of a player who is none.
+/// The same after three unread lines: a word that begins no order, an order outside a sheet, and a
+/// sheet of somebody who is not a player.
 pub const UNREAD: &str = "GAME 1830 1
 PLAYERS ANN BOB CYD
 X
@@ -63,7 +63,7 @@ BANK   9615
 pub const AWAITED: &str = "AWAITING PR2 ANN BOB CYD
 ";
 
-/// PRR lays a tile and buys two 2s in OR1.1, and runs its best in OR2.1. In SR1 many sales are
+/// PRR lays a tile and buys two 2s in OR1.1, and obeys RUN BEST in OR2.1. In SR1 many sales are
 /// refused, so that the list of events grows there.
 pub const SCRIPT: &str = "GAME 1830 1
 PLAYERS ANN BOB CYD

@@ -1,4 +1,4 @@
-//! The marks of the best are accepted as they are, and no others.
+//! The marks of the best runs are accepted unchanged, and no others.
 
 use crate::boards::{PRR, first, laid, line};
 use crate::four_stops::FourStops;
@@ -10,7 +10,7 @@ use reach::Network;
 use std::alloc::{AllocError, Global};
 use tables::{Company, Kind};
 
-/// Returns some bits, one after the other.
+/// Returns some bits, one after another.
 fn listed(alloc: Global, bits: &Bits) -> Result<Vec<bool>, AllocError> {
     let mut reader = bits.reader();
     let mut marks = Vec::new(alloc);
@@ -53,8 +53,8 @@ fn only_all_are_accepted<N: Network>(
     accepts(network, PRR, trains, claim, marks)
 }
 
-/// Returns whether a claim of nothing, which holds, is refused by these marks and by those that are
-/// written for 0.
+/// Returns whether a claim of nothing, which holds, is refused by these marks and by those written
+/// for 0.
 fn nothing_is_refused<N: Network>(
     alloc: Global,
     network: &N,
@@ -89,7 +89,7 @@ fn accepts_the_best_on_a_line(rt: HostRuntime) -> Result<(), AllocError> {
     Ok(())
 }
 
-/// Returns a longer line, on which another city lies past the second, which is full.
+/// Returns a longer line, with another city beyond the second, which is full.
 fn line_with_a_full_city(alloc: Global) -> Result<Board, BoardFault> {
     let line = [
         laid(Hex::H4, TileNo::T57),

@@ -10,7 +10,7 @@ use reach::{Network, reached};
 use std::alloc::{AllocError, Global};
 use tables::{Company, Kind};
 
-/// Tests two 2s, only one of which can run; no train; and a company without a token.
+/// Tests two 2s of which only one can run, no train, and a company without a token.
 #[test]
 fn runs_a_link(rt: HostRuntime) {
     let Ok(board) = of_prr(rt.alloc(), &[laid(Hex::H10, TileNo::T57)]) else {
@@ -81,7 +81,7 @@ fn board_is_a_network(rt: HostRuntime) -> Result<(), AllocError> {
     Ok(())
 }
 
-/// Tests that a plain board of this line says the same.
+/// Tests the same with a plain board of this line.
 #[test]
 fn plain_board_is_a_network(rt: HostRuntime) -> Result<(), AllocError> {
     let tokens = [(first(Hex::H12).place(), PRR)];
@@ -92,9 +92,9 @@ fn plain_board_is_a_network(rt: HostRuntime) -> Result<(), AllocError> {
     Ok(())
 }
 
-/// Tests what trains earn on a network that is no board, found by hand. H12 to G13 is worth 80, H12
-/// to G11 70, and H10 to G11 60. One train visits all four, from G11 over H10 and H12 to G13. NYC,
-/// whose token lies only in G11, reaches G13 and no further, since it is red.
+/// Tests what trains earn on a network that is not a board, found by hand. H12 to G13 is worth 80,
+/// H12 to G11 70, and H10 to G11 60. One train visits all four, from G11 over H10 and H12 to G13.
+/// NYC, whose token lies only in G11, reaches G13 and no further, since it is red.
 #[test]
 fn runs_on_four_stops(rt: HostRuntime) {
     let earned = [

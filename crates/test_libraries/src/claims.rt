@@ -1,5 +1,5 @@
-//! What is claimed of a company's trains. Each run of a claim is ruled by the check of runs, one
-//! after the other over the borders that are used, and together they earn what is claimed.
+//! What is claimed of a company's trains. The check of runs rules each run of a claim, one after
+//! another with the borders used so far, and together they earn the claimed revenue.
 
 use best_run::best;
 use certificate::{ClaimedRun, Used, check_run};
@@ -7,7 +7,7 @@ use reach::Network;
 use std::alloc::{AllocError, Global};
 use tables::{Amount, Company, Kind, Money};
 
-/// Returns whether a claim runs no more trains of each kind than there are.
+/// Returns whether a claim has no more runs of each kind than there are trains.
 fn are_taken_from(trains: &[Kind], runs: &[ClaimedRun]) -> bool {
     for &kind in &Kind::ALL {
         let have = trains.iter().filter(|train| **train == kind).count();
@@ -19,7 +19,7 @@ fn are_taken_from(trains: &[Kind], runs: &[ClaimedRun]) -> bool {
 }
 
 /// Returns the best that these trains can do: how many run, and what they earn. `None` if the runs
-/// are not legal, one after the other, not of these trains, or do not earn what is claimed.
+/// are not legal one after another, are not of these trains, or do not earn the claimed revenue.
 pub(crate) fn claimed<N: Network>(
     alloc: Global,
     network: &N,

@@ -1,4 +1,4 @@
-//! A network of four stops, which no board is.
+//! A network of four stops, which is not a board.
 ghost use Rattle.std.specs.Prelude.{◌≡◌, false, true};
 ghost use Rattle.test_libraries.specs.FourStops.{at_stop_of, four_stops, on_map_in, spoke, standing_in};
 ghost use Rattle.map_tables.specs.declared.place.StopNumber.TheVariants.{First};
@@ -10,7 +10,7 @@ use reach::Network;
 use tables::{Amount, Company};
 
 /// Two cities of PRR, H10 and H12, a city that NYC fills, G11, and a red area, G13. Track joins
-/// each two that lie side by side, and in H12 a piece of plain track goes past the city.
+/// each two neighbours, and in H12 a piece of plain track goes past the city.
 pub struct FourStops;
 
 /// What is at a stop.

@@ -1,10 +1,10 @@
 //! Tests of the libraries below the sequence of rounds, only through public calls, as a user would
-//! write them. They make calls that no order file reaches or whose result no report shows, each on
-//! its happy path. What a report shows is a game of `games/`, which `./check` plays.
+//! write them. They make calls that no order file reaches, or whose result no report shows, each in
+//! its normal case. What a report shows is a game of `games/`, which `./check` plays.
 //!
 //! Reading order: `examples` (those at the roots of crates), `lines` (lines read and printed),
-//! `boards` (tiles and tokens), `best` (the greatest revenue), `four_stops` (a network that is no
-//! board), `claims` (the runs of a claim, checked one after the other), `marks` (bits kept, read
+//! `boards` (tiles and tokens), `best` (the greatest revenue), `four_stops` (a network that is not
+//! a board), `claims` (the runs of a claim, checked one after another), `marks` (bits kept, read
 //! and printed), `accepting` (the marks of the best), `money` (cash, shares, events). `bench/agree`
 //! compares the search with a slow one on small boards.
 #![tactic(auto)]

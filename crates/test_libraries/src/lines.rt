@@ -4,7 +4,7 @@ use order_grammar::{Token, Version, print_conditional, read_line, read_line_in};
 use std::alloc::{AllocError, Global};
 use std::test::Fail;
 
-/// Returns whether a line of version 2 is printed again as this.
+/// Returns whether a line of version 2 is read and then printed as this.
 fn prints(alloc: Global, line: &[u8], printed: &[u8]) -> Result<bool, AllocError> {
     let Ok(read) = read_line_in(Version::Two, line) else {
         return Ok(false);
@@ -35,7 +35,7 @@ fn prints_an_order_under_a_condition(rt: HostRuntime) -> Result<(), Fail> {
     Ok(())
 }
 
-/// Returns whether a word has this text, and stands from one place to another.
+/// Returns whether a word has this text, and is from one place up to another.
 fn stands(word: Option<Token>, text: &[u8], start: usize, end: usize) -> bool {
     match word {
         Some(word) => word.text == text && word.span.start == start && word.span.end == end,

@@ -1,4 +1,4 @@
-//! Money that is paid, shares that change hands, and the room that a list of events has.
+//! Money that is paid, shares that change hands, and the limits of a list of events.
 
 ghost use Rattle.treasury.specs.Accounts.{HasAccount, IsSum};
 

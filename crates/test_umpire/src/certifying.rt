@@ -1,5 +1,5 @@
-//! Certificates, written and verified, over readers and writers that give and take as they are
-//! told. They are of the game in which PRR runs its best with two trains, of which one earns 30.
+//! Certificates, written and verified with scripted readers and writers. They are of the game in
+//! which PRR runs its best with two trains, one of which earns 30.
 
 use crate::devices::{any_write_may_fail, outcome_in, reads_that_may_fail, writes};
 use crate::refusing::file;
@@ -9,7 +9,7 @@ use std::test::Fail;
 use tables::{Company, Round};
 use umpire::Fault;
 
-/// The line that divides an order file from its certificates, and certificates of the game.
+/// The line between an order file and its certificates, and certificates of the game.
 const SHOWN: &str = "
 CERTS 1
 CERT OR2.1 PRR 30
@@ -25,7 +25,7 @@ CLAIM 2 H12.0 H10.0
 MARKS befb8
 ";
 
-/// The line that says that these are refused.
+/// The line that refuses these.
 const REFUSED: &str = "CERTIFICATE REFUSED OR2.1 PRR
 ";
 
@@ -44,7 +44,7 @@ fn with_behind(alloc: Global, behind: &str) -> Result<Vec<u8>, AllocError> {
     joined(alloc, &[file.as_slice(), behind.as_bytes()])
 }
 
-/// Returns whether a call returned that the certificates are refused, and wrote so.
+/// Returns whether a call returned that the certificates are refused, and wrote that line.
 fn is_refused(outcome: &Outcome) -> bool {
     let round = Round::Operating { set: 2, number: 1 };
     let fault = Fault::Certificate(round, Company::Pennsylvania);

@@ -77,13 +77,13 @@ fn writes_that_may_fail(
     text.len()
 }
 
-/// Returns whether both troubles may come at each write of a call that writes this text.
+/// Returns whether both kinds of trouble may come at each write of a call that writes this text.
 pub(crate) fn any_write_may_fail(alloc: Global, call: Call, input: &[u8], text: &[u8]) -> bool {
     writes_that_may_fail(alloc, call, input, text, Trouble::Fails) == text.len()
         && writes_that_may_fail(alloc, call, input, text, Trouble::TakesNothing) == text.len()
 }
 
-/// Returns whether a call over devices that give and take this many bytes at a time is well, and
+/// Returns whether a call over devices that give and take this many bytes at a time succeeds, and
 /// writes this text.
 pub(crate) fn writes(alloc: Global, call: Call, input: &[u8], most: usize, text: &[u8]) -> bool {
     let outcome = outcome_in(alloc, call, input, most);

@@ -1,11 +1,10 @@
-//! A file that goes over to version 2, over readers and writers that give and take as they are
-//! told.
+//! Migrating a file to version 2, with scripted readers and writers.
 
 use crate::devices::{any_write_may_fail, reads_that_may_fail, writes};
 use crate::support::Call;
 use std::test::Fail;
 
-/// A file of version 1 with a line that could be an order in version 2, and with ends of lines that
+/// A file of version 1 with a line that could be an order in version 2, and with line ends that
 /// stay.
 const FILE: &str = "
 game  1830 01\r
@@ -17,7 +16,7 @@ BUY SV
 SHEET BOB PR1
 SHEET CYD PR1";
 
-/// What it goes over to.
+/// The file that it migrates to.
 const NEW_FILE: &str = "
 GAME 1830 2\r
 PLAYERS ANN BOB CYD

@@ -79,7 +79,7 @@ impl Runner for Refusing {
     }
 }
 
-/// Returns the order file of the game, in which this is the order to run.
+/// Returns the order file of the game, with this order to run.
 pub(crate) fn file(alloc: Global, run: &str) -> Result<Vec<u8>, AllocError> {
     let mut text = Vec::new(alloc);
     text.extend_from_slice(BEFORE.as_bytes())?;
@@ -88,8 +88,7 @@ pub(crate) fn file(alloc: Global, run: &str) -> Result<Vec<u8>, AllocError> {
     Ok(text)
 }
 
-/// Returns why the game of some sheets is not played with a runner that refuses; `None` if it is
-/// played.
+/// Returns why play of some sheets fails with a runner that refuses; `None` if it succeeds.
 fn fault_of(alloc: Global, sheets: &Sheets) -> Option<PlayFault> {
     match play_with(alloc, sheets, &mut Refusing) {
         Ok(_) => None,
@@ -97,7 +96,7 @@ fn fault_of(alloc: Global, sheets: &Sheets) -> Option<PlayFault> {
     }
 }
 
-/// Returns the same of the game in which this is the order to run.
+/// Returns the same of the game with this order to run.
 fn fault(alloc: Global, run: &str) -> Result<Option<PlayFault>, Fail> {
     let file = file(alloc, run)?;
     let sheets = collect(alloc, file.as_slice())?;

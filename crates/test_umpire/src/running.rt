@@ -10,7 +10,7 @@ use std::io;
 use std::io::{Read, Write};
 use umpire::{Fault, Watched};
 
-/// A reader that sets a cell when it has given its end.
+/// A reader that sets a cell when it reaches its end.
 #[derive(Drop)]
 struct Telling<'a> {
     source: Source<'a>,
@@ -25,7 +25,7 @@ impl<'a> Read for Telling<'a> {
     }
 }
 
-/// A writer that counts its calls, and those before the reader had given its end.
+/// A writer that counts its calls, and those before the reader reached its end.
 #[derive(Drop)]
 struct Watching<'a> {
     ended: &'a Cell<bool>,
@@ -79,8 +79,8 @@ fn writes_part_by_part_once_all_is_read(rt: HostRuntime) {
     }
 }
 
-/// Whether a call reads no further than the limit of a file, of a reader that gives bytes without
-/// an end, and refuses it as too long.
+/// Returns whether a call on an endless reader reads no further than the limit of a file, and
+/// refuses it as too long.
 fn stops_at_limit(alloc: Global, call: Call) -> bool {
     let mut source = Endless { given: 0 };
     let mut sink = Sink::taking(alloc, 1_000);

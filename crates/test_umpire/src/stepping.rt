@@ -102,8 +102,8 @@ COMPANY BO
 TRAIN 3 POOL
 ";
 
-/// A game that breaks the bank in its stock round, up to its second opening round. BOP is not sold
-/// before the 134th, and the privates take 75 from the bank in each before it.
+/// A game that breaks the bank in its stock round, up to its second opening round. BOP is sold in
+/// the 134th, and in each earlier one the privates take 75 from the bank.
 const FIRST_OPENING: &str = "GAME 1830 1
 PLAYERS ANN BOB CYD
 SHEET ANN PR1
@@ -153,7 +153,7 @@ SHEET BOB OR1.1
 SHEET CYD OR1.1
 ";
 
-/// What shows of a play except the text of its last round.
+/// What a play shows, except the text of its last round.
 #[derive(Clone, Copy, PartialEq, Eq)]
 struct Shown {
     last_round: Option<Round>,
@@ -161,7 +161,7 @@ struct Shown {
     has_history: bool,
 }
 
-/// Returns what shows of a play.
+/// Returns what a play shows.
 fn what_shows(play: &Play) -> Shown {
     Shown {
         last_round: play.last_round(),
@@ -170,7 +170,7 @@ fn what_shows(play: &Play) -> Shown {
     }
 }
 
-/// What a step returned, what shows after it, and whether the last round has a text.
+/// What a step returned, what the play then shows, and whether the last round has a text.
 #[derive(Clone, Copy)]
 struct After {
     answer: Answer,
@@ -188,7 +188,7 @@ fn step<R: Runner>(alloc: Global, play: &mut Play, runner: &mut R) -> Result<Aft
     })
 }
 
-/// Returns whether the round that was played last has a text.
+/// Returns whether the last round played has a text.
 fn has_text(alloc: Global, play: &Play) -> Result<bool, AllocError> {
     Ok(!next_text(alloc, play)?.is_empty())
 }
@@ -200,7 +200,7 @@ fn shows_nothing_before(alloc: Global, sheets: &Sheets) -> Result<bool, AllocErr
     Ok(shown.last_round.is_none() && shown.outcome.is_none() && !has_text(alloc, &play)?)
 }
 
-/// Takes this many steps, one at least. Returns the last of them.
+/// Takes this many steps, at least one. Returns the last of them.
 fn last_step<R: Runner>(
     alloc: Global,
     play: &mut Play,
@@ -214,7 +214,7 @@ fn last_step<R: Runner>(
     Ok(last)
 }
 
-/// Returns the last of this many steps of a play, one at least.
+/// Returns the last of this many steps of a play, at least one.
 fn after_steps(alloc: Global, sheets: &Sheets, steps: u32) -> Result<After, AllocError> {
     let mut play = Play::start(alloc, sheets)?;
     last_step(alloc, &mut play, &mut Search::new(alloc), steps)
@@ -239,7 +239,7 @@ fn shows(
 }
 
 /// Returns whether a game shows nothing before its one round is played, then that round, and then
-/// that it has stopped, also after one step more.
+/// that it has stopped, also after one more step.
 fn is_stepped_through(alloc: Global, sheets: &Sheets) -> Result<bool, AllocError> {
     let first = Round::Opening(1);
     let awaiting = End::Awaiting(Round::Opening(2));
@@ -273,7 +273,7 @@ fn add_round(alloc: Global, play: &Play, all: &mut Vec<u8>) -> Result<bool, Allo
 }
 
 /// Takes a step, and adds the end of the report. Returns whether play has stopped, and that text
-/// begins with what is awaited.
+/// begins as it should.
 fn add_end(alloc: Global, play: &mut Play, all: &mut Vec<u8>) -> Result<bool, AllocError> {
     let mut search = Search::new(alloc);
     let Some(end) = end_at(alloc, play, &mut search)? else {
@@ -290,15 +290,15 @@ fn add_parts(alloc: Global, play: &mut Play, all: &mut Vec<u8>) -> Result<bool, 
     Ok(add_round(alloc, play, all)? && add_end(alloc, play, all)?)
 }
 
-/// Returns whether this is the report of a game of one round, by its parts: the header, the text of
-/// the round, the end.
+/// Returns whether this is the report of a game of one round, joined from its parts: the header,
+/// the text of the round, the end.
 fn is_report_by_parts(alloc: Global, sheets: &Sheets, report: &[u8]) -> Result<bool, AllocError> {
     let mut all = header_text(alloc, sheets)?;
     let mut play = Play::start(alloc, sheets)?;
     Ok(add_parts(alloc, &mut play, &mut all)? && all.as_slice() == report)
 }
 
-/// Takes this many steps with a runner that refuses, one at least, and one more with one that
+/// Takes this many steps, at least one, with a runner that refuses, and then one with a runner that
 /// searches. Returns the last of each.
 fn after_refusals(
     alloc: Global,
@@ -329,7 +329,7 @@ fn is_broken_off(after: &After, fault: PlayFault, last_round: Round) -> bool {
     after.answer == Err(fault) && after.shown == shown && !after.has_text
 }
 
-/// Returns how many rounds a play has before it stops, and why it stops; `None` if it goes on.
+/// Returns how many rounds a play has before it stops, and why; `None` if it fails.
 fn steps_to_end(alloc: Global, play: &mut Play) -> Result<Option<(u32, End)>, PlayFault> {
     let mut search = Search::new(alloc);
     for played in 0..1000 {
@@ -341,7 +341,7 @@ fn steps_to_end(alloc: Global, play: &mut Play) -> Result<Option<(u32, End)>, Pl
 }
 
 /// Returns whether the game of these sheets stops after this many rounds, for this reason, and then
-/// stays so.
+/// stays stopped.
 fn ends(alloc: Global, sheets: &Sheets, rounds: u32, end: End) -> Result<bool, PlayFault> {
     let mut play = Play::start(alloc, sheets)?;
     let first = steps_to_end(alloc, &mut play)?;

@@ -1,5 +1,5 @@
-//! A small game with its report, and readers and writers over memory that give and take as they
-//! are told and count what they saw.
+//! A small game with its report, and scripted readers and writers over memory, which count their
+//! calls.
 
 ghost use Rattle.std.specs.Prelude.{◌≡◌, false};
 ghost use Rattle.umpire.specs.Watched.{has_failed};
@@ -36,7 +36,7 @@ BANK   9615
 AWAITING PR2 ANN BOB CYD
 ";
 
-/// What a reader does when it is called once more after it has given its end.
+/// What a reader does when it is called again after its end.
 #[derive(Clone, Copy, PartialEq, Eq)]
 pub(crate) enum AfterEnd {
     /// It gives the end again.
@@ -47,7 +47,7 @@ pub(crate) enum AfterEnd {
     Gives,
 }
 
-/// Gives a text, at most this many bytes a call, and then its end. One call, counted from 0, may
+/// Gives a text, at most this many bytes per call, and then its end. One call, counted from 0, may
 /// fail.
 #[derive(Drop)]
 pub(crate) struct Source<'a> {
@@ -55,11 +55,11 @@ pub(crate) struct Source<'a> {
     pub(crate) most: usize,
     pub(crate) bad: Option<usize>,
     pub(crate) after_end: AfterEnd,
-    /// Whether it has given its end.
+    /// Whether it has reached its end.
     pub(crate) ended: bool,
     /// How often it was called.
     pub(crate) calls: usize,
-    /// How many bytes there was room for at the last call.
+    /// How many bytes the last call had room for.
     pub(crate) room: usize,
 }
 
@@ -108,7 +108,7 @@ impl<'a> Read for Source<'a> {
     }
 }
 
-/// Gives bytes without an end, those that the buffer holds, and counts them.
+/// Gives bytes without end, leaving the buffer as it is, and counts them.
 #[derive(Drop)]
 pub(crate) struct Endless {
     pub(crate) given: usize,
@@ -129,7 +129,8 @@ pub(crate) enum Trouble {
     TakesNothing,
 }
 
-/// Keeps what is written, at most this many bytes a call, with trouble at one call, counted from 0.
+/// Keeps what is written, at most this many bytes per call, with trouble at one call, counted from
+/// 0.
 #[derive(Drop)]
 pub(crate) struct Sink {
     pub(crate) text: Vec<u8>,
@@ -177,7 +178,7 @@ impl Write for Sink {
     }
 }
 
-/// What became of a run.
+/// The outcome of a run.
 #[derive(Drop)]
 pub(crate) struct Outcome {
     pub(crate) result: Result<(), Fault>,

@@ -15,7 +15,7 @@ fn is_report(alloc: Global, sheets: &Sheets, owed: &str) -> Result<bool, AllocEr
     Ok(text.as_slice() == owed.as_bytes())
 }
 
-/// Returns whether the text of a round of it is this.
+/// Returns whether the text of one of its rounds is this.
 fn is_round(alloc: Global, sheets: &Sheets, round: Round, owed: &str) -> Result<bool, AllocError> {
     let game = play(alloc, sheets)?;
     let text = round_text(alloc, &game, round)?;

@@ -1,4 +1,4 @@
-//! Tests of watched readers and writers: they pass each call on and remember a failure.
+//! Tests of watched readers and writers: they pass on each call and remember a failure.
 
 use crate::support::{FIRST, Sink, Source};
 use std::io;
@@ -6,7 +6,7 @@ use std::io::{Read, Write};
 use std::test::Fail;
 use umpire::Watched;
 
-/// Takes all and cannot be flushed.
+/// Takes all bytes, but fails to flush.
 #[derive(Drop)]
 struct Stuck;
 

@@ -24,7 +24,7 @@ use tables::{
     Seat, Square,
 };
 
-/// Applies what an event says of a thing, if it speaks of it.
+/// Applies an event's word on a topic, if it has one.
 pub(crate) fn apply<W: Drop>(said: &mut Option<W>, word: Option<W>)
     ensures { said.new ≡ option_or word said.old }
 {
@@ -74,7 +74,7 @@ pub(crate) fn apply_float(floats: &mut PerCompany<Option<Company>>, event: &Even
     }
 }
 
-/// Applies what is said of bids, in a table by the places of the privates and the seats.
+/// Applies what an event does to bids, in a table by the places of the privates and the seats.
 pub(crate) fn apply_bids(bids: &mut PerPrivate<PerSeat<Option<Amount>>>, bidding: Option<Bidding>)
     ensures { (private : Private) (number : ℕ) → number < 6 → bid_in bids.new private number
         ≡ unwrap_or (bid_said private (seat_at number) bidding) (bid_in bids.old private number) }
@@ -101,7 +101,7 @@ pub(crate) fn apply_greatest_bid(
     }
 }
 
-/// The greater of a bid and an earlier one, if there is one.
+/// Returns the greater of a bid and an earlier one, if there is one.
 fn greater_bid(later: Amount, earlier: Option<Amount>) -> Option<Amount>
     ensures { result ≡ greater_bid (Some later) earlier }
 {
@@ -111,7 +111,7 @@ fn greater_bid(later: Amount, earlier: Option<Amount>) -> Option<Amount>
     }
 }
 
-/// Applies an event that says that the bank is broken.
+/// Applies that an event breaks the bank, if it does.
 pub(crate) fn apply_broken(broken: &mut bool, event: &Event)
     ensures { broken.new ≡ (broken.old || says_broken event.now) }
 {
@@ -120,7 +120,7 @@ pub(crate) fn apply_broken(broken: &mut bool, event: &Event)
     }
 }
 
-/// Applies an event that says that a president is bankrupt.
+/// Applies that an event makes a president bankrupt, if it does.
 pub(crate) fn apply_bankrupt(bankrupt: &mut bool, event: &Event)
     ensures { bankrupt.new ≡ (bankrupt.old || says_bankrupt event.now) }
 {
@@ -153,8 +153,7 @@ pub(crate) fn apply_token(tokens: &mut PerCompany<usize>, event: &Event)
     }
 }
 
-/// Applies whose turn of an operating round an event says it is; one that begins a round clears the
-/// table.
+/// Applies the company that operates by an event. An event that begins a round clears the table.
 pub(crate) fn apply_turn(operated: &mut PerCompany<bool>, event: &Event)
     ensures { (company : Company) → flag_of operated.new company
         ≡ flag_then event.now (is_some (turn_said company (operated_by event.now)))
@@ -169,14 +168,14 @@ pub(crate) fn apply_turn(operated: &mut PerCompany<bool>, event: &Event)
     }
 }
 
-/// Returns a table that names no sale.
+/// Returns a table without sales.
 pub(crate) fn no_sales() -> PerCompany<PerSeat<bool>>
     ensures { (company : Company) (seat : Seat) → sale_in result company seat ≡ false }
 {
     [[false; PLAYERS_MOST]; COMPANIES]
 }
 
-/// Applies which shares a seat sells by an event; one that begins a round clears the table.
+/// Applies the shares that a seat sells by an event. An event that begins a round clears the table.
 pub(crate) fn apply_sale(sales: &mut PerCompany<PerSeat<bool>>, event: &Event)
     ensures { (company : Company) (seat : Seat) → seat.0 < 6 → sale_in sales.new company seat
         ≡ flag_then event.now (is_some (sale_said company seat (transfer_of event.now)))
@@ -195,7 +194,7 @@ pub(crate) fn apply_sale(sales: &mut PerCompany<PerSeat<bool>>, event: &Event)
     }
 }
 
-/// Applies that shares of a company went from a seat to the bank pool, if they did.
+/// Applies a transfer of shares of a company, if it is from a seat to the bank pool.
 fn apply_sale_of(sales: &mut PerSeat<bool>, from: Shareholder, to: Shareholder)
     ensures { (seat : Seat) → seat.0 < 6 → slice_index_or sales.new seat.0 false
         ≡ (slice_index_or sales.old seat.0 false
@@ -209,7 +208,7 @@ fn apply_sale_of(sales: &mut PerSeat<bool>, from: Shareholder, to: Shareholder)
     }
 }
 
-/// Returns a table in which no line was ruled.
+/// Returns a table in which no seat has a ruled line.
 pub(crate) fn no_rulings() -> PerSeat<usize>
     ensures { (entry : ℕ) → count_at result entry ≡ 0 }
 {
@@ -234,7 +233,7 @@ pub(crate) fn apply_ruling(rulings: &mut PerSeat<usize>, event: &Event)
     }
 }
 
-/// Returns a table that names no limit.
+/// Returns a table without limits.
 pub(crate) fn no_limits() -> PerPrivate<PerSeat<Option<Amount>>>
     ensures { (private : Private) (number : ℕ) → number < 6 →
         bid_in result private number ≡ None }
@@ -242,8 +241,7 @@ pub(crate) fn no_limits() -> PerPrivate<PerSeat<Option<Amount>>>
     [[None; PLAYERS_MOST]; PRIVATES]
 }
 
-/// Returns the limit of a seat in an auction of a private, by the line that an event rules, as a
-/// bid.
+/// Returns the limit that a ruled line sets in an auction of a private, in the form of a bid.
 fn limit_in_event(event: &Event) -> Option<Bidding>
     ensures { (private : Private) (seat : Seat) → bid_said private seat result
         ≡ option_map Some (said_by seat (limit_in private) (obeyed_of event.now)) }
@@ -261,7 +259,7 @@ fn limit_in_event(event: &Event) -> Option<Bidding>
 }
 
 /// Applies the limit of a seat in an auction of a private by an event, in a table like that of
-/// bids; one that begins a round clears the table.
+/// bids. An event that begins a round clears the table.
 pub(crate) fn apply_limit(limits: &mut PerPrivate<PerSeat<Option<Amount>>>, event: &Event)
     ensures { (private : Private) (seat : Seat) → seat.0 < 6 → bid_in limits.new private seat.0
         ≡ unwrap_or (in_round (λ e. said_by seat (limit_in private) (obeyed_of e)) event.now)

@@ -1,5 +1,5 @@
-//! Tables of balances: what came to each entry, minus what went from it. The entries are those of
-//! the bank, the companies and six seats; a further seat has an entry past the table's end.
+//! Tables of balances: what came in to each entry, minus what went out. The bank, the companies and
+//! six seats have entries; the entry of a further seat is past the table's end.
 ghost use Rattle.std.specs.Prelude.{◌≡◌, ◌==◌, ◌<◌, ◌≤◌, ◌+ℤ◌, ◌-ℤ◌, ◌≤ℤ◌, ◌^◌, ℕ, if◌then◌else◌, length, neg_ℤ, pos};
 ghost use Rattle.std.specs.Prelude.{Option};
 ghost use Rattle.events.specs.Event.{payment_of, train_moved, transfer_of};
@@ -29,7 +29,7 @@ const TRAIN_COLUMNS: usize = KINDS + 2;
 /// How many entries a table of trains has.
 pub(crate) const TRAIN_ENTRIES: usize = TRAIN_PLACES * TRAIN_COLUMNS;
 
-/// Returns a balance with a change, which is a sum of money or minus one.
+/// Returns a balance after a change, which is a sum of money or its negative.
 fn changed(balance: Money, change: Money) -> Money
     requires not_under { neg_ℤ (pos (2 ^ 32)) ≤ℤ change }
     requires not_over { change ≤ℤ pos (2 ^ 32) }
@@ -126,8 +126,8 @@ pub(crate) fn apply_transfer(balances: &mut [Money; SHARE_PLACES], event: &Event
     }
 }
 
-/// Returns the row of a place in a table of trains, which is also its entry in a table of how many
-/// it has.
+/// Returns the row of a place in a table of trains. It is also the place's entry in the table of
+/// numbers of trains.
 pub(crate) fn row_of_trains(place: TrainPlace) -> usize
     ensures row { result ≡ train_row place }
     ensures within { result < 11 }
@@ -164,7 +164,7 @@ pub(crate) fn apply_train(balances: &mut [Money; TRAIN_ENTRIES], event: &Event)
     }
 }
 
-/// Applies the train that an event moves, in a table of how many trains a place has.
+/// Applies the train that an event moves, in the table of how many trains each place has.
 pub(crate) fn apply_train_owner(balances: &mut [Money; TRAIN_PLACES], event: &Event)
     ensures { (owner : Option Company) → IsModerate (train_count_balance balances.old owner) →
         train_count_balance balances.new owner

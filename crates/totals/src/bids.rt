@@ -1,4 +1,4 @@
-//! Standing bids, and what the standing orders of a seat say.
+//! Standing bids, and the limits, par values and sums that go with them.
 ghost use Rattle.std.specs.Prelude.{◌≡◌, ◌^◌, ◌<◌, ◌≤◌, option_map, pos};
 ghost use Rattle.totals.specs.Orders.{bid_limit_of, par_ordered_of};
 ghost use Rattle.totals.specs.Bids.{AppliesBidOn, AreStanding, bid_of, bids_elsewhere_of, bids_of, bids_on};
@@ -57,8 +57,8 @@ impl GameView<'_> {
         }
     }
 
-    /// Returns the greatest bid that was ever made on a private, in dollars, whether or not it is
-    /// held; `None` if nobody has bid on it.
+    /// Returns the greatest bid that was ever made on a private, in dollars, whether or not it
+    /// still holds; `None` if nobody has bid on it.
     pub fn greatest_bid(&self, private: Private) -> Option<Amount>
         ensures { result ≡ greatest_bid_of self.now.events.now private }
     {
@@ -127,7 +127,7 @@ impl GameView<'_> {
         self.cash(Party::Holder(Holder::Seat(seat))) - self.bids_of(seat)
     }
 
-    /// Returns the cash that a seat's standing bid on a private ties, in dollars.
+    /// Returns the cash that a seat's standing bid on a private ties up, in dollars.
     fn tied_on(&self, seat: Seat, private: Private) -> Amount
         ensures { result ≡ tied_on self.now.events.now seat private }
     {
@@ -135,7 +135,7 @@ impl GameView<'_> {
     }
 }
 
-/// Applies what is said of the bids on a private in a table of the seats' standing bids.
+/// Applies what an event does to the bids on a private, in a table of the seats' standing bids.
 pub(crate) fn apply_bid_on(
     standing: &mut PerSeat<Option<Amount>>,
     private: Private,

@@ -7,19 +7,19 @@ ghost use Rattle.totals.specs.LookBack.{IsModerate, balance, in_round, last_said
 use events::Event;
 use tables::{Amount, Money};
 
-/// A thing that some events speak of.
+/// A topic of some events.
 pub(crate) trait Topic {
-    /// What an event says of it.
+    /// The word of an event on it.
     type Word;
 
     ghost word: { Self → Event → Option Self.Word };
 
-    /// Returns what an event says of it; `None` if the event does not speak of it.
+    /// Returns an event's word on it; `None` if the event has none.
     fn word(&self, event: &Event) -> Option<Self::Word>
         ensures { result ≡ word self.now event.now };
 }
 
-/// A thing that holds only within a round: an event that begins a round says that nothing holds.
+/// A topic that lasts only for a round: an event that begins a round clears it.
 #[derive(Clone, Copy)]
 pub(crate) struct InRound<T>(pub T);
 
@@ -39,7 +39,7 @@ impl<T: Topic> Topic for InRound<T> {
     }
 }
 
-/// Returns what the last event that speaks of a thing says.
+/// Returns the last word of some events on a topic.
 pub(crate) fn last_said<T: Topic>(topic: &T, events: &[Event]) -> Option<T::Word>
     ensures { result ≡ last_said (T.word topic.now) events.now }
 {
@@ -66,7 +66,7 @@ pub(crate) trait Account {
         ensures { result ≡ takes self.now event.now };
 }
 
-/// Returns what an account begins with, plus all that came in, minus all that went out.
+/// Returns an account's start, plus all that came in, minus all that went out.
 pub(crate) fn balance<A: Account>(account: &A, start: Amount, events: &[Event]) -> Money
     ensures sum { result ≡ balance start (A.brings account.now) (A.takes account.now) events.now }
     ensures within { IsModerate result }

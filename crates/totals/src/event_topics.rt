@@ -1,4 +1,4 @@
-//! The things that events speak of, and the accounts that they change.
+//! The topics of events, and the accounts that they change.
 ghost use Rattle.events.specs.Event.{bidding_of, obeyed_of, payment_of, transfer_of};
 ghost use Rattle.events.specs.Offers.{offered_in};
 ghost use Rattle.events.specs.Orders.{limit_in, par_of_baltimore_in, said_by};
@@ -133,7 +133,7 @@ impl Account for Shares {
     }
 }
 
-/// A seat's sale of shares of a company: how many go from the seat to the bank pool.
+/// A seat's sale of shares of a company: the number that goes from the seat to the bank pool.
 #[derive(Clone, Copy)]
 pub(crate) struct SaleBy(pub Company, pub Seat);
 

@@ -1,5 +1,5 @@
-//! A view of a game as it stood after some of its events. Here are its readers of cash, of the
-//! owners of privates, of the round, and of who has priority.
+//! A view of a game after some of its events, with its readers of cash, of the owners of privates,
+//! of the round, and of priority.
 ghost use Rattle.std.specs.Prelude.{◌≡◌, MatchOption, None, Some, [], length};
 ghost use Rattle.std.specs.Borrow.{Bor};
 ghost use Rattle.std.specs.Option.{ForSome};
@@ -19,16 +19,16 @@ use crate::totals::Totals;
 use events::{Event, Holder, Offer, Party};
 use tables::{Amount, Money, Private, Round, Seat, bank_start, face, start_money};
 
-/// A list of events with the number of seats: a game as it stood after them.
+/// A game after a list of events: the number of seats and the events.
 #[derive(Clone, Copy)]
 pub struct GameView<'a> {
     /// How many seats there are.
     pub seats: usize,
-    /// What had happened, oldest first.
+    /// The events so far, oldest first.
     pub events: &'a [Event],
-    /// What they say; `None` only if nothing has happened.
+    /// Their totals; `None` only if there are no events.
     totals: Option<&'a Totals>,
-    /// The sales that were offered in the round that began last; `None` if they are not kept.
+    /// The sales offered in the round that began last; `None` if they are not kept.
     offers: Option<&'a [(Seat, Offer)]>,
     ghost short: { FitsMemory events.now },
     ghost empty: { totals ≡ None → length events.now ≡ 0 },
@@ -37,7 +37,7 @@ pub struct GameView<'a> {
 }
 
 impl<'a> GameView<'a> {
-    /// Returns a game as it stood after these events, of which these are the totals.
+    /// Returns a view of a game after these events, given their totals.
     pub fn of(seats: usize, events: &'a [Event], totals: &'a Totals) -> GameView<'a>
         requires short { FitsMemory events.now }
         requires kept { AreTotalsOf totals.now events.now }
@@ -52,8 +52,8 @@ impl<'a> GameView<'a> {
         }
     }
 
-    /// Returns a game as it stood after these events, with their totals and the sales offered in
-    /// the round. There may be no totals if nothing has happened.
+    /// Returns a view of a game after these events, given their totals and the sales offered in the
+    /// round. The totals may be missing if there are no events.
     pub fn with_totals(
         seats: usize,
         events: &'a [Event],
@@ -74,7 +74,7 @@ impl<'a> GameView<'a> {
         }
     }
 
-    /// Returns the totals; there may be none if nothing has happened.
+    /// Returns the totals; `None` is possible only if there are no events.
     pub(crate) fn totals(&self) -> Option<&'a Totals>
         ensures { MatchOption result (self.now.events.now ≡ [])
             (λ totals. AreTotalsOf totals.now self.now.events.now) }
@@ -82,7 +82,7 @@ impl<'a> GameView<'a> {
         self.totals
     }
 
-    /// Returns the sales that were offered in the round that began last, if they are kept.
+    /// Returns the sales offered in the round that began last, if they are kept.
     pub(crate) fn offers(&self) -> Option<&'a [(Seat, Offer)]>
         ensures { ForSome result (λ offers. AreOffersOf offers.now self.now.events.now) }
     {
@@ -91,8 +91,8 @@ impl<'a> GameView<'a> {
 }
 
 impl GameView<'_> {
-    /// Returns what a party has, in dollars: its start money, plus all that came in, minus all that
-    /// went out.
+    /// Returns a party's cash, in dollars: its start money, plus all that came in, minus all that
+    /// went out. The bank's may be negative.
     pub fn cash(&self, party: Party) -> Money
         ensures sum { result ≡ cash_of self.now.seats self.now.events.now party }
         ensures within { IsModerate result }
@@ -140,7 +140,7 @@ impl GameView<'_> {
         self.owners().cheapest_unsold()
     }
 
-    /// Returns the price of SV in dollars, at first its face.
+    /// Returns the price of SV in dollars, at first its face value.
     pub fn sv_price(&self) -> Amount
         ensures { result ≡ sv_price_of self.now.events.now }
     {
@@ -180,7 +180,7 @@ impl GameView<'_> {
         }
     }
 
-    /// Returns the holder of priority: the seat at the left of the last seat that bought a private,
+    /// Returns the holder of priority: the seat to the left of the last seat that bought a private,
     /// bid on one, or bought or sold shares in its own turn. At first it is seat 0.
     pub fn priority(&self) -> Seat
         ensures { result ≡ priority_of self.now.seats self.now.events.now }

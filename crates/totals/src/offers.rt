@@ -22,8 +22,8 @@ impl GameView<'_> {
         }
     }
 
-    /// Returns whether the seat that gives a thing consents to its sale to this seat: they are the
-    /// same, or the giver has offered exactly this sale in this round.
+    /// Returns whether the giving seat consents to a sale to this seat: they are the same, or the
+    /// giver has offered exactly this sale in this round.
     pub fn has_consent(&self, giver: Seat, taker: Seat, sale: Offer) -> bool
         ensures { result ≡ has_consent self.now.events.now giver taker sale }
     {

@@ -7,7 +7,7 @@ use events::Event;
 use tables::{Company, PLAYERS_MOST, Seat};
 
 impl GameView<'_> {
-    /// Returns how many tokens a company has placed, including that of its home.
+    /// Returns how many tokens a company has placed, including its home token.
     pub fn tokens_placed(&self, company: Company) -> usize
         ensures { result ≡ tokens_placed self.now.events.now company }
     {
@@ -39,7 +39,7 @@ impl GameView<'_> {
     }
 }
 
-/// Returns how many lines of a seat's sheet were ruled since the last round began, by one look over
+/// Returns how many lines of a seat's sheet were ruled since the last round began, by one pass over
 /// the events.
 fn count_rulings(events: &[Event], seat: Seat) -> usize
     ensures { result ≡ rulings_in_round events.now seat }

@@ -9,7 +9,7 @@ ghost use Rattle.totals.specs.LookBack.{cheapest_in, is_sold_in, owner_in, owner
 use events::{Event, Holder};
 use tables::{PRIVATES, PerPrivate, Private};
 
-/// What was last said of the owner of each private, by one look over a list of events.
+/// The last word on the owner of each private, in a list of events.
 #[derive(Clone, Copy, Debug)]
 pub struct Owners {
     /// By the private's place in the roster; `None` if it is unsold.
@@ -17,7 +17,7 @@ pub struct Owners {
 }
 
 impl Owners {
-    /// Returns owners by which no private is sold.
+    /// Returns the owners before any private is sold.
     pub(crate) fn unsold() -> Owners
         ensures word { (private : Private) → word_in result private ≡ None }
         ensures cheapest { cheapest_in result ≡ Some SchuylkillValley }
@@ -27,7 +27,7 @@ impl Owners {
         }
     }
 
-    /// Applies what an event says of the owner of a private, if it speaks of one.
+    /// Applies an event's word on the owner of a private, if it has one.
     pub(crate) fn apply(&mut self, event: &Event)
         ensures { (private : Private) → word_in self.new private
             ≡ option_or (owner_said private (ownership_of event.now)) (word_in self.old private) }

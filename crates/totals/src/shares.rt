@@ -47,7 +47,7 @@ impl GameView<'_> {
         }
     }
 
-    /// Returns whether a company is started: its token has a square.
+    /// Returns whether a company has started: its token has a square.
     pub fn is_started(&self, company: Company) -> bool
         ensures { result ≡ is_started self.now.events.now company }
     {
@@ -99,7 +99,8 @@ impl GameView<'_> {
     }
 
     /// Returns the place in the list, from 0, of the event that set the square of a company's
-    /// token: the less it is, the earlier the token came there. It is 0 if the token has no square.
+    /// token: the less it is, the earlier the token arrived there. It is 0 if the token has no
+    /// square.
     pub fn arrival(&self, company: Company) -> usize
         ensures { result ≡ arrival_of self.now.events.now company }
     {
@@ -131,7 +132,7 @@ impl GameView<'_> {
     }
 }
 
-/// Returns how many shares of a company lie at a place at first.
+/// Returns how many shares of a company are at a place at first.
 fn start_shares(place: Shareholder) -> Amount
     ensures { result ≡ start_shares place }
 {

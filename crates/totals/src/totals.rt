@@ -1,5 +1,5 @@
-//! The totals of a list of events: what its readers return, kept while the events come. So reading
-//! a long list costs no more than reading a short one.
+//! The totals of a list of events: what its readers return, kept up to date as events are added. So
+//! reading a long list costs no more than reading a short one.
 ghost use Rattle.std.specs.Prelude.{◌≡◌, ◌++◌, ◌∷◌, ◌<◌, ◌^◌, [], List, length, true};
 ghost use Rattle.events.specs.declared.event.Event.{Event as TheEvent};
 ghost use Rattle.totals.specs.Totals.{AreTotalsOf, says_little};
@@ -21,11 +21,11 @@ use tables::{
     PerSeat, Round, Seat, Square,
 };
 
-/// What a list of events says: what was last said of each thing, `None` if nothing was. Tables are
-/// by the places of the privates and the companies in the roster, and by the numbers of seats.
-/// Balances of cash, shares and trains are what came to each party or place, minus what went from
-/// it. Companies' turns, seats' sales, rulings and limits are those of the round that began last.
-/// The greatest bids are of all bids that were ever made.
+/// What a list of events says: the last word on each topic, `None` if there was none. Tables are by
+/// the places of the privates and the companies in the roster, and by the numbers of seats.
+/// Balances of cash, shares and trains are what came in to each party or place, minus what went
+/// out. Companies' turns, seats' sales, rulings and limits are those of the round that began last.
+/// The greatest bids are of all bids ever made.
 #[derive(Clone, Copy)]
 pub struct Totals {
     /// How many events there are.
@@ -106,7 +106,7 @@ impl Totals {
         }
     }
 
-    /// Applies one more event that says little. Most events do, so that they cost little.
+    /// Applies one more event that says little. Most events are such, so that they cost little.
     fn apply_to_rulings(&mut self, event: &Event)
         requires { says_little event.now ≡ true }
         ensures { (events : List TheEvent) →
@@ -154,8 +154,7 @@ impl Totals {
     }
 }
 
-/// Returns whether an event says no more than what became of a line, that a seat passes, or how
-/// many lines are left.
+/// Returns whether an event only rules a line, lets a seat pass, or counts lines not taken up.
 fn says_little(event: &Event) -> bool
     ensures { result ≡ says_little event.now }
 {

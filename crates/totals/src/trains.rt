@@ -1,4 +1,4 @@
-//! Trains: who has which, how many the bank has sold, and the phase.
+//! Trains: their owners, how many the bank has sold, and the phase.
 ghost use Rattle.std.specs.Prelude.{◌≡◌};
 ghost use Rattle.totals.specs.LookBack.{IsModerate};
 ghost use Rattle.totals.specs.Trains.{phase_of, at_least_zero, train_count, trains_at, trains_held, trains_sold};
@@ -45,7 +45,7 @@ impl GameView<'_> {
         }
     }
 
-    /// Returns how many trains of a kind the bank has sold; no train comes back to it.
+    /// Returns how many trains of a kind the bank has sold; none returns to its stock.
     pub fn trains_sold(&self, kind: Kind) -> usize
         ensures { result ≡ trains_sold self.now.events.now kind }
     {
@@ -63,7 +63,7 @@ impl GameView<'_> {
     }
 }
 
-/// Returns a count as a number that is not negative: 0 if it is under 0.
+/// Returns a count, or 0 if it is negative.
 pub fn at_least_zero(count: Money) -> u128
     ensures { result ≡ at_least_zero count }
 {

@@ -24,7 +24,7 @@ use history::{GameView, History, Holder, Party};
 use tables::{COMPANIES, Company, Money, PLAYERS_MOST, PerCompany, PerSeat, Seat};
 use thiserror::Error;
 
-/// What each party of a game has.
+/// The cash of each party of a game, in dollars.
 #[derive(Clone, Copy, Debug)]
 pub struct Accounts {
     bank: Money,
@@ -38,8 +38,7 @@ pub struct Accounts {
 pub struct Short;
 
 impl Accounts {
-    /// Returns the accounts of a game as it stands, read from the totals that it keeps of its
-    /// events.
+    /// Returns the accounts of a game, read from the totals of its events.
     pub fn of(history: &History) -> Accounts
         ensures accounts { AreAccountsOf history.now result }
         ensures moderate { AreModerate result }
@@ -47,7 +46,7 @@ impl Accounts {
         Accounts::at(&history.now())
     }
 
-    /// Returns the accounts of a game as it stood.
+    /// Returns the accounts of a view of a game.
     pub fn at(view: &GameView) -> Accounts
         ensures accounts { AreAccountsAt view.now result }
         ensures moderate { AreModerate result }
@@ -59,8 +58,8 @@ impl Accounts {
         }
     }
 
-    /// Returns what a party has, in dollars; the bank's cash may be under 0. Of the seats the first
-    /// six have accounts, and the others have 0.
+    /// Returns a party's cash, in dollars; the bank's may be negative. Only the first six seats
+    /// have accounts; other seats have 0.
     pub fn cash(&self, party: Party) -> Money
         ensures { result ≡ cash_in self.now party }
     {
@@ -74,7 +73,7 @@ impl Accounts {
     }
 
     /// Pays a sum of 0 to 1,000,000 dollars from one party to another. The error is `Short` if the
-    /// payer is a player or a company and has less; then nothing changes. What is paid to a seat
+    /// payer is a player or a company and has less; then nothing changes. Money paid to a seat
     /// without an account leaves the accounts.
     pub fn pay(&mut self, from: Party, to: Party, sum: Money) -> Result<(), Short>
         requires sum { IsSum sum }

@@ -1,8 +1,8 @@
-//! The treasury: what each party of a game has, and payments between them.
+//! The treasury: the cash of each party of a game, and payments between them.
 //!
-//! The accounts are a small table that is read from the totals that a game keeps of its events. A
-//! payment moves its sum and nothing else. If a player or a company has too little, it is refused
-//! and nothing changes. The bank pays on credit.
+//! The accounts are a small table, read from the totals of a game's events. A payment moves its sum
+//! and nothing else. If a player or a company has too little, the payment is refused and nothing
+//! changes. The bank pays on credit.
 //!
 //! Reading order: `accounts`.
 #![tactic(auto)]

@@ -24,12 +24,12 @@ use sheets::{PartsLeft, Sheets};
 use std::alloc::AllocError;
 use tables::{PLAYERS_MOST, Round, Seat};
 
-/// What is still to come of each seat's sheet, by seat.
+/// The rest of each seat's sheet, by seat.
 type Unruled<'a> = ArrayVec<PartsLeft<'a>, PLAYERS_MOST>;
 
 /// Plays a round of turns with the sheets for it; a seat without a sheet passes. The list of events
 /// must be sound, its seats must be those of the sheets' players, and the round must be one that
-/// may begin. Fails only if allocation fails, and the game is dropped.
+/// may begin. Fails only if allocation fails, and then drops the game.
 pub fn play_round<T: TurnRules>(
     rules: &T,
     mut history: History,
@@ -110,7 +110,7 @@ fn rule_all_standing<'a, T: TurnRules>(
     Ok(unruled)
 }
 
-/// Rules the standing lines of a seat's sheet, those before its first written turn.
+/// Rules the standing lines of a seat's sheet, the lines before its first written turn.
 fn rule_standing<T: TurnRules>(
     rules: &T,
     history: &mut History,

@@ -1,4 +1,4 @@
-//! The trait `TurnRules`, by which a kind of round that is played in turns has rules of its own.
+//! The trait `TurnRules`, with the rules of one kind of round that is played in turns.
 ghost use Rattle.std.specs.Prelude.{◌≡◌, ◌≤◌, ◌<◌, ℕ, List, OnOk, IfOk, false};
 ghost use Rattle.events.specs.declared.event.Event.{Event};
 ghost use Rattle.events.specs.declared.event.Event.TheVariants as event;
@@ -18,7 +18,7 @@ use std::alloc::AllocError;
 use tables::Seat;
 
 /// The rules of one kind of round of turns. Each call that changes the game fails only if
-/// allocation fails, and the game is dropped then.
+/// allocation fails, after which the game is dropped.
 pub trait TurnRules {
     /// What a seat has done in a turn.
     type TurnActions: Copy;
@@ -26,7 +26,7 @@ pub trait TurnRules {
     /// The rules of such a round.
     ghost rules: { RoundRules Self.TurnActions };
 
-    /// What such a round needs of the list before it, besides soundness.
+    /// What such a round requires of the list before it, besides soundness.
     ghost may_begin: { List Event → Type 0 };
 
     /// What holds of the game from the ROUND event on.
@@ -51,8 +51,8 @@ pub trait TurnRules {
     fn nothing(&self) -> Self::TurnActions
         ensures { result ≡ rules.nothing };
 
-    /// Rules a line of a written turn, and does what it orders if it is obeyed. Overwrites `order`.
-    /// Returns what the seat has done in its turn by then.
+    /// Rules a line of a written turn, and carries it out if it is obeyed. Overwrites `order`.
+    /// Returns what the seat has done in its turn so far.
     fn rule_line(
         &self,
         history: &mut History,
@@ -79,7 +79,7 @@ pub trait TurnRules {
     fn is_over(&self, history: &History) -> bool
         ensures { result ≡ rules.over history.now.events };
 
-    /// Does what follows the turns.
+    /// Carries out what follows the turns.
     fn close(&self, history: &mut History) -> Result<(), AllocError>
         requires few { history.old.seats ≤ 6 }
         requires some { 0 < history.old.seats }
@@ -97,12 +97,12 @@ pub trait TurnRules {
         → IsSound (with_event game (event.Round round))
         → holds (with_event game (event.Round round)) };
 
-    /// A pass keeps what holds.
+    /// A pass keeps `holds` true.
     ghost passes: { (game : Game) (seat : Seat) → holds game
         → IsSound (with_event game (event.Passes seat))
         → holds (with_event game (event.Passes seat)) };
 
-    /// So does a count of lines that were not taken up.
+    /// So does the count of lines that were not taken up.
     ghost leaves: { (game : Game) (seat : Seat) (lines : ℕ) → holds game
         → IsSound (left_recorded seat lines game) → holds (left_recorded seat lines game) };
 

@@ -1,4 +1,4 @@
-//! The one way to rule a line: what becomes of it, recorded.
+//! The one way to rule a line and record the result.
 ghost use Rattle.std.specs.Prelude.{◌≡◌, Bool, IfOk, MatchResult, OnOk, Option, Ok, Err, is_none};
 ghost use Rattle.events.specs.declared.event.Event.TheVariants as event;
 ghost use Rattle.events.specs.declared.ruling.Refusal.{Refusal as RefusalCode};
@@ -17,19 +17,19 @@ use sheets::{ReadLine, UnreadLine};
 use std::alloc::AllocError;
 use tables::Seat;
 
-/// The rules of one kind of line: which orders have a place in it, and by which rules those are
+/// The rules of one kind of line: which orders are allowed in it, and by which rules they are
 /// judged.
 pub trait Family {
-    /// The orders that have a place in such a line.
+    /// The orders that are allowed in such a line.
     ghost place: { OrderOfPlay → Bool };
 
-    /// The first rule that an order of a seat breaks, by the game so far.
+    /// The first rule that an order of a seat breaks, given the game so far.
     ghost judgement: { Self → Game → SeatNumber → OrderOfPlay → Option RefusalCode };
 
-    /// What judging needs of the game and the seat.
+    /// What judging requires of the game and the seat.
     ghost may_judge: { Game → SeatNumber → Type 0 };
 
-    /// Returns whether an order has a place in such a line.
+    /// Returns whether an order is allowed in such a line.
     fn has_place(&self, order: &Order) -> bool
         ensures { result ≡ place order.now };
 
@@ -40,8 +40,8 @@ pub trait Family {
 }
 
 /// Rules a line of a seat's sheet by its own fault, its place, its condition and its rules, in this
-/// order, and records what becomes of it. Overwrites `order`. Returns whether that order is obeyed
-/// and is to be done. Fails only if allocation fails.
+/// order, and records the result. Overwrites `order`. Returns whether that order is obeyed; the
+/// caller then carries it out. Fails only if allocation fails.
 pub fn rule_line<F: Family>(
     family: &F,
     history: &mut History,
@@ -68,8 +68,8 @@ pub fn rule_line<F: Family>(
     }
 }
 
-/// Reads a line and overwrites `order` with its order. The error is its fault; the last fault is
-/// that its order has no place there.
+/// Reads a line and overwrites `order` with its order. The error is its fault; the last one checked
+/// is that its order is out of place.
 fn placed<F: Family>(family: &F, line: UnreadLine, order: &mut Order) -> Result<ReadLine, Fault>
     ensures placed { MatchResult result
         (λ read. placed_reading F.place (line_unread line.entry).reading ≡ Ok order.new)
@@ -84,9 +84,9 @@ fn placed<F: Family>(family: &F, line: UnreadLine, order: &mut Order) -> Result<
     }
 }
 
-/// Rules an order that has a place in a line by the line's condition and the rules of its family,
-/// and records what becomes of it. Returns whether it is obeyed and is to be done. Fails only if
-/// allocation fails.
+/// Rules an order that is allowed in a line by the line's condition and the rules of its family,
+/// and records the result. Returns whether it is obeyed; the caller then carries it out. Fails only
+/// if allocation fails.
 pub fn rule_order<F: Family>(
     family: &F,
     history: &mut History,
@@ -111,7 +111,7 @@ pub fn rule_order<F: Family>(
 }
 
 /// Returns the first rule that an order of a seat in a line breaks; `None` if it breaks none. Its
-/// condition comes before the rules of its family.
+/// condition is checked before the rules of its family.
 fn judge_under<F: Family>(
     family: &F,
     history: &History,
@@ -130,8 +130,8 @@ fn judge_under<F: Family>(
     }
 }
 
-/// Records what becomes of the order of a line under its condition, if it has one: it breaks this
-/// rule first, or none. Returns whether it is obeyed. Fails only if allocation fails.
+/// Records the result of a line's order, with its condition if it has one, given the first rule
+/// that it breaks, if any. Returns whether it is obeyed. Fails only if allocation fails.
 pub fn record(
     history: &mut History,
     seat: Seat,
@@ -150,8 +150,8 @@ pub fn record(
     record_packed(history, seat, line.number, packed, broken)
 }
 
-/// Records what becomes of the packed order of the line with this number: it breaks this rule
-/// first, or none. Returns whether it is obeyed. Fails only if allocation fails.
+/// Records the result of the packed order of the line with this number, given the first rule that
+/// it breaks, if any. Returns whether it is obeyed. Fails only if allocation fails.
 pub fn record_packed(
     history: &mut History,
     seat: Seat,

@@ -1,4 +1,4 @@
-//! The turn of a seat, in which the lines of its next written turn are ruled.
+//! The turn of a seat, which rules the lines of its next written turn.
 ghost use Rattle.std.specs.Prelude.{◌≡◌, ◌≤◌, ◌<◌, OnOk, IfOk, drop};
 ghost use Rattle.sheets.specs.Part.{written_turns_of};
 ghost use Rattle.tables.specs.Turns.{next_written_turn};
@@ -40,7 +40,7 @@ pub(crate) fn take_turn<T: TurnRules>(
     Ok(rules.has_acted(actions))
 }
 
-/// Rules the lines of a written turn. Returns what the seat has done by them.
+/// Rules the lines of a written turn. Returns what the seat has done in them.
 fn rule_lines<T: TurnRules>(
     rules: &T,
     history: &mut History,

@@ -11,10 +11,11 @@ use crate::output::write_text;
 use crate::watched::Watched;
 use std::io::Write;
 
-/// From how many bytes on a text is written; a shorter one is gathered with what follows it.
+/// The number of bytes from which on a text is written at once; a shorter one is gathered with what
+/// follows it.
 const PIECE: usize = 65_536;
 
-/// Adds a text after what is gathered, and writes what has become long enough. At most two pieces
+/// Adds a text to the gathered ones, and writes them once they are long enough. At most two pieces
 /// are gathered.
 pub(crate) fn put<W: Write>(
     gathered: &mut Vec<u8>,
@@ -39,7 +40,7 @@ pub(crate) fn put<W: Write>(
     Ok(())
 }
 
-/// Writes what is gathered, if it has become long enough.
+/// Writes what is gathered, if it is long enough.
 fn make_room<W: Write>(gathered: &mut Vec<u8>, writer: &mut Watched<W>) -> Result<(), Fault>
     requires { has_failed writer.old ≡ false }
     ensures ok { OnOk result (Gathers (W.contents (inside writer.old))

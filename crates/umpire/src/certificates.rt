@@ -1,5 +1,5 @@
-//! Certificates, written. For each company that ran its best they have what it ran, and marks by
-//! which anybody checks without a search that it could not earn more.
+//! Writing certificates. For each company that ran its best they have its runs, and marks with
+//! which anybody can check, without a search, that it could not earn more.
 ghost use Rattle.best_run.specs.Keeping.{KeepsBest};
 ghost use Rattle.operating.specs.Calls.{Makes};
 ghost use Rattle.rounds.specs.Steps.{ComesNearer, IsUnbroken, StepCalls, StepLeads};
@@ -29,12 +29,12 @@ use std::io::{Read, Write};
 
 /// Reads an order file to its end, or to the first byte past the greatest size of a file, and
 /// writes the certificates of its game. They are `CERTS 1`, and for each RUN BEST that is obeyed,
-/// in order, a group that `verify` accepts. The game is played a round at a time, and what was
-/// found in a round is written before the next. No more than one round's marks are held at a time.
-/// The writer then holds what it held before, and after it, at
+/// in order, a group that `verify` accepts. It plays the game a round at a time, and writes what it
+/// found in a round before the next, so that it holds only one round's marks at a time. The writer
+/// then holds what it held before, followed, for each result, by
 ///
-/// - `Ok`: that text, whole;
-/// - `File`, if the file is refused: the one line that says so, whole;
+/// - `Ok`: the whole text;
+/// - `File`, if the file is refused: the whole line that says so;
 /// - `Read`, if a read failed: nothing more;
 /// - `Write`, if a write failed or took nothing, and `Memory`, if an allocation failed: a prefix of
 ///   the text of groups that certify the game's first calls, or of that line, or nothing more.
@@ -111,7 +111,7 @@ fn write_game<W: Write>(
     }
 }
 
-/// Writes the line with which a text of certificates begins.
+/// Writes the first line of a text of certificates.
 fn write_head<W: Write>(alloc: Global, writer: &mut Watched<W>) -> Result<(), Fault>
     requires { has_failed writer.old ≡ false }
     ensures ok { OnOk result (Appends (W.contents (inside writer.old))
@@ -127,8 +127,7 @@ fn write_head<W: Write>(alloc: Global, writer: &mut Watched<W>) -> Result<(), Fa
     Ok(())
 }
 
-/// Takes a step of a play that was not broken off, in which the best runs are searched for and
-/// kept.
+/// Takes a step of a play that was not broken off, searching for the best runs and keeping them.
 fn step(play: &mut Play, keeping: &mut Keeping) -> Result<Step, AllocError>
     requires { IsUnbroken play.old }
     ensures step { IfOk result (λ step. StepLeads play.old (Ok step) play.new) }
@@ -142,7 +141,7 @@ fn step(play: &mut Play, keeping: &mut Keeping) -> Result<Step, AllocError>
     }
 }
 
-/// Writes the texts of groups, one after the other.
+/// Writes the texts of groups, one after another.
 fn write_groups<W: Write>(
     alloc: Global,
     groups: &[Group],

@@ -8,7 +8,7 @@ use std::alloc::AllocError;
 use tables::{Company, Round};
 use thiserror::Error;
 
-/// Why the umpire stopped before its report was written whole.
+/// Why the umpire stopped before it had written its whole report.
 #[derive(Clone, Copy, Debug, PartialEq, Eq, Drop, Error)]
 pub enum Fault {
     /// A read failed.
@@ -20,11 +20,11 @@ pub enum Fault {
     /// An allocation failed.
     #[error("memory ran out")]
     Memory,
-    /// The order file is refused as a whole, and the line that says so is written.
+    /// The order file is refused as a whole, and the line that says so was written.
     #[error("the order file is refused: {0}")]
     File(FileFault),
-    /// The best runs of a company in a round have no group that shows them, and the line that says
-    /// so is written.
+    /// No group shows the best runs of this company in this round, and the line that says so was
+    /// written.
     #[error("a certificate is refused")]
     Certificate(Round, Company),
 }
@@ -51,7 +51,7 @@ pub fn status(outcome: &Result<(), Fault>) -> u8
     }
 }
 
-/// Returns the word for a fault on standard error; empty for a refused file or certificate, of
+/// Returns the word for a fault on standard error; empty for a refused file or certificate, for
 /// which a line was written.
 pub fn word(fault: &Fault) -> &'static str
     ensures { result.now ≡ word_of fault.now }

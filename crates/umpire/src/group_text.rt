@@ -8,8 +8,8 @@ use certificate::{BitReader, ClaimedRun, Group};
 use order_grammar::{MARKS_DIGITS_MOST, Order, print_order};
 use std::alloc::AllocError;
 
-/// Adds the line with which a text of certificates begins. Fails only if allocation fails; then a
-/// part may be added.
+/// Adds the first line of a text of certificates. Fails only if allocation fails; then a part of it
+/// may have been added.
 pub(crate) fn print_certs(text: &mut Vec<u8>) -> Result<(), AllocError>
     ensures { OnOk result (text.new.items ≡ text.old.items ++ order_line Certs) }
 {
@@ -17,7 +17,7 @@ pub(crate) fn print_certs(text: &mut Vec<u8>) -> Result<(), AllocError>
 }
 
 /// Adds the lines of a group before its marks: its CERT line, and a CLAIM line for each run. Fails
-/// only if allocation fails; then a part may be added.
+/// only if allocation fails; then a part may have been added.
 pub(crate) fn print_claim(text: &mut Vec<u8>, group: &Group) -> Result<(), AllocError>
     ensures { OnOk result (text.new.items ≡ text.old.items ++ claim_text group.now) }
 {
@@ -31,7 +31,7 @@ pub(crate) fn print_claim(text: &mut Vec<u8>, group: &Group) -> Result<(), Alloc
 }
 
 /// Adds a MARKS line of the next marks: 1,000 digits, or all if fewer are left. Fails only if
-/// allocation fails; then a part may be added.
+/// allocation fails; then a part may have been added.
 pub(crate) fn print_marks(text: &mut Vec<u8>, marks: &mut BitReader) -> Result<(), AllocError>
     ensures printed { OnOk result (text.new.items ≡ text.old.items ++ marks_line marks.old) }
     ensures left { OnOk result (marks.new ≡ drop 4000 marks.old) }

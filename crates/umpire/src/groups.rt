@@ -12,7 +12,7 @@ use sheets::{LineAndRest, first_line};
 use std::alloc::{AllocError, Global};
 
 /// Returns the next line of a text of certificates that begins a group, and the text after it.
-/// `None` means that none is left.
+/// `None` if none is left.
 pub(crate) fn next_head(text: &[u8]) -> Option<LineAndRest<'_>>
     ensures { MatchOption result (groups_of text.now ≡ [])
         (λ head. groups_of text.now ≡
@@ -28,7 +28,7 @@ pub(crate) fn next_head(text: &[u8]) -> Option<LineAndRest<'_>>
     None
 }
 
-/// A group that is read, and the text from the first line on that was not taken into it.
+/// A group that was read, and the text from the first line after it.
 #[derive(Drop)]
 pub(crate) struct GroupAndRest<'a> {
     pub(crate) group: Option<Group>,
@@ -36,9 +36,9 @@ pub(crate) struct GroupAndRest<'a> {
 }
 
 /// Reads a group for this many trains, from its CERT line and the text after that, up to the next
-/// CERT line. `None` is a group that is malformed, or claims more runs than there are trains. So
-/// one run more than that is the most that is held. The rest has the groups that the text has.
-/// Fails only if allocation fails.
+/// CERT line. The group is `None` if it is malformed or claims more runs than there are trains, so
+/// that at most one run more than that is held. The rest has all further groups of the text. Fails
+/// only if allocation fails.
 pub(crate) fn read_group<'a>(
     alloc: Global,
     head: &[u8],
@@ -82,7 +82,7 @@ fn begins_group(line: &[u8]) -> bool
     begins_with_word(line, b"CERT")
 }
 
-/// Returns what a CERT line begins; `None` if it is not spelt.
+/// Returns the group that a CERT line begins; `None` if the line has a fault.
 fn group_begun(alloc: Global, head: &[u8]) -> Option<Group>
     ensures { result ≡ group_begun (cert_reading_of head.now) }
 {
@@ -105,7 +105,7 @@ fn group_begun(alloc: Global, head: &[u8]) -> Option<Group>
 }
 
 /// Takes a line into a group. Returns `false` if the line makes the group malformed; then the group
-/// stays as it was.
+/// does not change.
 #[tactic(auto, unfolding(crate::specs::Groups::with_line))]
 fn take_line(group: &mut Group, line: &[u8]) -> Result<bool, AllocError>
     ensures { IfOk result (λ taken. group_if taken group.new ≡ with_line group.old line.now) }

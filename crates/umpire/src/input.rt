@@ -1,5 +1,5 @@
-//! Reads the input piece by piece, up to a limit: an order file is read no further than the first
-//! byte past its greatest size.
+//! Reads the input piece by piece, up to a limit: it reads an order file no further than the first
+//! byte past the greatest size.
 ghost use Rattle.std.specs.Io.KnownBytes.{Consumes};
 ghost use Rattle.std.specs.Prelude.{◌≡◌, false, IfOk, IfErr, OnOk, IfSome};
 ghost use Rattle.umpire.specs.Failure.{TakesAtMost, TakesWithin};
@@ -30,7 +30,7 @@ pub(crate) fn read_file<R: Read>(alloc: Global, reader: &mut Watched<R>) -> Resu
     read_first(alloc, FILE_MOST + 1, reader)
 }
 
-/// Reads this many bytes, or all if there are no more.
+/// Reads this many bytes, or all if there are fewer.
 pub(crate) fn read_first<R: Read>(
     alloc: Global,
     most: usize,

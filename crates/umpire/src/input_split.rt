@@ -19,8 +19,8 @@ pub struct Parted<'a> {
 }
 
 /// Splits the input of a check of certificates at its last line `CERTS 1` of at most 2,048 bytes.
-/// The order file is all before that line, without the one LF that ends it. If there is no such
-/// line, the order file is the whole input, and there are no certificates.
+/// The order file is everything before that line, without the one LF at its end. If there is no
+/// such line, the order file is the whole input, and there are no certificates.
 pub fn part(input: &[u8]) -> Parted<'_>
     ensures file { result.file.now ≡ order_file_of input.now }
     ensures certificates { result.certificates.now ≡ certificates_of input.now }
@@ -37,7 +37,7 @@ pub fn part(input: &[u8]) -> Parted<'_>
     }
 }
 
-/// Returns what is in a text from its last line `CERTS 1` on.
+/// Returns the part of a text from its last line `CERTS 1` on.
 fn from_divider(text: &[u8]) -> Option<&[u8]>
     ensures { MatchOption result (from_divider true text.now ≡ None)
         (λ found. from_divider true text.now ≡ Some found.now) }
@@ -53,13 +53,14 @@ fn from_divider(text: &[u8]) -> Option<&[u8]>
     found
 }
 
-/// Returns whether a line is `CERTS 1`, of at most 2,048 bytes. For most lines the first word
-/// decides, and they are not read further.
+/// Returns whether a line is `CERTS 1`, of at most 2,048 bytes. Most lines are ruled out by their
+/// first word, and not read further.
 #[tactic(auto, unfolding(crate::specs::InputSplit::is_divider))]
 fn is_divider(line: &[u8]) -> bool
     ensures { result ≡ is_divider line.now }
 {
-    // A law, which does nothing when it runs: what is read as an order has its words.
+    // A law, which does nothing when it runs: a line that is read as an order has the order's
+    // words.
     order_grammar::laws::cert_line_read_where_spelt();
     begins_with_word(line, b"CERTS")
         && matches!(
@@ -71,7 +72,7 @@ fn is_divider(line: &[u8]) -> bool
         )
 }
 
-/// Returns a text without the one LF that ends it.
+/// Returns a text without the one LF at its end.
 fn without_newline(text: &[u8]) -> &[u8]
     ensures { result.now ≡ without_newline text.now }
 {

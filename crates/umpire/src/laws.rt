@@ -14,8 +14,8 @@ pub fn joined_is_parted()
     ensures { PartsWhatWasJoined }
 {}
 
-/// States that groups whose lines have a spelling are read again as they were written, except that
-/// the last digit of their bits is filled up.
+/// States that groups whose lines have a spelling are read back as they were written, except that
+/// the last digit of their bits is padded.
 pub fn certificates_are_read_again()
     ensures { ReadsBack }
 {}

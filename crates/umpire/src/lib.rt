@@ -1,6 +1,6 @@
 //! The umpire: bytes of an order file in, bytes of its report out. The report is written part by
-//! part, so that memory holds the text of one part at a time: the header, a round, 4,096 unread
-//! lines, or the end.
+//! part, so that memory holds the text of only one part at a time: the header, a round, 4,096
+//! unread lines, or the end.
 //!
 //! An order file in memory, `FIRST`, and its report:
 //!
@@ -14,11 +14,11 @@
 //!
 //! Reading order: `watched` (readers and writers that remember a failure), `fault`, `input`,
 //! `output` (a text), `refusal` (of a file), `report_end` (what follows the rounds of a report),
-//! `program` (the report, and `run`); `certificates` (those of a game, written), `group_text` (how
-//! a group is written), `input_split` (an order file and the text of certificates after it),
-//! `groups` (how one is read from that text), `verifier` (a runner that goes by them),
-//! `verification` (the game of a file, judged by them); `buffered_write` (a text that is written in
-//! long pieces), `migration` (a file that migrates to version 2); `laws`, `migration_laws`.
+//! `program` (the report, and `run`); `certificates` (writing those of a game), `group_text` (how a
+//! group is written), `input_split` (an order file and the text of certificates after it), `groups`
+//! (how one is read from that text), `verifier` (a runner that reads its results from them),
+//! `verification` (the game of a file, checked by them); `buffered_write` (writing a text in long
+//! pieces), `migration` (migrating a file to version 2); `laws`, `migration_laws`.
 #![tactic(auto)]
 
 mod buffered_write;

@@ -1,5 +1,5 @@
-//! Migrates an order file to version 2: it gets the header of that version. A line that would
-//! become a condition gets an X before it, so that it still has a fault.
+//! Migrates an order file to version 2: it gets the header of that version, and a line that would
+//! become a conditional order gets an X before it, so that it still has a fault.
 ghost use Rattle.order_grammar.specs.Words.{before_comment, is_printable};
 ghost use Rattle.std.specs.Io.KnownBytes.{Appends};
 ghost use Rattle.std.specs.List.{list_all};
@@ -26,11 +26,11 @@ use std::io::{Read, Write};
 const HEADER: &[u8] = b"GAME 1830 2";
 
 /// Reads an order file to its end, or to the first byte past the greatest size of a file, and
-/// writes the file of version 2 to which it migrates. The writer then holds what it held before,
-/// and after it, at
+/// writes the file of version 2 that it migrates to. The writer then holds what it held before,
+/// followed, for each result, by
 ///
-/// - `Ok`: the new file, whole;
-/// - `File`, if the file is refused: the one line that says so, whole;
+/// - `Ok`: the whole new file;
+/// - `File`, if the file is refused: the whole line that says so;
 /// - `Read`, if a read failed: nothing more;
 /// - `Write`, if a write failed or took nothing: a prefix of the new file, or of that line;
 /// - `Memory`, if an allocation failed: the same, or nothing more.
@@ -55,7 +55,7 @@ pub fn migrate<R: Read, W: Write>(
     write_migration(alloc, file.as_slice(), writer)
 }
 
-/// Writes the file to which a file migrates, or the line that says why it is refused.
+/// Writes the file that a file migrates to, or the line that says why it is refused.
 fn write_migration<W: Write>(
     alloc: Global,
     file: &[u8],
@@ -78,7 +78,7 @@ fn write_migration<W: Write>(
     }
 }
 
-/// Writes the file of version 2 that stands for a file of version 1.
+/// Writes the file of version 2 that a file of version 1 migrates to.
 fn write_in_two<W: Write>(alloc: Global, file: &[u8], writer: &mut Watched<W>) -> Result<(), Fault>
     requires { has_failed writer.old ≡ false }
     ensures ok { OnOk result (Appends (W.contents (inside writer.old))
@@ -94,7 +94,7 @@ fn write_in_two<W: Write>(alloc: Global, file: &[u8], writer: &mut Watched<W>) -
     Ok(())
 }
 
-/// Adds the file of version 2 that stands for a file of version 1 after what is gathered.
+/// Adds the file of version 2 that a file of version 1 migrates to, after what is gathered.
 fn put_in_two<W: Write>(
     gathered: &mut Vec<u8>,
     file: &[u8],
@@ -150,7 +150,7 @@ fn put_body<W: Write>(
     ensures prefix { OnErr result (AppendsPrefix (W.contents (inside writer.old))
         (W.contents (inside writer.new)) (gathered.old.items ++ body_in_two text.now)) }
 {
-    // The text that is not added yet; the lines from `rest` on are ahead.
+    // The text that is not added yet. The lines from `rest` on are still to be looked at.
     let mut kept = text;
     let mut rest = text;
     while let Some(piece) = first_line(rest) {
@@ -182,7 +182,7 @@ fn is_if_line(line: &[u8]) -> bool
     begins_with_word(line, b"IF") && is_clean(line)
 }
 
-/// Returns whether a line has neither of the faults that come before those of its words.
+/// Returns whether a line has neither of the faults that are checked before its words.
 fn is_clean(line: &[u8]) -> bool
     ensures { result ≡ is_clean line.now }
 {

@@ -2,13 +2,13 @@
 ghost use Rattle.umpire.specs.MigrationLaws.{AcceptedSaysTheSame, GoesOverOnce, GrowsNoLonger};
 ghost use Rattle.umpire.specs.MigrationLaws.{MigrationChangesNoReport, RefusedAlike};
 
-/// States that a file that has migrated to version 2 stays as it is if it migrates again.
+/// States that migrating a file a second time does not change it.
 pub fn file_goes_over_once()
     ensures { GoesOverOnce }
 {}
 
-/// States that the migrated file has no more bytes than the file. The header line has at least
-/// eleven, and `X` is no longer than any line that begins with IF.
+/// States that the migrated file is not longer than the file. The header line has at least eleven,
+/// and `X` is no longer than any line that begins with IF.
 pub fn file_grows_no_longer()
     ensures { GrowsNoLonger }
 {}
@@ -19,8 +19,8 @@ pub fn file_is_refused_alike()
     ensures { RefusedAlike }
 {}
 
-/// States that a file that is not refused migrates to a file of version 2 with the same players,
-/// the same unread lines, the same sheets and their parts.
+/// States that an accepted file migrates to a file of version 2 with the same players, the same
+/// unread lines, the same sheets and their parts.
 pub fn file_says_the_same()
     ensures { AcceptedSaysTheSame }
 {}

@@ -1,4 +1,4 @@
-//! Writes a text whole, in as many writes as the writer needs.
+//! Writes a whole text, in as many writes as the writer needs.
 ghost use Rattle.std.specs.Io.KnownBytes.{Appends};
 ghost use Rattle.std.specs.Prelude.{◌≡◌, true, false, IfErr, OnErr, OnOk};
 ghost use Rattle.umpire.specs.Failure.{AppendsPrefix};

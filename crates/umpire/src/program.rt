@@ -24,10 +24,10 @@ use std::io::{Read, Write};
 
 /// Reads an order file to its end, or to the first byte past the greatest size of a file, and
 /// writes its report, part by part. No more than the text of one round, or of 4,096 unread lines,
-/// is held at a time. The writer then holds what it held before, and after it, at
+/// is held at a time. The writer then holds what it held before, followed, for each result, by
 ///
-/// - `Ok`: the report, whole;
-/// - `File`, if the file is refused: the one line that says so, whole;
+/// - `Ok`: the whole report;
+/// - `File`, if the file is refused: the whole line that says so;
 /// - `Read`, if a read failed: nothing more;
 /// - `Write`, if a write failed or took nothing: a prefix of the report;
 /// - `Memory`, if an allocation failed: a prefix of the report, or nothing more.
@@ -66,7 +66,7 @@ fn write_answer<W: Write>(alloc: Global, file: &[u8], writer: &mut Watched<W>) -
         (W.contents (inside writer.old)) (W.contents (inside writer.new))
         false (has_failed writer.new)) }
 {
-    // The law of `run` again.
+    // The same law as in `run`.
     report::laws::some_report();
     match collect(alloc, file) {
         Ok(sheets) => write_game(alloc, &sheets, writer),
@@ -91,7 +91,7 @@ fn write_game<W: Write>(
         (W.contents (inside writer.old)) (W.contents (inside writer.new))
         false (has_failed writer.new)) }
 {
-    // Laws, which do nothing when they run: the file has a report, and its parts make it up.
+    // Laws, which do nothing when they run: the file has a report, which is made of its parts.
     report::laws::some_report();
     report::laws::parts_are_the_report();
     write_header(alloc, sheets, writer)?;
@@ -120,8 +120,8 @@ pub(crate) fn write_header<W: Write>(
     Ok(())
 }
 
-/// Plays the game as far as its sheets go, and writes the text of each round before the next is
-/// played.
+/// Plays the game as far as its sheets go, and writes the text of each round before it plays the
+/// next.
 fn write_rounds<W: Write>(
     alloc: Global,
     play: &mut Play,
@@ -144,7 +144,7 @@ fn write_rounds<W: Write>(
     Ok(())
 }
 
-/// Takes a step of a play that was not broken off, in which the greatest revenue is searched for.
+/// Takes a step of a play that was not broken off, searching for the greatest revenues.
 fn step(play: &mut Play, search: &mut Search) -> Result<Step, AllocError>
     requires { IsUnbroken play.old }
     ensures step { IfOk result (λ step. StepLeads play.old (Ok step) play.new) }

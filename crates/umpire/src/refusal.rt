@@ -14,7 +14,7 @@ use sheets::FileFault;
 use std::alloc::Global;
 use std::io::Write;
 
-/// Writes that a file is refused. Returns the fault with which the program ends: that refusal, or
+/// Writes that a file is refused. Returns the fault that the program ends with: that refusal, or
 /// what stopped the writing.
 pub(crate) fn refuse<W: Write>(alloc: Global, fault: FileFault, writer: &mut Watched<W>) -> Fault
     requires { has_failed writer.old ≡ false }

@@ -1,4 +1,4 @@
-//! Writes the end of a report: the unread lines, a part of them at a time, and why play stopped.
+//! Writes the end of a report: the unread lines, some of them at a time, and why play stopped.
 ghost use Rattle.report.specs.Parts.{end_text_of};
 ghost use Rattle.report.specs.Report.{unread_lines};
 ghost use Rattle.rounds.specs.Steps.{HasEnded};
@@ -16,9 +16,9 @@ use rounds::Play;
 use std::alloc::Global;
 use std::io::Write;
 
-/// How many unread lines are written at a time. The text of one may be twenty bytes of a report for
-/// two bytes of a file. So the text of all of them may be ten times the file, and is never held at
-/// once.
+/// How many unread lines are written at a time. Two bytes of a file may become twenty bytes of a
+/// report. So the text of all unread lines may be ten times as long as the file, and is never held
+/// at once.
 const UNREAD_AT_ONCE: usize = 4_096;
 
 /// Writes what follows the rounds: the unread lines, and why play stopped.
@@ -42,7 +42,7 @@ pub(crate) fn write_end<W: Write>(
     Ok(())
 }
 
-/// Writes the lines for all unread lines, a part of them at a time.
+/// Writes the lines for all unread lines, some of them at a time.
 fn write_unread<W: Write>(
     alloc: Global,
     unread: &[order_grammar::Fault],

@@ -1,5 +1,5 @@
-//! Certificates, checked: by them anybody checks, without a search, that each company that ran its
-//! best could not earn more.
+//! Checking certificates: they show, without a search, that each company that ran its best could
+//! not earn more.
 ghost use Rattle.rounds.specs.Steps.{started};
 ghost use Rattle.sheets.specs.File.{IsAccepted};
 ghost use Rattle.std.specs.Prelude.{◌≡◌, false, IfErr, IfOk, Ok, OnErr, OnOk, Some};
@@ -34,18 +34,18 @@ use tables::{Company, Round};
 const INPUT_MOST: usize = FILE_MOST + 1 + CERTIFICATES_MOST;
 
 /// Reads an order file and the text of certificates after it. It reads to the end of the input, or
-/// to the first byte past the greatest size of both and of the LF between them. It plays the game,
-/// in which the k-th RUN BEST that is obeyed is judged by the k-th group and nothing is searched
-/// for. Then it writes what `run` writes for the order file. Groups left over are not looked at.
-/// The text of the rounds is held in memory until the last of them is played; what follows it is
-/// written as by `run`. The writer then holds what it held before, and after it, at
+/// to the first byte past the greatest size of both with the LF between them. It plays the game and
+/// checks the k-th obeyed RUN BEST by the k-th group, without a search. Then it writes what `run`
+/// writes for the order file. It ignores groups left over. The text of the rounds is held in memory
+/// until the last of them is played; what follows them is written as by `run`. The writer then
+/// holds what it held before, followed, for each result, by
 ///
 /// - `Ok`, if each of them has a group that is well formed, for its round and company, and
-///   accepted: the report, whole;
-/// - `Certificate(round, company)`, if that of this company in this round is the first that has
-///   none: the one line that says so, whole;
+///   accepted: the whole report;
+/// - `Certificate(round, company)`, if the RUN BEST of this company in this round is the first
+///   without one: the whole line that says so;
 /// - `File`, if the text of certificates is over its limit (`TooLong`), or otherwise the order file
-///   is refused: the one line that says so, whole;
+///   is refused: the whole line that says so;
 /// - `Read`, if a read failed: nothing more;
 /// - `Write`, if a write failed or took nothing, and `Memory`, if an allocation failed: a prefix of
 ///   what would have been written, the report or that line, or nothing more.
@@ -92,9 +92,8 @@ fn write_answer<W: Write>(alloc: Global, input: &[u8], writer: &mut Watched<W>) 
     }
 }
 
-/// Writes what `verify` writes for an order file that is not refused, by the text of certificates
-/// after it. It writes once the whole game is played, so that all that is written is known to be
-/// right.
+/// Writes what `verify` writes for an accepted order file, given the text of certificates after it.
+/// It writes only when the whole game is played, so that everything written has been checked.
 fn write_judgement<W: Write>(
     alloc: Global,
     sheets: &Sheets,
@@ -122,19 +121,17 @@ fn write_judgement<W: Write>(
     }
 }
 
-/// Plays the game as far as its sheets go; each RUN BEST that is obeyed is judged by its group.
-/// Returns the text of each round, written before the next is played, one after the other. The
-/// error is a failed allocation, or the round and the company of the first RUN BEST that has no
-/// group.
+/// Plays the game as far as its sheets go, and checks each obeyed RUN BEST by its group. Returns
+/// the texts of the rounds, one after another. The error is a failed allocation, or the round and
+/// the company of the first RUN BEST that has no group.
 fn play_checked(alloc: Global, play: &mut Play, certificates: &[u8]) -> Result<Vec<u8>, PlayFault>
     requires started { play.old ≡ started play.old.file }
     requires accepted { IsAccepted play.old.file }
     ensures judged { IsJudged play.old.file (groups_of certificates.now) result }
     ensures texts { IfOk result (λ texts. IsTextOfRounds play.old.file play.new texts.items) }
 {
-    // Laws, which do nothing when they run. A file's game makes one list of calls, and each of them
-    // succeeds. Those of the steps are those of the game, or of one that is broken off, and then
-    // they are a prefix of that list.
+    // Laws, which do nothing when they run. A file's game has one list of calls, and each of them
+    // succeeds. The steps make the calls of the game, or a prefix of them if play is broken off.
     rounds::laws::some_calls();
     rounds::laws::calls_are_answered();
     rounds::laws::steps_call_the_game();
@@ -151,7 +148,7 @@ fn play_checked(alloc: Global, play: &mut Play, certificates: &[u8]) -> Result<V
     }
 }
 
-/// Writes the report of some sheets, of which all rounds are played and have this text.
+/// Writes the report of some sheets, given that all rounds are played and have this text.
 fn write_played<W: Write>(
     alloc: Global,
     sheets: &Sheets,
@@ -169,7 +166,7 @@ fn write_played<W: Write>(
     ensures prefix { OnErr result (IsCutShort (Some sheets.now)
         (W.contents (inside writer.old)) (W.contents (inside writer.new))) }
 {
-    // Laws, which do nothing when they run: the file has a report, and its parts make it up.
+    // Laws, which do nothing when they run: the file has a report, which is made of its parts.
     report::laws::some_report();
     report::laws::parts_are_the_report();
     write_header(alloc, sheets, writer)?;
@@ -178,7 +175,7 @@ fn write_played<W: Write>(
     Ok(())
 }
 
-/// Writes the line that says that the best runs of a company in a round have no group.
+/// Writes the line that says that no group shows the best runs of a company in a round.
 fn write_uncertified<W: Write>(
     alloc: Global,
     round: Round,
@@ -198,7 +195,7 @@ fn write_uncertified<W: Write>(
     Ok(())
 }
 
-/// Returns the line that says that the best runs of a company in a round have no group.
+/// Returns the line that says that no group shows the best runs of a company in a round.
 fn uncertified_text(alloc: Global, round: Round, company: Company) -> Result<Vec<u8>, AllocError>
     ensures { IfOk result (λ text. text.items ≡ uncertified_line round company) }
 {

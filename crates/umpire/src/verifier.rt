@@ -1,4 +1,4 @@
-//! What goes by a text of certificates.
+//! The runner that reads its results from a text of certificates.
 ghost use Rattle.std.specs.Prelude.{◌≡◌, IfOk, true};
 ghost use Rattle.certificate.specs.Checked.{AnswersBy};
 ghost use Rattle.legal_runs.specs.Set.{IsGreatestMoney};
@@ -13,10 +13,10 @@ use std::marker::Model;
 use tables::{Company, Kind, Money, Round};
 
 /// A runner that searches for nothing. For each call it reads the next group of a text of
-/// certificates. It returns what that claims, if it is well formed, for that round and company, and
-/// accepted, and otherwise refuses. A group is held only for its own call, and at most one run more
-/// than there are trains: a group that claims so many is not accepted. So a text takes no more
-/// memory than the marks of its longest group.
+/// certificates. It returns the claimed revenue if the group is well formed, for that round and
+/// company, and accepted; otherwise it refuses. It holds a group only during its own call, and at
+/// most one run more than there are trains, since a group with more runs is not accepted. So a text
+/// takes no more memory than the marks of its longest group.
 #[derive(Drop)]
 pub(crate) struct Verifier<'a> {
     alloc: Global,
@@ -24,7 +24,7 @@ pub(crate) struct Verifier<'a> {
     text: &'a [u8],
 }
 
-/// To a contract it is the list of the groups that are left; `None` is a malformed one.
+/// In a contract it is the list of the groups that are left; `None` is a malformed one.
 impl<'a> Model for Verifier<'a> {
     ghost use Rattle.std.specs.Prelude.{List, Option};
     ghost use Rattle.certificate.specs.declared.group.Group.{Group};
@@ -36,7 +36,7 @@ impl<'a> Model for Verifier<'a> {
 }
 
 impl<'a> Verifier<'a> {
-    /// Returns a runner that goes by the groups of this text, the first of them for the first call.
+    /// Returns a runner that uses the groups of this text, the first of them for the first call.
     pub(crate) fn new(alloc: Global, text: &'a [u8]) -> Verifier<'a>
         ensures { result ≡ groups_of text.now }
     {
@@ -50,8 +50,8 @@ impl<'a> Runner for Verifier<'a> {
     ghost earns = { AnswersByText };
 
     /// Returns what the next group claims, in dollars, if it shows the best runs of the company's
-    /// trains in that round, and otherwise `Refused`. In each case the group is used up. `Memory`
-    /// only if allocation fails.
+    /// trains in that round, and otherwise `Refused`. Either way the group is used up. The error is
+    /// `Memory` only if allocation fails.
     fn earn<N: Network>(
         &mut self,
         network: &N,

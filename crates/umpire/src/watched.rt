@@ -8,7 +8,7 @@ ghost use Rattle.umpire.specs.Watched.{has_failed, inside};
 use std::io;
 use std::io::{Read, Write};
 
-/// A reader or a writer that passes each call on and remembers whether one failed.
+/// A reader or a writer that passes on each call and remembers whether one failed.
 #[derive(Drop)]
 pub struct Watched<S> {
     inner: S,

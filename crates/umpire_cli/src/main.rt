@@ -1,8 +1,8 @@
 //! The umpire's program. Each of its words reads standard input and writes standard output.
 //! `report` reads an order file and writes its report. `certs` reads an order file and writes the
 //! certificates of its best runs. `verify` reads an order file with certificates after it, and
-//! writes its report if these show that its best runs are the best. `migrate` reads an order file
-//! and writes the file of version 2 to which it migrates.
+//! writes its report if they show that its best runs are indeed the best. `migrate` reads an order
+//! file and writes the file of version 2 that it migrates to.
 #![tactic(auto)]
 
 use clap::error::ErrorKind;
@@ -13,7 +13,7 @@ use std::rt::Runtime;
 use std::{env, io};
 use umpire::{Fault, Watched, certs, migrate, run, status, verify, word};
 
-/// The status for a command line that names no program.
+/// The status for a command line that names no task.
 const MISUSED: u8 = 1;
 
 /// What the program can do.
@@ -23,9 +23,9 @@ enum Task {
     Report,
     /// The certificates of its best runs.
     Certs,
-    /// Its report, by the certificates after it.
+    /// Its report, checked by the certificates after it.
     Verify,
-    /// The file of version 2 to which it migrates.
+    /// The file of version 2 that it migrates to.
     Migrate,
 }
 
@@ -41,7 +41,8 @@ fn words(rt: &HostRuntime) -> io::Result<Vec<String>> {
     Ok(env::args(rt)?.collect(rt.alloc())?)
 }
 
-/// Ends the program if the command line could not be read: it is not valid text, or an allocation failed.
+/// Ends the program if the command line could not be read: it is not valid text, or an allocation
+/// failed.
 fn no_words(rt: &HostRuntime, error: &io::Error) -> ExitCode {
     if error.kind() == io::ErrorKind::OutOfMemory {
         // An allocation failed: passed on.
@@ -51,7 +52,7 @@ fn no_words(rt: &HostRuntime, error: &io::Error) -> ExitCode {
     ExitCode::from(MISUSED)
 }
 
-/// Does what the command line says.
+/// Carries out what the command line says.
 fn start(rt: &HostRuntime, words: &[String]) -> ExitCode {
     match parse(rt.alloc(), words) {
         Ok(task) => perform(rt, task),
@@ -59,7 +60,7 @@ fn start(rt: &HostRuntime, words: &[String]) -> ExitCode {
     }
 }
 
-/// Returns what the command line says; the error is what to say otherwise.
+/// Returns the task that the command line names. The error has the text to print.
 fn parse(alloc: Global, words: &[String]) -> Result<Task, Error> {
     let matches = command(alloc)?.try_get_matches_from(words)?;
     Ok(match matches.subcommand_name() {
@@ -84,7 +85,7 @@ fn command<'a>(alloc: Global) -> Result<Command<'a>, AllocError> {
         .subcommand(Command::new(alloc, "migrate").about("Converts the file to version 2"))
 }
 
-/// Says what is wrong with the command line.
+/// Prints what is wrong with the command line.
 fn misuse(rt: &HostRuntime, error: &Error) -> ExitCode {
     if error.kind() == ErrorKind::OutOfMemory {
         // An allocation failed: passed on.
