@@ -15,7 +15,7 @@ use tables::{Round, Seat};
 use turns::{TurnRules, play_round};
 
 /// The rules of a stock round. In a turn a seat has made some deals.
-struct StockTurns;
+pub struct StockTurns;
 
 impl TurnRules for StockTurns {
     type TurnActions = ShareDeals;
