@@ -1,4 +1,5 @@
 //! What is written for a task, and the status with which the program ends.
+ghost use Rattle.std.specs.Prelude.{◌≡◌};
 
 use crate::streams::StreamFault;
 use crate::task::{Job, Task};
@@ -225,7 +226,11 @@ fn moves_answered<'a>(
 }
 
 /// Returns an `Answer` with this text, this note on standard error, and this status.
-fn answered<'a>(text: Vec<u8>, note: &'static str, status: u8) -> Answer<'a> {
+fn answered<'a>(text: Vec<u8>, note: &'static str, status: u8) -> Answer<'a>
+    ensures text { result.text.items ≡ text.items }
+    ensures note { result.note.now ≡ note.now }
+    ensures status { result.status ≡ status }
+{
     Answer {
         names: None,
         text,
