@@ -81,13 +81,13 @@ ruled_as_told has_place judgement events line order price has its =
     ∙ ap (judged line.condition order) (sym (told_of price (judgement order)))
 
 pub opening_ruled : OpeningRowsAreRuled
-opening_ruled seats events seat line order has its =
-    ruled_as_told has_place_in_turn (opening_refusal seats events seat false) events line order
+opening_ruled seats events seat used line order has its =
+    ruled_as_told has_place_in_turn (opening_refusal seats events seat used) events line order
     (pos (opening_cost events order)) has its
 
 pub stock_ruled : StockRowsAreRuled
-stock_ruled seats events seat line order has its =
-    ruled_as_told has_place_in_turn (stock_refusal seats events seat None) events line order
+stock_ruled seats events seat deals line order has its =
+    ruled_as_told has_place_in_turn (stock_refusal seats events seat deals.bought) events line order
     (pos (stock_cost events order)) has its
 
 pub before_ruled : RowsBeforeAreRuled

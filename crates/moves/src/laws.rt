@@ -46,8 +46,8 @@ pub fn least_bid_is_least()
     ensures { LeastBidIsLeast }
 {}
 
-/// A row of an opening or a stock round gives the true outcome of its line, as the first of a
-/// seat's turn or as a standing line.
+/// A row of an opening or a stock round gives the true outcome of its line, as the next of a seat's
+/// turn or as a standing line.
 pub fn rows_are_ruled()
     ensures opening { OpeningRowsAreRuled }
     ensures stock { StockRowsAreRuled }
