@@ -55,7 +55,7 @@ pub(crate) fn may_text(
 }
 
 /// Adds what a player may do at the head of their first turn of an opening or a stock round, or
-/// behind those lines of it that are drafted.
+/// after those lines of it that are drafted.
 fn push_turn(
     alloc: Global,
     out: &mut Vec<u8>,
@@ -91,7 +91,7 @@ fn push_turn(
     Ok(())
 }
 
-/// Returns a player's first turn of an opening or a stock round, at its head or behind its lines in
+/// Returns a player's first turn of an opening or a stock round, at its head or after its lines in
 /// their own sheet. The error is `NoOpening`, or `Memory`.
 fn turn_in(
     history: History,
@@ -105,7 +105,7 @@ fn turn_in(
     requires at_table { seat.0 < history.seats }
 {
     if !drafted {
-        // For the proof alone: the seats are at most six.
+        // For the proof only: the seats are at most six.
         let _few = sheets.seats();
         return Ok(at_head(history, round, seat)?);
     }
