@@ -31,7 +31,7 @@ mod told;
 mod told_rows;
 mod until_then;
 
-pub use may_lines::{push_lines_of_operating, push_lines_of_turn};
+pub use may_lines::{push_lines_of_operating, push_lines_of_turn, push_standing_lines};
 pub use may_opening::push_of_opening;
 pub use may_operating::push_of_operating;
 pub use may_stock::push_of_stock;

@@ -4,7 +4,7 @@
 ghost use Rattle.std.specs.Prelude.{◌≡◌, ◌++◌, [], if◌then◌else◌, IfOk, OnOk, Some, length};
 ghost use Rattle.desk_may.specs.OperatingLines.{AddsOperatingLines, AddsOrders, AddsTurn, AddsTurns};
 ghost use Rattle.desk_may.specs.OperatingLines.{company_head, private_rows_of, raise_lines, train_lines};
-ghost use Rattle.desk_may.specs.SheetLines.{turn_lines, turn_rows};
+ghost use Rattle.desk_may.specs.SheetLines.{standing_lines, turn_lines, turn_rows};
 ghost use Rattle.foresight.specs.Ahead.{withheld_in};
 ghost use Rattle.history.specs.Sound.{IsSound};
 ghost use Rattle.market.specs.OperatingOrder.{next_company};
@@ -14,16 +14,16 @@ use crate::offerers::presidents;
 use crate::raise_rows::raise_rows;
 use crate::row_lines::{push_offered_rows, push_rows};
 use forced_purchase::Operator;
-use foresight::{Draft, OrdersAhead, RoundAhead};
+use foresight::{Draft, OrdersAhead, RoundAhead, TurnAhead};
 use history::History;
 use moves::{Row, opening_rows, private_rows, standing_rows, stock_rows, train_rows};
 use sheets::Sheets;
 use std::alloc::{AllocError, Global};
 use tables::{COMPANIES, Company, Round, Seat};
 
-/// Adds the lines of a player's first turn of an opening or a stock round, in a game at the head of
-/// that turn. Fails only if allocation fails.
-pub fn push_lines_of_turn(
+/// Adds the standing lines of a player for a coming round, in a game before it. Fails only if
+/// allocation fails.
+pub fn push_standing_lines(
     alloc: Global,
     out: &mut Vec<u8>,
     sheets: &Sheets,
@@ -32,12 +32,27 @@ pub fn push_lines_of_turn(
     seat: Seat,
 ) -> Result<(), AllocError>
     ensures { OnOk result (out.new.items
-        ≡ out.old.items ++ turn_lines sheets.now history.now round seat) }
+        ≡ out.old.items ++ standing_lines sheets.now history.now round seat) }
 {
     let standing = standing_rows(alloc, history, seat, round)?;
-    push_rows(out, sheets, standing.as_slice())?;
+    push_rows(out, sheets, standing.as_slice())
+}
+
+/// Adds the lines of a player's first turn of an opening or a stock round, at its head or after those
+/// drafted. Fails only if allocation fails.
+pub fn push_lines_of_turn(
+    alloc: Global,
+    out: &mut Vec<u8>,
+    sheets: &Sheets,
+    turn: &TurnAhead,
+    round: Round,
+    seat: Seat,
+) -> Result<(), AllocError>
+    ensures { OnOk result (out.new.items
+        ≡ out.old.items ++ turn_lines sheets.now turn.now round seat) }
+{
     out.extend_from_slice(b"TURN\n")?;
-    let rows = turn_rows(alloc, history, round, seat)?;
+    let rows = turn_rows(alloc, turn, round, seat)?;
     push_rows(out, sheets, rows.as_slice())?;
     Ok(())
 }
@@ -45,15 +60,17 @@ pub fn push_lines_of_turn(
 /// Returns the rows of a player's turn.
 fn turn_rows(
     alloc: Global,
-    history: &History,
+    turn: &TurnAhead,
     round: Round,
     seat: Seat,
 ) -> Result<Vec<Row>, AllocError>
-    ensures { IfOk result (λ rows. rows.items ≡ turn_rows history.now round seat) }
+    ensures { IfOk result (λ rows. rows.items ≡ turn_rows turn.now round seat) }
 {
     match round {
-        Round::Opening(_) => opening_rows(alloc, history, seat),
-        Round::Stock(_) | Round::Operating { .. } => stock_rows(alloc, history, seat),
+        Round::Opening(_) => opening_rows(alloc, &turn.history, seat, turn.used),
+        Round::Stock(_) | Round::Operating { .. } => {
+            stock_rows(alloc, &turn.history, seat, turn.bought)
+        }
     }
 }
 

@@ -6,6 +6,7 @@ use crate::told_rows::{ToldRows, stock_told};
 use certs::{Holdings, Sale};
 use desk_base::Piece::{Bytes, Number, Words};
 use desk_base::{fill, push};
+use foresight::TurnAhead;
 use history::{History, ShareCount, Shareholder, Transfer};
 use order_grammar::Order;
 use report::name;
@@ -13,16 +14,17 @@ use sheets::Sheets;
 use std::alloc::{AllocError, Global};
 use tables::{Company, Money, Seat};
 
-/// Adds what a player may buy, sell and exchange as their turn begins, and what they might expect
-/// but may not. Fails only if allocation fails.
+/// Adds what a player may buy, sell and exchange in the next line of their turn, and what they might
+/// expect but may not. Fails only if allocation fails.
 pub fn push_of_stock(
     alloc: Global,
     out: &mut Vec<u8>,
     sheets: &Sheets,
-    history: &History,
+    turn: &TurnAhead,
     seat: Seat,
 ) -> Result<(), AllocError> {
-    let list = stock_told(alloc, history, seat)?;
+    let history = &turn.history;
+    let list = stock_told(alloc, history, seat, turn.bought)?;
     fill(out, "\n", &[])?;
     push_purchases(out, sheets, &list)?;
     push_sales(out, sheets, history, seat, &list)?;

@@ -16,7 +16,7 @@ use foresight::OrdersAhead;
 use history::History;
 use moves::{Row, opening_rows, private_rows, stock_rows, train_rows};
 use std::alloc::{AllocError, Global};
-use tables::Seat;
+use tables::{Company, Seat};
 
 /// Some rows, and what is said about each.
 #[derive(Drop)]
@@ -38,39 +38,41 @@ impl ToldRows {
     }
 }
 
-/// Returns the rows of a seat's turn of an opening, with what is said about each. Fails only if
-/// allocation fails.
+/// Returns the rows of a seat's turn of an opening, in which it has bought or bid, or has not, with
+/// what is said about each. Fails only if allocation fails.
 pub(crate) fn opening_told(
     alloc: Global,
     history: &History,
     seat: Seat,
+    used: bool,
 ) -> Result<ToldRows, AllocError>
     ensures rows { IfOk result (λ list. list.rows.items
-        ≡ map (opening_row history.now.seats history.now.events seat)
+        ≡ map (opening_row history.now.seats history.now.events seat used)
         (opening_orders history.now.events)) }
     ensures told { IfOk result (λ list. list.told.items
         ≡ map (told_in_opening history.now.seats history.now.events seat) list.rows.items) }
 {
-    let rows = opening_rows(alloc, history, seat)?;
+    let rows = opening_rows(alloc, history, seat, used)?;
     let teller = OpeningTeller { history, seat };
     let told = all_told(alloc, &teller, rows.as_slice())?;
     Ok(ToldRows { rows, told })
 }
 
-/// Returns the rows of a seat's turn of a stock round, with what is said about each. Fails only if
-/// allocation fails.
+/// Returns the rows of a seat's turn of a stock round, in which it has bought of this company or of
+/// none, with what is said about each. Fails only if allocation fails.
 pub(crate) fn stock_told(
     alloc: Global,
     history: &History,
     seat: Seat,
+    bought: Option<Company>,
 ) -> Result<ToldRows, AllocError>
     ensures rows { IfOk result (λ list. list.rows.items
-        ≡ map (stock_row history.now.seats history.now.events seat)
+        ≡ map (stock_row history.now.seats history.now.events seat bought)
         (stock_orders history.now.events seat)) }
     ensures told { IfOk result (λ list. list.told.items
         ≡ map (told_in_stock history.now.seats history.now.events seat) list.rows.items) }
 {
-    let rows = stock_rows(alloc, history, seat)?;
+    let rows = stock_rows(alloc, history, seat, bought)?;
     let teller = StockTeller { history, seat };
     let told = all_told(alloc, &teller, rows.as_slice())?;
     Ok(ToldRows { rows, told })

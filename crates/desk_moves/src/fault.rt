@@ -35,6 +35,9 @@ pub enum NoAnswer {
     NoOperatingRound,
     /// The player whose own sheet is to be looked at has none for the coming round.
     NoDraft,
+    /// No opening can begin: PRR or BO is started before the private that brings it is sold. No game
+    /// comes to that.
+    NoOpening,
     /// The company has no train, and none is named.
     NoTrains,
     /// More trains of a kind are named than the game has.
@@ -71,6 +74,7 @@ impl NoAnswer {
                 "the round that comes is no operating round; ask again once it is played"
             }
             NoAnswer::NoDraft => "there is no sheet of theirs for the round that comes",
+            NoAnswer::NoOpening => "no opening can begin from there",
             NoAnswer::NoTrains => "that company has no train; name some, as in `best PRR 2 2`",
             NoAnswer::TooManyOfKind => "there are not so many trains of one kind",
             NoAnswer::Rusted => "trains of one of these kinds have rusted",

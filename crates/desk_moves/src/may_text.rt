@@ -12,9 +12,9 @@ use desk_base::Piece::{Bytes, Count, Number};
 use desk_base::{Piece, fill};
 use desk_may::{
     push_lines_of_operating, push_lines_of_turn, push_of_opening, push_of_operating, push_of_stock,
-    push_until_then,
+    push_standing_lines, push_until_then,
 };
-use foresight::{Draft, RoundAhead, at_turn};
+use foresight::{Draft, RoundAhead, TurnAhead, at_head, behind_turn};
 use history::{History, Party};
 use report::name;
 use sheets::Sheets;
@@ -48,21 +48,22 @@ pub(crate) fn may_text(
             push_operating(alloc, &mut text, coming, round, seat, drafter, form.lines)?;
         }
         Round::Opening(_) | Round::Stock(_) => {
-            push_turn(alloc, &mut text, coming, round, seat, form.lines)?;
+            push_turn(alloc, &mut text, coming, round, seat, form)?;
         }
     }
     Ok(text)
 }
 
-/// Adds what a player may do at the head of their first turn of an opening or a stock round.
+/// Adds what a player may do at the head of their first turn of an opening or a stock round, or
+/// after those lines of it that are drafted.
 fn push_turn(
     alloc: Global,
     out: &mut Vec<u8>,
     coming: Coming,
     round: Round,
     seat: Seat,
-    lines: bool,
-) -> Result<(), AllocError>
+    form: MayForm,
+) -> Result<(), MovesFault>
     requires sound { IsSound coming.history }
     requires seats { coming.history.seats ≡ length (players_of coming.sheets.now) }
     requires at_table { seat.0 < coming.history.seats }
@@ -73,17 +74,44 @@ fn push_turn(
         ..
     } = coming;
     let from = history.events().len();
-    // For the proof only: the seats are at most six.
-    let _few = sheets.seats();
-    let history = at_turn(history, round, seat)?;
-    if lines {
-        return push_lines_of_turn(alloc, out, sheets, &history, round, seat);
+    if form.lines {
+        push_standing_lines(alloc, out, sheets, &history, round, seat)?;
     }
-    push_head(out, sheets, &history, seat, round)?;
-    push_until_then(alloc, out, sheets, &history, from, None)?;
+    let turn = turn_in(history, sheets, round, seat, form.drafted)?;
+    if form.lines {
+        push_lines_of_turn(alloc, out, sheets, &turn, round, seat)?;
+        return Ok(());
+    }
+    push_head(out, sheets, &turn.history, seat, round)?;
+    push_until_then(alloc, out, sheets, &turn.history, from, None)?;
     match round {
-        Round::Opening(_) => push_of_opening(alloc, out, sheets, &history, seat),
-        _ => push_of_stock(alloc, out, sheets, &history, seat),
+        Round::Opening(_) => push_of_opening(alloc, out, sheets, &turn, seat)?,
+        _ => push_of_stock(alloc, out, sheets, &turn, seat)?,
+    }
+    Ok(())
+}
+
+/// Returns a player's first turn of an opening or a stock round, at its head or after its lines in
+/// their own sheet. The error is `NoOpening`, or `Memory`.
+fn turn_in(
+    history: History,
+    sheets: &Sheets,
+    round: Round,
+    seat: Seat,
+    drafted: bool,
+) -> Result<TurnAhead, MovesFault>
+    requires sound { IsSound history }
+    requires seats { history.seats ≡ length (players_of sheets.now) }
+    requires at_table { seat.0 < history.seats }
+{
+    if !drafted {
+        // For the proof only: the seats are at most six.
+        let _few = sheets.seats();
+        return Ok(at_head(history, round, seat)?);
+    }
+    match behind_turn(history, sheets, round, seat)? {
+        Some(turn) => Ok(turn),
+        None => Err(MovesFault::Asked(NoAnswer::NoOpening)),
     }
 }
 

@@ -2,5 +2,6 @@
 pub mod Draft
 pub mod Ahead
 pub mod Orders
+pub mod FirstTurn
 pub mod Turn
 pub mod TrialFile

@@ -8,11 +8,13 @@
 //!
 //! Reading order: `draft` (whose sheet is looked at), `round_ahead` (a coming operating round, turn
 //! by turn), `orders_ahead` (a company's turn in it, at the head of its orders or after those
-//! drafted), `turn_ahead` (an opening or a stock round up to a seat's first turn), `trial_file`
-//! (the files that trials play).
+//! drafted), `first_turn` (a coming round of turns up to the end of a seat's first turn), `turn_ahead`
+//! (an opening or a stock round up to there, or up to the head of that turn), `trial_file` (the files
+//! that trials play).
 #![tactic(auto)]
 
 mod draft;
+mod first_turn;
 mod orders_ahead;
 mod round_ahead;
 mod trial_file;
@@ -22,4 +24,4 @@ pub use draft::Draft;
 pub use orders_ahead::OrdersAhead;
 pub use round_ahead::{Ahead, RoundAhead};
 pub use trial_file::TrialFile;
-pub use turn_ahead::at_turn;
+pub use turn_ahead::{TurnAhead, at_head, behind_turn};

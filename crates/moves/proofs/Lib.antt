@@ -5,3 +5,6 @@ pub mod TurnLemmas
 pub mod RowLemmas
 pub mod LimitLemmas
 pub mod RowRulings
+pub mod OneMoreRuling
+pub mod ConsentGiven
+pub mod PricesMove

@@ -81,13 +81,13 @@ ruled_as_told has_place judgement events line order price has its =
     ∙ ap (judged line.condition order) (sym (told_of price (judgement order)))
 
 pub opening_ruled : OpeningRowsAreRuled
-opening_ruled seats events seat line order has its =
-    ruled_as_told has_place_in_turn (opening_refusal seats events seat false) events line order
+opening_ruled seats events seat used line order has its =
+    ruled_as_told has_place_in_turn (opening_refusal seats events seat used) events line order
     (pos (opening_cost events order)) has its
 
 pub stock_ruled : StockRowsAreRuled
-stock_ruled seats events seat line order has its =
-    ruled_as_told has_place_in_turn (stock_refusal seats events seat None) events line order
+stock_ruled seats events seat deals line order has its =
+    ruled_as_told has_place_in_turn (stock_refusal seats events seat deals.bought) events line order
     (pos (stock_cost events order)) has its
 
 pub before_ruled : RowsBeforeAreRuled
@@ -99,7 +99,7 @@ standing_ruled events seat line order has its =
     ruled_as_told has_place_before (standing_judgement events seat) events line order (pos 0) has its
 
 -- nothing is not something
-none_is_not : {A : Type 0} (x : A) → None ≡ Some x → ⊥
+pub none_is_not : {A : Type 0} (x : A) → None ≡ Some x → ⊥
 none_is_not x wrong = cc
 
 some_is_not : {A : Type 0} (x : A) → Some x ≡ None → ⊥
@@ -207,7 +207,7 @@ only_private game company private price rule none broken =
     (not (is_given_by OfGame game.events company private price)) rule none broken
 
 -- what is told of a train is the rule that it breaks
-told_train : (game : Game) (company : Company) (kind : Kind) (from : TrainSource)
+pub told_train : (game : Game) (company : Company) (kind : Kind) (from : TrainSource)
     → rule_told (train_answer game company kind from)
     ≡ option_map refusal.Train (train_judgement_by OfGame game company (purchase_of kind from))
 unfolding train_refusal_by
@@ -218,7 +218,7 @@ told_train game company kind from =
     (λ rule none broken. only_train game company (purchase_of kind from) rule none broken)
     (asked_of_train game.events company kind from)
 
-told_private : (game : Game) (company : Company) (private : Private) (price : ℕ)
+pub told_private : (game : Game) (company : Company) (private : Private) (price : ℕ)
     → rule_told (private_answer game company private price)
     ≡ option_map refusal.Private (private_judgement_by OfGame game company private price)
 unfolding private_refusal_by

@@ -11,3 +11,5 @@ pub mod StandingRows
 pub mod RowLaws
 pub mod Limits
 pub mod TurnLaws
+pub mod ConsentLaws
+pub mod PriceLaws

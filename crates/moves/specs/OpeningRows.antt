@@ -1,8 +1,8 @@
 -- The rows of an opening. Of each private, in roster order, a seat is told what becomes of the order
 -- to buy it, of the least bid on it, and of a bid that is a dollar less. Each is judged by the rules
--- of an opening as the first line of the seat's turn. A purchase costs the price of the private, a
--- bid its sum.
-use Rattle.std.specs.Prelude.{ℕ, ◌-◌, false, List, [], ◌∷◌, pos}
+-- of an opening as the next line of the seat's turn. A purchase costs the price of the private, a bid
+-- its sum.
+use Rattle.std.specs.Prelude.{ℕ, ◌-◌, Bool, List, [], ◌∷◌, pos}
 use Rattle.std.specs.List.{flat_map}
 use Rattle.events.specs.declared.event.Event.{Event}
 use Rattle.moves.specs.Bids.{least_bid_of}
@@ -32,11 +32,12 @@ opening_cost events (BuyPrivate private) = price_of events private
 opening_cost events (Bid private amount) = amount
 opening_cost events other = 0
 
--- what becomes of an order as the first line of a seat's turn
-abbrev pub opening_answer : ℕ → List Event → Seat → Order → Answer
-opening_answer seats events seat order =
-    answer_of (pos (opening_cost events order)) (refusal_of seats events seat false order)
+-- what becomes of an order as the next line of a seat's turn, in which it has bought or bid, or has not
+abbrev pub opening_answer : ℕ → List Event → Seat → Bool → Order → Answer
+opening_answer seats events seat used order =
+    answer_of (pos (opening_cost events order)) (refusal_of seats events seat used order)
 
 -- the row of an order
-abbrev pub opening_row : ℕ → List Event → Seat → Order → Row
-opening_row seats events seat order = record { order = order; answer = opening_answer seats events seat order }
+abbrev pub opening_row : ℕ → List Event → Seat → Bool → Order → Row
+opening_row seats events seat used order =
+    record { order = order; answer = opening_answer seats events seat used order }

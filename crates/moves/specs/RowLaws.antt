@@ -1,8 +1,8 @@
 -- What a row tells is what becomes of its line. Take an order that has a place in a line whose
--- condition holds, as the first line of a turn or as a standing line. If its row says that it is
+-- condition holds, as the next line of a turn or as a standing line. If its row says that it is
 -- obeyed, it is obeyed, and if the row says that a rule refuses it, that rule refuses it. If the row
 -- names a consent, it is the rule of the consent that refuses it.
-use Rattle.std.specs.Prelude.{◌≡◌, ℕ, true, false, List, Option, Some, None, Ok}
+use Rattle.std.specs.Prelude.{◌≡◌, ℕ, Bool, true, List, Option, Some, None, Ok}
 use Rattle.events.specs.declared.event.Event.{Event}
 use Rattle.events.specs.declared.ruling.PrivateRule.TheVariants as private_rule
 use Rattle.events.specs.declared.ruling.Refusal.{Refusal}
@@ -31,8 +31,8 @@ use Rattle.purchases.specs.Private.{private_bought}
 use Rattle.purchases.specs.Standing.{has_place_before, standing_ruling}
 use Rattle.purchases.specs.Train.{after_train, purchase_of}
 use Rattle.sheets.specs.Part.{Numbered}
-use Rattle.stock_round.specs.Deals.{no_deals}
 use Rattle.stock_round.specs.Turn.{ruling_in as stock_ruling}
+use Rattle.stock_round.specs.declared.deals.ShareDeals.{ShareDeals}
 use Rattle.tables.specs.declared.rolling_stock.Kind.{Kind}
 use Rattle.tables.specs.declared.roster.Private.{Private}
 use Rattle.tables.specs.declared.seat.Seat.{Seat}
@@ -56,21 +56,21 @@ pub record Orders (events : List Event) (line : Numbered) (order : Order) : Type
   pub read : line.reading ≡ Ok order
   pub met : is_met events line.condition ≡ true
 
--- what the row of an opening tells becomes of the first line of a seat's turn
+-- what the row of an opening tells becomes of the next line of a seat's turn
 abbrev pub OpeningRowsAreRuled : Type 0
 OpeningRowsAreRuled =
-    (seats : ℕ) (events : List Event) (seat : Seat) (line : Numbered) (order : Order) →
+    (seats : ℕ) (events : List Event) (seat : Seat) (used : Bool) (line : Numbered) (order : Order) →
     has_place_in_turn order ≡ true → Orders events line order
-    → opening_ruling seats seat (in_turn events false) line
-    ≡ judged line.condition order (rule_told (opening_answer seats events seat order))
+    → opening_ruling seats seat (in_turn events used) line
+    ≡ judged line.condition order (rule_told (opening_answer seats events seat used order))
 
 -- so does that of a stock round
 abbrev pub StockRowsAreRuled : Type 0
 StockRowsAreRuled =
-    (seats : ℕ) (events : List Event) (seat : Seat) (line : Numbered) (order : Order) →
+    (seats : ℕ) (events : List Event) (seat : Seat) (deals : ShareDeals) (line : Numbered) (order : Order) →
     has_place_in_turn order ≡ true → Orders events line order
-    → stock_ruling seats seat (in_turn events no_deals) line
-    ≡ judged line.condition order (rule_told (stock_answer seats events seat order))
+    → stock_ruling seats seat (in_turn events deals) line
+    ≡ judged line.condition order (rule_told (stock_answer seats events seat deals.bought order))
 
 -- and that of a standing line of an opening
 abbrev pub RowsBeforeAreRuled : Type 0

@@ -1,9 +1,9 @@
 -- The rows of a stock round. Of each company, in roster order, a seat is told what becomes of the
 -- order to start it at each of the six par values, to buy a share of the initial offering and one of
 -- the pool, and to sell from 1 share to one more than the seat has. Last comes the exchange of MH.
--- Each is judged by the rules of a stock round as the first line of the seat's turn, in which it has
--- bought nothing. A sale brings its price, and the exchange costs nothing.
-use Rattle.std.specs.Prelude.{ℕ, ◌==◌, ◌++◌, ◌||◌, Bool, List, [], ◌∷◌, None, pos, ◌+ℤ◌}
+-- Each is judged by the rules of a stock round as the next line of the seat's turn, in which it has
+-- bought of one company or of none. A sale brings its price, and the exchange costs nothing.
+use Rattle.std.specs.Prelude.{ℕ, ◌==◌, ◌++◌, ◌||◌, Bool, List, [], ◌∷◌, Option, pos, ◌+ℤ◌}
 use Rattle.std.specs.List.{flat_map}
 use Rattle.std.specs.Int.Signed.{le_z}
 use Rattle.certs.specs.Purchase.{cost_of}
@@ -72,11 +72,13 @@ stock_cost events (BuyShare company from) = cost_of events (purchase.Share compa
 stock_cost events (Sell company shares) = brought_by events (sale_of company shares)
 stock_cost events other = 0
 
--- what becomes of an order as the first line of a seat's turn
-abbrev pub stock_answer : ℕ → List Event → Seat → Order → Answer
-stock_answer seats events seat order =
-    answer_of (pos (stock_cost events order)) (refusal_of seats events seat None order)
+-- what becomes of an order as the next line of a seat's turn, in which it has bought of this company or
+-- of none
+abbrev pub stock_answer : ℕ → List Event → Seat → Option Company → Order → Answer
+stock_answer seats events seat bought order =
+    answer_of (pos (stock_cost events order)) (refusal_of seats events seat bought order)
 
 -- the row of an order
-abbrev pub stock_row : ℕ → List Event → Seat → Order → Row
-stock_row seats events seat order = record { order = order; answer = stock_answer seats events seat order }
+abbrev pub stock_row : ℕ → List Event → Seat → Option Company → Order → Row
+stock_row seats events seat bought order =
+    record { order = order; answer = stock_answer seats events seat bought order }

@@ -1,7 +1,10 @@
 //! Laws of the definitions, each the contract of a function that does nothing.
 ghost use Rattle.moves.specs.Bids.{LeastBidIsLeast};
+ghost use Rattle.moves.specs.ConsentLaws.{OfferedPrivatesAreObeyed, OfferedPrivatesAreTold, OfferedTrainsAreObeyed};
+ghost use Rattle.moves.specs.ConsentLaws.{OfferedTrainsAreTold};
 ghost use Rattle.moves.specs.Exact.{LaysAreExact, TokensAreExact};
 ghost use Rattle.moves.specs.Limits.{PrivatesHaveTheirPrice, SalesAreOfWhatIsHeld, StartsAreAtParValues};
+ghost use Rattle.moves.specs.PriceLaws.{OpeningPricesMove, PrivatePricesMove, StockPricesMove, TrainPricesMove};
 ghost use Rattle.moves.specs.RowLaws.{OpeningRowsAreRuled, PrivateRowsAreRuled, RowsBeforeAreRuled};
 ghost use Rattle.moves.specs.RowLaws.{StandingRowsAreRuled, StockRowsAreRuled, TrainRowsAreRuled};
 ghost use Rattle.moves.specs.TurnLaws.{ListedLaysAreObeyed, ListedTokensAreObeyed, OtherLaysAreRefused};
@@ -46,8 +49,8 @@ pub fn least_bid_is_least()
     ensures { LeastBidIsLeast }
 {}
 
-/// A row of an opening or a stock round gives the true outcome of its line, as the first of a
-/// seat's turn or as a standing line.
+/// A row of an opening or a stock round gives the true outcome of its line, as the next of a seat's
+/// turn or as a standing line.
 pub fn rows_are_ruled()
     ensures opening { OpeningRowsAreRuled }
     ensures stock { StockRowsAreRuled }
@@ -69,4 +72,21 @@ pub fn beyond_the_rows_is_refused()
     ensures sales { SalesAreOfWhatIsHeld }
     ensures starts { StartsAreAtParValues }
     ensures privates { PrivatesHaveTheirPrice }
+{}
+
+/// A row that names an offer is right about it: once that has been made in the round, the row says
+/// that the order is obeyed at the same price, and the line is obeyed.
+pub fn offered_rows_are_obeyed()
+    ensures trains_told { OfferedTrainsAreTold }
+    ensures privates_told { OfferedPrivatesAreTold }
+    ensures trains { OfferedTrainsAreObeyed }
+    ensures privates { OfferedPrivatesAreObeyed }
+{}
+
+/// The price of a row that is obeyed is the money that moves by its order.
+pub fn prices_move()
+    ensures stock { StockPricesMove }
+    ensures opening { OpeningPricesMove }
+    ensures trains { TrainPricesMove }
+    ensures privates { PrivatePricesMove }
 {}

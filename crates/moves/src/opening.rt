@@ -12,25 +12,36 @@ use std::alloc::{AllocError, Global};
 use tables::{Amount, BID_STEP, Money, Private, Seat, face};
 
 /// Returns the outcome of each order to buy a private, to make the lowest bid on it, and to bid a
-/// dollar less, as the first line of a seat's turn of an opening. Fails only if allocation fails.
-pub fn opening_rows(alloc: Global, history: &History, seat: Seat) -> Result<Vec<Row>, AllocError>
+/// dollar less, as the next line of a seat's turn of an opening, in which it has bought or bid, or has
+/// not. Fails only if allocation fails.
+pub fn opening_rows(
+    alloc: Global,
+    history: &History,
+    seat: Seat,
+    used: bool,
+) -> Result<Vec<Row>, AllocError>
     ensures { IfOk result (λ rows. rows.items
-        ≡ map (opening_row history.now.seats history.now.events seat)
+        ≡ map (opening_row history.now.seats history.now.events seat used)
         (opening_orders history.now.events)) }
 {
     let mut rows = Vec::new(alloc);
-    push_privates(&mut rows, history, seat)?;
+    push_privates(&mut rows, history, seat, used)?;
     Ok(rows)
 }
 
 /// Adds the rows of each private.
-fn push_privates(rows: &mut Vec<Row>, history: &History, seat: Seat) -> Result<(), AllocError>
+fn push_privates(
+    rows: &mut Vec<Row>,
+    history: &History,
+    seat: Seat,
+    used: bool,
+) -> Result<(), AllocError>
     ensures { OnOk result (rows.new.items ≡ rows.old.items
-        ++ map (opening_row history.now.seats history.now.events seat)
+        ++ map (opening_row history.now.seats history.now.events seat used)
         (opening_orders history.now.events)) }
 {
     for private in &Private::ALL {
-        push_private(rows, history, seat, *private)?;
+        push_private(rows, history, seat, used, *private)?;
     }
     Ok(())
 }
@@ -40,24 +51,25 @@ fn push_private(
     rows: &mut Vec<Row>,
     history: &History,
     seat: Seat,
+    used: bool,
     private: Private,
 ) -> Result<(), AllocError>
     ensures { OnOk result (rows.new.items ≡ rows.old.items
-        ++ map (opening_row history.now.seats history.now.events seat)
+        ++ map (opening_row history.now.seats history.now.events seat used)
         (orders_on history.now.events private)) }
 {
     let least = least_bid(history, private);
-    push_order(rows, history, seat, Order::BuyPrivate(private))?;
+    push_order(rows, history, seat, used, Order::BuyPrivate(private))?;
     let bid = Order::Bid {
         private,
         amount: least,
     };
-    push_order(rows, history, seat, bid)?;
+    push_order(rows, history, seat, used, bid)?;
     let lower = Order::Bid {
         private,
         amount: least.saturating_sub(1),
     };
-    push_order(rows, history, seat, lower)?;
+    push_order(rows, history, seat, used, lower)?;
     Ok(())
 }
 
@@ -66,20 +78,21 @@ fn push_order(
     rows: &mut Vec<Row>,
     history: &History,
     seat: Seat,
+    used: bool,
     order: Order,
 ) -> Result<(), AllocError>
     ensures { OnOk result (rows.new.items ≡ rows.old.items
-        ++ opening_row history.now.seats history.now.events seat order ∷ []) }
+        ++ opening_row history.now.seats history.now.events seat used order ∷ []) }
 {
-    let answer = answer_to(history, seat, &order);
+    let answer = answer_to(history, seat, used, &order);
     push_row(rows, order, answer)
 }
 
-/// Returns the outcome of an order as the first line of a seat's turn.
-fn answer_to(history: &History, seat: Seat, order: &Order) -> Answer
-    ensures { result ≡ opening_answer history.now.seats history.now.events seat order.now }
+/// Returns the outcome of an order as the next line of a seat's turn.
+fn answer_to(history: &History, seat: Seat, used: bool, order: &Order) -> Answer
+    ensures { result ≡ opening_answer history.now.seats history.now.events seat used order.now }
 {
-    let broken = judge(history, seat, order, false).map(Refusal::Opening);
+    let broken = judge(history, seat, order, used).map(Refusal::Opening);
     answer_of(cost(history, order), broken)
 }
 

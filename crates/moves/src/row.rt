@@ -7,7 +7,7 @@ use order_grammar::{Offer, Order};
 use std::alloc::AllocError;
 use tables::{Money, Seat};
 
-/// An order, and its outcome as the first line of a turn or as the first standing line.
+/// An order, and its outcome as the next line of a turn or as the first standing line.
 #[derive(Drop)]
 pub struct Row {
     /// The order.

@@ -1,5 +1,5 @@
 //! The rows of a stock round: for each company the purchases and sales, and the exchange of MH.
-ghost use Rattle.std.specs.Prelude.{◌≡◌, ◌++◌, ◌∷◌, [], IfOk, None, OnOk, map, pos};
+ghost use Rattle.std.specs.Prelude.{◌≡◌, ◌++◌, ◌∷◌, [], IfOk, OnOk, map, pos};
 ghost use Rattle.moves.specs.Deals.{brought_by};
 ghost use Rattle.moves.specs.StockRows.{is_number_asked, orders_of, orders_of_companies, orders_of_sale};
 ghost use Rattle.moves.specs.StockRows.{sales_of, shares_from, starts_of, stock_answer, stock_cost, stock_orders, stock_row};
@@ -19,37 +19,52 @@ use tables::{Amount, Company, Money, PAR_VALUES, Seat};
 const NUMBERS: [Amount; 11] = [1, 2, 3, 4, 5, 6, 7, 8, 9, 10, 11];
 
 /// Returns the outcome of each purchase from each company, of each sale up to one more share than
-/// the seat has, and of the exchange of MH, as the first line of a seat's turn of a stock round.
-/// Fails only if allocation fails.
-pub fn stock_rows(alloc: Global, history: &History, seat: Seat) -> Result<Vec<Row>, AllocError>
+/// the seat has, and of the exchange of MH, as the next line of a seat's turn of a stock round,
+/// in which it has bought of this company or of none. Fails only if allocation fails.
+pub fn stock_rows(
+    alloc: Global,
+    history: &History,
+    seat: Seat,
+    bought: Option<Company>,
+) -> Result<Vec<Row>, AllocError>
     ensures { IfOk result (λ rows. rows.items
-        ≡ map (stock_row history.now.seats history.now.events seat)
+        ≡ map (stock_row history.now.seats history.now.events seat bought)
         (stock_orders history.now.events seat)) }
 {
     let mut rows = Vec::new(alloc);
-    push_orders(&mut rows, history, seat)?;
+    push_orders(&mut rows, history, seat, bought)?;
     Ok(rows)
 }
 
 /// Adds the rows of each company, and that of the exchange.
-fn push_orders(rows: &mut Vec<Row>, history: &History, seat: Seat) -> Result<(), AllocError>
+fn push_orders(
+    rows: &mut Vec<Row>,
+    history: &History,
+    seat: Seat,
+    bought: Option<Company>,
+) -> Result<(), AllocError>
     ensures { OnOk result (rows.new.items ≡ rows.old.items
-        ++ map (stock_row history.now.seats history.now.events seat)
+        ++ map (stock_row history.now.seats history.now.events seat bought)
         (stock_orders history.now.events seat)) }
 {
-    push_companies(rows, history, seat)?;
-    push_order(rows, history, seat, Order::ExchangeMohawk)?;
+    push_companies(rows, history, seat, bought)?;
+    push_order(rows, history, seat, bought, Order::ExchangeMohawk)?;
     Ok(())
 }
 
 /// Adds the rows of each company.
-fn push_companies(rows: &mut Vec<Row>, history: &History, seat: Seat) -> Result<(), AllocError>
+fn push_companies(
+    rows: &mut Vec<Row>,
+    history: &History,
+    seat: Seat,
+    bought: Option<Company>,
+) -> Result<(), AllocError>
     ensures { OnOk result (rows.new.items ≡ rows.old.items
-        ++ map (stock_row history.now.seats history.now.events seat)
+        ++ map (stock_row history.now.seats history.now.events seat bought)
         (orders_of_companies history.now.events seat)) }
 {
     for company in &Company::ALL {
-        push_company(rows, history, seat, *company)?;
+        push_company(rows, history, seat, bought, *company)?;
     }
     Ok(())
 }
@@ -59,15 +74,16 @@ fn push_company(
     rows: &mut Vec<Row>,
     history: &History,
     seat: Seat,
+    bought: Option<Company>,
     company: Company,
 ) -> Result<(), AllocError>
     ensures { OnOk result (rows.new.items ≡ rows.old.items
-        ++ map (stock_row history.now.seats history.now.events seat)
+        ++ map (stock_row history.now.seats history.now.events seat bought)
         (orders_of history.now.events seat company)) }
 {
-    push_starts(rows, history, seat, company)?;
-    push_shares(rows, history, seat, company)?;
-    push_sales(rows, history, seat, company)?;
+    push_starts(rows, history, seat, bought, company)?;
+    push_shares(rows, history, seat, bought, company)?;
+    push_sales(rows, history, seat, bought, company)?;
     Ok(())
 }
 
@@ -76,14 +92,15 @@ fn push_starts(
     rows: &mut Vec<Row>,
     history: &History,
     seat: Seat,
+    bought: Option<Company>,
     company: Company,
 ) -> Result<(), AllocError>
     ensures { OnOk result (rows.new.items ≡ rows.old.items
-        ++ map (stock_row history.now.seats history.now.events seat) (starts_of company)) }
+        ++ map (stock_row history.now.seats history.now.events seat bought) (starts_of company)) }
 {
     for price in &PAR_VALUES {
         let price = *price;
-        push_order(rows, history, seat, Order::Par { company, price })?;
+        push_order(rows, history, seat, bought, Order::Par { company, price })?;
     }
     Ok(())
 }
@@ -93,14 +110,21 @@ fn push_shares(
     rows: &mut Vec<Row>,
     history: &History,
     seat: Seat,
+    bought: Option<Company>,
     company: Company,
 ) -> Result<(), AllocError>
     ensures { OnOk result (rows.new.items ≡ rows.old.items
-        ++ map (stock_row history.now.seats history.now.events seat) (shares_from company)) }
+        ++ map (stock_row history.now.seats history.now.events seat bought) (shares_from company)) }
 {
     for from in &[ShareSource::InitialOffering, ShareSource::BankPool] {
         let from = *from;
-        push_order(rows, history, seat, Order::BuyShare { company, from })?;
+        push_order(
+            rows,
+            history,
+            seat,
+            bought,
+            Order::BuyShare { company, from },
+        )?;
     }
     Ok(())
 }
@@ -110,14 +134,15 @@ fn push_sales(
     rows: &mut Vec<Row>,
     history: &History,
     seat: Seat,
+    bought: Option<Company>,
     company: Company,
 ) -> Result<(), AllocError>
     ensures { OnOk result (rows.new.items ≡ rows.old.items
-        ++ map (stock_row history.now.seats history.now.events seat)
+        ++ map (stock_row history.now.seats history.now.events seat bought)
         (sales_of history.now.events seat company)) }
 {
     for shares in &NUMBERS {
-        push_sale(rows, history, seat, company, *shares)?;
+        push_sale(rows, history, seat, bought, company, *shares)?;
     }
     Ok(())
 }
@@ -127,17 +152,18 @@ fn push_sale(
     rows: &mut Vec<Row>,
     history: &History,
     seat: Seat,
+    bought: Option<Company>,
     company: Company,
     shares: Amount,
 ) -> Result<(), AllocError>
     ensures { OnOk result (rows.new.items ≡ rows.old.items
-        ++ map (stock_row history.now.seats history.now.events seat)
+        ++ map (stock_row history.now.seats history.now.events seat bought)
         (orders_of_sale history.now.events seat company shares)) }
 {
     if !is_number_asked(history, seat, company, shares) {
         return Ok(());
     }
-    push_order(rows, history, seat, Order::Sell { company, shares })
+    push_order(rows, history, seat, bought, Order::Sell { company, shares })
 }
 
 /// Returns whether a sale of this many shares is considered: from one up to one more than the seat
@@ -154,36 +180,37 @@ fn push_order(
     rows: &mut Vec<Row>,
     history: &History,
     seat: Seat,
+    bought: Option<Company>,
     order: Order,
 ) -> Result<(), AllocError>
     ensures { OnOk result (rows.new.items ≡ rows.old.items
-        ++ stock_row history.now.seats history.now.events seat order ∷ []) }
+        ++ stock_row history.now.seats history.now.events seat bought order ∷ []) }
 {
-    let answer = answer_to(history, seat, &order);
+    let answer = answer_to(history, seat, bought, &order);
     push_row(rows, order, answer)
 }
 
-/// Returns the outcome of an order as the first line of a seat's turn.
-fn answer_to(history: &History, seat: Seat, order: &Order) -> Answer
-    ensures { result ≡ stock_answer history.now.seats history.now.events seat order.now }
+/// Returns the outcome of an order as the next line of a seat's turn.
+fn answer_to(history: &History, seat: Seat, bought: Option<Company>, order: &Order) -> Answer
+    ensures { result ≡ stock_answer history.now.seats history.now.events seat bought order.now }
 {
-    let broken = judge(history, seat, order).map(Refusal::Stock);
+    let broken = judge(history, seat, bought, order).map(Refusal::Stock);
     answer_of(cost(history, order), broken)
 }
 
-/// Returns the first rule that an order of a seat breaks in a turn in which it has bought nothing;
-/// `None` if it breaks none.
-fn judge(history: &History, seat: Seat, order: &Order) -> Option<StockRule>
-    ensures { result ≡ judgement_of history.now.seats history.now.events seat None order.now }
+/// Returns the first rule that an order of a seat breaks in its turn, in which it has bought of this
+/// company or of none; `None` if it breaks none.
+fn judge(history: &History, seat: Seat, bought: Option<Company>, order: &Order) -> Option<StockRule>
+    ensures { result ≡ judgement_of history.now.seats history.now.events seat bought order.now }
 {
     match order {
         Order::Par { company, price } => {
             let (company, price) = (*company, *price);
-            may_buy(history, seat, Purchase::Par { company, price }, None).err()
+            may_buy(history, seat, Purchase::Par { company, price }, bought).err()
         }
         Order::BuyShare { company, from } => {
             let (company, from) = (*company, *from);
-            may_buy(history, seat, Purchase::Share { company, from }, None).err()
+            may_buy(history, seat, Purchase::Share { company, from }, bought).err()
         }
         Order::Sell { company, shares } => {
             let (company, shares) = (*company, *shares);
