@@ -180,7 +180,7 @@ fn push_of_par(
     order: &Order,
 ) -> Result<(), AllocError> {
     match objection_to(ruled.round, false, order) {
-        Some((code, reason)) if code == rule.code() => push_objection(out, ruled.sheets, reason),
+        Some((broken, reason)) if broken == rule => push_objection(out, ruled.sheets, reason),
         _ => Ok(()),
     }
 }
@@ -212,7 +212,7 @@ fn push_by_tables(
     order: &Order,
 ) -> Result<(), AllocError> {
     match objection_to(ruled.round, true, order) {
-        Some((code, reason)) if code == rule.code() => push_objection(out, ruled.sheets, reason),
+        Some((broken, reason)) if broken == rule => push_objection(out, ruled.sheets, reason),
         _ => push_by_view(alloc, out, ruled, rule, order),
     }
 }
@@ -251,11 +251,7 @@ fn push_by_view(
             push_colour(out, ruled.view, lay.hex)
         }
         _ => match objection_by_view(ruled.view, ruled.seat, order) {
-            Some((code, reason)) if code == rule.code() => push_objection(
-                out,
-                ruled.sheets,
-                reason,
-            ),
+            Some((broken, reason)) if broken == rule => push_objection(out, ruled.sheets, reason),
             _ => Ok(()),
         },
     }
