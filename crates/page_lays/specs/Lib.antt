@@ -1,0 +1,4 @@
+-- What may be done, on the page of a game.
+pub mod MoveRows
+pub mod Players
+pub mod Turns
