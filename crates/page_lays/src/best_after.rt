@@ -1,4 +1,4 @@
-//! What a company's trains would earn at their best: now, and after a lay or a token.
+//! The greatest revenue of a company's trains: now, and after a lay or a token.
 ghost use Rattle.std.specs.Prelude.{IfOk};
 ghost use Rattle.board_state.specs.MapState.{position_of};
 ghost use Rattle.legal_runs.specs.Set.{IsGreatestMoney};
@@ -14,7 +14,7 @@ use legal_runs::Runner;
 use std::alloc::{AllocError, Global};
 use tables::{Company, Kind, Money, Round};
 
-/// A company with its trains, in a game at the head of its orders.
+/// A company with its trains, at the head of its orders.
 #[derive(Clone, Copy)]
 pub(crate) struct Trains<'a> {
     pub(crate) alloc: Global,
@@ -53,7 +53,7 @@ impl Trains<'_> {
         ensures { let its = self.entry in
             IfOk result (IsGreatestMoney (position_of board.now) its.company its.kinds.now) }
     {
-        // A search takes no account of the round.
+        // A search ignores the round.
         let any_round = Round::Operating { set: 1, number: 1 };
         let mut search = Search::new(self.alloc);
         match search.earn(board, any_round, self.company, self.kinds) {

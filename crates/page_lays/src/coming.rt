@@ -1,4 +1,4 @@
-//! A game before the round that comes. It is played anew for each who steps on in it.
+//! A game before the next round.
 ghost use Rattle.std.specs.Prelude.{◌≡◌, IfOk, length};
 ghost use Rattle.history.specs.Sound.{IsSound};
 ghost use Rattle.sheets.specs.File.{players_of};
@@ -10,7 +10,7 @@ use sheets::Sheets;
 use std::alloc::Global;
 use tables::Round;
 
-/// A game before the round that comes.
+/// A game before the next round.
 #[derive(Drop)]
 pub(crate) struct Coming<'a> {
     pub(crate) sheets: &'a Sheets<'a>,
@@ -18,8 +18,8 @@ pub(crate) struct Coming<'a> {
     pub(crate) history: History,
 }
 
-/// Returns the game of some sheets before the round that comes after a round, or after the last
-/// that they play. The error is that the round is not played, or `Memory`.
+/// Returns the game of some sheets after a round, or after the last round played if none is named.
+/// The error is `Round` if that round was not played, or `Memory`.
 pub(crate) fn coming_in<'a>(
     alloc: Global,
     sheets: &'a Sheets<'a>,
@@ -35,7 +35,7 @@ pub(crate) fn coming_in<'a>(
     }
 }
 
-/// Returns the game after the last round that the sheets play.
+/// Returns the game after the last round played.
 fn coming_at_last<'a>(alloc: Global, sheets: &'a Sheets<'a>) -> Result<Coming<'a>, DeskFault>
     ensures sound { IfOk result (λ coming. IsSound coming.history) }
     ensures seats { IfOk result (λ coming.

@@ -1,4 +1,4 @@
-//! The end of a page with what may be done.
+//! The end of a page that shows what may be done.
 ghost use Rattle.std.specs.Prelude.{IfOk};
 ghost use Rattle.markup.specs.Reading.{IsWellFormed};
 
@@ -15,10 +15,10 @@ use rounds::{End, play};
 use sheets::{Sheets, collect};
 use std::alloc::Global;
 
-/// Ends the page of the game of an order file after a round: adds its hexes in words, what companies
-/// may lay and place on each in the round that comes, and what each player may do.
+/// Ends the page of the game of an order file: adds its hexes in words, with what companies may lay
+/// and place on each in the next round, and what each player may do.
 ///
-/// Fails with `File` if the file is refused, with `Round` if the round was not played, and with
+/// Fails with `File` if the file is refused, with `Round` if the named round was not played, and with
 /// `Memory` if allocation fails.
 pub fn end_page<P: Progress>(
     alloc: Global,
@@ -58,7 +58,7 @@ fn put_moves<P: Progress>(
     }
 }
 
-/// Adds what may be done in a game as it stands.
+/// Adds what may be done in a game at a moment.
 fn put_moves_of<P: Progress>(
     alloc: Global,
     out: &mut Writer,
@@ -76,11 +76,11 @@ fn put_moves_of<P: Progress>(
     Ok(put_may(alloc, out, &scene, &may, wanted)?)
 }
 
-/// Adds the hexes, and that nothing may be done.
+/// Adds the hexes, and that the game is over.
 fn put_over(out: &mut Writer, scene: &Scene) {
     page_map::put_hexes(out, scene);
     begin_section(out, "may", "What may be done", "");
-    let words = "The game is over: nothing may be done.";
+    let words = "The game is over.";
     out.element(Tag::Paragraph, &[Words(words)]);
     out.end();
 }

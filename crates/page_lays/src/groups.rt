@@ -1,4 +1,4 @@
-//! Lines on the page, in groups: the label of a group names the lines of a sheet above them.
+//! Groups of lines on the page. The label of a group names the lines of a sheet above its own.
 
 use crate::move_lines::Line;
 use crate::move_rows::Move;
@@ -14,7 +14,7 @@ use page_map::Scene;
 use std::alloc::{AllocError, Global};
 use tables::{Company, Money, Round, Seat};
 
-/// Where in a sheet some lines stand.
+/// A block of lines in a sheet.
 #[derive(Clone, Copy)]
 pub(crate) enum Block {
     /// Below its SHEET line.
@@ -25,13 +25,13 @@ pub(crate) enum Block {
     Company(Company),
 }
 
-/// Whose sheet for which round.
+/// A sheet: whose it is, and for which round.
 #[derive(Clone, Copy)]
 pub(crate) struct Of<'a> {
     pub(crate) scene: &'a Scene<'a>,
     pub(crate) seat: Seat,
     pub(crate) round: Round,
-    /// Who presides over each company as the round begins, in roster order.
+    /// Who presides over each company at the start of the round, in roster order.
     pub(crate) presidents: &'a [Option<Seat>],
 }
 
@@ -52,7 +52,7 @@ fn begin_group(out: &mut Writer, of: Of, block: Block) {
     out.within();
 }
 
-/// Adds lines of a company that are on a hex, if there are any. Fails only if allocation fails.
+/// Adds a company's lines on a hex, if there are any. Fails only if allocation fails.
 pub(crate) fn put_group_on(
     alloc: Global,
     out: &mut Writer,
@@ -72,8 +72,8 @@ pub(crate) fn put_group_on(
     Ok(())
 }
 
-/// Adds a lay or a token: its order to press, its price, and what the best runs would earn more than
-/// now.
+/// Adds a lay or a token: its order as a button, its price, and by how much it raises the revenue of
+/// the best runs.
 fn put_move(
     alloc: Global,
     out: &mut Writer,
@@ -99,8 +99,7 @@ fn put_move(
     Ok(())
 }
 
-/// Adds rows that no rule refuses as a group, each with its price, if there are any. Fails only if
-/// allocation fails.
+/// Adds the rows that no rule refuses as a group, if there are any. Fails only if allocation fails.
 pub(crate) fn put_group(
     alloc: Global,
     out: &mut Writer,
@@ -124,8 +123,8 @@ pub(crate) fn put_group(
     Ok(())
 }
 
-/// Returns whether an order may be given: no rule refuses it, and no offer that it needs comes too
-/// late.
+/// Returns whether an order may be given: no rule refuses it, and the offer that it needs, if any,
+/// can be obeyed.
 fn is_allowed(of: Of, answer: Answer) -> bool {
     match answer {
         Answer::Obeyed { .. } => true,
@@ -134,7 +133,7 @@ fn is_allowed(of: Of, answer: Answer) -> bool {
     }
 }
 
-/// Adds a row with its price, and with the offer that it needs.
+/// Adds a row with its price, and the offer that it needs.
 fn put_row(alloc: Global, out: &mut Writer, of: Of, row: &Row) -> Result<(), AllocError> {
     match row.answer {
         Answer::Obeyed { price } => put_order(alloc, out, &row.order, price),
@@ -150,7 +149,7 @@ fn put_row(alloc: Global, out: &mut Writer, of: Of, row: &Row) -> Result<(), All
     }
 }
 
-/// Adds an order to press, with its price.
+/// Adds an order as a button, with its price.
 fn put_order(
     alloc: Global,
     out: &mut Writer,

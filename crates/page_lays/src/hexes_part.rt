@@ -9,7 +9,7 @@ use markup::Writer;
 use page_map::{Scene, begin_hex, begin_hexes};
 use std::alloc::{AllocError, Global};
 
-/// Adds the hexes, with the lines of some turns. Fails only if allocation fails.
+/// Adds the hexes, each with the lines of companies there. Fails only if allocation fails.
 pub(crate) fn put_hexes(
     alloc: Global,
     out: &mut Writer,

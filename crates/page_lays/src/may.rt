@@ -1,4 +1,4 @@
-//! What may be done in the round that comes.
+//! What may be done in the next round.
 ghost use Rattle.std.specs.Prelude.{◌≡◌, length};
 ghost use Rattle.history.specs.Sound.{IsSound};
 ghost use Rattle.sheets.specs.File.{players_of};
@@ -15,11 +15,11 @@ use sheets::Sheets;
 use std::alloc::{AllocError, Global};
 use tables::{Round, Seat};
 
-/// What may be done in a round that comes.
+/// What may be done in the next round.
 #[derive(Drop)]
 pub(crate) struct May {
     pub(crate) round: Round,
-    /// Who presides over each company as it begins, in roster order.
+    /// Who presides over each company at its start, in roster order.
     pub(crate) presidents: Vec<Option<Seat>>,
     pub(crate) players: Vec<Player>,
     /// The turns of companies.
@@ -27,7 +27,7 @@ pub(crate) struct May {
 }
 
 impl May {
-    /// Returns whose sheet it is for a seat.
+    /// Returns the place of a seat's lines on the page.
     pub(crate) fn of<'a>(&'a self, scene: &'a Scene<'a>, seat: Seat) -> Of<'a> {
         Of {
             scene,
@@ -38,8 +38,8 @@ impl May {
     }
 }
 
-/// Returns what may be done in the round that comes. The error is that the round after which it
-/// comes is not played, or `Memory`.
+/// Returns what may be done in the next round. The error is `Round` if the round before it was not
+/// played, or `Memory`.
 pub(crate) fn may_in<P: Progress>(
     alloc: Global,
     sheets: &Sheets,
@@ -52,7 +52,7 @@ pub(crate) fn may_in<P: Progress>(
     Ok(may_before(alloc, coming, round, presidents, wanted, progress)?)
 }
 
-/// Returns what may be done in the round that comes, in a game before it.
+/// Returns what may be done in the next round of a game.
 fn may_before<P: Progress>(
     alloc: Global,
     coming: Coming,

@@ -1,4 +1,4 @@
-//! What each player may do, the position from which that is told, and the sheet.
+//! What each player may do, the position that the lines assume, and the box for a sheet.
 
 use crate::groups::{Block, Of, put_group, put_link};
 use crate::may::May;
@@ -11,28 +11,26 @@ use page_map::Scene;
 use std::alloc::{AllocError, Global};
 use tables::{Company, Round};
 
-/// What is said of the position before an operating round.
-const AT_ORDERS: &str = ". Each line is told at the head of the orders of its company, if nobody \
-    orders anything before: the privates have paid, and each company before it has had its turn.";
+/// The position that the lines of an operating round assume.
+const AT_ORDERS: &str = ". Each line is shown as the first order of its company's turn, if nobody \
+    orders anything before: privates have paid, and the companies before it have had their turns.";
 
-/// What is said of it before another round.
-const AT_TURN: &str =
-    ". No company lays or places anything in it. Each line is told at the head of \
-    its player's turn, if nobody orders anything before.";
+/// The position that the lines of another round assume.
+const AT_TURN: &str = ". No company operates in it. Each line is shown as the first order of its \
+    player's first turn, if nobody orders anything before.";
 
-/// What is said of a line.
-const OF_A_LINE: &str = " Behind it stands its price. Lines that the umpire would refuse are not \
-    there. If the browser lets the page run its script, a press puts the line into the sheet at the \
-    foot of the page; otherwise copy it.";
+/// What a line shows.
+const OF_A_LINE: &str = " The number after it is its price. Lines that the umpire would refuse are \
+    left out. Press a line to add it to the sheet at the foot of the page. If your browser runs no \
+    script here, copy it.";
 
-/// What is said of it beside, where it is told what best runs would earn.
-const OF_RUNS: &str =
-    " Behind a + stands what the best runs of the company would earn more after it.";
+/// What a line shows besides, if it shows the revenue of best runs.
+const OF_RUNS: &str = " The number after a + is how much more the company's best runs would earn.";
 
-/// What is said of a company that must buy a train.
+/// What the page says of a company that must buy a train.
 const MUST_BUY: &str =
-    " must buy a train as its turn ends, if it buys none before. `desk may` says \
-    what it costs, and what its president may sell for it.";
+    " must buy a train at the end of its turn if it buys none before. `desk may` \
+    shows what it costs, and what its president may sell for it.";
 
 /// Adds what may be done: the position, the turns, the players and the sheet. Fails only if
 /// allocation fails.
@@ -58,11 +56,11 @@ pub(crate) fn put_may(
     Ok(())
 }
 
-/// Adds the position of the lines.
+/// Adds the position that the lines assume.
 fn put_position(out: &mut Writer, round: Round, best: bool) {
     out.begin(Tag::Paragraph);
     out.within();
-    out.put(&[Words("The round that comes is "), Named(round)]);
+    out.put(&[Words("The next round is "), Named(round)]);
     let words = match round {
         Round::Operating { .. } => AT_ORDERS,
         Round::Opening(_) | Round::Stock(_) => AT_TURN,
@@ -74,8 +72,8 @@ fn put_position(out: &mut Writer, round: Round, best: bool) {
     out.end();
 }
 
-/// Adds a company's turn: what its best runs earn, the hexes on which it may lay or place, and what
-/// comes before its orders.
+/// Adds a company's turn: what its best runs earn, the hexes where it may lay or place, and what
+/// happens before its orders.
 fn put_turn(out: &mut Writer, scene: &Scene, turn: &Turn) {
     out.element(Tag::H3, &[Words(turn.by.company.code())]);
     out.begin(Tag::Paragraph);
@@ -95,14 +93,14 @@ fn put_turn(out: &mut Writer, scene: &Scene, turn: &Turn) {
     put_told(out, turn.head.before.as_slice());
 }
 
-/// Adds each company that was asked for and has no turn.
+/// Adds each named company that gives no orders.
 fn put_missing(out: &mut Writer, may: &May, companies: &[Company]) {
     for &company in companies {
         if !may.turns.iter().any(|turn| turn.by.company == company) {
             let code = Words(company.code());
             let words = [
                 code,
-                Words(" has no turn in "),
+                Words(" gives no orders in "),
                 Named(may.round),
                 Words("."),
             ];
@@ -111,8 +109,7 @@ fn put_missing(out: &mut Writer, may: &May, companies: &[Company]) {
     }
 }
 
-/// Adds what a player may do: the standing lines, the lines of a turn, and what their companies may
-/// buy. Fails only if allocation fails.
+/// Adds what a player may do: standing lines, lines of a turn, and what their companies may buy.
 fn put_player(
     alloc: Global,
     out: &mut Writer,
@@ -131,7 +128,7 @@ fn put_player(
     Ok(())
 }
 
-/// Adds what a company may buy, and what it must.
+/// Adds what a company may buy, and whether it must buy a train.
 fn put_purchases(alloc: Global, out: &mut Writer, of: Of, turn: &Turn) -> Result<(), AllocError> {
     let block = Block::Company(turn.by.company);
     put_group(alloc, out, of, block, turn.trains.as_slice())?;
@@ -143,14 +140,14 @@ fn put_purchases(alloc: Global, out: &mut Writer, of: Of, turn: &Turn) -> Result
     Ok(())
 }
 
-/// Adds a text as it is.
+/// Adds a text as printed.
 fn put_told(out: &mut Writer, text: &[u8]) {
     out.begin_as(Tag::Preformatted, "told");
     out.text(text);
     out.end();
 }
 
-/// Adds the box for the sheet, and the script that writes in it.
+/// Adds the box for a sheet, and the script that fills it.
 fn put_sheet(out: &mut Writer) {
     begin_plain_section(out, "sheet", "Sheet");
     out.begin(Tag::TextArea);

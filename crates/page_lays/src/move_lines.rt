@@ -1,4 +1,4 @@
-//! Lays and tokens with what the company's best runs would earn after each.
+//! Lays and tokens, each with what the company's best runs would earn after it.
 ghost use Rattle.std.specs.Prelude.{◌≡◌, IfOk, filter, map};
 ghost use Rattle.page_lays.specs.MoveRows.{is_on, row_of};
 
@@ -14,12 +14,12 @@ use tables::Money;
 #[derive(Clone, Copy)]
 pub(crate) struct Line {
     pub(crate) row: Priced<Move>,
-    /// In dollars; `None` if that is not asked.
+    /// In dollars; `None` if not requested.
     pub(crate) best: Option<Money>,
 }
 
-/// Returns some lays and tokens, each with what the trains would earn after it, or without that if
-/// no trains are named. Fails only if allocation fails.
+/// Returns some lays and tokens, each with what the trains would earn after it, if trains are given.
+/// Fails only if allocation fails.
 pub(crate) fn lines_of<P: Progress>(
     alloc: Global,
     rows: &[Priced<Move>],
@@ -42,8 +42,8 @@ pub(crate) fn lines_of<P: Progress>(
     Ok(lines)
 }
 
-/// Returns what the trains would earn after a lay or a token, by the lines before it: of a lay that
-/// gives the same track it is known.
+/// Returns what the trains would earn after a lay or a token. An earlier line with the same track
+/// has the same revenue.
 fn best_of(trains: Trains, before: &[Line], what: Move) -> Result<Money, AllocError> {
     for line in before {
         if let Some(best) = line.best
@@ -55,7 +55,8 @@ fn best_of(trains: Trains, before: &[Line], what: Move) -> Result<Money, AllocEr
     trains.best_after(what)
 }
 
-/// Returns whether two lays give the same track: of the same tile on the same hex.
+/// Returns whether two moves lay the same track: the same tile on the same hex, in rotations that
+/// look alike.
 fn is_same_track(a: Move, b: Move) -> bool {
     match (a, b) {
         (Move::Lay(a), Move::Lay(b)) => has_same_track(a, b),
@@ -68,7 +69,7 @@ fn has_same_track(a: Lay, b: Lay) -> bool {
     a.hex == b.hex && a.tile == b.tile && laid_links(a).as_slice() == laid_links(b).as_slice()
 }
 
-/// Returns those of some lines that are on a hex, in their order. Fails only if allocation fails.
+/// Returns the lines on a hex, in order. Fails only if allocation fails.
 pub(crate) fn lines_on(alloc: Global, lines: &[Line], hex: Hex) -> Result<Vec<Line>, AllocError>
     ensures { IfOk result (λ found. found.items ≡ filter (is_on hex) lines.now) }
 {

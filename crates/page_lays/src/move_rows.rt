@@ -1,4 +1,4 @@
-//! A company's lays and tokens as rows: lays first, then tokens, each with its price.
+//! A company's lays and tokens as rows with prices, lays first.
 ghost use Rattle.std.specs.Prelude.{◌≡◌, ◌++◌, IfOk, OnOk, filter, map};
 ghost use Rattle.order_grammar.specs.Print.{spelling_of};
 ghost use Rattle.page_lays.specs.MoveRows.{AreMovesIn, hex_of_move, lay_row, order_of_move, token_row};
@@ -20,7 +20,7 @@ pub(crate) enum Move {
 }
 
 impl Move {
-    /// Returns the hex on which it is done.
+    /// Returns its hex.
     pub(crate) fn hex(self) -> Hex
         ensures { result ≡ hex_of_move self }
     {
@@ -30,7 +30,7 @@ impl Move {
         }
     }
 
-    /// Returns the order for it.
+    /// Returns its order.
     fn order(self) -> Order
         ensures { result ≡ order_of_move self }
     {
@@ -40,7 +40,7 @@ impl Move {
         }
     }
 
-    /// Returns the order as a sheet could hold it. Fails only if allocation fails.
+    /// Returns its order as a line of a sheet. Fails only if allocation fails.
     pub(crate) fn text(self, alloc: Global) -> Result<Vec<u8>, AllocError>
         ensures { IfOk result (λ text. text.items ≡ spelling_of (order_of_move self.entry)) }
     {
@@ -50,8 +50,8 @@ impl Move {
     }
 }
 
-/// Returns every lay and every token of a company where its turn has come to, with their prices in
-/// dollars. Fails only if allocation fails.
+/// Returns every lay and every token of a company at this point of its turn, with prices in dollars.
+/// Fails only if allocation fails.
 pub(crate) fn rows_of(alloc: Global, orders: &OrdersAhead) -> Result<Vec<Priced<Move>>, AllocError>
     ensures { IfOk result (λ rows.
         AreMovesIn orders.now.turn orders.now.by.company rows.items) }

@@ -1,5 +1,4 @@
-//! Who may offer a train in an operating round: an OFFER is a standing line, and is ruled as the
-//! round begins.
+//! Who may offer a train: an OFFER is a standing line, ruled at the start of an operating round.
 ghost use Rattle.std.specs.Prelude.{◌≡◌, IfOk};
 ghost use Rattle.desk_may.specs.Offerers.{may_offer, presidents_of};
 
@@ -20,8 +19,7 @@ pub(crate) fn presidents(alloc: Global, history: &History) -> Result<Vec<Option<
     Ok(presidents)
 }
 
-/// Returns whether a seat may make an offer that is obeyed, by those who preside as the round
-/// begins.
+/// Returns whether an offer of a seat can be obeyed, given the presidents at the start of the round.
 pub(crate) fn may_offer(presidents: &[Option<Seat>], giver: Seat, offer: Offer) -> bool
     ensures { result ≡ may_offer presidents.now giver offer }
 {

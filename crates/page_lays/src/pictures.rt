@@ -1,4 +1,5 @@
-//! Small pictures of tiles: each tile once, to which the lines refer, turned by their classes.
+//! Small pictures of tiles. The page has each tile once; a line refers to it, and its class rotates
+//! it.
 
 use crate::move_lines::Line;
 use crate::move_rows::Move;
@@ -10,10 +11,10 @@ use page_map::put_shade;
 use picture::{Look, Marker, draw_stops, draw_track};
 use tables::Money;
 
-/// A hex of which pictures of tiles show nothing else.
+/// A hex that adds nothing to the picture of a tile.
 const ANY: Hex = Hex::I13;
 
-/// Adds the tiles that some turns may lay, to be referred to.
+/// Adds the definitions of the tiles that some turns may lay.
 pub(crate) fn put_tiles(out: &mut Writer, turns: &[Turn]) {
     out.begin_as(Tag::Svg, "defs");
     out.begin(Tag::Defs);
@@ -26,12 +27,12 @@ pub(crate) fn put_tiles(out: &mut Writer, turns: &[Turn]) {
     out.end();
 }
 
-/// Returns whether a tile is in some lines.
+/// Returns whether some lines lay a tile.
 fn lays_tile(lines: &Vec<Line>, tile: TileNo) -> bool {
     lines.iter().any(|line| matches!(line.row.what, Move::Lay(lay) if lay.tile == tile))
 }
 
-/// Adds a tile in rotation 0, to be referred to.
+/// Adds the definition of a tile, in rotation 0.
 fn put_tile(out: &mut Writer, tile: TileNo) {
     let look = Look::laid(Lay {
         hex: ANY,

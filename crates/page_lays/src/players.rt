@@ -1,4 +1,4 @@
-//! What each player may do in the round that comes, beside what their companies may.
+//! What each player may do in the next round, apart from their companies.
 ghost use Rattle.std.specs.Prelude.{◌≤◌, IfOk};
 ghost use Rattle.history.specs.Sound.{IsSound};
 ghost use Rattle.page_lays.specs.Players.{ArePlayersIn, IsPlayerAt};
@@ -18,8 +18,8 @@ pub(crate) struct Player {
     pub(crate) turn: Vec<Row>,
 }
 
-/// Returns what each player may do in an operating round that comes, as it begins, beside what their
-/// companies may. Fails only if allocation fails.
+/// Returns the standing lines of each player for the next operating round. Fails only if allocation
+/// fails.
 pub(crate) fn players_in_operating(
     alloc: Global,
     history: &History,
@@ -40,8 +40,8 @@ pub(crate) fn players_in_operating(
     Ok(players)
 }
 
-/// Returns what each player may do at the head of their first turn of an opening or a stock round
-/// that comes, in the order of turns, if those before them pass. Fails only if allocation fails.
+/// Returns what each player may do at the head of their first turn of the next opening or stock
+/// round, in the order of turns, if the players before them pass. Fails only if allocation fails.
 pub(crate) fn players_in_turns(
     alloc: Global,
     history: History,

@@ -1,7 +1,7 @@
-//! How far a page is.
+//! Progress of a long page.
 
-/// Hears how far a page is.
+/// Receives the progress of a page.
 pub trait Progress {
-    /// Hears that this many of so many lays and tokens of a company have been tried.
+    /// Reports that this many of so many lays and tokens of a company have been tried.
     fn tell(&mut self, done: usize, of: usize);
 }

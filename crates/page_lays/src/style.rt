@@ -1,6 +1,6 @@
-//! The style of what this crate adds to a page.
+//! The style of this crate's parts of a page.
 
-/// The style, behind that of all pages.
+/// The style, to follow that of all pages.
 pub const STYLE: &str = "\n\
     .defs{position:absolute;width:0;height:0}\
     .lt{width:40px;height:40px;vertical-align:middle}\n\

@@ -1,5 +1,5 @@
-//! The turns of the companies in an operating round that comes, each at the head of its orders, with
-//! what the company may lay, place and buy there.
+//! The companies of the next operating round in their order, each with what it may lay, place and
+//! buy at the head of its orders.
 ghost use Rattle.std.specs.Prelude.{◌≡◌, IfOk, None, Some, length, map};
 ghost use Rattle.std.specs.List.{list_any};
 ghost use Rattle.desk_may.specs.OperatingLines.{private_rows_of};
@@ -33,16 +33,16 @@ pub(crate) struct Turn {
     pub(crate) map: OnMap,
     /// The trains that it may buy, and may not, once it has withheld.
     pub(crate) trains: Vec<Row>,
-    /// Whether it must buy a train as its turn ends, if it orders nothing.
+    /// Whether it must buy a train at the end of its turn, if it orders nothing.
     pub(crate) must_buy: bool,
 }
 
 /// A company at the head of its orders.
 #[derive(Drop)]
 pub(crate) struct Head {
-    /// How many events there are.
+    /// The number of events so far.
     pub(crate) at: usize,
-    /// What comes before, since the turn before of which is told, as text.
+    /// What happens since the previous company on the page, as text.
     pub(crate) before: Vec<u8>,
     /// The privates that it may buy, and may not.
     pub(crate) privates: Vec<Row>,
@@ -51,25 +51,25 @@ pub(crate) struct Head {
 /// What a company may do on the map.
 #[derive(Drop)]
 pub(crate) struct OnMap {
-    /// What its best runs earn now, in dollars; `None` if that is not asked.
+    /// What its best runs earn now, in dollars; `None` if not requested.
     pub(crate) now: Option<Money>,
     /// What it may lay and place.
     pub(crate) lines: Vec<Line>,
 }
 
-/// What is asked of a page.
+/// What a page is to show.
 #[derive(Clone, Copy)]
 pub struct Wanted<'a> {
-    /// The round after which the page is; `None` for the last one.
+    /// The round after which the page shows the game; `None` for the last round.
     pub after: Option<Round>,
-    /// The companies of which it tells; all that operate if there are none.
+    /// The companies whose lays it shows; if empty, all that operate.
     pub companies: &'a [Company],
-    /// Whether it tells what best runs would earn.
+    /// Whether it shows what best runs would earn.
     pub best: bool,
 }
 
 impl Wanted<'_> {
-    /// Returns whether the turn of a company is told of.
+    /// Returns whether it shows the turn of a company.
     fn has(self, company: Company) -> bool
         ensures { result ≡ is_wanted self.companies.now company }
     {
@@ -84,8 +84,8 @@ fn is_among(companies: &[Company], company: Company) -> bool
     companies.iter().any(|other| *other == company)
 }
 
-/// Returns the turns of the companies that are asked for, in operating order. Fails only if
-/// allocation fails.
+/// Returns the turns of the companies to be shown, in operating order. Fails only if allocation
+/// fails.
 pub(crate) fn turns_of<P: Progress>(
     alloc: Global,
     coming: Coming,
@@ -117,8 +117,8 @@ pub(crate) fn turns_of<P: Progress>(
     Ok(list)
 }
 
-/// Adds the turn of the company that comes next, if it is asked for and somebody leads it. Returns
-/// the round after it.
+/// Adds the turn of the next company, if it is to be shown and has a president. Returns the round
+/// after that turn.
 fn push_turn<'a, P: Progress>(
     alloc: Global,
     list: &mut Vec<Turn>,
@@ -145,7 +145,7 @@ fn push_turn<'a, P: Progress>(
     orders.finish()
 }
 
-/// Returns the turn of a company at the head of its orders, and where it stands once the company has
+/// Returns the turn of a company at the head of its orders, and the state once the company has
 /// withheld.
 fn turn_at<'a, P: Progress>(
     alloc: Global,
@@ -173,7 +173,7 @@ fn turn_at<'a, P: Progress>(
     Ok((turn, orders))
 }
 
-/// Returns what comes before the orders of a company, and the privates that it may buy.
+/// Returns what happens before the orders of a company, and the privates that it may buy.
 fn head_of(alloc: Global, orders: &OrdersAhead, from: usize) -> Result<Head, AllocError>
     ensures { IfOk result (λ head. head.privates.items
         ≡ private_rows_of orders.now.turn.game orders.now.by.company) }
