@@ -63,10 +63,11 @@ read_lays() {
   count "what may be done in $1" "$why"
 }
 
-# play_lays FILE: the lines of the page are these.
+# play_lays FILE: the lines of the page are these. NAME.words has the game and the round.
 play_lays() {
-  local name=${1%.lays}
-  DESK=$desk bench/page-lays --print "games/${name##*/}.orders" > "$scratch/out" 2> "$scratch/err"
+  local name=${1%.lays} game round
+  read -r game round < "$name.words"
+  DESK=$desk bench/page-lays --print "games/$game.orders" "$round" > "$scratch/out" 2> "$scratch/err"
   judge "$name" $? 0 "$1" none
 }
 

@@ -333,7 +333,7 @@ fn argument_of<'a>(alloc: Global, operand: Operand) -> Arg<'a> {
             .long("lays")
             .value_name("COMPANY")
             .num_args(0..)
-            .help("Add what these companies may lay, or all, and what players may do"),
+            .help("Add what these companies may lay, or all, and what players may do next"),
         Operand::After => Arg::new(alloc, "after")
             .long("after")
             .value_name("ROUND")

@@ -63,3 +63,9 @@ pub record AreTurnsIn (is_asked : Company → Bool) (opened : AheadState) (turns
   pub last : AheadState
   pub have : HaveTurnsIn is_asked count opened last turns
   pub over : (count ≡ 8) ⊎ (next_company last.game.events ≡ None)
+
+-- those turns are added to a list
+pub record AddsTurns (is_asked : Company → Bool) (opened : AheadState) (old new : List Turn) : Type 0 where
+  pub turns : List Turn
+  pub are : AreTurnsIn is_asked opened turns
+  pub added : new ≡ old ++ turns

@@ -1,13 +1,13 @@
 //! The companies of the next operating round in their order, each with what it may lay, place and
 //! buy at the head of its orders.
-ghost use Rattle.std.specs.Prelude.{◌≡◌, IfOk, None, Some, length, map};
+ghost use Rattle.std.specs.Prelude.{◌≡◌, [], IfOk, None, OnOk, Some, length, map};
 ghost use Rattle.std.specs.List.{list_any};
 ghost use Rattle.desk_may.specs.OperatingLines.{private_rows_of};
 ghost use Rattle.foresight.specs.Ahead.{opened_state, withheld_in};
 ghost use Rattle.history.specs.Sound.{IsSound};
 ghost use Rattle.market.specs.OperatingOrder.{next_company};
 ghost use Rattle.page_lays.specs.MoveRows.{AreMovesIn, row_of};
-ghost use Rattle.page_lays.specs.Turns.{AddsTurn, AreTurnsIn, IsTold, is_wanted};
+ghost use Rattle.page_lays.specs.Turns.{AddsTurn, AddsTurns, IsTold, is_wanted};
 ghost use Rattle.sheets.specs.File.{players_of};
 ghost use Rattle.tables.specs.Roster.{same_company};
 
@@ -95,8 +95,8 @@ pub(crate) fn turns_of<P: Progress>(
 ) -> Result<Vec<Turn>, AllocError>
     requires sound { IsSound coming.history }
     requires seats { coming.history.seats ≡ length (players_of coming.sheets.now) }
-    ensures { IfOk result (λ turns. AreTurnsIn (is_wanted wanted.companies.now)
-        (opened_state coming.entry.sheets.now None round coming.history) turns.items) }
+    ensures { IfOk result (λ turns. AddsTurns (is_wanted wanted.companies.now)
+        (opened_state coming.sheets.now None round coming.history) [] turns.items) }
 {
     let Coming { sheets, history } = coming;
     let from = history.events().len();
@@ -104,17 +104,33 @@ pub(crate) fn turns_of<P: Progress>(
         sheets,
         drafter: None,
     };
-    let mut ahead = RoundAhead::open(alloc, history, draft, round)?;
+    let ahead = RoundAhead::open(alloc, history, draft, round)?;
     let mut list = Vec::new(alloc);
+    push_turns(alloc, &mut list, ahead, (from, wanted), progress)?;
+    Ok(list)
+}
+
+/// Adds the turns of a round.
+fn push_turns<P: Progress>(
+    alloc: Global,
+    list: &mut Vec<Turn>,
+    opened: RoundAhead,
+    asked: (usize, Wanted),
+    progress: &mut P,
+) -> Result<(), AllocError>
+    ensures { OnOk result (AddsTurns (is_wanted asked.1.companies.now) opened.entry
+        list.old.items list.new.items) }
+{
+    let mut ahead = opened;
     let mut turns = 0;
     while turns < COMPANIES {
         let Some(company) = ahead.next_company() else {
-            return Ok(list);
+            return Ok(());
         };
-        ahead = push_turn(alloc, &mut list, ahead, company, (from, wanted), progress)?;
+        ahead = push_turn(alloc, list, ahead, company, asked, progress)?;
         turns += 1;
     }
-    Ok(list)
+    Ok(())
 }
 
 /// Adds the turn of the next company, if it is to be shown and has a president. Returns the round
