@@ -1,5 +1,5 @@
--- this many have passed, and of each is told
-use Rattle.std.proofs.Common.{◌≡◌}
+-- this many have passed, and each is in the list
+use Rattle.std.proofs.Common.{◌≡◌, ℕ}
 use Rattle.foresight.specs.Turn.{passed_ahead, seat_after}
 use Rattle.history.specs.Sound.{IsSound}
 use Rattle.page_lays.specs.Players.{ArePlayersIn}
@@ -7,8 +7,10 @@ use Rattle.page_lays.proofs.players.players_in_turns.Given as goal
 
 abbrev pub invariant-loop : goal.invariant-loop
 invariant-loop l = record {
-  its : seat_after l.fn.history l.counter ≡ l.seat;
-  there : l.history ≡ passed_ahead l.fn.round l.fn.history l.counter;
-  told : ArePlayersIn l.fn.round l.fn.history l.counter l.players.items;
+  count : ℕ;
+  counted : count ≡ l.counter;
+  its : seat_after l.fn.history count ≡ l.seat;
+  there : l.history ≡ passed_ahead l.fn.round l.fn.history count;
+  told : ArePlayersIn l.fn.round l.fn.history count l.players.items;
   sound : IsSound l.history;
 }
