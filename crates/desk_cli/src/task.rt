@@ -409,6 +409,9 @@ fn task_of<'a>(
             return Ok(Asked::Nothing(wrong));
         }
     }
+    if matches!(task.job, Job::Page) && task.best && !task.lays {
+        return Ok(Asked::Nothing("--best needs --lays"));
+    }
     Ok(Asked::Task(task))
 }
 
