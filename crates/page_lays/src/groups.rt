@@ -2,7 +2,7 @@
 
 use crate::move_lines::Line;
 use crate::move_rows::Move;
-use crate::offers::may_offer;
+use crate::offers::is_allowed;
 use crate::pictures::put_picture;
 use crate::turns::Turn;
 use map_tables::Hex;
@@ -107,7 +107,7 @@ pub(crate) fn put_group(
     block: Block,
     rows: &[Row],
 ) -> Result<(), AllocError> {
-    if !rows.iter().any(|row| is_allowed(of, row.answer)) {
+    if !rows.iter().any(|row| is_allowed(of.presidents, row.answer)) {
         return Ok(());
     }
     begin_group(out, of, block);
@@ -115,22 +115,12 @@ pub(crate) fn put_group(
         out.element(Tag::Bold, &[Words(company.code())]);
     }
     for row in rows {
-        if is_allowed(of, row.answer) {
+        if is_allowed(of.presidents, row.answer) {
             put_row(alloc, out, of, row)?;
         }
     }
     out.end();
     Ok(())
-}
-
-/// Returns whether an order may be given: no rule refuses it, and the offer that it needs, if any,
-/// can be obeyed.
-fn is_allowed(of: Of, answer: Answer) -> bool {
-    match answer {
-        Answer::Obeyed { .. } => true,
-        Answer::WithConsent { giver, offer, .. } => may_offer(of.presidents, giver, offer),
-        Answer::Refused(_) => false,
-    }
 }
 
 /// Adds a row with its price, and the offer that it needs.

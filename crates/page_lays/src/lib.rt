@@ -7,7 +7,8 @@
 //! they are printed.
 //!
 //! The definitions, in `specs/`: `MoveRows` (the lays and tokens of a company, and those on a hex),
-//! `Turns` (of the companies of a round), `Players` (at the heads of their turns).
+//! `Turns` (of the companies of a round), `Players` (at the heads of their turns), `Allowed` (which
+//! orders of players the page shows).
 //!
 //! Reading order: `coming` (the game before the next round), `move_rows` (lays and tokens as rows),
 //! `best_after` and `move_lines` (what the best runs would earn after each), `progress`, `turns`
