@@ -77,8 +77,8 @@ fn player_at(
 {
     let standing = standing_rows(alloc, history, seat, round)?;
     let turn = match round {
-        Round::Opening(_) => opening_rows(alloc, history, seat)?,
-        Round::Stock(_) | Round::Operating { .. } => stock_rows(alloc, history, seat)?,
+        Round::Opening(_) => opening_rows(alloc, history, seat, false)?,
+        Round::Stock(_) | Round::Operating { .. } => stock_rows(alloc, history, seat, None)?,
     };
     Ok(Player {
         seat,
