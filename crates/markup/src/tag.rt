@@ -43,6 +43,8 @@ pub enum Tag {
     Division,
     Span,
     Preformatted,
+    Input,
+    Button,
 }
 
 /// An attribute of a start tag.
@@ -70,6 +72,10 @@ pub enum Attr {
     Xmlns,
     TabIndex,
     Label,
+    Kind,
+    Name,
+    For,
+    Checked,
 }
 
 impl Tag {
@@ -116,13 +122,17 @@ impl Tag {
             Tag::Division => "div",
             Tag::Span => "span",
             Tag::Preformatted => "pre",
+            Tag::Input => "input",
+            Tag::Button => "label",
         }
     }
 
-    /// Returns whether its start tag may also end it, as for an element of a picture without
-    /// children.
+    /// Returns whether its start tag may also end it, as for an element without children.
     pub(crate) fn is_sole(self) -> bool {
-        matches!(self, Tag::Path | Tag::Circle | Tag::Use | Tag::Polyline)
+        matches!(
+            self,
+            Tag::Path | Tag::Circle | Tag::Use | Tag::Polyline | Tag::Input
+        )
     }
 }
 
@@ -154,6 +164,10 @@ impl Attr {
             Attr::Xmlns => " xmlns=\"",
             Attr::TabIndex => " tabindex=\"",
             Attr::Label => " aria-label=\"",
+            Attr::Kind => " type=\"",
+            Attr::Name => " name=\"",
+            Attr::For => " for=\"",
+            Attr::Checked => " checked=\"",
         }
     }
 }

@@ -33,10 +33,10 @@ use tables::{COMPANIES, Company, Round};
 
 /// What a page shows of the order file besides its game.
 #[derive(Clone, Copy)]
-struct Told<'a> {
-    source: Source,
+pub(crate) struct Told<'a> {
+    pub(crate) source: Source,
     /// The bulletin of the round.
-    bulletin: &'a [u8],
+    pub(crate) bulletin: &'a [u8],
 }
 
 /// Returns the page of the game of an order file after a round, or after the last one if none is
@@ -135,7 +135,7 @@ fn page_text(
 }
 
 /// Returns the players.
-fn players_of<'a>(scene: &Scene<'a>) -> Players<'a> {
+pub(crate) fn players_of<'a>(scene: &Scene<'a>) -> Players<'a> {
     Players {
         names: scene.names,
         seats: scene.seats,
@@ -143,7 +143,7 @@ fn players_of<'a>(scene: &Scene<'a>) -> Players<'a> {
 }
 
 /// Returns the tokens on the stock chart, in the order of the roster.
-fn tokens_of(history: &History) -> ChartTokens {
+pub(crate) fn tokens_of(history: &History) -> ChartTokens {
     let mut tokens = [None; COMPANIES];
     for &company in &Company::ALL {
         tokens[company.index()] = token_of(history, company);
@@ -183,7 +183,7 @@ fn put_head(out: &mut Writer, scene: &Scene) {
     out.begin(Tag::Header);
     status_part::put_title(out, scene, Tag::H1);
     status_part::put_players(out, scene);
-    status_part::put_links(out);
+    status_part::put_links(out, &status_part::LINKS);
     out.end();
 }
 

@@ -278,17 +278,32 @@ fn put_private(out: &mut Writer, scene: &Scene, private: Private) {
 
 /// Adds each hex in words, as a list that the hexes of the map link to.
 pub fn put_hexes(out: &mut Writer, scene: &Scene) {
-    begin_section(out, "hexes", "Hexes in words", "");
-    out.begin_as(Tag::Listing, "hexes");
-    out.within();
+    begin_hexes(out);
     for &hex in &Hex::ALL {
-        out.put(&[Words("\n")]);
-        out.begin(Tag::Item);
-        out.value(Attr::Id, &[Words("hex-"), Named(hex)]);
-        out.within();
-        put_words(out, scene, &Look::on(scene.history.lays(), hex));
+        begin_hex_item(out, hex);
+        put_words_of(out, scene, hex);
         out.end();
     }
     out.end();
     out.end();
+}
+
+/// Begins the list of hexes in words, in a section of its own.
+pub fn begin_hexes(out: &mut Writer) {
+    begin_section(out, "hexes", "Hexes in words", "");
+    out.begin_as(Tag::Listing, "hexes");
+    out.within();
+}
+
+/// Begins the item of a hex in that list.
+pub fn begin_hex_item(out: &mut Writer, hex: Hex) {
+    out.put(&[Words("\n")]);
+    out.begin(Tag::Item);
+    out.value(Attr::Id, &[Words("hex-"), Named(hex)]);
+    out.within();
+}
+
+/// Adds what shows in a hex, in words.
+pub fn put_words_of(out: &mut Writer, scene: &Scene, hex: Hex) {
+    put_words(out, scene, &Look::on(scene.history.lays(), hex));
 }
