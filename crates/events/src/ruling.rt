@@ -138,12 +138,21 @@ static OPENING_RULES: [RuleRow<OpeningRule>; OpeningRule::BidForCheapest as usiz
     NotOfOpening: "A1",
         "the line neither buys a private nor bids on one; or a standing PAR is not for BO, or \
         names no par value",
+        "in a turn write BUY or BID; LIMIT and `PAR BO n` stand before the first TURN",
+        Some("A1-standing-lines-in-a-turn"),
     Sold: "A2", "the private is sold",
+        "nothing: it has gone to somebody else, or to you", Some("A2-sold"),
     NotCheapest: "A3", "it buys a private that is not the cheapest unsold",
+        "bid on it", Some("A3-not-the-cheapest"),
     BidTooLow: "A4", "it bids under 5 above the face value, or under 5 above an earlier bid",
+        "bid at least 5 above both", Some("A4-under-5-above-a-bid"),
     CashTooSmall: "A5", "it costs more than your cash less your bids on other privates",
+        "bid less elsewhere: bids tie cash until the private is sold",
+        Some("A5-price-over-the-cash"),
     TurnUsed: "A6", "you have bought or bid in this turn",
+        "write it below the next TURN", Some("A6-second-purchase"),
     BidForCheapest: "A7", "it bids on the cheapest private",
+        "buy it", Some("A7-bid-for-the-cheapest"),
 };
 
 impl OpeningRule {
@@ -152,6 +161,14 @@ impl OpeningRule {
         ensures { ListsEachRule code_of_opening_rule result.now }
     {
         &OPENING_RULES
+    }
+
+    /// Returns its row of the table.
+    pub fn row(self) -> &'static RuleRow<OpeningRule>
+        ensures code { result.now.code.now ≡ code_of_opening_rule self }
+        ensures sentence { result.now.sentence.now ≡ sentence_of_opening_rule self }
+    {
+        &OPENING_RULES[self as usize]
     }
 
     /// Returns the code that a report prints.
@@ -224,22 +241,39 @@ static STOCK_RULES: [RuleRow<StockRule>; StockRule::NoExchange as usize + 1] =
     rule_rows! { StockRule
     NotOfStock: "S1",
         "the line is not PAR, BUY of a share, SELL or EXCHANGE; or the RAISE is not needed",
+        "write one of these; of RAISE nothing: no more money was needed",
+        Some("S1-not-a-stock-order"),
     SaleInFirstRound: "S2", "it sells in SR1",
+        "sell from SR2 on", Some("S2-sale-in-the-first-stock-round"),
     NotHeld: "S3", "it sells nothing, or more than you hold",
+        "sell at most what the statement says that you hold", Some("S3-more-than-held"),
     PoolFull: "S4", "it would bring the pool over five shares of the company",
+        "sell fewer, or later, once somebody has bought from the pool", Some("S4-pool-over-five"),
     PresidentMustStay: "S5",
         "you preside, would keep under two shares, and nobody else has two to take the \
         president's certificate; or a RAISE would move the presidency of the company that \
         operates",
+        "sell fewer", Some("S5-presidents-certificate"),
     SoldInRound: "S6", "you have sold shares of the company in this round",
+        "buy in the next stock round", Some("S6-sold-in-this-round"),
     NoneThere: "S7", "that place has no share left",
+        "buy from the other place: IPO or POOL", Some("S7-none-in-the-pool"),
     NoParValue: "S8", "it names no par value",
+        "name 100, 90, 82, 76, 71 or 67", Some("S8-no-par-value"),
     WrongStart: "S9", "it starts a company that is started, or buys or sells of one that is not",
+        "start with PAR, and buy from then on", Some("S9-started-or-not"),
     CashTooSmall: "S10", "it costs more than your cash",
+        "sell before, or buy what is cheaper", Some("S10-cash-too-small"),
     CertificateLimit: "S11", "you hold as many certificates as you may, and this one counts",
+        "sell before, or buy of a company in a coloured zone", Some("S11-certificate-limit"),
     OverSixShares: "S12", "you would hold over six shares, outside the orange and the brown zone",
+        "buy of another company", Some("S12-over-six-shares"),
     BoughtBefore: "S13", "you have bought in this turn",
+        "write it below the next TURN; only in the brown zone several shares of one company may \
+        be bought",
+        Some("S13-second-purchase"),
     NoExchange: "S14", "you do not own MH, or no share of NYC is left, or you have six",
+        "nothing; where you have six, sell one before", Some("S14-who-may-exchange"),
 };
 
 impl StockRule {
@@ -248,6 +282,14 @@ impl StockRule {
         ensures { ListsEachRule code_of_stock_rule result.now }
     {
         &STOCK_RULES
+    }
+
+    /// Returns its row of the table.
+    pub fn row(self) -> &'static RuleRow<StockRule>
+        ensures code { result.now.code.now ≡ code_of_stock_rule self }
+        ensures sentence { result.now.sentence.now ≡ sentence_of_stock_rule self }
+    {
+        &STOCK_RULES[self as usize]
     }
 
     /// Returns the code that a report prints.
@@ -290,8 +332,9 @@ pub enum PayRule {
 
 /// The rules of dividends, in the order of their codes.
 static PAY_RULES: [RuleRow<PayRule>; PayRule::NothingToPay as usize + 1] = rule_rows! { PayRule
-    NothingToPay: "D1",
-        "the company has paid or withheld; or it is PAY, and nothing was earned",
+    NothingToPay: "D1", "the company has paid or withheld; or it is PAY, and nothing was earned",
+        "write PAY or WITHHOLD once, after the runs and before the first TRAIN",
+        Some("D1-pay-step-used"),
 };
 
 impl PayRule {
@@ -300,6 +343,14 @@ impl PayRule {
         ensures { ListsEachRule code_of_pay_rule result.now }
     {
         &PAY_RULES
+    }
+
+    /// Returns its row of the table.
+    pub fn row(self) -> &'static RuleRow<PayRule>
+        ensures code { result.now.code.now ≡ code_of_pay_rule self }
+        ensures sentence { result.now.sentence.now ≡ sentence_of_pay_rule self }
+    {
+        &PAY_RULES[self as usize]
     }
 
     /// Returns the code that a report prints.
@@ -350,17 +401,26 @@ pub enum TrainRule {
 /// The rules of trains, in the order of their codes.
 static TRAIN_RULES: [RuleRow<TrainRule>; TrainRule::NoDiscard as usize + 1] = rule_rows! { TrainRule
     NotOnSale: "T1", "the bank or the pool does not sell such a train now",
+        "buy the kind that is on sale; from the pool only what lies there", Some("T1-not-on-sale"),
     TrainLimit: "T2", "the company has as many trains as it may",
+        "have another company buy one, or trade one in for a D", Some("T2-train-limit"),
     CashTooSmall: "T3", "it costs more than the company's cash",
+        "withhold before, or buy of another company", Some("T3-cash-too-small"),
     NoConsent: "T4",
         "who sells has not consented to exactly this sale in this round, or the price is 0; or \
         an OFFER is at 0, or not of the seller's president",
+        "have its president write `OFFER TRAIN`, with this kind, buyer and price",
+        Some("T4-no-consent"),
     NotSellers: "T5", "the seller has no such train, or is the buyer",
+        "look at the statement for who has one", Some("T5-not-the-sellers"),
     NoTradeIn: "T6",
         "the train to be traded in is not the company's, or no 4, 5 or 6, or not for a D",
+        "trade in a 4, 5 or 6 that it has", Some("T6-trade-in"),
     NoDiscard: "T7",
         "DISCARD of a company over which you did not preside as the round began, or of a train \
         that it did not have",
+        "write it for a round in which it has such a train and you preside",
+        Some("T7-discard-lines"),
 };
 
 impl TrainRule {
@@ -369,6 +429,14 @@ impl TrainRule {
         ensures { ListsEachRule code_of_train_rule result.now }
     {
         &TRAIN_RULES
+    }
+
+    /// Returns its row of the table.
+    pub fn row(self) -> &'static RuleRow<TrainRule>
+        ensures code { result.now.code.now ≡ code_of_train_rule self }
+        ensures sentence { result.now.sentence.now ≡ sentence_of_train_rule self }
+    {
+        &TRAIN_RULES[self as usize]
     }
 
     /// Returns the code that a report prints.
@@ -415,12 +483,17 @@ pub enum PrivateRule {
 static PRIVATE_RULES: [RuleRow<PrivateRule>; PrivateRule::CashTooSmall as usize + 1] =
     rule_rows! { PrivateRule
     TooEarly: "P1", "it comes before phase 3",
+        "wait for phase 3", Some("P1-before-phase-3"),
     WrongPrice: "P2", "the price is under half the face value or over twice that",
+        "name one between them", Some("P2-half-to-twice-the-face"),
     NoConsent: "P3",
         "no player owns it, or its owner has not consented to exactly this sale in this round; \
         or an OFFER is not of its owner",
+        "have the owner write `OFFER PRIVATE`, with this buyer and price", Some("P3-no-consent"),
     NeverSold: "P4", "it is BOP",
+        "nothing: no company buys it", Some("P4-BOP"),
     CashTooSmall: "P5", "it costs more than the company's cash",
+        "agree on a lower price", Some("P5-cash-too-small"),
 };
 
 impl PrivateRule {
@@ -429,6 +502,14 @@ impl PrivateRule {
         ensures { ListsEachRule code_of_private_rule result.now }
     {
         &PRIVATE_RULES
+    }
+
+    /// Returns its row of the table.
+    pub fn row(self) -> &'static RuleRow<PrivateRule>
+        ensures code { result.now.code.now ≡ code_of_private_rule self }
+        ensures sentence { result.now.sentence.now ≡ sentence_of_private_rule self }
+    {
+        &PRIVATE_RULES[self as usize]
     }
 
     /// Returns the code that a report prints.

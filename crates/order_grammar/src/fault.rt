@@ -33,20 +33,32 @@ pub enum Fault {
 /// The faults of a line, in the order in which they apply.
 static FAULTS: [RuleRow<Fault>; Fault::PastLastLine as usize + 1] = rule_rows! { Fault
     TooLong: "G1", "the line has over 1,024 bytes, its comment counted",
+        "write it shorter", Some("G1-line-of-1025-bytes"),
     StrayByte: "G2",
         "a byte before the comment is not printable ASCII (for example a tab or an accented \
         letter)",
+        "write plain letters and spaces", Some("G2-tab"),
     UnknownWord: "G3",
         "no order begins with its first word; in a file of version 1 none begins with IF",
+        "check that word for a typo; put `#` before anything that is not an order; to use \
+        conditions, begin the file with `GAME 1830 2`",
+        Some("G3-unknown-word"),
     WrongWords: "G4",
-        "the words after the first do not fit any of its forms; after IF, they are not a condition \
-        followed by an order",
+        "the words after the first do not fit any of its forms; after IF, they are not a \
+        condition followed by an order",
+        "compare them with the table of forms", Some("G4-wrong-words"),
     NumberTooLarge: "G5", "a number is over 99,999",
+        "write a smaller one", Some("G5-number-over-99999"),
     OutOfPlace: "G6",
         "the order is not allowed where it stands, with or without a condition, or the line \
         belongs to no sheet",
+        "see which lines may stand before the first TURN or COMPANY, in a turn, or in a \
+        company's orders",
+        Some("G6-before-the-first-turn"),
     UnknownPlayer: "G7", "the SHEET line names nobody who plays",
+        "write the name as the PLAYERS line has it", Some("G7-unknown-player"),
     PastLastLine: "G8", "the line is past the 512th of its sheet",
+        "write fewer lines", Some("G8-past-line-512"),
 };
 
 impl Fault {
@@ -58,7 +70,7 @@ impl Fault {
     }
 
     /// Returns its row of the table.
-    fn row(self) -> &'static RuleRow<Fault>
+    pub fn row(self) -> &'static RuleRow<Fault>
         ensures code { result.now.code.now ≡ code_of self }
         ensures sentence { result.now.sentence.now ≡ sentence_of self }
     {

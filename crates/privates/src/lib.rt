@@ -30,6 +30,6 @@ mod turn;
 
 pub use bank::price_of;
 pub use bidding::auction;
-pub use opening::play_opening;
+pub use opening::{OpeningTurns, play_opening};
 pub use standing::judge_standing;
 pub use turn::judge;

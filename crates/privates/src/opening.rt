@@ -17,7 +17,7 @@ use tables::{Round, Seat};
 use turns::{TurnRules, play_round};
 
 /// The rules of an opening round. In a turn a seat has bought or bid, or it has not.
-struct OpeningTurns;
+pub struct OpeningTurns;
 
 impl TurnRules for OpeningTurns {
     type TurnActions = bool;

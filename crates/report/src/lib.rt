@@ -6,7 +6,8 @@
 //! part while the game is played; `unread_text` and `outcome_text` write the two halves of
 //! `end_text`, the first a few lines at a time. `round_text` writes one round of it. Each returns
 //! the text, byte for byte, that `specs/Report` and `specs/Parts` define, or fails if allocation
-//! fails. Each file has exactly one report.
+//! fails. Each file has exactly one report. `length_of_round` cuts a list of events into its
+//! rounds.
 //!
 //! Reading order: `column` (numbers and names in columns), `line` (an event as a line), `statement`
 //! (what each player and the bank hold), `end_worth` (what each player is worth at the end), `text`
@@ -25,4 +26,4 @@ mod text;
 pub use end_worth::player_worth;
 pub use line::{name, push_event};
 pub use parts::{end_text, header_text, next_text, outcome_text, unread_text};
-pub use text::{refusal_text, report, round_text};
+pub use text::{length_of_round, refusal_text, report, round_text};

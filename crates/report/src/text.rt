@@ -173,8 +173,9 @@ fn begin_of_last_round(events: &[Event]) -> usize
     begun
 }
 
-/// Returns how many events the first of these rounds has.
-fn length_of_round(events: &[Event]) -> usize
+/// Returns how many events the first of these rounds has: those up to the next that begins a round,
+/// or all if none does.
+pub fn length_of_round(events: &[Event]) -> usize
     requires { 1 ≤ length events.now }
     ensures some { 1 ≤ result }
     ensures within { result ≤ length events.now }

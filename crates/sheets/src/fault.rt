@@ -28,10 +28,17 @@ pub enum FileFault {
 /// The faults of a file, in the order of their codes.
 static FILE_FAULTS: [RuleRow<FileFault>; FileFault::Memory as usize + 1] = rule_rows! { FileFault
     Header: "F1", "the first line that is not blank is neither `GAME 1830 1` nor `GAME 1830 2`",
+        "write one of these lines first; save the file as plain text, without a byte order mark",
+        Some("F1-another-game"),
     Players: "F2", "the next line does not name three to six different players",
+        "write `PLAYERS` and the names: each a letter and up to seven letters or digits",
+        Some("F2-two-players"),
     TooLong: "F3", "the file has over 67,108,864 bytes",
+        "take out comments, and sheets that later ones replace", None,
     TooManySheets: "F4", "the file has over 65,536 good SHEET lines",
+        "take out sheets that later ones replace", None,
     Memory: "F5", "allocation failed",
+        "free memory, and run the program again", None,
 };
 
 impl FileFault {
@@ -40,6 +47,14 @@ impl FileFault {
         ensures { ListsEachRule code_of_fault result.now }
     {
         &FILE_FAULTS
+    }
+
+    /// Returns its row of the table.
+    pub fn row(self) -> &'static RuleRow<FileFault>
+        ensures code { result.now.code.now ≡ code_of_fault self }
+        ensures sentence { result.now.sentence.now ≡ sentence_of_fault self }
+    {
+        &FILE_FAULTS[self as usize]
     }
 
     /// Returns the code of the fault. The report of a refused file prints it. No report prints the

@@ -7,11 +7,11 @@ use tables::Company;
 /// What a seat has done in a turn: the company whose share it has bought, if any, and whether it
 /// has sold shares.
 #[derive(Clone, Copy, Debug, Default)]
-pub(crate) struct ShareDeals {
+pub struct ShareDeals {
     /// The company whose share the seat has bought.
-    pub(crate) bought: Option<Company>,
+    pub bought: Option<Company>,
     /// Whether the seat has sold.
-    pub(crate) sold: bool,
+    pub sold: bool,
 }
 
 impl ShareDeals {

@@ -29,5 +29,6 @@ mod sell;
 mod standing;
 mod turn;
 
+pub use deals::ShareDeals;
 pub use exchange::{exchange_source, is_no_exchange};
-pub use playing::play_stock;
+pub use playing::{StockTurns, play_stock};

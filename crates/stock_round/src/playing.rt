@@ -15,7 +15,7 @@ use tables::{Round, Seat};
 use turns::{TurnRules, play_round};
 
 /// The rules of a stock round. `ShareDeals` says what a seat has done in a turn.
-struct StockTurns;
+pub struct StockTurns;
 
 impl TurnRules for StockTurns {
     type TurnActions = ShareDeals;

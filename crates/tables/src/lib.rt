@@ -28,7 +28,7 @@ pub use roster::{
     PerPrivate, Private, SHARES, face, revenue, token_price, tokens,
 };
 pub use round::{NUMBER_MOST, OPERATING_MOST, Round};
-pub use rule_table::{Printed, RuleRow, rule_with_code};
+pub use rule_table::{Advice, Printed, RuleRow, rule_with_code};
 pub use seat::{
     Amount, Money, PLAYERS_LEAST, PLAYERS_MOST, PerSeat, Seat, amount_of, bank_start,
     certificate_limit, start_money,

@@ -43,6 +43,47 @@ pub struct Trains {
     pub number: Option<u8>,
 }
 
+/// What holds for a kind of train, and for the phase that its first train begins.
+#[derive(Clone, Copy)]
+struct KindRow {
+    /// The code that order sheets and reports use.
+    code: &'static str,
+    trains: Trains,
+    /// The most stops that a train of the kind visits in a run; `None` means any number.
+    stops: Option<usize>,
+    /// The kind whose first train rusts all trains of this kind; `None` if they never rust.
+    rusted_by: Option<Kind>,
+    /// The most trains that a company may hold in the phase.
+    limit: usize,
+    /// How many operating rounds a set has that begins in the phase.
+    rounds: u8,
+}
+
+/// Returns the rows of kinds of trains.
+macro_rules! kind_rows {
+    ($($code:literal: price $price:literal, number $number:expr, stops $stops:expr,
+        rusted_by $rusted_by:expr, limit $limit:literal, rounds $rounds:literal;)*) => {
+        [$(KindRow {
+            code: $code,
+            trains: Trains { price: $price, number: $number },
+            stops: $stops,
+            rusted_by: $rusted_by,
+            limit: $limit,
+            rounds: $rounds,
+        },)*]
+    };
+}
+
+/// The table of kinds: the row of a kind is at its `index`.
+static KIND_ROWS: PerKind<KindRow> = kind_rows! {
+    "2": price 80, number Some(6), stops Some(2), rusted_by Some(Kind::Four), limit 4, rounds 1;
+    "3": price 180, number Some(5), stops Some(3), rusted_by Some(Kind::Six), limit 4, rounds 2;
+    "4": price 300, number Some(4), stops Some(4), rusted_by Some(Kind::Diesel), limit 3, rounds 2;
+    "5": price 450, number Some(3), stops Some(5), rusted_by None, limit 2, rounds 3;
+    "6": price 630, number Some(2), stops Some(6), rusted_by None, limit 2, rounds 3;
+    "D": price 1_100, number None, stops None, rusted_by None, limit 2, rounds 3;
+};
+
 impl Kind {
     /// The six kinds, least first.
     pub const ALL: PerKind<Kind> = [
@@ -58,14 +99,7 @@ impl Kind {
     pub fn code(self) -> &'static str
         ensures { result.now ≡ code_of_kind self }
     {
-        match self {
-            Kind::Two => "2",
-            Kind::Three => "3",
-            Kind::Four => "4",
-            Kind::Five => "5",
-            Kind::Six => "6",
-            Kind::Diesel => "D",
-        }
+        KIND_ROWS[self as usize].code
     }
 
     /// Returns its place among the kinds, from 0: its place in `ALL`.
@@ -73,28 +107,14 @@ impl Kind {
         ensures value { result ≡ index_of_kind self }
         ensures bound { result < 6 }
     {
-        match self {
-            Kind::Two => 0,
-            Kind::Three => 1,
-            Kind::Four => 2,
-            Kind::Five => 3,
-            Kind::Six => 4,
-            Kind::Diesel => 5,
-        }
+        self as usize
     }
 
     /// Returns the most stops that a train of the kind visits in a run; `None` means any number.
     pub fn stops(self) -> Option<usize>
         ensures { result ≡ stops_of self }
     {
-        match self {
-            Kind::Two => Some(2),
-            Kind::Three => Some(3),
-            Kind::Four => Some(4),
-            Kind::Five => Some(5),
-            Kind::Six => Some(6),
-            Kind::Diesel => None,
-        }
+        KIND_ROWS[self as usize].stops
     }
 }
 
@@ -102,47 +122,26 @@ impl Kind {
 pub fn train(kind: Kind) -> Trains
     ensures { result ≡ trains_of kind }
 {
-    let (price, number) = match kind {
-        Kind::Two => (80, Some(6)),
-        Kind::Three => (180, Some(5)),
-        Kind::Four => (300, Some(4)),
-        Kind::Five => (450, Some(3)),
-        Kind::Six => (630, Some(2)),
-        Kind::Diesel => (1_100, None),
-    };
-    Trains { price, number }
+    KIND_ROWS[kind as usize].trains
 }
 
 /// Returns the kind whose first train rusts all trains of this kind; `None` if they never rust.
 pub fn rusts(kind: Kind) -> Option<Kind>
     ensures { result ≡ rusting_of kind }
 {
-    match kind {
-        Kind::Two => Some(Kind::Four),
-        Kind::Three => Some(Kind::Six),
-        Kind::Four => Some(Kind::Diesel),
-        Kind::Five | Kind::Six | Kind::Diesel => None,
-    }
+    KIND_ROWS[kind as usize].rusted_by
 }
 
 /// Returns the most trains that a company may hold in a phase.
 pub fn limit(phase: Kind) -> usize
     ensures { result ≡ limit_of phase }
 {
-    match phase {
-        Kind::Two | Kind::Three => 4,
-        Kind::Four => 3,
-        Kind::Five | Kind::Six | Kind::Diesel => 2,
-    }
+    KIND_ROWS[phase as usize].limit
 }
 
 /// Returns how many operating rounds a set has that begins in a phase.
 pub fn rounds_in_set(phase: Kind) -> u8
     ensures { result ≡ rounds_in_set_of phase }
 {
-    match phase {
-        Kind::Two => 1,
-        Kind::Three | Kind::Four => 2,
-        Kind::Five | Kind::Six | Kind::Diesel => 3,
-    }
+    KIND_ROWS[phase as usize].rounds
 }

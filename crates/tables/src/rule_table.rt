@@ -27,8 +27,8 @@ macro_rules! rules {
     };
 }
 
-/// A row of the table of all rules of a family: the rule, the code that a report prints, and what
-/// is wrong where the rule is broken, in a player's words.
+/// A row of the table of all rules of a family: the rule, the code that a report prints, what is
+/// wrong if the rule is broken, in a player's words, and what to do about it.
 #[derive(Clone, Copy, Debug)]
 pub struct RuleRow<R> {
     /// The rule.
@@ -37,19 +37,37 @@ pub struct RuleRow<R> {
     pub code: &'static str,
     /// Its sentence. The desk and the tables of the docs print no other.
     pub sentence: &'static str,
+    /// What the writer of a refused file or line may do about it.
+    pub advice: Advice,
 }
 
-/// Returns the rows of a family's table: each rule with its code and its sentence.
+/// What may be done about a refusal.
+#[derive(Clone, Copy, Debug)]
+pub struct Advice {
+    /// What its writer may do about it.
+    pub to_do: &'static str,
+    /// The small game in `games/codes` that shows it; `None` if it is too large to keep.
+    pub game: Option<&'static str>,
+}
+
+/// Returns the rows of a family's table: each rule with its code, its sentence, what to do about
+/// it, and the small game that shows it.
 ///
 /// ```text
 /// rule_rows! { PayRule
 ///     NothingToPay: "D1", "the company has paid or withheld",
+///         "write PAY or WITHHOLD once", Some("D1-pay-step-used"),
 /// }
 /// ```
 #[macro_export]
 macro_rules! rule_rows {
-    ($family:ident $($rule:ident: $code:expr, $sentence:expr,)*) => {
-        [$($crate::RuleRow { rule: $family::$rule, code: $code, sentence: $sentence },)*]
+    ($family:ident $($rule:ident: $code:expr, $sentence:expr, $to_do:expr, $game:expr,)*) => {
+        [$($crate::RuleRow {
+            rule: $family::$rule,
+            code: $code,
+            sentence: $sentence,
+            advice: $crate::Advice { to_do: $to_do, game: $game },
+        },)*]
     };
 }
 

@@ -20,6 +20,7 @@ mod rules;
 mod ruling;
 mod turn;
 
-pub use playing::play_round;
+pub use playing::{begin, pass, play_round, rule_standing};
 pub use rules::TurnRules;
 pub use ruling::{Family, record, record_fault, record_packed, rule_line, rule_order};
+pub use turn::rule_lines;

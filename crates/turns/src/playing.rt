@@ -70,8 +70,12 @@ fn play_whole<T: TurnRules>(
     Ok(())
 }
 
-/// Records that the round begins.
-fn begin<T: TurnRules>(_rules: &T, history: &mut History, round: Round) -> Result<(), AllocError>
+/// Records that the round begins. Fails only if allocation fails.
+pub fn begin<T: TurnRules>(
+    _rules: &T,
+    history: &mut History,
+    round: Round,
+) -> Result<(), AllocError>
     requires sound { IsSound history.old }
     requires may_begin { T.may_begin history.old.events }
     ensures event { OnOk result (history.new ≡ with_event history.old (event.Round round)) }
@@ -110,8 +114,9 @@ fn rule_all_standing<'a, T: TurnRules>(
     Ok(unruled)
 }
 
-/// Rules the standing lines of a seat's sheet, the lines before its first written turn.
-fn rule_standing<T: TurnRules>(
+/// Rules the standing lines of a seat's sheet, the lines before its first written turn. Fails only
+/// if allocation fails.
+pub fn rule_standing<T: TurnRules>(
     rules: &T,
     history: &mut History,
     seat: Seat,
@@ -194,8 +199,8 @@ fn play_turn<T: TurnRules>(
     Ok(passes + 1)
 }
 
-/// Records that a seat passes.
-fn pass<T: TurnRules>(_rules: &T, history: &mut History, seat: Seat) -> Result<(), AllocError>
+/// Records that a seat passes. Fails only if allocation fails.
+pub fn pass<T: TurnRules>(_rules: &T, history: &mut History, seat: Seat) -> Result<(), AllocError>
     requires { T.holds history.old }
     ensures event { OnOk result (history.new ≡ with_event history.old (event.Passes seat)) }
     ensures underway { OnOk result (T.holds history.new) }

@@ -40,8 +40,9 @@ pub(crate) fn take_turn<T: TurnRules>(
     Ok(rules.has_acted(actions))
 }
 
-/// Rules the lines of a written turn. Returns what the seat has done in them.
-fn rule_lines<T: TurnRules>(
+/// Rules the lines of a written turn, whose head is taken. Returns what the seat has done in them.
+/// Fails only if allocation fails.
+pub fn rule_lines<T: TurnRules>(
     rules: &T,
     history: &mut History,
     seat: Seat,
