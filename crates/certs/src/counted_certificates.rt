@@ -96,7 +96,7 @@ fn one_owned(seat: Seat, owner: Option<Holder>) -> u8
     }
 }
 
-/// Returns how many counted certificates this many shares of a company are for a seat.
+/// Returns how many of the certificates that count are this many shares of a company, for a seat.
 fn certificates_of(
     seat: Seat,
     square: Option<Square>,

@@ -127,8 +127,8 @@ fn push_figures(out: &mut Vec<u8>, stood: &Stood, company: Company) -> Result<()
     push_privates(out, stood.history, Holder::Company(company), PRIVATES)
 }
 
-/// Adds a company's price, its square, and the place of its token in the stack there, given the
-/// number of tokens above it.
+/// Adds a company's price, its square, and the place of its token in the stack there, after so many
+/// others.
 fn push_square(out: &mut Vec<u8>, square: Square, above: usize) -> Result<(), AllocError> {
     push(
         out,

@@ -72,7 +72,7 @@ pub enum Event {
         line: u32,
         ruling: PackedRuling,
     },
-    /// A seat's turn ends without a purchase, a sale or a bid.
+    /// A seat's turn ends without an act.
     Passes(Seat),
     /// This many lines of a seat's sheet were not taken up in the round.
     Left {

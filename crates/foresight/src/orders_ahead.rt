@@ -87,8 +87,8 @@ impl<'a> OrdersAhead<'a> {
         self.turn.asker()
     }
 
-    /// Returns the turn after the company has withheld what it earned, unless it has paid or
-    /// withheld already. A company does so before it buys a train. Fails only if allocation fails.
+    /// Returns the turn once the company has withheld what it earned, unless it has paid or
+    /// withheld already, as it does before it buys a train. Fails only if allocation fails.
     pub fn withheld(self) -> Result<OrdersAhead<'a>, AllocError>
         ensures { IfOk result (λ orders. orders ≡ withheld_in self.entry) }
     {

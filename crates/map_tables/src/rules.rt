@@ -116,7 +116,7 @@ pub enum TokenRule {
     StepUsed,
     /// K2: the company has no token left.
     NoTokenLeft,
-    /// K3: it is not at a stop of a city, or no slot is free; a slot kept for a home counts as
+    /// K3: it is at no stop of a city, or no slot is free; one that is kept for a home counts as
     /// taken.
     NoFreeSlot,
     /// K4: the company has a token in the hex.
@@ -203,7 +203,7 @@ pub enum RunRule {
     /// R2: no train of the kind is left that has not run; of RUN BEST: the company has no train, or
     /// one has run.
     NoTrain,
-    /// R3: there is no such track, or an end is not a stop.
+    /// R3: there is no such track, or an end is no stop.
     NoTrack,
     /// R4: it visits under two stops, or more than the train may.
     WrongNumber,

@@ -145,7 +145,7 @@ impl CompanyTurn {
     }
 }
 
-/// Returns a sum of money that fits an amount, in dollars.
+/// Returns a sum of money, in dollars, as an amount, which it fits.
 fn amount(money: Money) -> Amount
     requires least { pos 0 ≤ℤ money }
     requires most { money ≤ℤ pos 50000 }

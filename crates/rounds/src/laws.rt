@@ -43,9 +43,9 @@ pub fn operating_round_ends()
     operating::laws::company_turn_ends()
 }
 
-/// States that in an operating round at most eight companies take turns, each only one. Every
-/// company that has floated by the round's end and whose token has a square takes one, unless a
-/// president is bankrupt.
+/// States that in an operating round at most eight companies take turns, and none of them a second
+/// one. Every company that has floated by the round's end and whose token has a square takes one,
+/// unless a president is bankrupt.
 pub fn companies_operate_once()
     ensures { CompaniesOperateOnce }
 {

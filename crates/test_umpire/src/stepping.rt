@@ -329,7 +329,7 @@ fn is_broken_off(after: &After, fault: PlayFault, last_round: Round) -> bool {
     after.answer == Err(fault) && after.shown == shown && !after.has_text
 }
 
-/// Returns how many rounds a play has before it stops, and why it stops; `None` after 1,000 steps.
+/// Returns how many rounds a play has before it stops, and why; `None` if it fails.
 fn steps_to_end(alloc: Global, play: &mut Play) -> Result<Option<(u32, End)>, PlayFault> {
     let mut search = Search::new(alloc);
     for played in 0..1000 {
