@@ -182,14 +182,14 @@ static WORDS: [Word; 12] = [
     },
     Word {
         name: "state",
-        about: "Writes how the game stands: who owes a sheet, players, companies, chart and map",
+        about: "Writes the state of the game: who owes a sheet, players, companies, chart and map",
         example: "Example: desk state OR2.1 < our-game.orders",
         job: Job::State,
         operands: &[Operand::Round, Operand::Before, Operand::Json],
     },
     Word {
         name: "bulletin",
-        about: "Writes a round for its players: what each had, and what each line brought",
+        about: "Writes a round for its players: what each had, and what each line led to",
         example: "Example: desk bulletin OR2.1 < our-game.orders",
         job: Job::Bulletin,
         operands: &[Operand::Round, Operand::Due],
@@ -209,7 +209,7 @@ static WORDS: [Word; 12] = [
     },
     Word {
         name: "may",
-        about: "Writes what a player may buy, bid and sell, what not, and what a company must buy",
+        about: "Writes what a player may buy, bid and sell, what they may not, and what a company must buy",
         example: "Example: desk may ANN < our-game.orders",
         job: Job::May,
         operands: &[
@@ -228,7 +228,7 @@ static WORDS: [Word; 12] = [
     },
     Word {
         name: "trial",
-        about: "Writes how the next round would come out, with an empty sheet where one is owed",
+        about: "Writes how the next round would come out, with empty sheets for those who owe one",
         example: "Example: cat our-game.orders my-sheet | desk trial",
         job: Job::Trial,
         operands: &[Operand::Players, Operand::Why],
@@ -260,7 +260,7 @@ static WORDS: [Word; 12] = [
 pub(crate) fn asked_by<'a>(alloc: Global, words: &'a [String]) -> Result<Asked<'a>, Error> {
     let matches = command_line(alloc)?.try_get_matches_from(words)?;
     let Some((name, given)) = matches.subcommand() else {
-        return Ok(Asked::Nothing("it takes a word"));
+        return Ok(Asked::Nothing("it needs a word"));
     };
     match word_named(name) {
         Some(word) => Ok(task_of(alloc, word, given)?),
@@ -305,26 +305,25 @@ fn command_of<'a>(alloc: Global, word: &'static Word) -> Result<Command<'a>, All
 fn argument_of<'a>(alloc: Global, operand: Operand) -> Arg<'a> {
     match operand {
         Operand::Round => {
-            Arg::new(alloc, "ROUND").help("The round, as OR2.1; the last one if none is named")
+            Arg::new(alloc, "ROUND").help("The round, such as OR2.1; the last one if none is named")
         }
         Operand::Why => flag(alloc, "why").help("Show below each refused line which rule it broke"),
-        Operand::Before => flag(alloc, "before").help("As it stood before that round"),
+        Operand::Before => flag(alloc, "before").help("The state before that round"),
         Operand::Json => flag(alloc, "json").help("Write facts for other programs, as JSON"),
         Operand::All => flag(alloc, "all").help("Show everything"),
-        Operand::From => Arg::new(alloc, "from").long("from").value_name("LINE").help(
-            "Show only what begins on this line of the file or below it",
-        ),
+        Operand::From => Arg::new(alloc, "from")
+            .long("from")
+            .value_name("LINE")
+            .help("Show only findings from this line of the file on"),
         Operand::Due => Arg::new(alloc, "due")
             .long("due")
             .value_name("TEXT")
             .help("When the next sheets are due, in your own words"),
-        Operand::Codes => Arg::new(alloc, "CODE")
-            .num_args(0..)
-            .help("The codes, as G3; a list of them all if none is named"),
+        Operand::Codes => Arg::new(alloc, "CODE").num_args(0..).help(
+            "The codes, such as G3; a list of them all if none is named",
+        ),
         Operand::Lines => {
-            flag(alloc, "lines").help(
-                "Write orders alone, each with its price or what becomes of it",
-            )
+            flag(alloc, "lines").help("Write only order lines, each with its price or outcome")
         }
         Operand::Best => {
             flag(alloc, "best").help("Show what the company's best runs would earn after each")
@@ -346,18 +345,18 @@ fn argument_of<'a>(alloc: Global, operand: Operand) -> Arg<'a> {
         Operand::After => Arg::new(alloc, "after")
             .long("after")
             .value_name("ROUND")
-            .help("Answer for the round that came after this one, as OR2.1"),
+            .help("Answer for the round after this one, such as OR2.1"),
         Operand::Company => {
             Arg::new(alloc, "COMPANY")
                 .required(true)
-                .help("The company, as PRR")
+                .help("The company, such as PRR")
         }
         Operand::Hex => Arg::new(alloc, "HEX")
             .required(true)
-            .help("The hex, as H10"),
-        Operand::Trains => Arg::new(alloc, "TRAIN")
-            .num_args(0..)
-            .help("The trains, as 4 4 D; those that it has if none is named"),
+            .help("The hex, such as H10"),
+        Operand::Trains => Arg::new(alloc, "TRAIN").num_args(0..).help(
+            "The trains, such as 4 4 D; those that it has if none is named",
+        ),
         Operand::Player => {
             Arg::new(alloc, "PLAYER")
                 .required(true)

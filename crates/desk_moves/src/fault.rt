@@ -64,21 +64,21 @@ impl NoAnswer {
     pub fn sentence(&self) -> &'static str {
         match self {
             NoAnswer::GameOver => "the game is over by then",
-            NoAnswer::NotStarted => "that company is not started",
+            NoAnswer::NotStarted => "that company has not started",
             NoAnswer::NoPresident => "that company has no president",
-            NoAnswer::NoSuchPlayer => "nobody who plays has that name",
+            NoAnswer::NoSuchPlayer => "no player has that name",
             NoAnswer::NoTurn => {
-                "that company has no turn in the round that comes: it does not operate, or the game ends before"
+                "that company has no turn in the next round: it does not operate, or the game ends before"
             }
             NoAnswer::NoOperatingRound => {
-                "the round that comes is no operating round; ask again once it is played"
+                "the next round is not an operating round; ask again once it is played"
             }
-            NoAnswer::NoDraft => "there is no sheet of theirs for the round that comes",
+            NoAnswer::NoDraft => "there is no sheet of theirs for the next round",
             NoAnswer::NoOpening => "no opening can begin from there",
             NoAnswer::NoTrains => "that company has no train; name some, as in `best PRR 2 2`",
-            NoAnswer::TooManyOfKind => "there are not so many trains of one kind",
+            NoAnswer::TooManyOfKind => "there are not that many trains of one kind",
             NoAnswer::Rusted => "trains of one of these kinds have rusted",
-            NoAnswer::OverLimit => "a company may not have so many trains in this phase",
+            NoAnswer::OverLimit => "a company may not have that many trains in this phase",
             NoAnswer::OwesToo(_) => " a sheet as well",
         }
     }
