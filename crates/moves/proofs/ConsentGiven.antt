@@ -135,33 +135,32 @@ owner_agrees_then old new giver None sale all offers = absurd (cc)
 owner_agrees_then old new giver (Some taker) sale all offers =
     agreed_then old new giver (Some taker) sale refl offers
 
+-- who is to consent, and to what, if somebody is asked
+abbrev giver_in : Option (Seat × Offer) → Option Seat
+giver_in None = None
+giver_in (Some pair) = Some pair.0
+
+abbrev owner_in : Option (Seat × Offer) → Option Holder
+owner_in None = None
+owner_in (Some pair) = Some (holder.Seat pair.0)
+
+abbrev offer_in : Offer → Option (Seat × Offer) → Offer
+offer_in other None = other
+offer_in other (Some pair) = pair.1
+
 -- who is asked for a train, and for what
 asked_by : (president : Option Seat) (sale : Offer) (giver : Seat) (named : Offer)
     → option_map {U = Seat × Offer} (λ (p : Seat). (p, sale)) president ≡ Some (giver, named)
     → (president ≡ Some giver) × (sale ≡ named)
 asked_by None sale giver named asked = absurd (none_is_not (giver, named) asked)
-asked_by (Some president) sale giver named asked = (ap giver_in asked, ap offer_in asked)
-  where
-    abbrev giver_in : Option (Seat × Offer) → Option Seat
-    giver_in None = None
-    giver_in (Some pair) = Some pair.0
-
-    abbrev offer_in : Option (Seat × Offer) → Offer
-    offer_in None = sale
-    offer_in (Some pair) = pair.1
+asked_by (Some president) sale giver named asked = (ap giver_in asked, ap (offer_in sale) asked)
 
 -- and for a private
 asked_owner : (owner : Option Holder) (sale : Offer) (giver : Seat) (named : Offer)
     → asked_of_owner owner sale ≡ Some (giver, named) → (owner ≡ Some (holder.Seat giver)) × (sale ≡ named)
 asked_owner None sale giver named asked = absurd (none_is_not (giver, named) asked)
 asked_owner (Some (holder.Company company)) sale giver named asked = absurd (none_is_not (giver, named) asked)
-asked_owner (Some (holder.Seat owner)) sale giver named asked =
-    (ap (λ (found : Option (Seat × Offer)). option_map (λ (pair : Seat × Offer). holder.Seat pair.0) found) asked,
-    ap offer_in asked)
-  where
-    abbrev offer_in : Option (Seat × Offer) → Offer
-    offer_in None = sale
-    offer_in (Some pair) = pair.1
+asked_owner (Some (holder.Seat owner)) sale giver named asked = (ap owner_in asked, ap (offer_in sale) asked)
 
 -- what an answer says of a consent
 abbrev consent_in : Answer → Option (Seat × Offer)
