@@ -1,6 +1,7 @@
 //! A trial: the file with an empty sheet for each player who owes one, to be played one round
 //! further.
-ghost use Rattle.std.specs.Prelude.{◌≡◌, ◌<◌, IfOk, IfSome, length};
+ghost use Rattle.std.specs.Prelude.{◌≡◌, ◌==◌, ◌∷◌, ◌++◌, ◌<◌, [], IfOk, IfSome, OnOk, length};
+ghost use Rattle.std.specs.List.{list_any};
 ghost use Rattle.foresight.specs.TrialFile.{tried_file};
 ghost use Rattle.sheets.specs.File.{players_of};
 
@@ -82,7 +83,9 @@ fn seats_named(alloc: Global, sheets: &Sheets, players: &[&str]) -> Result<Vec<S
 }
 
 /// Adds a seat.
-fn push_seat(seats: &mut Vec<Seat>, seat: Seat) -> Result<(), AllocError> {
+fn push_seat(seats: &mut Vec<Seat>, seat: Seat) -> Result<(), AllocError>
+    ensures { OnOk result (seats.new.items ≡ seats.old.items ++ seat ∷ []) }
+{
     seats.push(seat)?;
     Ok(())
 }
@@ -118,7 +121,9 @@ fn owing_too(
 }
 
 /// Returns whether a seat is among these.
-fn is_among(seats: &[Seat], seat: Seat) -> bool {
+fn is_among(seats: &[Seat], seat: Seat) -> bool
+    ensures { result ≡ list_any (λ other. other.0 == seat.0) seats.now }
+{
     seats.iter().any(|other| other.0 == seat.0)
 }
 

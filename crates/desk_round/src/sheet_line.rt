@@ -1,6 +1,6 @@
 //! The lines of the sheets for a round, by number: the text of each, and where it is.
-ghost use Rattle.std.specs.Prelude.{◌≡◌, ◌==◌, IfSome};
-ghost use Rattle.desk_round.specs.Why.{IsLineOf, company_at};
+ghost use Rattle.std.specs.Prelude.{◌≡◌, ◌==◌};
+ghost use Rattle.desk_round.specs.Why.{company_at, line_at};
 
 use order_grammar::Order;
 use sheets::{Sheets, UnreadLine};
@@ -121,15 +121,13 @@ fn place_behind(head: UnreadLine) -> LinePlace {
 /// Returns the line with this number in the sheet of a seat, among those of all sheets; `None` if
 /// there is no such line, or it is not kept.
 pub fn find_line<'a>(lines: &[SheetLine<'a>], seat: Seat, number: u32) -> Option<SheetLine<'a>>
-    ensures { IfSome result (IsLineOf seat number) }
+    ensures { result ≡ line_at lines.now seat number }
 {
     if number > LINES_KEPT {
         return None;
     }
-    for line in lines {
-        if line.number == number && line.seat == seat {
-            return Some(*line);
-        }
-    }
-    None
+    lines
+        .iter()
+        .copied()
+        .find(|line| line.number == number && line.seat == seat)
 }
