@@ -14,7 +14,7 @@ use desk_may::{
     push_lines_of_operating, push_lines_of_turn, push_of_opening, push_of_operating, push_of_stock,
     push_standing_lines, push_until_then,
 };
-use foresight::{Draft, RoundAhead, TurnAhead, at_head, behind_turn};
+use foresight::{Draft, RoundAhead, TurnAhead, at_head, behind_opening, behind_stock};
 use history::{History, Party};
 use report::name;
 use sheets::Sheets;
@@ -109,9 +109,12 @@ fn turn_in(
         let _few = sheets.seats();
         return Ok(at_head(history, round, seat)?);
     }
-    match behind_turn(history, sheets, round, seat)? {
-        Some(turn) => Ok(turn),
-        None => Err(MovesFault::Asked(NoAnswer::NoOpening)),
+    match round {
+        Round::Opening(_) => match behind_opening(history, sheets, round, seat)? {
+            Some(turn) => Ok(turn),
+            None => Err(MovesFault::Asked(NoAnswer::NoOpening)),
+        },
+        _ => Ok(behind_stock(history, sheets, round, seat)?),
     }
 }
 

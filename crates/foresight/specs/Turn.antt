@@ -17,7 +17,6 @@ use Rattle.tables.specs.declared.roster.Company.TheVariants as company
 use Rattle.tables.specs.declared.roster.Private.{Private}
 use Rattle.tables.specs.declared.roster.Private.TheVariants.{BaltimoreOhio, CamdenAmboy}
 use Rattle.tables.specs.declared.round.Round.{Round}
-use Rattle.tables.specs.declared.round.Round.TheVariants.{Opening}
 use Rattle.tables.specs.declared.seat.Seat.{Seat}
 use Rattle.totals.specs.LookBack.{Game, is_sold, priority_of, with_event}
 use Rattle.totals.specs.Shares.{square_of}
@@ -70,10 +69,3 @@ abbrev pub IsBehindOpeningIf : Bool → List ℕ → Round → Seat → Game →
 IsBehindOpeningIf true file round seat old (Some turn) = IsBehindOpening file round seat old turn
 IsBehindOpeningIf false file round seat old None = ⊤
 IsBehindOpeningIf can file round seat old other = ⊥
-
--- a seat is behind the lines of its first turn
-abbrev pub IsBehindTurn : List ℕ → Round → Seat → Game → Option TurnAhead → Type 0
-IsBehindTurn file (Opening number) seat old found =
-    IsBehindOpeningIf (may_begin old.events) file (Opening number) seat old found
-IsBehindTurn file round seat old (Some turn) = IsBehindStock file round seat old turn
-IsBehindTurn file round seat old None = ⊥

@@ -40,7 +40,8 @@ pub(crate) fn play_first_turn<T: TurnRules>(
     let mut sheet = sheets.parts(seat, round);
     rule_standing(rules, history, seat, &mut sheet)?;
     pass_until(rules, history, first, seat)?;
-    rule_first_lines(rules, history, seat, &mut sheet)
+    let actions = rule_first_lines(rules, history, seat, &mut sheet)?;
+    Ok(actions)
 }
 
 /// Records that each seat from one on, to the left, passes until it is another's turn.

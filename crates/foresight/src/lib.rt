@@ -24,4 +24,4 @@ pub use draft::Draft;
 pub use orders_ahead::OrdersAhead;
 pub use round_ahead::{Ahead, RoundAhead};
 pub use trial_file::TrialFile;
-pub use turn_ahead::{TurnAhead, at_head, behind_turn};
+pub use turn_ahead::{TurnAhead, at_head, behind_opening, behind_stock};

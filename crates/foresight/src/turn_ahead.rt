@@ -1,7 +1,7 @@
 //! A coming opening or stock round, up to a seat's first turn: to its head, or past its lines.
 ghost use Rattle.std.specs.Prelude.{◌≡◌, ◌≤◌, ◌<◌, IfOk, length, true};
 ghost use Rattle.foresight.specs.Turn.{IsAtHead, IsAtTurn, IsBehindOpening, IsBehindOpeningIf, IsBehindStock};
-ghost use Rattle.foresight.specs.Turn.{IsBehindTurn, may_begin, waits};
+ghost use Rattle.foresight.specs.Turn.{may_begin, waits};
 ghost use Rattle.history.specs.Sound.{IsSound};
 ghost use Rattle.sheets.specs.File.{players_of};
 
@@ -60,33 +60,12 @@ fn at_turn(history: History, round: Round, seat: Seat) -> Result<History, AllocE
     Ok(history)
 }
 
-/// Returns a seat's first turn after its lines in the seat's own sheet, in the coming opening or
-/// stock round: the standing lines of the sheet are ruled, and each seat before it has passed.
-/// `None` if no opening can begin, since PRR or BO is started before the private that brings it is
-/// sold; no game comes to that. The list of events must be sound, its seats those of the sheets'
-/// players, and the seat at the table. Fails only if allocation fails.
-pub fn behind_turn(
-    history: History,
-    sheets: &Sheets,
-    round: Round,
-    seat: Seat,
-) -> Result<Option<TurnAhead>, AllocError>
-    requires sound { IsSound history }
-    requires seats { history.seats ≡ length (players_of sheets.now) }
-    requires at_table { seat.0 < history.seats }
-    ensures { IfOk result (IsBehindTurn sheets.now round seat history) }
-{
-    match round {
-        Round::Opening(_) => behind_opening_if(history, sheets, round, seat),
-        Round::Stock(_) | Round::Operating { .. } => {
-            let turn = behind_stock(history, sheets, round, seat)?;
-            Ok(Some(turn))
-        }
-    }
-}
-
-/// Returns a seat's first turn of an opening after its lines; `None` if no opening can begin.
-fn behind_opening_if(
+/// Returns a seat's first turn of the coming opening, after its lines in the seat's own sheet: the
+/// standing lines of the sheet are ruled, and each seat before it has passed. `None` if no opening
+/// can begin, since PRR or BO is started before the private that brings it is sold; no game comes to
+/// that. The list of events must be sound, its seats those of the sheets' players, and the seat at
+/// the table. Fails only if allocation fails.
+pub fn behind_opening(
     history: History,
     sheets: &Sheets,
     round: Round,
@@ -101,7 +80,7 @@ fn behind_opening_if(
     if !may_begin(&history) {
         return Ok(None);
     }
-    let turn = behind_opening(history, sheets, round, seat)?;
+    let turn = behind_opening_begun(history, sheets, round, seat)?;
     Ok(Some(turn))
 }
 
@@ -122,7 +101,8 @@ fn waits(history: &History, private: Private, company: Company) -> bool
 }
 
 /// Returns a seat's first turn of an opening that can begin, after its lines.
-fn behind_opening(
+#[tactic(auto, using(crate::proofs::FirstTurnLemmas::begins_if))]
+fn behind_opening_begun(
     history: History,
     sheets: &Sheets,
     round: Round,
@@ -143,8 +123,10 @@ fn behind_opening(
     })
 }
 
-/// Returns a seat's first turn of a stock round after its lines.
-fn behind_stock(
+/// Returns a seat's first turn of the coming stock round, after its lines in the seat's own sheet:
+/// each seat before it has passed. The list of events must be sound, its seats those of the sheets'
+/// players, and the seat at the table. Fails only if allocation fails.
+pub fn behind_stock(
     history: History,
     sheets: &Sheets,
     round: Round,

@@ -1,7 +1,8 @@
 -- What lacks a consent alone is obeyed once that is given.
 use Rattle.std.proofs.Common.{◌≡◌, ℕ, ◌==◌, Bool, true, false, not, ◌||◌, ◌&&◌, if◌then◌else◌, List, [], ◌∷◌, ◌++◌}
-use Rattle.std.proofs.Common.{Option, Some, None, ℤ, pos, is_some, unwrap_or, refl, sym, ap, subst, ◌∙◌, option_map, arith}
+use Rattle.std.proofs.Common.{nat_lt, Option, Some, None, ℤ, pos, is_some, unwrap_or, refl, sym, ap, subst, ◌∙◌, option_map, arith}
 use Rattle.std.proofs.lemmas.Bool.Decides.{nat_tests}
+use Rattle.std.specs.Int.Signed.{lt_z}
 use Rattle.std.specs.Option.{option_flatten, option_or}
 use Rattle.events.specs.Event.{obeyed_of, party_of_company, round_begun_by}
 use Rattle.events.specs.Offers.{offered_in, same_offer}
@@ -11,11 +12,13 @@ use Rattle.events.specs.declared.event.Event.{Event}
 use Rattle.events.specs.declared.event.Holder.{Holder}
 use Rattle.events.specs.declared.event.Holder.TheVariants as holder
 use Rattle.events.specs.declared.event.TrainSeller.TheVariants as seller
+use Rattle.events.specs.declared.ruling.PrivateRule.{PrivateRule}
 use Rattle.events.specs.declared.ruling.PrivateRule.TheVariants as private_rule
 use Rattle.events.specs.declared.ruling.Refusal.{Refusal}
 use Rattle.events.specs.declared.ruling.Refusal.TheVariants as refusal
 use Rattle.events.specs.declared.ruling.Ruling.{Ruling}
 use Rattle.events.specs.declared.ruling.Ruling.TheVariants as ruling
+use Rattle.events.specs.declared.ruling.TrainRule.{TrainRule}
 use Rattle.events.specs.declared.ruling.TrainRule.TheVariants as train_rule
 use Rattle.forced_purchase.specs.declared.operator.Operator.{Operator}
 use Rattle.moves.proofs.OneMoreRuling.{same_cash, same_full, same_owner, same_phase, same_president, same_sale}
@@ -39,10 +42,11 @@ use Rattle.order_grammar.specs.declared.order.Order.TheVariants as order
 use Rattle.order_grammar.specs.declared.order.TrainSource.{TrainSource}
 use Rattle.order_grammar.specs.declared.order.TrainSource.TheVariants as source
 use Rattle.purchases.proofs.TrainLemmas.{neither, so}
-use Rattle.purchases.specs.Private.{is_given_by, is_too_early, owner_agrees_by, private_bought, private_judgement_by}
-use Rattle.purchases.specs.Private.{private_rules_by}
+use Rattle.purchases.specs.Private.{is_given_by, is_too_early, is_wrong_price, owner_agrees_by, private_bought}
+use Rattle.purchases.specs.Private.{private_judgement_by, private_rules_by}
 use Rattle.purchases.specs.Private.{is_too_dear as is_dear}
-use Rattle.purchases.specs.Train.{after_train, is_too_dear, lacks_consent_by, presidents_agree_by, purchase_of}
+use Rattle.purchases.specs.Train.{after_train, is_at_train_limit, is_not_sellers, is_too_dear, lacks_consent_by}
+use Rattle.purchases.specs.Train.{presidents_agree_by, purchase_of}
 use Rattle.purchases.specs.Train.{train_judgement_by, train_purchase_rules_by}
 use Rattle.purchases.specs.declared.consents.Consents.TheVariants.{All, OfGame}
 use Rattle.purchases.specs.declared.train.TrainPurchase.{TrainPurchase}
@@ -54,6 +58,7 @@ use Rattle.tables.specs.declared.rolling_stock.Kind.{Kind}
 use Rattle.tables.specs.declared.rolling_stock.Kind.TheVariants.{Three}
 use Rattle.tables.specs.declared.roster.Company.{Company}
 use Rattle.tables.specs.declared.roster.Private.{Private}
+use Rattle.tables.specs.declared.roster.Private.TheVariants.{BaltimoreOhio}
 use Rattle.tables.specs.declared.seat.Seat.{Seat}
 use Rattle.totals.proofs.EventAtEnd.{option_or_assoc}
 use Rattle.totals.specs.LookBack.{Game, cash_of, in_round, last_said, owner_of}
@@ -135,33 +140,32 @@ owner_agrees_then old new giver None sale all offers = absurd (cc)
 owner_agrees_then old new giver (Some taker) sale all offers =
     agreed_then old new giver (Some taker) sale refl offers
 
+-- who is to consent, and to what, if somebody is asked
+abbrev giver_in : Option (Seat × Offer) → Option Seat
+giver_in None = None
+giver_in (Some pair) = Some pair.0
+
+abbrev owner_in : Option (Seat × Offer) → Option Holder
+owner_in None = None
+owner_in (Some pair) = Some (holder.Seat pair.0)
+
+abbrev offer_in : Offer → Option (Seat × Offer) → Offer
+offer_in other None = other
+offer_in other (Some pair) = pair.1
+
 -- who is asked for a train, and for what
 asked_by : (president : Option Seat) (sale : Offer) (giver : Seat) (named : Offer)
     → option_map {U = Seat × Offer} (λ (p : Seat). (p, sale)) president ≡ Some (giver, named)
     → (president ≡ Some giver) × (sale ≡ named)
 asked_by None sale giver named asked = absurd (none_is_not (giver, named) asked)
-asked_by (Some president) sale giver named asked = (ap giver_in asked, ap offer_in asked)
-  where
-    abbrev giver_in : Option (Seat × Offer) → Option Seat
-    giver_in None = None
-    giver_in (Some pair) = Some pair.0
-
-    abbrev offer_in : Option (Seat × Offer) → Offer
-    offer_in None = sale
-    offer_in (Some pair) = pair.1
+asked_by (Some president) sale giver named asked = (ap giver_in asked, ap (offer_in sale) asked)
 
 -- and for a private
 asked_owner : (owner : Option Holder) (sale : Offer) (giver : Seat) (named : Offer)
     → asked_of_owner owner sale ≡ Some (giver, named) → (owner ≡ Some (holder.Seat giver)) × (sale ≡ named)
 asked_owner None sale giver named asked = absurd (none_is_not (giver, named) asked)
 asked_owner (Some (holder.Company company)) sale giver named asked = absurd (none_is_not (giver, named) asked)
-asked_owner (Some (holder.Seat owner)) sale giver named asked =
-    (ap (λ (found : Option (Seat × Offer)). option_map (λ (pair : Seat × Offer). holder.Seat pair.0) found) asked,
-    ap offer_in asked)
-  where
-    abbrev offer_in : Option (Seat × Offer) → Offer
-    offer_in None = sale
-    offer_in (Some pair) = pair.1
+asked_owner (Some (holder.Seat owner)) sale giver named asked = (ap owner_in asked, ap (offer_in sale) asked)
 
 -- what an answer says of a consent
 abbrev consent_in : Answer → Option (Seat × Offer)
@@ -202,6 +206,27 @@ obeyed_at : (cost price : ℤ) (broken given : Option Refusal) (asked : Option (
 obeyed_at cost price broken given asked none costs =
     ap (λ (rule : Option Refusal). answer_if_given cost rule given asked) none ∙ ap (λ (sum : ℤ). Obeyed sum) costs
 
+-- the first rule that the purchase of a train of a company breaks, by what is tested of it
+abbrev train_broken : Bool → Bool → Bool → Bool → Option TrainRule
+train_broken full dear lacks others =
+    first_broken (record { code = train_rule.NotOnSale; broken = false }
+    ∷ record { code = train_rule.TrainLimit; broken = full }
+    ∷ record { code = train_rule.CashTooSmall; broken = dear }
+    ∷ record { code = train_rule.NoConsent; broken = lacks }
+    ∷ record { code = train_rule.NotSellers; broken = others }
+    ∷ record { code = train_rule.NoTradeIn; broken = false }
+    ∷ [])
+
+-- and that of a private
+abbrev private_broken : Private → ℕ → Bool → Bool → Bool → Option PrivateRule
+private_broken private price early lacks dear =
+    first_broken (record { code = private_rule.TooEarly; broken = early }
+    ∷ record { code = private_rule.WrongPrice; broken = is_wrong_price private price }
+    ∷ record { code = private_rule.NoConsent; broken = lacks }
+    ∷ record { code = private_rule.NeverSold; broken = same_private private BaltimoreOhio }
+    ∷ record { code = private_rule.CashTooSmall; broken = dear }
+    ∷ [])
+
 -- a train of a company that everybody's consent would let through is bought, once its giver offers it
 train_kept : (seats : ℕ) (before after : List Event) (giver : Seat) (number : ℕ) (condition : Option Condition)
     (buyer seller : Company) (kind : Kind) (price : ℕ) → NoRoundBegins after
@@ -236,16 +261,20 @@ train_kept seats before after giver number condition buyer seller kind price non
     (is_offered before after giver number condition sale none) in
     let lacks : lacks_consent_by OfGame new buyer purchase ≡ lacks_consent_by All old buyer purchase =
     ap (λ (b : Bool). price == 0 || not b) agreed ∙ ap (λ (b : Bool). b || false) parts.0 ∙ sym row in
-    let same : train_purchase_rules_by OfGame offered buyer purchase ≡ train_purchase_rules_by All game buyer purchase =
-    cc (
-      same_sale before after giver number done purchase.from purchase.kind,
-      same_full before after giver number done buyer purchase.trade_in,
-      same_cash before after giver number done seats (party_of_company buyer),
-      lacks,
-      same_seller before after giver number done buyer purchase.kind purchase.from,
-      same_trade before after giver number done buyer purchase.kind purchase.trade_in,
-    ) in
-    ap first_broken same ∙ kept
+    let full_now : Bool = is_at_train_limit old buyer None in
+    let dear_then : Bool = is_too_dear offered buyer purchase in
+    let dear_now : Bool = is_too_dear game buyer purchase in
+    let others_then : Bool = is_not_sellers new buyer kind purchase.from in
+    let lacks_then : Bool = lacks_consent_by OfGame new buyer purchase in
+    let lacks_now : Bool = lacks_consent_by All old buyer purchase in
+    ap (λ (full : Bool). train_broken full dear_then lacks_then others_then)
+    (same_full before after giver number done buyer None)
+    ∙ ap (λ (cash : ℤ). train_broken full_now (lt_z cash (pos price)) lacks_then others_then)
+    (same_cash before after giver number done seats (party_of_company buyer))
+    ∙ ap (λ (lack : Bool). train_broken full_now dear_now lack others_then) lacks
+    ∙ ap (λ (others : Bool). train_broken full_now dear_now lacks_now others)
+    (same_seller before after giver number done buyer kind purchase.from)
+    ∙ kept
 
 -- so is a private
 private_kept : (seats : ℕ) (before after : List Event) (giver : Seat) (number : ℕ) (condition : Option Condition)
@@ -278,15 +307,48 @@ private_kept seats before after giver number condition buyer private price none 
     (is_offered before after giver number condition sale none) in
     let lacks : not (is_given_by OfGame new buyer private price) ≡ not (is_given_by All old buyer private price) =
     ap not agreed ∙ sym row in
-    let same : private_rules_by OfGame offered buyer private price ≡ private_rules_by All game buyer private price =
-    cc (
-      same_phase before after giver number done,
-      lacks,
-      same_cash before after giver number done seats (party_of_company buyer),
-    ) in
-    ap first_broken same ∙ kept
+    let early_now : Bool = is_too_early old in
+    let dear_then : Bool = is_dear offered buyer price in
+    let lacks_then : Bool = not (is_given_by OfGame new buyer private price) in
+    let lacks_now : Bool = not (is_given_by All old buyer private price) in
+    ap (λ (phase : Kind).
+    private_broken private price (nat_lt (index_of_kind phase) (index_of_kind Three)) lacks_then dear_then)
+    (same_phase before after giver number done)
+    ∙ ap (λ (lack : Bool). private_broken private price early_now lack dear_then) lacks
+    ∙ ap (λ (cash : ℤ). private_broken private price early_now lacks_now (lt_z cash (pos price)))
+    (same_cash before after giver number done seats (party_of_company buyer))
+    ∙ kept
 
--- a train of another place needs no consent
+-- a train whose row names a consent is one of a company
+train_told_from : (seats : ℕ) (before after : List Event) (number : ℕ) (condition : Option Condition)
+    (company : Company) (kind : Kind) (from : TrainSource) (price : ℤ) (giver : Seat) (sale : Offer)
+    → NoRoundBegins after → pos (train_cost kind from) ≡ price
+    → train_refusal_by All (record { seats = seats; events = before ++ after }) company kind from ≡ None
+    → asked_for_train (before ++ after) company kind from ≡ Some (giver, sale)
+    → train_answer (record {
+      seats = seats;
+      events = before ++ offer_line giver number condition sale ∷ after;
+    }) company kind from ≡ Obeyed price
+unfolding train_refusal_by
+train_told_from seats before after number condition company kind source.Bank price giver sale none costs free asks =
+    absurd (none_is_not (giver, sale) asks)
+train_told_from seats before after number condition company kind (source.Trade other) price giver sale none costs free asks =
+    absurd (none_is_not (giver, sale) asks)
+train_told_from seats before after number condition company kind source.BankPool price giver sale none costs free asks =
+    absurd (none_is_not (giver, sale) asks)
+train_told_from seats before after number condition company kind (source.Company seller cost) price giver sale none costs
+    free asks =
+    let game : Game = record { seats = seats; events = before ++ after } in
+    let parts = asked_by (president_of (before ++ after) seller) (offer.Train kind seller company cost) giver sale asks in
+    let its : TrainSource = source.Company seller cost in
+    let kept = train_kept seats before after giver number condition company seller kind cost none parts.0
+    (unmapped refusal.Train (train_judgement_by All game company (purchase_of kind its)) free) in
+    subst (λ (s : Offer). train_answer (record {
+      seats = seats;
+      events = before ++ offer_line giver number condition s ∷ after;
+    }) company kind its ≡ Obeyed price) parts.1
+    (obeyed_at (pos (train_cost kind its)) price _ _ _ (ap (option_map refusal.Train) kept) costs)
+
 train_told_of : (seats : ℕ) (before after : List Event) (number : ℕ) (condition : Option Condition)
     (company : Company) (kind : Kind) (from : TrainSource) (price : ℤ) (giver : Seat) (sale : Offer)
     → NoRoundBegins after
@@ -296,35 +358,12 @@ train_told_of : (seats : ℕ) (before after : List Event) (number : ℕ) (condit
       seats = seats;
       events = before ++ offer_line giver number condition sale ∷ after;
     }) company kind from ≡ Obeyed price
-unfolding train_refusal_by
 train_told_of seats before after number condition company kind from price giver sale none told =
     let game : Game = record { seats = seats; events = before ++ after } in
     let named = consent_named (pos (train_cost kind from)) (train_refusal_by OfGame game company kind from)
     (train_refusal_by All game company kind from) (asked_for_train game.events company kind from) price giver sale told in
-    by_place from named.costs named.free named.asks
-  where
-    by_place : (from : TrainSource) → pos (train_cost kind from) ≡ price
-        → train_refusal_by All (record { seats = seats; events = before ++ after }) company kind from ≡ None
-        → asked_for_train (before ++ after) company kind from ≡ Some (giver, sale)
-        → train_answer (record {
-          seats = seats;
-          events = before ++ offer_line giver number condition sale ∷ after;
-        }) company kind from ≡ Obeyed price
-    by_place source.Bank costs free asks = absurd (none_is_not (giver, sale) asks)
-    by_place (source.Trade other) costs free asks = absurd (none_is_not (giver, sale) asks)
-    by_place source.BankPool costs free asks = absurd (none_is_not (giver, sale) asks)
-    by_place (source.Company seller cost) costs free asks =
-        let game : Game = record { seats = seats; events = before ++ after } in
-        let parts = asked_by (president_of (before ++ after) seller) (offer.Train kind seller company cost) giver sale
-        asks in
-        let its : TrainSource = source.Company seller cost in
-        let kept = train_kept seats before after giver number condition company seller kind cost none parts.0
-        (unmapped refusal.Train (train_judgement_by All game company (purchase_of kind its)) free) in
-        subst (λ (s : Offer). train_answer (record {
-          seats = seats;
-          events = before ++ offer_line giver number condition s ∷ after;
-        }) company kind its ≡ Obeyed price) parts.1
-        (obeyed_at (pos (train_cost kind its)) price _ _ _ (ap (option_map refusal.Train) kept) costs)
+    train_told_from seats before after number condition company kind from price giver sale none named.costs named.free
+    named.asks
 
 private_told_of : (seats : ℕ) (before after : List Event) (number : ℕ) (condition : Option Condition)
     (company : Company) (private : Private) (cost : ℕ) (price : ℤ) (giver : Seat) (sale : Offer)

@@ -23,6 +23,7 @@ use Rattle.events.specs.declared.ruling.Ruling.{Ruling}
 use Rattle.events.specs.declared.ruling.Ruling.TheVariants as ruling
 use Rattle.forced_purchase.specs.declared.operator.Operator.{Operator}
 use Rattle.history.specs.Record.{breaks, with_broken}
+use Rattle.market.specs.Moves.{fallen}
 use Rattle.market.specs.Token.{moved_from, same_square, with_move}
 use Rattle.moves.proofs.ConsentGiven.{unmapped}
 use Rattle.moves.proofs.RowRulings.{none_is_not, opening_ruled, stock_ruled, told_private, told_train}
@@ -49,6 +50,7 @@ use Rattle.order_grammar.specs.declared.order.TrainSource.{TrainSource}
 use Rattle.order_grammar.specs.declared.order.TrainSource.TheVariants as source
 use Rattle.privates.specs.Bank.{price_of}
 use Rattle.privates.specs.Bid.{after_bid}
+use Rattle.privates.specs.ParOfBo.{par_set_by}
 use Rattle.privates.specs.Sale.{after_sale as private_sold, gifts, settled}
 use Rattle.privates.specs.Turn.{after_act as act_of_opening, after_ruling as opening_after, refusal_of as opening_refusal}
 use Rattle.privates.specs.Turn.{ruling_in as opening_ruling}
@@ -64,7 +66,7 @@ use Rattle.purchases.specs.declared.consents.Consents.TheVariants.{All, OfGame}
 use Rattle.purchases.specs.declared.train.TrainPurchase.{TrainPurchase}
 use Rattle.sheets.specs.Part.{Numbered}
 use Rattle.stock_round.specs.Buy.{bought as share_bought}
-use Rattle.stock_round.specs.Exchange.{exchanged}
+use Rattle.stock_round.specs.Exchange.{exchange_source, exchanged}
 use Rattle.stock_round.specs.Float.{floated_at, is_to_float, with_float}
 use Rattle.stock_round.specs.Orders.{after_act, refusal_of as stock_refusal}
 use Rattle.stock_round.specs.Par.{president_shares}
@@ -219,7 +221,7 @@ left_by_act seats events seat (order.Sell its shares) =
     let price : ℕ = stock_cost events (order.Sell its shares) in
     let sells : Event = event.Sells its seat shares price in
     let paid : List Event = with_broken seats (events ++ sells ∷ []) in
-    token_moves_none seats _ (with_president seats paid its) its (square_of (with_president seats paid its) its)
+    token_moves_none seats (fallen shares) (with_president seats paid its) its (square_of (with_president seats paid its) its)
     (party_at seat)
     ∙ successor_moves_none seats paid its (president_of paid its) (party_at seat)
     ∙ broken_moves_none seats (events ++ sells ∷ []) (party_at seat)
@@ -228,7 +230,8 @@ left_by_act seats events seat order.ExchangeMohawk =
     let given : List Event = exchanged events seat in
     float_moves_none seats (with_president seats given company.NewYorkCentral) company.NewYorkCentral seat
     ∙ successor_moves_none seats given company.NewYorkCentral (president_of given company.NewYorkCentral) (party_at seat)
-    ∙ cash_of_before seats events _ (party_at seat) refl ∙ less_none (cash_of seats events (party_at seat))
+    ∙ cash_of_before seats events (event.Exchanged seat (exchange_source events)) (party_at seat) refl
+    ∙ less_none (cash_of seats events (party_at seat))
 left_by_act seats events seat other = less_none (cash_of seats events (party_at seat))
 
 -- a ruling changes no price
@@ -276,10 +279,15 @@ stock_prices_move seats events seat deals line its price has orders told =
 -- what comes with a private moves no cash
 gifts_move_none : (seats : ℕ) (events so_far : List Event) (its : Private) (seat : Seat) (party : Party)
     → cash_of seats (so_far ++ gifts events its seat) party ≡ cash_of seats so_far party
-gifts_move_none seats events so_far CamdenAmboy seat party = cash_of_before seats so_far _ party refl
+gifts_move_none seats events so_far CamdenAmboy seat party =
+    cash_of_before seats so_far (event.Given company.Pennsylvania seat 1) party refl
 gifts_move_none seats events so_far BaltimoreOhio seat party =
-    ap (λ (all : List Event). cash_of seats all party) (one_by_one so_far _ _ _)
-    ∙ cash_of_before seats _ _ party refl ∙ cash_of_before seats _ _ party refl ∙ cash_of_before seats so_far _ party refl
+    let par : Event = event.Par company.BaltimoreOhio (par_set_by events seat) in
+    let given : Event = event.Given company.BaltimoreOhio seat 2 in
+    let led : Event = event.President company.BaltimoreOhio seat in
+    ap (λ (all : List Event). cash_of seats all party) (one_by_one so_far par given led)
+    ∙ cash_of_before seats ((so_far ++ par ∷ []) ++ given ∷ []) led party refl
+    ∙ cash_of_before seats (so_far ++ par ∷ []) given party refl ∙ cash_of_before seats so_far par party refl
 gifts_move_none seats events so_far other seat party =
     ap (λ (all : List Event). cash_of seats all party) (append-nil so_far)
 
@@ -321,7 +329,7 @@ moves_in_opening seats events seat number done (order.Bid its amount) price cost
     let ruled_list : List Event = events ++ event.Ruled seat number done ∷ [] in
     let bids : Event = event.Bids its seat amount in
     record {
-      sum = sym costs;
+      priced = sym costs;
       stands = bid_of_at_end ruled_list bids its seat
           ∙ ap (λ (b : Bool).
           unwrap_or (if b && seat.0 == seat.0 then Some (Some amount) else None) (bid_of ruled_list its seat))

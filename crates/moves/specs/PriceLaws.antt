@@ -53,7 +53,7 @@ pub record IsPaidFor (seats : ℕ) (seat : Seat) (price : ℤ) (old new : List E
 -- a bid of this much stands, and no money has moved
 pub record IsBid (seats : ℕ) (seat : Seat) (private : Private) (amount : ℕ) (price : ℤ) (old new : List Event) : Type
     0 where
-  pub sum : price ≡ pos amount
+  pub priced : price ≡ pos amount
   pub stands : bid_of new private seat ≡ Some amount
   pub pays : cash_of seats new (party_at seat) ≡ cash_of seats old (party_at seat)
 
