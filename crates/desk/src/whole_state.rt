@@ -67,10 +67,10 @@ fn state_at(
     match moment {
         Moment::Last => state_at_last(alloc, sheets, form),
         Moment::After(round) => text_behind(alloc, sheets, round, form),
-        Moment::Before(round) => text_before(alloc, sheets, moment, round, form),
+        Moment::Before(round) => text_before(alloc, sheets, Moment::Before(round), round, form),
         Moment::BeforeLast => {
             let last = last_round(alloc, sheets)?;
-            text_before(alloc, sheets, moment, last, form)
+            text_before(alloc, sheets, Moment::BeforeLast, last, form)
         }
     }
 }

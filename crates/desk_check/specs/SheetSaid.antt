@@ -76,15 +76,26 @@ abbrev pub begun_with : List (Option ℕ) → Company → ℕ → Option ℕ →
 begun_with begun company line (Some first) = begun
 begun_with begun company line None = begun_then begun company line
 
+-- with those that this order begins, if it heads a company's orders
+abbrev pub begun_by_order : List (Option ℕ) → ℕ → Order → List (Option ℕ)
+begun_by_order begun line (order.Company company) = begun_with begun company line (begun_at begun company)
+begun_by_order begun line other = begun
+
 -- behind the head of a turn, or of a company's orders
 abbrev pub begun_by : List (Option ℕ) → ℕ → Result Order Fault → List (Option ℕ)
-begun_by begun line (Ok (order.Company company)) = begun_with begun company line (begun_at begun company)
-begun_by begun line other = begun
+begun_by begun line (Err fault) = begun
+begun_by begun line (Ok its) = begun_by_order begun line its
+
+-- what is said of a head with this order
+abbrev pub said_of_head_order : Option (List Event) → Sent → List (Option ℕ) → Order → Option Said
+said_of_head_order game sent begun (order.Company company) =
+    said_of_company game sent company (begun_at begun company)
+said_of_head_order game sent begun other = None
 
 -- what is said of it
 abbrev pub said_of_head : Option (List Event) → Sent → List (Option ℕ) → Result Order Fault → Option Said
-said_of_head game sent begun (Ok (order.Company company)) = said_of_company game sent company (begun_at begun company)
-said_of_head game sent begun other = None
+said_of_head game sent begun (Err fault) = None
+said_of_head game sent begun (Ok its) = said_of_head_order game sent begun its
 
 -- what is said of an order that breaks a rule, if it breaks one
 abbrev pub said_of_wrong : Option (Refusal × Objection) → Option Said
@@ -112,8 +123,7 @@ wrong_with game sent is_open block its =
 
 -- the orders of the turn with one more, unless it is wrong by itself
 abbrev pub block_with : Block → Order → Bool → Option (Refusal × Objection) → Block
-block_with block its is_conditional None = block_then block its is_conditional
-block_with block its is_conditional (Some wrong) = block
+block_with block its is_conditional wrong = if is_some wrong then block else block_then block its is_conditional
 
 -- behind an order that has a place
 abbrev pub block_by : Sent → Bool → Block → Bool → Result Order Fault → Block

@@ -2,10 +2,11 @@
 //! its round is played.
 ghost use Rattle.std.specs.Prelude.{◌≡◌, ◌≤◌, IfOk, OnOk, option_copied, option_map};
 ghost use Rattle.desk_check.specs.SheetFaults.{ends_sheet, is_out_of_place, said_of_fault};
-ghost use Rattle.desk_check.specs.SheetSaid.{Adds, TakesLines, begun_at, fault_told, game_of, is_operating, is_purchase};
+ghost use Rattle.desk_check.specs.SheetSaid.{Adds, TakesLines, begun_at, begun_by, begun_by_order, begun_then, begun_with};
+ghost use Rattle.desk_check.specs.SheetSaid.{fault_told, game_of, is_operating, is_purchase};
 ghost use Rattle.desk_check.specs.SheetSaid.{is_silent, nothing_read, presided, presided_by};
 ghost use Rattle.desk_check.specs.SheetSaid.{read_by_fault, read_by_head, read_by_order, read_then};
-ghost use Rattle.desk_check.specs.SheetSaid.{said_of_company, said_of_head, said_of_line, said_of_order};
+ghost use Rattle.desk_check.specs.SheetSaid.{said_of_company, said_of_head, said_of_head_order, said_of_line, said_of_order};
 ghost use Rattle.desk_check.specs.SheetSaid.{said_of_wrong, shown_from, shown_of_sheet};
 ghost use Rattle.desk_check.specs.SheetSaid.{silent_in, silent_one, wrong_by_game, wrong_by_itself};
 ghost use Rattle.desk_check.specs.Unplayed.{has_place, look_of};
@@ -108,6 +109,65 @@ fn begun_at(begun: &[Option<usize>], company: Company) -> Option<usize>
     }
 }
 
+/// Returns the lines on which orders begin, with those that a head on a line begins.
+fn begun_by(
+    begun: PerCompany<Option<usize>>,
+    line: usize,
+    read: &NumberedLine,
+) -> PerCompany<Option<usize>>
+    ensures { result ≡ begun_by begun line (line_read read.now).reading }
+{
+    match read.order() {
+        Ok(order) => begun_by_order(begun, line, order),
+        Err(_) => begun,
+    }
+}
+
+/// Returns them with those that this order begins, if it heads a company's orders.
+fn begun_by_order(
+    begun: PerCompany<Option<usize>>,
+    line: usize,
+    order: &Order,
+) -> PerCompany<Option<usize>>
+    ensures { result ≡ begun_by_order begun line order.now }
+{
+    match order {
+        Order::Company(company) => {
+            let first = begun_at(&begun, *company);
+            begun_with(begun, *company, line, first)
+        }
+        _ => begun,
+    }
+}
+
+/// Returns them with those of a company, unless they began on a line before.
+fn begun_with(
+    begun: PerCompany<Option<usize>>,
+    company: Company,
+    line: usize,
+    first: Option<usize>,
+) -> PerCompany<Option<usize>>
+    ensures { result ≡ begun_with begun company line first }
+{
+    match first {
+        Some(_) => begun,
+        None => begun_then(begun, company, line),
+    }
+}
+
+/// Returns them with those of a company, which begin on a line.
+fn begun_then(
+    begun: PerCompany<Option<usize>>,
+    company: Company,
+    line: usize,
+) -> PerCompany<Option<usize>>
+    ensures { result ≡ begun_then begun company line }
+{
+    let mut begun = begun;
+    begun[company.index()] = Some(line);
+    begun
+}
+
 impl Read {
     /// Returns that no line has come.
     fn nothing() -> Read
@@ -126,17 +186,11 @@ impl Read {
         requires { self.number ≤ lines_most }
         ensures { result ≡ read_by_head self line (line_read read.now).reading }
     {
-        let mut begun = self.begun;
-        if let Ok(Order::Company(company)) = read.order()
-            && begun_at(&begun, *company).is_none()
-        {
-            begun[company.index()] = Some(line);
-        }
         Read {
             number: self.number + 1,
             is_open: true,
             block: Block::none(),
-            begun,
+            begun: begun_by(self.begun, line, read),
         }
     }
 
@@ -252,10 +306,17 @@ impl Reader<'_, '_> {
             (line_read read.now).reading }
     {
         match read.order() {
-            Ok(Order::Company(company)) => self.said_of_company(
-                *company,
-                begun_at(begun, *company),
-            ),
+            Ok(order) => self.said_of_head_order(begun, order),
+            Err(_) => None,
+        }
+    }
+
+    /// Returns what there is to say of a head with this order.
+    fn said_of_head_order(&self, begun: &[Option<usize>], order: &Order) -> Option<Said>
+        ensures { result ≡ said_of_head_order (game_of self.now) self.now.sent begun.now order.now }
+    {
+        match order {
+            Order::Company(company) => self.said_of_company(*company, begun_at(begun, *company)),
             _ => None,
         }
     }
