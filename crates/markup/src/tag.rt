@@ -46,8 +46,6 @@ pub enum Tag {
     Division,
     Span,
     Preformatted,
-    Input,
-    InputLabel,
 }
 
 /// An attribute of a start tag.
@@ -75,10 +73,6 @@ pub enum Attr {
     Xmlns,
     TabIndex,
     Label,
-    Kind,
-    Name,
-    For,
-    Checked,
 }
 
 impl Tag {
@@ -128,17 +122,13 @@ impl Tag {
             Tag::Division => "div",
             Tag::Span => "span",
             Tag::Preformatted => "pre",
-            Tag::Input => "input",
-            Tag::InputLabel => "label",
         }
     }
 
-    /// Returns whether its start tag may also end it, as for an element without children.
+    /// Returns whether its start tag may also end it, as for an element of a picture without
+    /// children.
     pub(crate) fn is_sole(self) -> bool {
-        matches!(
-            self,
-            Tag::Path | Tag::Circle | Tag::Use | Tag::Polyline | Tag::Input
-        )
+        matches!(self, Tag::Path | Tag::Circle | Tag::Use | Tag::Polyline)
     }
 }
 
@@ -170,10 +160,6 @@ impl Attr {
             Attr::Xmlns => " xmlns=\"",
             Attr::TabIndex => " tabindex=\"",
             Attr::Label => " aria-label=\"",
-            Attr::Kind => " type=\"",
-            Attr::Name => " name=\"",
-            Attr::For => " for=\"",
-            Attr::Checked => " checked=\"",
         }
     }
 }

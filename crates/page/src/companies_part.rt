@@ -17,15 +17,6 @@ use tables::{Company, Kind, Money, Private, Seat, face, price, revenue, rusts, t
 
 /// Adds what each company has, in this order.
 pub(crate) fn put_companies(out: &mut Writer, scene: &Scene, order: &[Company]) {
-    begin_companies(out);
-    out.begin(Tag::TableBody);
-    put_company_rows(out, scene, order);
-    out.end();
-    out.end();
-}
-
-/// Begins the table of companies up to its rows.
-pub(crate) fn begin_companies(out: &mut Writer) {
     begin_table(out, "companies", "wide");
     put_caption(out, "Companies", "(those that operate in operating order)");
     put_head(
@@ -45,13 +36,12 @@ pub(crate) fn begin_companies(out: &mut Writer) {
             "Privates",
         ],
     );
-}
-
-/// Adds the rows of the companies, in this order.
-pub(crate) fn put_company_rows(out: &mut Writer, scene: &Scene, order: &[Company]) {
+    out.begin(Tag::TableBody);
     for company in order {
         put_row(out, scene, *company);
     }
+    out.end();
+    out.end();
 }
 
 /// Returns the name of a company.
@@ -195,15 +185,6 @@ fn put_city(out: &mut Writer, hex: Hex) {
 
 /// Adds who owns each private, with its price and the bids on it while it is unsold.
 pub(crate) fn put_owners(out: &mut Writer, scene: &Scene) {
-    begin_owners(out);
-    out.begin(Tag::TableBody);
-    put_owner_rows(out, scene);
-    out.end();
-    out.end();
-}
-
-/// Begins the table of privates up to its rows.
-pub(crate) fn begin_owners(out: &mut Writer) {
     begin_table(out, "privates", "");
     put_caption(out, "Privates", "");
     put_head(
@@ -212,13 +193,12 @@ pub(crate) fn begin_owners(out: &mut Writer) {
             "Private", "#Face", "#Price", "#Revenue", "Hexes", "Owner", "Bids",
         ],
     );
-}
-
-/// Adds the rows of the privates.
-pub(crate) fn put_owner_rows(out: &mut Writer, scene: &Scene) {
+    out.begin(Tag::TableBody);
     for &private in &Private::ALL {
         put_private(out, scene, private);
     }
+    out.end();
+    out.end();
 }
 
 /// Adds the row of a private.
@@ -279,28 +259,18 @@ fn put_bids(out: &mut Writer, scene: &Scene, private: Private) {
 
 /// Adds how many trains of each kind the bank and its pool have, their price, and when they rust.
 pub(crate) fn put_trains(out: &mut Writer, scene: &Scene) {
-    begin_trains(out);
-    out.begin(Tag::TableBody);
-    put_train_rows(out, scene);
-    out.end();
-    out.end();
-}
-
-/// Begins the table of trains up to its rows.
-pub(crate) fn begin_trains(out: &mut Writer) {
     begin_table(out, "trains", "");
     put_caption(out, "Trains", "");
     put_head(
         out,
         &["Train", "#Bank", "#Pool", "#Price", "Stops", "Rusts"],
     );
-}
-
-/// Adds the rows of the kinds of trains.
-pub(crate) fn put_train_rows(out: &mut Writer, scene: &Scene) {
+    out.begin(Tag::TableBody);
     for &kind in &Kind::ALL {
         put_kind(out, scene, kind);
     }
+    out.end();
+    out.end();
 }
 
 /// Adds the row of a kind of train.

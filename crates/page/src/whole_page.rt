@@ -33,7 +33,7 @@ use tables::{COMPANIES, Company, Round};
 
 /// Which page is made.
 #[derive(Clone, Copy)]
-pub(crate) enum Form {
+enum Form {
     /// All of it.
     Whole,
     /// With a script, up to its hexes in words, and with this style behind that of all pages.
@@ -42,11 +42,11 @@ pub(crate) enum Form {
 
 /// What a page shows of the order file besides its game.
 #[derive(Clone, Copy)]
-pub(crate) struct Told<'a> {
-    pub(crate) form: Form,
-    pub(crate) source: Source,
+struct Told<'a> {
+    form: Form,
+    source: Source,
     /// The bulletin of the round.
-    pub(crate) bulletin: &'a [u8],
+    bulletin: &'a [u8],
 }
 
 /// Returns the page of the game of an order file after a round, or after the last one if none is
@@ -169,7 +169,7 @@ fn page_text(
 }
 
 /// Returns the players.
-pub(crate) fn players_of<'a>(scene: &Scene<'a>) -> Players<'a> {
+fn players_of<'a>(scene: &Scene<'a>) -> Players<'a> {
     Players {
         names: scene.names,
         seats: scene.seats,
@@ -177,7 +177,7 @@ pub(crate) fn players_of<'a>(scene: &Scene<'a>) -> Players<'a> {
 }
 
 /// Returns the tokens on the stock chart, in the order of the roster.
-pub(crate) fn tokens_of(history: &History) -> ChartTokens {
+fn tokens_of(history: &History) -> ChartTokens {
     let mut tokens = [None; COMPANIES];
     for &company in &Company::ALL {
         tokens[company.index()] = token_of(history, company);
@@ -220,7 +220,7 @@ fn put_head(out: &mut Writer, scene: &Scene) {
     out.begin(Tag::Header);
     status_part::put_title(out, scene, Tag::H1);
     status_part::put_players(out, scene);
-    status_part::put_links(out, &status_part::LINKS);
+    status_part::put_links(out);
     out.end();
 }
 
