@@ -3,7 +3,7 @@ use Rattle.std.proofs.Common.{◌≡◌, ℕ, suc, ◌+◌, Bool, List, ◌++◌
 use Rattle.foresight.specs.Ahead.{AheadState}
 use Rattle.market.specs.OperatingOrder.{next_company}
 use Rattle.page_lays.specs.Turns.{HaveTurnsIn, IsTurnIn}
-use Rattle.page_lays.specs.declared.turns.Turn.{Turn}
+use Rattle.page_lays.specs.declared.company_turns.Turn.{Turn}
 use Rattle.tables.specs.declared.roster.Company.{Company}
 
 -- one more company has its turn

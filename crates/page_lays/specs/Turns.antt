@@ -8,7 +8,7 @@ use Rattle.foresight.specs.Ahead.{AheadState, HasEnded, HasTurn, IsBehindDraft, 
 use Rattle.market.specs.OperatingOrder.{next_company}
 use Rattle.operating.specs.TurnEnd.{IsDue}
 use Rattle.page_lays.specs.MoveRows.{AreMovesIn, row_of}
-use Rattle.page_lays.specs.declared.turns.Turn.{Turn}
+use Rattle.page_lays.specs.declared.company_turns.Turn.{Turn}
 use Rattle.tables.specs.Roster.{same_company}
 use Rattle.tables.specs.declared.roster.Company.{Company}
 use Rattle.totals.specs.Shares.{president_of}

@@ -2,11 +2,11 @@
 ghost use Rattle.std.specs.Prelude.{IfOk};
 ghost use Rattle.markup.specs.Reading.{IsWellFormed};
 
+use crate::company_turns::Wanted;
 use crate::hexes_part::put_hexes;
 use crate::may::may_in;
 use crate::may_part::put_may;
 use crate::progress::Progress;
-use crate::turns::Wanted;
 use desk_base::{DeskFault, Stood, play_behind, stood_at_last, stood_now};
 use markup::PagePiece::Words;
 use markup::{Tag, Writer, begin_section};

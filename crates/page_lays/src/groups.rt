@@ -1,10 +1,10 @@
 //! Groups of lines on the page. The label of a group names the lines of a sheet above its own.
 
+use crate::company_turns::Turn;
 use crate::move_lines::Line;
 use crate::move_rows::Move;
 use crate::offers::is_allowed;
 use crate::pictures::put_picture;
-use crate::turns::Turn;
 use map_tables::Hex;
 use markup::PagePiece::{Hex as Hexed, Name, Number, Round as Named, Words};
 use markup::{Attr, Tag, Writer};

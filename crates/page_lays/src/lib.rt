@@ -11,13 +11,15 @@
 //! orders of players the page shows).
 //!
 //! Reading order: `coming` (the game before the next round), `move_rows` (lays and tokens as rows),
-//! `best_after` and `move_lines` (what the best runs would earn after each), `progress`, `turns`
-//! (the companies of the round), `players`, `offers` (of trains), `may` (all of it); `pictures` (of
-//! tiles), `groups` (lines on the page), `hexes_part`, `may_part`, `style`, `ending` (`end_page`).
+//! `best_after` and `move_lines` (what the best runs would earn after each), `progress`,
+//! `company_turns` (the companies of the round), `players`, `offers` (of trains), `may` (all of it);
+//! `pictures` (of tiles), `groups` (lines on the page), `hexes_part`, `may_part`, `style`, `ending`
+//! (`end_page`).
 #![tactic(auto)]
 
 mod best_after;
 mod coming;
+mod company_turns;
 mod ending;
 mod groups;
 mod hexes_part;
@@ -30,9 +32,8 @@ mod pictures;
 mod players;
 mod progress;
 mod style;
-mod turns;
 
+pub use company_turns::Wanted;
 pub use ending::end_page;
 pub use progress::Progress;
 pub use style::STYLE;
-pub use turns::Wanted;

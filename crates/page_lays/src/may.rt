@@ -4,11 +4,11 @@ ghost use Rattle.history.specs.Sound.{IsSound};
 ghost use Rattle.sheets.specs.File.{players_of};
 
 use crate::coming::{Coming, coming_in};
+use crate::company_turns::{Turn, Wanted, turns_of};
 use crate::groups::Of;
 use crate::offers::presidents;
 use crate::players::{Player, players_in_operating, players_in_turns};
 use crate::progress::Progress;
-use crate::turns::{Turn, Wanted, turns_of};
 use desk_base::DeskFault;
 use page_map::Scene;
 use sheets::Sheets;

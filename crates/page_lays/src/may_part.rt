@@ -1,9 +1,9 @@
 //! What each player may do, the position that the lines assume, and the box for a sheet.
 
+use crate::company_turns::{Turn, Wanted};
 use crate::groups::{Block, Of, put_group, put_link};
 use crate::may::May;
 use crate::players::Player;
-use crate::turns::{Turn, Wanted};
 use map_tables::Hex;
 use markup::PagePiece::{Count, Name, Number, Round as Named, Words};
 use markup::{Attr, Tag, Writer, begin_plain_section, begin_section};

@@ -1,9 +1,9 @@
 //! Small pictures of tiles. The page has each tile once; a line refers to it, and its class rotates
 //! it.
 
+use crate::company_turns::Turn;
 use crate::move_lines::Line;
 use crate::move_rows::Move;
-use crate::turns::Turn;
 use map_tables::{Hex, Lay, Rotation, TileNo};
 use markup::PagePiece::{Number, Words};
 use markup::{Attr, Tag, Writer};

@@ -1,8 +1,8 @@
 -- the companies so far have had their turns, as they are in the list
 use Rattle.std.proofs.Common.{◌≡◌, ◌-◌, ◌≤◌, List, ◌++◌}
 use Rattle.page_lays.specs.Turns.{HaveTurnsIn, is_wanted}
-use Rattle.page_lays.specs.declared.turns.Turn.{Turn}
-use Rattle.page_lays.proofs.turns.push_turns.Given as goal
+use Rattle.page_lays.specs.declared.company_turns.Turn.{Turn}
+use Rattle.page_lays.proofs.company_turns.push_turns.Given as goal
 
 abbrev pub invariant-loop-turns : goal.invariant-loop-turns
 invariant-loop-turns g l =

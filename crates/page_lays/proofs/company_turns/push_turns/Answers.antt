@@ -1,8 +1,8 @@
 use Rattle.std.proofs.Common.{◌≡◌, List, ◌++◌, inl, sym, ap, ◌∙◌, append_assoc, arith}
 use Rattle.page_lays.proofs.TurnLemmas.{one_more}
 use Rattle.page_lays.specs.Turns.{is_wanted}
-use Rattle.page_lays.specs.declared.turns.Turn.{Turn}
-use Rattle.page_lays.proofs.turns.push_turns.Goals as goal
+use Rattle.page_lays.specs.declared.company_turns.Turn.{Turn}
+use Rattle.page_lays.proofs.company_turns.push_turns.Goals as goal
 
 pub loop-turns-preserved : goal.loop-turns-preserved
 loop-turns-preserved g c =
