@@ -1,6 +1,5 @@
 pub mod Idle
 pub mod TurnsAhead
 pub mod Ended
-pub mod FirstTurnLemmas
 pub mod Passing
 pub mod TrialFileLemmas

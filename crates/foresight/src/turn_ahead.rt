@@ -101,7 +101,6 @@ fn waits(history: &History, private: Private, company: Company) -> bool
 }
 
 /// Returns a seat's first turn of an opening that can begin, after its lines.
-#[tactic(auto, using(crate::proofs::FirstTurnLemmas::begins_if))]
 fn behind_opening_begun(
     history: History,
     sheets: &Sheets,

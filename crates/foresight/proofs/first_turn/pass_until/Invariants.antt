@@ -7,9 +7,9 @@ use Rattle.foresight.proofs.first_turn.pass_until.Given as goal
 abbrev pub invariant-loop-seat : goal.invariant-loop-seat
 invariant-loop-seat g l = record {
   count : ℕ;
-  its : seat_after l.fn.history.seats l.first count ≡ l.next;
+  its : seat_after l.fn.history.seats l.fn.first count ≡ l.next;
   few : count + distance l.fn.history.seats l.next.0 l.seat.0 < l.fn.history.seats;
-  passed : l.history.events ≡ after_passes l.fn.history.seats l.first l.fn.history.events count;
+  passed : l.history.events ≡ after_passes l.fn.history.seats l.fn.first l.fn.history.events count;
   at_table : l.next.0 < l.fn.history.seats;
   seats : l.history.seats ≡ l.fn.history.seats;
   underway : g.T.TurnRules.holds l.history;
