@@ -75,12 +75,12 @@ def parse_club(text: str) -> Club:
     try:
         whole = tomllib.loads(text)
     except tomllib.TOMLDecodeError as wrong:
-        raise PostError(f"club.toml is no TOML: {wrong}") from wrong
+        raise PostError(f"club.toml is not valid TOML: {wrong}") from wrong
     players = {name: _player(name, it) for name, it in _table(whole, "players").items()}
     texts, sent = _table(whole, "texts"), _table(whole, "send")
     umpire = _text(whole, "umpire")
     if not is_address(umpire):
-        raise PostError(f"club.toml: umpire is no address: {umpire}")
+        raise PostError(f"club.toml: umpire is not an address: {umpire}")
     return Club(
         game=_line(whole, "game"),
         umpire=umpire,
@@ -98,12 +98,12 @@ def club_text(club: Club) -> str:
     """Returns the `club.toml` of a new game."""
     lines = [
         "# The addresses of a club, and how its mail is sent.",
-        f"game = {json.dumps(club.game)}  # stands in subjects, and names what is attached",
-        f"umpire = {json.dumps(club.umpire)}  # the address from which letters come",
+        f"game = {json.dumps(club.game)}  # used in subjects and in the names of attachments",
+        f"umpire = {json.dumps(club.umpire)}  # the address that letters come from",
         f"mark = {json.dumps(club.mark)}  # part of the Message-ID of each letter: do not change it",
         f"begun = {json.dumps(club.begun)}",
         "",
-        "# A sheet may come from any address of its player. Letters go to the first.",
+        "# A sheet may come from any address of its player. Letters go to the first one.",
         '# With a line key = "WORD" a sheet counts only in a message with the line KEY WORD.',
     ]
     for player in club.players.values():
@@ -122,7 +122,7 @@ def club_text(club: Club) -> str:
         "[texts]",
         f"greeting = {json.dumps(club.greeting)}",
         f"closing = {json.dumps(club.closing)}",
-        '# link = "https://example.org/our-game.report"  # in place of the attached report',
+        '# link = "https://example.org/our-game.report"  # instead of the attached report',
         "",
     ]
     return "\n".join(lines)
@@ -130,13 +130,13 @@ def club_text(club: Club) -> str:
 
 def _player(name: str, entry: Any) -> Player:
     if not isinstance(entry, dict):
-        raise PostError(f"club.toml: players.{name} is no table")
+        raise PostError(f"club.toml: players.{name} is not a table")
     addresses = entry.get("addresses")
     if not isinstance(addresses, list) or not addresses:
         raise PostError(f"club.toml: players.{name} has no addresses")
     for address in addresses:
         if not isinstance(address, str) or not is_address(address):
-            raise PostError(f"club.toml: {name} has an address that is none: {address}")
+            raise PostError(f"club.toml: an address of {name} is not valid: {address}")
     key = entry.get("key")
     if key is not None and not (isinstance(key, str) and KEY.fullmatch(key)):
         raise PostError(f"club.toml: the key of {name} is not one word of 4 to 64 characters")
@@ -146,14 +146,14 @@ def _player(name: str, entry: Any) -> Player:
 def _delivery(entry: Mapping[str, Any]) -> Delivery:
     by, tls = _text(entry, "by", "program"), _text(entry, "tls", "starttls")
     if by not in ("program", "sendmail", "smtp"):
-        raise PostError(f'club.toml: by is none of "program", "sendmail" and "smtp": {by}')
+        raise PostError(f'club.toml: by must be "program", "sendmail" or "smtp", not {by}')
     if tls not in ("starttls", "tls", "none"):
-        raise PostError(f'club.toml: tls is none of "starttls", "tls" and "none": {tls}')
+        raise PostError(f'club.toml: tls must be "starttls", "tls" or "none", not {tls}')
     sendmail, port = entry.get("sendmail", ["/usr/sbin/sendmail"]), entry.get("port", 587)
     if not isinstance(sendmail, list) or not sendmail or not all(isinstance(it, str) for it in sendmail):
-        raise PostError("club.toml: sendmail is no list of a program and its words")
+        raise PostError("club.toml: sendmail is not a list of a program and its arguments")
     if not isinstance(port, int) or not 0 < port < 65536:
-        raise PostError("club.toml: port is no number from 1 to 65535")
+        raise PostError("club.toml: port is not a number from 1 to 65535")
     return Delivery(by, tuple(sendmail), _text(entry, "host", "localhost"), port, tls,
                     _text(entry, "user", ""), _text(entry, "password_file", ""))
 
@@ -163,14 +163,14 @@ def _begun(whole: Mapping[str, Any]) -> str:
     try:
         datetime.fromisoformat(begun)
     except ValueError as wrong:
-        raise PostError(f"club.toml: begun is no time: {begun}") from wrong
+        raise PostError(f"club.toml: begun is not a time: {begun}") from wrong
     return begun
 
 
 def _table(whole: Mapping[str, Any], name: str) -> Mapping[str, Any]:
     table = whole.get(name, {})
     if not isinstance(table, dict):
-        raise PostError(f"club.toml: {name} is no table")
+        raise PostError(f"club.toml: {name} is not a table")
     return table
 
 
@@ -184,5 +184,5 @@ def _text(table: Mapping[str, Any], name: str, otherwise: str | None = None) -> 
 def _line(table: Mapping[str, Any], name: str) -> str:
     text = _text(table, name)
     if not re.fullmatch(r"[\w.-]{1,40}", text, re.ASCII):
-        raise PostError(f"club.toml: {name} has more than letters, digits, points and hyphens: {text!r}")
+        raise PostError(f"club.toml: {name} may only have letters, digits, points and hyphens: {text!r}")
     return text

@@ -52,7 +52,7 @@ class _Parser(argparse.ArgumentParser):
 
 def parser(name: str = "post") -> argparse.ArgumentParser:
     """Returns the command line."""
-    top = _Parser(prog=name, description="Keeps the mail of a postal game of 1830, from the umpire's inbox to the outbox", epilog=STATUSES)
+    top = _Parser(prog=name, description="Handles the mail of a postal game of 1830, from the umpire's inbox to the outbox", epilog=STATUSES)
     words = top.add_subparsers(dest="word", required=True, metavar="WORD")
 
     def word(called: str, what: str, example: str) -> argparse.ArgumentParser:
@@ -67,8 +67,8 @@ def parser(name: str = "post") -> argparse.ArgumentParser:
                      help="a message, an mbox, a Maildir or a folder of messages; standard input if none is named")
     one.add_argument("--accept", metavar="NUMBER", type=int, nargs="+",
                      help="take the sheets of a message that was set aside, whoever sent it")
-    one = word("status", "Tells who has sent, who owes, and what was set aside", "our-game")
-    one.add_argument("--check", action="store_true", help="tell what the desk finds with all sheets; part of it is for the umpire alone")
+    one = word("status", "Shows who has sent a sheet, who owes one, and what was set aside", "our-game")
+    one.add_argument("--check", action="store_true", help="show what the desk finds with all sheets; part of it is for the umpire only")
     one.add_argument("--remind", action="store_true", help="write a letter to each player who owes a sheet, at most one a day")
     one = word("round", "Plays the round, and writes a letter to each player", "our-game --without CYD")
     one.add_argument("--without", metavar="NAME", nargs="+", default=[], help="players who owe a sheet and get an empty one")
@@ -85,7 +85,7 @@ def _add_new(word: Callable[[str, str, str], argparse.ArgumentParser]) -> None:
     one = word("new", "Makes a game's folder", example)
     one.add_argument("players", metavar="NAME=ADDRESS", nargs="+",
                      help="a player, in the order of the seats; a name again for another address")
-    one.add_argument("--umpire", required=True, metavar="ADDRESS", help="the address from which letters come")
+    one.add_argument("--umpire", required=True, metavar="ADDRESS", help="the address that letters come from")
     one.add_argument("--game-version", type=int, choices=(1, 2), default=2,
                      help="the version of the order file: 2, with conditions, unless 1 is named")
     one.add_argument("--orders", type=Path, metavar="FILE", help="the order file of a game that has begun")
@@ -104,7 +104,7 @@ def main(words: Sequence[str], name: str = "post", now: Callable[[], datetime] =
             raise PostError(f"there is no folder {asked.folder}")
         with locked(asked.folder) as finished:
             if finished == asked.word and finished in ("round", "undo"):
-                print(f"The {finished} that was broken off is finished now. Say {finished} again for another.")
+                print(f"The {finished} that was interrupted is finished now. Run {finished} again for another.")
                 return 0
             return _run(own, asked)
     except PostError as wrong:

@@ -42,7 +42,7 @@ def send(evening: Evening) -> int:
     if delivery.by == "program":
         for path in folder.letters():
             evening.tell(f"{path}: to {_to(path.read_bytes())}")
-        evening.tell(f"Send them by your own program, and then say: send {evening.top} --sent")
+        evening.tell(f"Send them with your own mail program, and then run: send {evening.top} --sent")
         return 0
     if folder.letters():
         with _opened(delivery) as hand_over:
@@ -50,7 +50,7 @@ def send(evening: Evening) -> int:
                 failed += not _send_one(evening, folder, path, hand_over)
     for path in folder.in_doubt():
         evening.tell(f"in doubt: {path.name.removesuffix(HANDED_OVER)}. Ask {_to(path.read_bytes())} or your mail system whether it "
-                     f"came, and then say: send {evening.top} --sent, or --again")
+                     f"arrived, and then run: send {evening.top} --sent, or --again")
         failed += 1
     return DEVICE_FAILED if failed else 0
 
@@ -111,7 +111,7 @@ def _opened(delivery: Delivery) -> Iterator[HandOver]:
     try:
         host = _connected(delivery)
     except (OSError, smtplib.SMTPException) as wrong:
-        raise PostError(f"{delivery.host} does not take letters: {wrong}", DEVICE_FAILED) from wrong
+        raise PostError(f"{delivery.host} does not accept letters: {wrong}", DEVICE_FAILED) from wrong
     try:
         yield lambda sender, to, content: _by_host(host, sender, to, content)
     finally:

@@ -43,14 +43,14 @@ def new(evening: Evening, umpire: str, players: Sequence[str], version: int, ord
     """Makes a game's folder. Nothing is left of one that is refused."""
     top = evening.top
     if top.exists() and (not top.is_dir() or any(top.iterdir())):
-        raise PostError(f"{top} is there already")
+        raise PostError(f"{top} already exists")
     club = Club(_name_of(top), umpire, secrets.token_hex(4), evening.time(), _players(players))
     if not is_address(umpire):
-        raise PostError(f"the umpire's address is none: {umpire}")
+        raise PostError(f"the umpire's address is not valid: {umpire}")
     text = orders.read_bytes() if orders else f"GAME 1830 {version}\nPLAYERS {' '.join(club.players)}\n".encode()
     report = evening.programs.report(text)
     if set(report.players) != set(club.players):
-        raise PostError(f"the file is of {listed(report.players)}, and the addresses are of {listed(club.players)}", FILE_REFUSED)
+        raise PostError(f"the file has the players {listed(report.players)}, but the addresses are for {listed(club.players)}", FILE_REFUSED)
     made = top.parent / f".{top.name}.new"
     shutil.rmtree(made, ignore_errors=True)
     for name in FOLDERS:
@@ -139,7 +139,7 @@ def undo(evening: Evening) -> None:
         raise PostError("no round was played by post")
     last = folder.rounds[-1]
     if hashlib.sha256(folder.orders).hexdigest() != last.after:
-        raise PostError(f"{ORDERS} is not as {last.round} left it: somebody changed it. {last.place}/before.orders is the former one")
+        raise PostError(f"{ORDERS} was changed after {last.round}. {last.place}/before.orders is the one before that round")
     step = folder.step("undo")
     place = evening.top / last.place
     for path in sorted(place.iterdir()):
@@ -154,7 +154,7 @@ def undo(evening: Evening) -> None:
             told.append(name)
     step.commit()
     evening.tell(f"{last.round} was taken back, and is awaited again.")
-    evening.tell(f"Tell {listed(told)}: their letters of the round are sent." if told else "Nobody must be told: no letter of it was sent.")
+    evening.tell(f"Tell {listed(told)}: their letters of the round have been sent." if told else "Nobody needs to be told: none of its letters was sent.")
 
 
 def _players(words: Sequence[str]) -> dict[str, Player]:
@@ -259,7 +259,7 @@ def _put(step: Step, written: Iterable[Letter]) -> None:
 def _tell_sheets(evening: Evening, folder: Folder, report: Report) -> None:
     """Tells who has sent a sheet and who owes one."""
     pending = folder.pending(report.awaited or "")
-    evening.tell(f"{report.awaited} is awaited since {_minute(folder.since())}")
+    evening.tell(f"{report.awaited} has been awaited since {_minute(folder.since())}")
     for name in report.players:
         if name in pending:
             evening.tell(f"  {name:8} sent message {pending[name].record.number} at {_minute(pending[name].record.came)}")
@@ -279,7 +279,7 @@ def _tell_findings(evening: Evening, folder: Folder, report: Report) -> None:
     for line in text.splitlines():
         evening.tell(f"  {line}")
     if ALONE in text:
-        evening.tell(f"  Keep to yourself what is below {ALONE}.")
+        evening.tell(f"  Keep everything below {ALONE} to yourself.")
 
 
 def _tell_aside(evening: Evening, record: Record) -> None:
@@ -293,7 +293,7 @@ def _tell_letters(evening: Evening, folder: Folder) -> None:
     if folder.letters():
         evening.tell(f"{counted(len(folder.letters()), 'letter')} in {OUTBOX}")
     for path in folder.in_doubt():
-        evening.tell(f"in doubt: {path.name.removesuffix(HANDED_OVER)} was being handed over when send was broken off")
+        evening.tell(f"in doubt: {path.name.removesuffix(HANDED_OVER)} was being handed over when send was interrupted")
 
 
 def _remind(evening: Evening, folder: Folder, report: Report, round_: str) -> None:
@@ -308,7 +308,7 @@ def _remind(evening: Evening, folder: Folder, report: Report, round_: str) -> No
             _put(step, [letters.reminder(folder.club, file, folder.club.players[name], round_, folder.since(), evening.now())])
             reminded.append(name)
     step.commit()
-    evening.tell(f"reminders for {listed(reminded)} are in {OUTBOX}" if reminded else "nobody is to be reminded today")
+    evening.tell(f"reminders for {listed(reminded)} are in {OUTBOX}" if reminded else "nobody needs a reminder today")
 
 
 def _minute(time: str) -> str:

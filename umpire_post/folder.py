@@ -113,7 +113,7 @@ class Folder:
             self.club: Club = parse_club((top / CLUB).read_text(encoding="utf-8"))
             self.orders = (top / ORDERS).read_bytes()
         except FileNotFoundError as wrong:
-            raise PostError(f"{top} is no game's folder: it has no {Path(wrong.filename).name}") from wrong
+            raise PostError(f"{top} is not a game's folder: it has no {Path(wrong.filename).name}") from wrong
         self.records: list[Record] = sorted(_read(top.glob(f"{INBOX}/*.json"), Record.from_json), key=lambda it: it.number)
         self.digests = {it.digest for it in self.records}
         self.rounds: list[Round] = sorted(_read(top.glob(f"{ROUNDS}/*-*/round.json"), Round.from_json), key=lambda it: it.number)

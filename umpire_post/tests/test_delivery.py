@@ -97,7 +97,7 @@ class Delivery(Evenings):
 
     def test_a_host_that_is_not_there(self) -> None:
         self.change("club.toml", 'by = "program"', 'by = "smtp"\nhost = "127.0.0.1"\nport = 1\ntls = "none"')
-        self.assertIn("127.0.0.1 does not take letters", self.post("send", status=4))
+        self.assertIn("127.0.0.1 does not accept letters", self.post("send", status=4))
         self.assertEqual(NAMES, self.names("outbox"))
 
     def test_a_password_that_is_not_there(self) -> None:

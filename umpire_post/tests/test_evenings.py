@@ -31,7 +31,7 @@ class New(Evenings):
     def test_a_folder_that_is_there_stays_as_it_is(self) -> None:
         self.game.mkdir()
         (self.game / "other").write_text("mine")
-        self.assertIn("is there already", self.post("new", "--umpire", UMPIRE, *THREE, status=1))
+        self.assertIn("already exists", self.post("new", "--umpire", UMPIRE, *THREE, status=1))
         self.assertEqual(["other"], self.names("."))
 
     def test_a_game_that_has_begun(self) -> None:
@@ -39,7 +39,7 @@ class New(Evenings):
         orders.write_text("GAME 1830 1\nPLAYERS ANN BOB CYD\nSHEET ANN PR1\nSHEET BOB PR1\nSHEET CYD PR1")
         told = self.post("new", "--umpire", UMPIRE, "--orders", str(orders), *THREE)
         self.assertIn("PR2 comes next", told)
-        self.assertIn("the file is of ANN, BOB and CYD", self.again(orders, "ANN=a@x.org"))
+        self.assertIn("the file has the players ANN, BOB and CYD", self.again(orders, "ANN=a@x.org"))
         self.comes(*(mail(it, [f"SHEET {it} PR2"], 1) for it in ("ANN", "BOB", "CYD")))
         self.post("round")
         self.assertIn(b"SHEET CYD PR1\nSHEET ANN PR2\n", (self.game / "game.orders").read_bytes())
@@ -178,7 +178,7 @@ class Round(Evenings):
         self.post("round", "--without", "ANN", "CYD")
         os.rename(self.game / "outbox" / "round-001-PR1-CYD.eml", self.game / "sent" / "round-001-PR1-CYD.eml")
         told = self.post("undo")
-        self.assertEqual(["PR1 was taken back, and is awaited again.", "Tell CYD: their letters of the round are sent."], told.splitlines())
+        self.assertEqual(["PR1 was taken back, and is awaited again.", "Tell CYD: their letters of the round have been sent."], told.splitlines())
         self.assertEqual(before, (self.game / "game.orders").read_bytes())
         self.assertEqual(["0001-answer.eml"], self.names("outbox"))
         self.assertIn("BOB      sent message 1", self.post("status"))
@@ -189,7 +189,7 @@ class Round(Evenings):
         self.post("round", "--without", "ANN", "BOB", "CYD")
         with open(self.game / "game.orders", "a", encoding="utf-8") as file:
             file.write("# by hand\n")
-        self.assertIn("game.orders is not as PR1 left it", self.post("undo", status=1))
+        self.assertIn("game.orders was changed after PR1", self.post("undo", status=1))
 
     def test_a_file_that_is_refused(self) -> None:
         (self.game / "game.orders").write_text("GAME 1831 1\n")
@@ -209,7 +209,7 @@ class Status(Evenings):
         self.new()
         self.comes(mail("ANN", EMPTY[0], 1), mail("BOB", EMPTY[2], 2), status=3)
         self.assertEqual([
-            "PR1 is awaited since 2026-11-02 18:01",
+            "PR1 has been awaited since 2026-11-02 18:01",
             "  ANN      sent message 1 at 2026-11-02 18:03",
             "  BOB      owes a sheet",
             "  CYD      owes a sheet",
@@ -222,7 +222,7 @@ class Status(Evenings):
         self.comes(mail("ANN", [*EMPTY[0], "TURN", "BUY SV"], 1), mail("BOB", [*EMPTY[1], "TURN", "BUY SV"], 2))
         told = self.post("status", "--check")
         self.assertIn("with all sheets: A2", told)
-        self.assertIn("Keep to yourself what is below FOR THE UMPIRE ALONE.", told)
+        self.assertIn("Keep everything below FOR THE UMPIRE ALONE to yourself.", told)
         for name in self.names("outbox"):
             self.assertNotIn("A2", (self.game / "outbox" / name).read_text())
 
@@ -230,21 +230,21 @@ class Status(Evenings):
         self.new()
         self.comes(mail("ANN", EMPTY[0], 1))
         self.assertIn("reminders for BOB and CYD are in outbox", self.post("status", "--remind"))
-        self.assertIn("nobody is to be reminded today", self.post("status", "--remind"))
+        self.assertIn("nobody needs a reminder today", self.post("status", "--remind"))
         letter = (self.game / "outbox" / "reminder-PR1-BOB-2026-11-02.eml").read_text()
         self.assertIn("You still owe a sheet for PR1. It has been awaited since 2026-11-02.", letter)
 
     def test_a_folder_that_is_none(self) -> None:
         self.assertIn("there is no folder", self.post("status", status=1))
         self.game.mkdir()
-        self.assertIn("is no game's folder: it has no club.toml", self.post("status", status=1))
+        self.assertIn("is not a game's folder: it has no club.toml", self.post("status", status=1))
 
     def test_a_club_that_is_wrong(self) -> None:
         self.new()
-        for pattern, to, why in (('umpire = "[^"]*"', 'umpire = "x"', "umpire is no address"), ("mark = .*", "mark = 7", "no text mark"),
-                                 ('addresses = .*', 'addresses = ["a@b\\nc"]', "an address that is none"),
-                                 (r"\[send\]", "[send]\nport = 0", "port is no number"), ("by = .*", 'by = "pigeon"', "by is none of"),
-                                 ("begun = .*", 'begun = "now"', "begun is no time"), (r"\[texts\]", "[texts", "no TOML")):
+        for pattern, to, why in (('umpire = "[^"]*"', 'umpire = "x"', "umpire is not an address"), ("mark = .*", "mark = 7", "no text mark"),
+                                 ('addresses = .*', 'addresses = ["a@b\\nc"]', "is not valid"),
+                                 (r"\[send\]", "[send]\nport = 0", "port is not a number"), ("by = .*", 'by = "pigeon"', "by must be"),
+                                 ("begun = .*", 'begun = "now"', "begun is not a time"), (r"\[texts\]", "[texts", "not valid TOML")):
             kept = (self.game / "club.toml").read_text()
             self.change("club.toml", pattern, to)
             self.assertIn(why, self.post("status", status=1))

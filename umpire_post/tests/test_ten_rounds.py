@@ -115,7 +115,7 @@ class TenRounds(Evenings):
         self.assertEqual(10, len(owed.played))
         self.assertEqual(owed, PROGRAMS.report((self.game / "game.orders").read_bytes()))
         self.assertEqual(owed.text, (self.game / "rounds" / "011-OR4.1" / "report").read_text())
-        self.assertTrue(re.match(r"OR4.2 is awaited since .*\n  ANN      owes a sheet\n", self.post("status")))
+        self.assertTrue(re.match(r"OR4.2 has been awaited since .*\n  ANN      owes a sheet\n", self.post("status")))
         self.assertEqual([], self.names("outbox"))
         letters = [it for it in self.names("sent") if it.startswith("round-")]
         self.assertEqual(10 * len(NAMES), len(letters))
