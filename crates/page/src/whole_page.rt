@@ -71,7 +71,10 @@ pub fn page_to_hexes(
     file: &[u8],
     asked: Option<Round>,
     style: &'static str,
-) -> Result<Writer, DeskFault> {
+) -> Result<Writer, DeskFault>
+    ensures accepted { OnOk result (IsAccepted file.now) }
+    ensures fault { IfErr result (λ fault. HasNoState fault file.now) }
+{
     begun(alloc, file, asked, Form::ToHexes(style))
 }
 
@@ -169,7 +172,9 @@ fn page_text(
 }
 
 /// Returns the players.
-fn players_of<'a>(scene: &Scene<'a>) -> Players<'a> {
+fn players_of<'a>(scene: &Scene<'a>) -> Players<'a>
+    ensures { result.seats ≡ scene.now.seats }
+{
     Players {
         names: scene.names,
         seats: scene.seats,
