@@ -7,4 +7,3 @@ pub mod LimitLemmas
 pub mod RowRulings
 pub mod OneMoreRuling
 pub mod ConsentGiven
-pub mod PricesMove

@@ -12,4 +12,3 @@ pub mod RowLaws
 pub mod Limits
 pub mod TurnLaws
 pub mod ConsentLaws
-pub mod PriceLaws
