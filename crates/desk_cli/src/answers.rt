@@ -102,7 +102,7 @@ fn page_with_lays<P: LaysProgress>(
     let wanted = Wanted {
         after: task.round,
         companies: task.companies.as_slice(),
-        best: task.best,
+        best: true,
     };
     let out = page_to_hexes(alloc, file, task.round, STYLE)?;
     end_page(alloc, out, file, wanted, progress)

@@ -243,7 +243,7 @@ static WORDS: [Word; 12] = [
         about: "Writes the game as one page of HTML: map, routes, chart, history, tables, tiles",
         example: "Example: desk page < our-game.orders > our-game.html",
         job: Job::Page,
-        operands: &[Operand::Round, Operand::Tiles, Operand::Lays, Operand::Best],
+        operands: &[Operand::Round, Operand::Tiles, Operand::Lays],
     },
 ];
 
@@ -407,9 +407,6 @@ fn task_of<'a>(
         if let Some(wrong) = take_list(alloc, &mut task, given, *operand)? {
             return Ok(Asked::Nothing(wrong));
         }
-    }
-    if matches!(task.job, Job::Page) && task.best && !task.lays {
-        return Ok(Asked::Nothing("--best needs --lays"));
     }
     Ok(Asked::Task(task))
 }
