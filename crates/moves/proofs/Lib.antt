@@ -7,3 +7,4 @@ pub mod LimitLemmas
 pub mod RowRulings
 pub mod OneMoreRuling
 pub mod ConsentGiven
+pub mod PricesMove

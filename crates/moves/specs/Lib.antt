@@ -12,3 +12,4 @@ pub mod RowLaws
 pub mod Limits
 pub mod TurnLaws
 pub mod ConsentLaws
+pub mod PriceLaws

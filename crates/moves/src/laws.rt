@@ -4,6 +4,7 @@ ghost use Rattle.moves.specs.ConsentLaws.{OfferedPrivatesAreObeyed, OfferedPriva
 ghost use Rattle.moves.specs.ConsentLaws.{OfferedTrainsAreTold};
 ghost use Rattle.moves.specs.Exact.{LaysAreExact, TokensAreExact};
 ghost use Rattle.moves.specs.Limits.{PrivatesHaveTheirPrice, SalesAreOfWhatIsHeld, StartsAreAtParValues};
+ghost use Rattle.moves.specs.PriceLaws.{OpeningPricesMove, PrivatePricesMove, StockPricesMove, TrainPricesMove};
 ghost use Rattle.moves.specs.RowLaws.{OpeningRowsAreRuled, PrivateRowsAreRuled, RowsBeforeAreRuled};
 ghost use Rattle.moves.specs.RowLaws.{StandingRowsAreRuled, StockRowsAreRuled, TrainRowsAreRuled};
 ghost use Rattle.moves.specs.TurnLaws.{ListedLaysAreObeyed, ListedTokensAreObeyed, OtherLaysAreRefused};
@@ -80,4 +81,12 @@ pub fn offered_rows_are_obeyed()
     ensures privates_told { OfferedPrivatesAreTold }
     ensures trains { OfferedTrainsAreObeyed }
     ensures privates { OfferedPrivatesAreObeyed }
+{}
+
+/// The price of a row that is obeyed is the money that moves by its order.
+pub fn prices_move()
+    ensures stock { StockPricesMove }
+    ensures opening { OpeningPricesMove }
+    ensures trains { TrainPricesMove }
+    ensures privates { PrivatePricesMove }
 {}
