@@ -1,6 +1,6 @@
 //! The lines of the sheets for a round, by number: the text of each, and where it is.
-ghost use Rattle.std.specs.Prelude.{◌≡◌, ◌==◌};
-ghost use Rattle.desk_round.specs.Why.{company_at, line_at};
+ghost use Rattle.std.specs.Prelude.{◌≡◌, ◌==◌, find};
+ghost use Rattle.desk_round.specs.Why.{company_at, is_line_of, line_at};
 
 use order_grammar::Order;
 use sheets::{Sheets, UnreadLine};
@@ -126,8 +126,22 @@ pub fn find_line<'a>(lines: &[SheetLine<'a>], seat: Seat, number: u32) -> Option
     if number > LINES_KEPT {
         return None;
     }
+    first_of(lines, seat, number)
+}
+
+/// Returns the first of some lines that has this number in the sheet of a seat.
+fn first_of<'a>(lines: &[SheetLine<'a>], seat: Seat, number: u32) -> Option<SheetLine<'a>>
+    ensures { result ≡ find (is_line_of seat number) lines.now }
+{
     lines
         .iter()
         .copied()
-        .find(|line| line.number == number && line.seat == seat)
+        .find(|line| is_line_of(line, seat, number))
+}
+
+/// Returns whether a line has this number in the sheet of a seat.
+fn is_line_of(line: &SheetLine, seat: Seat, number: u32) -> bool
+    ensures { result ≡ is_line_of seat number line.now }
+{
+    line.number == number && line.seat == seat
 }
