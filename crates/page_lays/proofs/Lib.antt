@@ -1,2 +1,0 @@
--- Lemmas on turns.
-pub mod TurnLemmas

@@ -1,5 +1,0 @@
--- What may be done, on the page of a game.
-pub mod Allowed
-pub mod MoveRows
-pub mod Players
-pub mod Turns
