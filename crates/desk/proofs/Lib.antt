@@ -1,4 +1,3 @@
 -- What the proofs of a state share.
-pub mod Moments
 pub mod Orders
 pub mod Stacks

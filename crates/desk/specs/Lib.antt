@@ -1,6 +1,5 @@
 -- What the desk finds of a game as it stands.
 pub mod Earnings
-pub mod Moments
 pub mod Rows
 pub mod Stack
 pub mod Standing

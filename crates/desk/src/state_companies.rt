@@ -1,6 +1,5 @@
 //! What each company has: its place on the stock market, its figures, its shares and its tokens.
-ghost use Rattle.std.specs.Prelude.{◌≡◌};
-ghost use Rattle.desk.specs.Rows.{company_line};
+ghost use Rattle.std.specs.Prelude.{◌<◌, ◌^◌};
 
 use crate::earnings::Earnings;
 use crate::state_players::push_privates;
@@ -95,10 +94,7 @@ pub(crate) fn push_all_tokens(
 }
 
 /// Adds how many tokens a company has left, and the places of those on the map.
-fn push_tokens(out: &mut Vec<u8>, history: &History, line: &CompanyLine) -> Result<(), AllocError>
-    requires { line.now
-        ≡ company_line history.now.seats history.now.events line.now.company }
-{
+fn push_tokens(out: &mut Vec<u8>, history: &History, line: &CompanyLine) -> Result<(), AllocError> {
     let code = Words(line.company.code());
     push(out, &[code, Column(8), Right(4, line.tokens as Money)])?;
     for token in history.tokens() {
@@ -114,8 +110,7 @@ fn push_tokens(out: &mut Vec<u8>, history: &History, line: &CompanyLine) -> Resu
 /// there, its president, and what it has. A company that has not floated has few of them, and one
 /// that has not started none.
 fn push_figures(out: &mut Vec<u8>, stood: &Stood, line: &CompanyLine) -> Result<(), AllocError>
-    requires { let history = stood.now.history.now in
-        line.now ≡ company_line history.seats history.events line.now.company }
+    requires { line.now.earnings.dollars < 2 ^ 127 }
 {
     let (row, company) = (line.row, line.company);
     push(out, &[Words(company.code())])?;
@@ -154,8 +149,7 @@ fn push_square(out: &mut Vec<u8>, square: Square, above: usize) -> Result<(), Al
 
 /// Adds a company's cash, its last revenue with its round, and its trains.
 fn push_treasury(out: &mut Vec<u8>, history: &History, line: &CompanyLine) -> Result<(), AllocError>
-    requires { line.now
-        ≡ company_line history.now.seats history.now.events line.now.company }
+    requires { line.now.earnings.dollars < 2 ^ 127 }
 {
     push(out, &[Column(CASH), Right(8, line.row.cash)])?;
     push_earnings(out, line.earnings)?;
@@ -168,7 +162,9 @@ fn push_treasury(out: &mut Vec<u8>, history: &History, line: &CompanyLine) -> Re
 }
 
 /// Adds a company's last revenue with its round; nothing if it has not operated.
-fn push_earnings(out: &mut Vec<u8>, earnings: Earnings) -> Result<(), AllocError> {
+fn push_earnings(out: &mut Vec<u8>, earnings: Earnings) -> Result<(), AllocError>
+    requires { earnings.dollars < 2 ^ 127 }
+{
     let Some(round) = earnings.round else {
         return Ok(());
     };
@@ -191,10 +187,7 @@ fn push_share_heading(out: &mut Vec<u8>, sheets: &Sheets) -> Result<(), AllocErr
 }
 
 /// Adds a company's par and its shares by their holders; the president's are marked.
-fn push_shares(out: &mut Vec<u8>, stood: &Stood, line: &CompanyLine) -> Result<(), AllocError>
-    requires { let history = stood.now.history.now in
-        line.now ≡ company_line history.seats history.events line.now.company }
-{
+fn push_shares(out: &mut Vec<u8>, stood: &Stood, line: &CompanyLine) -> Result<(), AllocError> {
     let (history, company, row) = (stood.history, line.company, line.shares);
     let par = match row.par {
         Some(par) => Right(SHARES, par),

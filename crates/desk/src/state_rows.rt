@@ -1,6 +1,6 @@
 //! The rows of a state: the figures of a company, its shares, a private, a kind of train, and the
 //! game. What is printed is a function of the row alone.
-ghost use Rattle.std.specs.Prelude.{◌≡◌};
+ghost use Rattle.std.specs.Prelude.{◌≡◌, ◌<◌, ◌^◌};
 ghost use Rattle.desk.specs.Rows.{above_on, company_line, company_row, game_row, private_row, share_row, train_row};
 
 use crate::earnings::{Earnings, earnings_of};
@@ -128,7 +128,8 @@ pub(crate) struct CompanyLine {
 
 /// Returns all of a company that is a cell of its own.
 pub(crate) fn company_line(view: &GameView, company: Company) -> CompanyLine
-    ensures { result ≡ company_line view.now.seats view.now.events.now company }
+    ensures row { result ≡ company_line view.now.seats view.now.events.now company }
+    ensures small { result.earnings.dollars < 2 ^ 127 }
 {
     CompanyLine {
         company,

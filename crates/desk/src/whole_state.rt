@@ -1,10 +1,8 @@
 //! The state of a game, as text or as JSON.
 //!
 //! Its facts come from the readers of the game's list, or from `purse`, `earnings`, `stack` and
-//! `stock_left`, whose contracts say what they are. The rest is layout.
-ghost use Rattle.std.specs.Prelude.{◌≡◌, IfErr, IfOk, OnOk};
-ghost use Rattle.desk.specs.Moments.{IsAt, IsBeforeRound, IsLastRound, awaits};
-ghost use Rattle.desk.specs.Stack.{all_in_order};
+//! `stock_left`, whose contracts define them. The rest is layout.
+ghost use Rattle.std.specs.Prelude.{IfErr, OnOk};
 ghost use Rattle.desk_base.specs.Refusal.{HasNoState, IsOfGame};
 ghost use Rattle.sheets.specs.File.{IsAccepted};
 
@@ -18,7 +16,7 @@ use crate::state_players::{push_owners, push_players};
 use crate::state_round::{push_awaited, push_matters};
 use crate::state_stock::{push_laid, push_tiles_left, push_trains};
 use desk_base::{DeskFault, Moment, Stood, play_before, play_behind, stood_at_last, stood_now};
-use rounds::{End, play};
+use rounds::{Play, play};
 use sheets::{Sheets, collect};
 use std::alloc::{AllocError, Global};
 use tables::{Company, Round};
@@ -67,16 +65,15 @@ fn state_at(
     match moment {
         Moment::Last => state_at_last(alloc, sheets, form),
         Moment::After(round) => text_behind(alloc, sheets, round, form),
-        Moment::Before(round) => text_before(alloc, sheets, Moment::Before(round), round, form),
+        Moment::Before(round) => text_before(alloc, sheets, round, form),
         Moment::BeforeLast => {
             let last = last_round(alloc, sheets)?;
-            text_before(alloc, sheets, Moment::BeforeLast, last, form)
+            text_before(alloc, sheets, last, form)
         }
     }
 }
 
 /// Returns the state of the game of some sheets after a round.
-#[tactic(auto, using(crate::proofs::Moments::is_after))]
 fn text_behind(
     alloc: Global,
     sheets: &Sheets,
@@ -86,70 +83,43 @@ fn text_behind(
     ensures { IfErr result IsOfGame }
 {
     let play = play_behind(alloc, sheets, round)?;
-    match stood_now(&play) {
-        Some(stood) => Ok(text_at(alloc, sheets, Moment::After(round), &stood, form)?),
-        None => Err(DeskFault::Round),
-    }
+    text_of_play(alloc, &play, form)
 }
 
-/// Returns the state of the game of some sheets before a round, which is that of the moment.
-#[tactic(auto, using(crate::proofs::Moments::is_before))]
+/// Returns the state of the game of some sheets before a round.
 fn text_before(
     alloc: Global,
     sheets: &Sheets,
-    moment: Moment,
     round: Round,
     form: StateForm,
 ) -> Result<Vec<u8>, DeskFault>
-    requires { IsBeforeRound sheets.now moment round }
     ensures { IfErr result IsOfGame }
 {
     let play = play_before(alloc, sheets, round)?;
-    match stood_now(&play) {
-        Some(stood) if awaits(stood.end, round) && sheets.are_all_posted(&round) => {
-            Ok(text_at(alloc, sheets, moment, &stood, form)?)
-        }
-        _ => Err(DeskFault::Round),
-    }
-}
-
-/// Returns whether a round comes next.
-fn awaits(end: End, asked: Round) -> bool
-    ensures { result ≡ awaits end asked }
-{
-    match end {
-        End::Awaiting(round) => round == asked,
-        End::Bank | End::Bankrupt => false,
-    }
+    text_of_play(alloc, &play, form)
 }
 
 /// Returns the state of the game of some sheets after the last round.
-#[tactic(auto, using(crate::proofs::Moments::is_last))]
 fn state_at_last(alloc: Global, sheets: &Sheets, form: StateForm) -> Result<Vec<u8>, DeskFault>
     ensures { IfErr result IsOfGame }
 {
     let game = play(alloc, sheets)?;
-    let stood = stood_at_last(&game);
-    Ok(text_at(alloc, sheets, Moment::Last, &stood, form)?)
+    Ok(state_text(alloc, &stood_at_last(&game), form)?)
 }
 
-/// Returns the state of the game of some sheets, as it stood at a moment.
-fn text_at(
-    alloc: Global,
-    _sheets: &Sheets,
-    _moment: Moment,
-    stood: &Stood,
-    form: StateForm,
-) -> Result<Vec<u8>, AllocError>
-    requires { IsAt _sheets.now _moment stood.now }
+/// Returns the state of a game that was played up to here.
+fn text_of_play(alloc: Global, play: &Play, form: StateForm) -> Result<Vec<u8>, DeskFault>
+    ensures { IfErr result IsOfGame }
 {
-    state_text(alloc, stood, form)
+    match stood_now(play) {
+        Some(stood) => Ok(state_text(alloc, &stood, form)?),
+        None => Err(DeskFault::Round),
+    }
 }
 
 /// Returns the last round that some sheets play. Fails with `Round` if they play none.
 fn last_round(alloc: Global, sheets: &Sheets) -> Result<Round, DeskFault>
-    ensures round { IfOk result (IsLastRound sheets.now) }
-    ensures fault { IfErr result IsOfGame }
+    ensures { IfErr result IsOfGame }
 {
     let game = play(alloc, sheets)?;
     match game.history().now().round() {
@@ -179,9 +149,7 @@ pub fn state_text(alloc: Global, stood: &Stood, form: StateForm) -> Result<Vec<u
 }
 
 /// Adds the state of a game, with its companies in this order.
-fn push_state(out: &mut Vec<u8>, stood: &Stood, order: &[Company]) -> Result<(), AllocError>
-    requires { order.now ≡ all_in_order stood.now.history.now.events }
-{
+fn push_state(out: &mut Vec<u8>, stood: &Stood, order: &[Company]) -> Result<(), AllocError> {
     push_awaited(out, stood)?;
     push_matters(out, stood)?;
     push_players(out, stood)?;

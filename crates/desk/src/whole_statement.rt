@@ -3,7 +3,6 @@
 //! Its figures come from the rows of a state, and the ranks of the result from `standing`. The rest
 //! is layout.
 ghost use Rattle.std.specs.Prelude.{◌≡◌, ◌++◌, IfOk, OnOk};
-ghost use Rattle.desk.specs.Stack.{all_in_order};
 ghost use Rattle.desk.specs.Statement.{before_round, started_in, started_one};
 
 use crate::stack::all_in_order;
@@ -43,9 +42,7 @@ fn push_statement(
     stood: &Stood,
     order: &[Company],
     due: &str,
-) -> Result<(), AllocError>
-    requires { order.now ≡ all_in_order stood.now.history.now.events }
-{
+) -> Result<(), AllocError> {
     let events = stood.history.events();
     let mut walk = Walk::along(events);
     let before = view_behind(&mut walk, before_round(events), stood.history.seats());
