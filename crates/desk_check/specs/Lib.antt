@@ -5,7 +5,6 @@ pub mod Heads
 pub mod Looked
 pub mod Mail
 pub mod Numbered
-pub mod OrderSteps
 pub mod Refusals
 pub mod Refused
 pub mod Replaced
@@ -13,6 +12,5 @@ pub mod RoundsPlayed
 pub mod SheetFaults
 pub mod SheetLike
 pub mod SheetLines
-pub mod SheetSaid
 pub mod Trials
 pub mod Unplayed
