@@ -38,8 +38,8 @@ pub fn push_standing_lines(
     push_rows(out, sheets, standing.as_slice())
 }
 
-/// Adds the lines of a player's first turn of an opening or a stock round, at its head or after those
-/// drafted. Fails only if allocation fails.
+/// Adds the lines of a player's first turn of an opening or a stock round, at its head or after
+/// those drafted. Fails only if allocation fails.
 pub fn push_lines_of_turn(
     alloc: Global,
     out: &mut Vec<u8>,

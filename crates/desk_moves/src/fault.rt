@@ -35,8 +35,8 @@ pub enum NoAnswer {
     NoOperatingRound,
     /// The player whose own sheet is to be looked at has none for the coming round.
     NoDraft,
-    /// No opening can begin: PRR or BO is started before the private that brings it is sold. No game
-    /// comes to that.
+    /// No opening can begin: PRR or BO is started before the private that brings it is sold. No
+    /// game comes to that.
     NoOpening,
     /// The company has no train, and none is named.
     NoTrains,

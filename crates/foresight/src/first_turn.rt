@@ -1,5 +1,5 @@
-//! A coming round of turns, up to the end of the lines of a seat's first turn. No sheet is looked at
-//! but the seat's own, so each seat before it passes.
+//! A coming round of turns, up to the end of the lines of a seat's first turn. No sheet is looked
+//! at but the seat's own, so each seat before it passes.
 ghost use Rattle.std.specs.Prelude.{◌≡◌, ◌<◌, ◌≤◌, IfOk, OnOk, length};
 ghost use Rattle.foresight.specs.FirstTurn.{IsBehindFirstTurn, IsTheirTurn};
 ghost use Rattle.history.specs.Sound.{IsSound};
@@ -17,8 +17,8 @@ use turns::{TurnRules, begin, pass, rule_lines, rule_standing};
 
 /// Plays a coming round of turns, with the sheet of one seat, up to the end of the lines of that
 /// seat's first turn. The list of events must be sound, its seats those of the sheets' players, the
-/// seat at the table, and the round one that may begin. Returns what the seat has done in the turn by
-/// then. Fails only if allocation fails.
+/// seat at the table, and the round one that may begin. Returns what the seat has done in the turn
+/// by then. Fails only if allocation fails.
 pub(crate) fn play_first_turn<T: TurnRules>(
     rules: &T,
     history: &mut History,
@@ -69,8 +69,8 @@ fn pass_until<T: TurnRules>(
     Ok(())
 }
 
-/// Rules the lines of the first written turn of a seat's sheet, if it has one. Returns what the seat
-/// has done by them.
+/// Rules the lines of the first written turn of a seat's sheet, if it has one. Returns what the
+/// seat has done by them.
 fn rule_first_lines<T: TurnRules>(
     rules: &T,
     history: &mut History,

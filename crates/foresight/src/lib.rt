@@ -8,9 +8,9 @@
 //!
 //! Reading order: `draft` (whose sheet is looked at), `round_ahead` (a coming operating round, turn
 //! by turn), `orders_ahead` (a company's turn in it, at the head of its orders or after those
-//! drafted), `first_turn` (a coming round of turns up to the end of a seat's first turn), `turn_ahead`
-//! (an opening or a stock round up to there, or up to the head of that turn), `trial_file` (the files
-//! that trials play).
+//! drafted), `first_turn` (a coming round of turns up to the end of a seat's first turn),
+//! `turn_ahead` (an opening or a stock round up to there, or up to the head of that turn),
+//! `trial_file` (the files that trials play).
 #![tactic(auto)]
 
 mod draft;

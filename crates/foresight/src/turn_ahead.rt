@@ -62,9 +62,9 @@ fn at_turn(history: History, round: Round, seat: Seat) -> Result<History, AllocE
 
 /// Returns a seat's first turn of the coming opening, after its lines in the seat's own sheet: the
 /// standing lines of the sheet are ruled, and each seat before it has passed. `None` if no opening
-/// can begin, since PRR or BO is started before the private that brings it is sold; no game comes to
-/// that. The list of events must be sound, its seats those of the sheets' players, and the seat at
-/// the table. Fails only if allocation fails.
+/// can begin, since PRR or BO is started before the private that brings it is sold; no game comes
+/// to that. The list of events must be sound, its seats those of the sheets' players, and the seat
+/// at the table. Fails only if allocation fails.
 pub fn behind_opening(
     history: History,
     sheets: &Sheets,

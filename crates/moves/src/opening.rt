@@ -12,8 +12,8 @@ use std::alloc::{AllocError, Global};
 use tables::{Amount, BID_STEP, Money, Private, Seat, face};
 
 /// Returns the outcome of each order to buy a private, to make the lowest bid on it, and to bid a
-/// dollar less, as the next line of a seat's turn of an opening, in which it has bought or bid, or has
-/// not. Fails only if allocation fails.
+/// dollar less, as the next line of a seat's turn of an opening, in which it has bought or bid, or
+/// has not. Fails only if allocation fails.
 pub fn opening_rows(
     alloc: Global,
     history: &History,

@@ -198,8 +198,8 @@ fn answer_to(history: &History, seat: Seat, bought: Option<Company>, order: &Ord
     answer_of(cost(history, order), broken)
 }
 
-/// Returns the first rule that an order of a seat breaks in its turn, in which it has bought of this
-/// company or of none; `None` if it breaks none.
+/// Returns the first rule that an order of a seat breaks in its turn, in which it has bought of
+/// this company or of none; `None` if it breaks none.
 fn judge(history: &History, seat: Seat, bought: Option<Company>, order: &Order) -> Option<StockRule>
     ensures { result ≡ judgement_of history.now.seats history.now.events seat bought order.now }
 {
