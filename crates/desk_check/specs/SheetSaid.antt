@@ -39,6 +39,7 @@ use Rattle.tables.specs.Roster.{companies, index_of_company}
 use Rattle.tables.specs.declared.roster.Company.{Company}
 use Rattle.tables.specs.declared.round.Round.{Round}
 use Rattle.tables.specs.declared.round.Round.TheVariants.{Opening, Stock, Operating}
+use Rattle.tables.specs.declared.seat.Seat.{Seat}
 
 -- the events of the game as the round begins, where that is known
 abbrev pub game_of : Reader → Option (List Event)
