@@ -5,3 +5,4 @@ pub mod Orders
 pub mod FirstTurn
 pub mod Turn
 pub mod TrialFile
+pub mod Reached

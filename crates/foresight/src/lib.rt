@@ -10,11 +10,12 @@
 //! by turn), `orders_ahead` (a company's turn in it, at the head of its orders or after those
 //! drafted), `first_turn` (a coming round of turns up to the end of a seat's first turn),
 //! `turn_ahead` (an opening or a stock round up to there, or up to the head of that turn),
-//! `trial_file` (the files that trials play).
+//! `trial_file` (the files that trials play), `laws`.
 #![tactic(auto)]
 
 mod draft;
 mod first_turn;
+pub mod laws;
 mod orders_ahead;
 mod round_ahead;
 mod trial_file;
