@@ -3,3 +3,4 @@ pub mod BestTrains
 pub mod Fault
 pub mod HexFacts
 pub mod Lines
+pub mod Words
