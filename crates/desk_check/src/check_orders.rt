@@ -131,8 +131,8 @@ impl Block {
         }
     }
 
-    /// Returns why an order cannot be obeyed after these, with the rule that it breaks; `None` if it
-    /// may be.
+    /// Returns why an order cannot be obeyed after these, with the rule that it breaks; `None` if
+    /// it may be.
     pub(crate) fn objection(self, order: &Order) -> Option<(Refusal, Objection)>
         ensures { result ≡ objection_behind self order.now }
     {

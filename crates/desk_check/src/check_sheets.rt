@@ -77,8 +77,8 @@ impl<'a> Heads<'a> {
         self.keep_first(sent, replaces)
     }
 
-    /// Keeps the line that began a sheet before a line that begins it again, unless an earlier one is
-    /// kept.
+    /// Keeps the line that began a sheet before a line that begins it again, unless an earlier one
+    /// is kept.
     fn keep_first(&mut self, sent: Sent, replaces: Option<usize>) -> Result<(), AllocError>
         ensures heads { self.new.heads ≡ self.old.heads }
         ensures seats { self.new.seats ≡ self.old.seats }

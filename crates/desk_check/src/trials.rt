@@ -84,8 +84,8 @@ pub(crate) fn try_sheets<'a>(
     )
 }
 
-/// Returns whether a file has no room for one sheet more. Then each trial is refused, and no copy of
-/// the file is made for it.
+/// Returns whether a file has no room for one sheet more. Then each trial is refused, and no copy
+/// of the file is made for it.
 fn has_no_room(file: &[u8], heads: &Heads) -> bool
     ensures { result ≡ has_no_room file.now heads.now }
 {

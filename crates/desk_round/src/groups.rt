@@ -124,8 +124,8 @@ impl Grouping {
     }
 }
 
-/// Returns what an event of this turn brings, where this group goes on, if one does. It is a pass or
-/// not.
+/// Returns what an event of this turn brings, where this group goes on, if one does. It is a pass
+/// or not.
 fn joined(last: Option<Group>, whose: Whose, passed: usize, is_pass: bool) -> Grouped
     requires { passed + 1 < 2 ^ 64 }
     ensures { result ≡ joined last whose passed is_pass }

@@ -54,7 +54,8 @@ impl Ruled<'_> {
 pub(crate) struct Detail {
     /// The figures that the rule compared; `None` if it compares none.
     figures: Option<Figures>,
-    /// The cause of several; `None` if the rule has one alone, or what is told beside it says which.
+    /// The cause of several; `None` if the rule has one alone, or what is told beside it says
+    /// which.
     cause: Option<Cause>,
 }
 
