@@ -181,7 +181,7 @@ first_turns_reached rules idle ends file round seat old before few its_at alone 
     in
     let stands = standing rules idle file round seats first seat few at_table alone begun in
     let goes : (k : ℕ) → k ≤ their.count
-        → iterate (after_turn (turns_of rules seats)) k (opened rules seats file round old.events) ≡ stands k =
+    → iterate (after_turn (turns_of rules seats)) k (opened rules seats file round old.events) ≡ stands k =
     λ k within. ap (iterate (after_turn (turns_of rules seats)) k) opens
     ∙ reached rules idle file round seats first seat few at_table alone begun their.count their.few their.its k within
     in
