@@ -108,6 +108,10 @@ idle_turn {State} {Line} play at none turn =
       written_turns = written_turns;
     }) left
 
+-- one more
+one_more : (count : ℕ) → count + 1 ≡ suc count
+one_more count = omega arith
+
 module _ {TurnActions : Type 0} (rules : RoundRules TurnActions) (idle : rules.has_acted rules.nothing ≡ false)
     (file : List ℕ) (round : Round) (seats : ℕ) (first seat : Seat) (few : seats ≤ 6) (at_table : first.0 < seats)
     (alone : IsAlone file round seat) (events : List Event) where
@@ -136,6 +140,8 @@ module _ {TurnActions : Type 0} (rules : RoundRules TurnActions) (idle : rules.h
       idle_turn (turns_of rules seats) (standing count)
       (none_written (seat_after seats first count).0 there apart)
       (ap (λ (acted : Bool). record { state = after_passes seats first events count; acted = acted }) idle)
+      ∙ ap (λ (passes : ℕ). in_play (after_passes seats first events (suc count))
+      (seat_after seats first (suc count)).0 passes (written_turns_for seats file round)) (one_more count)
 
   -- until the seat has its turn
   reached : (count : ℕ) → count < seats → seat_after seats first count ≡ seat → (k : ℕ) → k ≤ count
