@@ -51,6 +51,26 @@ read_game() {
   rm -rf "$scratch/page.$1"
 }
 
+# The games of whose pages what may be done is read: an opening, a stock round, operating rounds, and the ends.
+lays_games=(first-operating-round first-round first-stock-round first-dividend three-presidents-deal three-companies-build
+  to-the-first-diesel-of-four broken-bank-by-a-dividend)
+
+# read_lays GAME: what its page says may be done is what `lays` and `may` list. Its one script is that of its head and of the
+# documents.
+read_lays() {
+  local why=
+  DESK=$desk bench/page-lays "games/$1.orders" > "$scratch/wrong" 2>&1 || why="it is not what the desk lists: $(head -n 3 "$scratch/wrong")"
+  count "what may be done in $1" "$why"
+}
+
+# play_lays FILE: the lines of the page are these. NAME.words has the game and the round.
+play_lays() {
+  local name=${1%.lays} game round
+  read -r game round < "$name.words"
+  DESK=$desk bench/page-lays --print "games/$game.orders" "$round" > "$scratch/out" 2> "$scratch/err"
+  judge "$name" $? 0 "$1" none
+}
+
 # read_tiles: the sheet of all tiles shows those of the map's table.
 read_tiles() {
   local why=
@@ -68,9 +88,11 @@ compare_picture() {
 # check_page: with the word quick it reads fewer games.
 check_page() {
   local games=("${read_games[@]}")
-  [ "${1:-}" != quick ] || games=("${read_games[@]:0:3}")
+  [ "${1:-}" != quick ] || games=("${read_games[@]:0:3}") lays_games=("${lays_games[@]:0:2}")
   side_by_side play_page games/page/*.html
   side_by_side read_game "${games[@]}"
+  side_by_side play_lays games/page/*.lays
+  side_by_side read_lays "${lays_games[@]}"
   read_tiles
   compare_picture docs/page-map.svg
 }
@@ -88,9 +110,17 @@ page_must_fail() {
   local program desk
   program=$(stub 'echo') desk=$program
   sees 'a desk that writes another page' all side_by_side play_page games/page/*.html
+  sees 'a page without what may be done' all side_by_side play_lays games/page/*.lays
+  sees 'the same of another game' 1 read_lays first-dividend
   sees 'a sheet without tiles' 1 read_tiles
   sees 'another picture' 1 compare_picture docs/page-map.svg
   program=$1 desk=$2
+  desk=$(desk_but 's/onclick=e/onclick=d/')
+  sees 'another script than that of the head' 1 read_lays first-dividend
+  desk=$2
+  desk=$(desk_but 's,</svg>LAY ,&1,')
+  sees 'a lay of another tile' 1 read_lays first-dividend
+  desk=$2
   told_of presidents-run-their-best "$scratch/right" || return
   sees 'a right page' 0 read_page 'what is right' "$scratch/right"
   sees 'an element that is not ended' 1 turned_page 's,</section>,,'

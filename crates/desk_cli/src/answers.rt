@@ -1,4 +1,5 @@
 //! What is written for a task, and the status with which the program ends.
+ghost use Rattle.std.specs.Prelude.{◌≡◌};
 
 use crate::streams::StreamFault;
 use crate::task::{Job, Task};
@@ -7,7 +8,8 @@ use desk_base::{DeskFault, Moment, Reason, all_reasons_text, explain, list_text,
 use desk_check::{Extent, check};
 use desk_moves::{LayForm, MayForm, MovesFault, Progress, Question, answer, trial};
 use desk_round::{round, round_with_rules, runs};
-use page::{bulletin, page, tile_sheet};
+use page::{bulletin, page, page_to_hexes, tile_sheet};
+use page_lays::{Progress as LaysProgress, STYLE, Wanted, end_page};
 use report::refusal_text;
 use std::alloc::{AllocError, Global};
 use tables::Round;
@@ -49,7 +51,7 @@ pub(crate) struct Answer<'a> {
 }
 
 /// Returns what to write for a task and an order file.
-pub(crate) fn answer_to<'a, P: Progress>(
+pub(crate) fn answer_to<'a, P: Progress + LaysProgress>(
     alloc: Global,
     file: &[u8],
     task: &Task<'a>,
@@ -75,6 +77,10 @@ pub(crate) fn answer_to<'a, P: Progress>(
     if task.tiles {
         return Ok(answered(tile_sheet(alloc)?, "", WRITTEN));
     }
+    if task.lays {
+        let told = page_with_lays(alloc, file, task, progress);
+        return answer_with(alloc, task.round.is_some(), told);
+    }
     let asked = Asking {
         job: task.job,
         round: task.round,
@@ -84,6 +90,22 @@ pub(crate) fn answer_to<'a, P: Progress>(
         json: task.json,
     };
     answer_with(alloc, task.round.is_some(), told_of(alloc, file, asked))
+}
+
+/// Returns the page of a game with what may be done in it.
+fn page_with_lays<P: LaysProgress>(
+    alloc: Global,
+    file: &[u8],
+    task: &Task,
+    progress: &mut P,
+) -> Result<Vec<u8>, DeskFault> {
+    let wanted = Wanted {
+        after: task.round,
+        companies: task.companies.as_slice(),
+        best: true,
+    };
+    let out = page_to_hexes(alloc, file, task.round, STYLE)?;
+    end_page(alloc, out, file, wanted, progress)
 }
 
 /// What is asked about a game.
@@ -225,7 +247,11 @@ fn moves_answered<'a>(
 }
 
 /// Returns an `Answer` with this text, this note on standard error, and this status.
-fn answered<'a>(text: Vec<u8>, note: &'static str, status: u8) -> Answer<'a> {
+fn answered<'a>(text: Vec<u8>, note: &'static str, status: u8) -> Answer<'a>
+    ensures text { result.text.items ≡ text.items }
+    ensures note { result.note.now ≡ note.now }
+    ensures status { result.status ≡ status }
+{
     Answer {
         names: None,
         text,

@@ -65,6 +65,10 @@ pub(crate) struct Task<'a> {
     pub(crate) drafted: bool,
     /// Whether to write the page of all tiles.
     pub(crate) tiles: bool,
+    /// Whether to write on the page what may be done.
+    pub(crate) lays: bool,
+    /// The companies of which it is written; all if none is named.
+    pub(crate) companies: Vec<Company>,
     /// The company that is named, if one is.
     pub(crate) company: Option<Company>,
     /// The hex that is named, if one is.
@@ -128,6 +132,8 @@ enum Operand {
     Drafted,
     /// `--tiles`.
     Tiles,
+    /// `--lays`, with companies or none.
+    Lays,
     /// `--after ROUND`.
     After,
     /// A company.
@@ -237,7 +243,7 @@ static WORDS: [Word; 12] = [
         about: "Writes the game as one page of HTML: map, routes, chart, history, tables, tiles",
         example: "Example: desk page < our-game.orders > our-game.html",
         job: Job::Page,
-        operands: &[Operand::Round, Operand::Tiles],
+        operands: &[Operand::Round, Operand::Tiles, Operand::Lays],
     },
 ];
 
@@ -322,6 +328,11 @@ fn argument_of<'a>(alloc: Global, operand: Operand) -> Arg<'a> {
         Operand::Tiles => {
             flag(alloc, "tiles").help("Write all tiles in their six rotations, without a game")
         }
+        Operand::Lays => Arg::new(alloc, "lays")
+            .long("lays")
+            .value_name("COMPANY")
+            .num_args(0..)
+            .help("Add what these companies may lay, or all, and what players may do next"),
         Operand::After => Arg::new(alloc, "after")
             .long("after")
             .value_name("ROUND")
@@ -382,6 +393,8 @@ fn task_of<'a>(
         best: false,
         drafted: false,
         tiles: false,
+        lays: false,
+        companies: Vec::new(alloc),
         company: None,
         hex: None,
         trains: Vec::new(alloc),
@@ -410,11 +423,15 @@ fn take_list<'a>(
         Operand::Codes => "CODE",
         Operand::Player | Operand::Players => "PLAYER",
         Operand::Trains => "TRAIN",
+        Operand::Lays => "lays",
         _ => return Ok(None),
     };
     let Some(words) = given.get_strs(name) else {
         return Ok(None);
     };
+    if let Operand::Lays = operand {
+        return take_companies(task, words);
+    }
     if let Operand::Trains = operand {
         for word in words {
             match read_kind(word.as_bytes()) {
@@ -451,6 +468,7 @@ fn take_operand<'a>(
         Operand::Due => task.due = given.get_str("due")?,
         Operand::Company => return take_company(task, given.get_str("COMPANY")?),
         Operand::Hex => return take_hex(task, given.get_str("HEX")?),
+        Operand::Lays => task.lays = given.contains_id("lays"),
         Operand::Codes | Operand::Trains | Operand::Player | Operand::Players => {}
     }
     None
@@ -475,13 +493,29 @@ fn take_from(task: &mut Task, word: &str) -> Option<&'static str> {
     None
 }
 
+/// What is said if there is no company of a code.
+const NO_COMPANY: &str =
+    "there is no such company; the companies are PRR NYC CPR BO CO ERIE NYNH BM";
+
 /// Takes a company by its code. Returns what is wrong with it; `None` if nothing is.
 fn take_company(task: &mut Task, word: &str) -> Option<&'static str> {
     task.company = read_company(word.as_bytes());
     match task.company {
         Some(_) => None,
-        None => Some("there is no such company; the companies are PRR NYC CPR BO CO ERIE NYNH BM"),
+        None => Some(NO_COMPANY),
     }
+}
+
+/// Takes the companies of a page by their codes. Returns what is wrong with them; `None` if nothing
+/// is.
+fn take_companies(task: &mut Task, words: &[&str]) -> Result<Option<&'static str>, AllocError> {
+    for word in words {
+        match read_company(word.as_bytes()) {
+            Some(company) => task.companies.push(company)?,
+            None => return Ok(Some(NO_COMPANY)),
+        }
+    }
+    Ok(None)
 }
 
 /// Takes a hex by its name. Returns what is wrong with it; `None` if nothing is.

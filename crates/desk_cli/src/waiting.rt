@@ -37,13 +37,24 @@ impl<'a> Waiting<'a> {
             None => 0,
         }
     }
-}
 
-impl Progress for Waiting<'_> {
-    fn tell(&mut self, done: usize, of: usize) {
+    /// Says how far a text is, if it is time to.
+    fn say(&mut self, done: usize, of: usize) {
         if self.seconds() / PAUSE > self.told {
             self.told = self.told.saturating_add(1);
             let _ = eprintln!(self.rt; "desk: {done} of {of} lays and tokens are tried");
         }
+    }
+}
+
+impl Progress for Waiting<'_> {
+    fn tell(&mut self, done: usize, of: usize) {
+        self.say(done, of);
+    }
+}
+
+impl page_lays::Progress for Waiting<'_> {
+    fn tell(&mut self, done: usize, of: usize) {
+        self.say(done, of);
     }
 }

@@ -6,7 +6,7 @@ use Rattle.markup.specs.Reading.{Read, read_at, reading, step, between, naming, 
 use Rattle.markup.specs.Tags.{name_of_tag}
 use Rattle.markup.specs.Written.{open_names, read_by, is_plain, is_apart}
 use Rattle.markup.specs.declared.tag.Tag.{Tag}
-use Rattle.markup.specs.declared.tag.Tag.TheVariants.{Html, Head, Title, Style, Body, Header, H1, H2, H3, Paragraph, Nav, Anchor, Main, Listing, Item, Small, Bold, Section, Svg, Desc, Defs, Path, Circle, Group, Text, TextSpan, Use, Polyline, Table, Caption, TableHead, TableBody, Row, Heading, Cell, Division, Span, Preformatted}
+use Rattle.markup.specs.declared.tag.Tag.TheVariants.{Html, Head, Title, Style, Script, Body, Header, H1, H2, H3, Paragraph, Nav, Anchor, Button, TextArea, Main, Listing, Item, Small, Bold, Section, Svg, Desc, Defs, Path, Circle, Group, Text, TextSpan, Use, Polyline, Table, Caption, TableHead, TableBody, Row, Heading, Cell, Division, Span, Preformatted}
 use Rattle.markup.specs.declared.writer.WriterPlace.{WriterPlace}
 use Rattle.markup.specs.declared.writer.WriterPlace.TheVariants.{Between, Naming, Valued}
 
@@ -21,6 +21,7 @@ named_by Html names = refl
 named_by Head names = refl
 named_by Title names = refl
 named_by Style names = refl
+named_by Script names = refl
 named_by Body names = refl
 named_by Header names = refl
 named_by H1 names = refl
@@ -29,6 +30,8 @@ named_by H3 names = refl
 named_by Paragraph names = refl
 named_by Nav names = refl
 named_by Anchor names = refl
+named_by Button names = refl
+named_by TextArea names = refl
 named_by Main names = refl
 named_by Listing names = refl
 named_by Item names = refl
@@ -71,6 +74,7 @@ closing_by Html names = refl
 closing_by Head names = refl
 closing_by Title names = refl
 closing_by Style names = refl
+closing_by Script names = refl
 closing_by Body names = refl
 closing_by Header names = refl
 closing_by H1 names = refl
@@ -79,6 +83,8 @@ closing_by H3 names = refl
 closing_by Paragraph names = refl
 closing_by Nav names = refl
 closing_by Anchor names = refl
+closing_by Button names = refl
+closing_by TextArea names = refl
 closing_by Main names = refl
 closing_by Listing names = refl
 closing_by Item names = refl

@@ -2,7 +2,7 @@
 use Rattle.std.specs.Prelude.{ℕ, Bool, List, ◌||◌, bytes_eq, codes}
 use Rattle.markup.specs.declared.tag.Tag.{Tag}
 use Rattle.markup.specs.declared.tag.Attr.{Attr}
-use Rattle.markup.specs.declared.tag.Tag.TheVariants.{Html, Head, Title, Style, Body, Header, H1, H2, H3, Paragraph, Nav, Anchor, Main, Listing, Item, Small, Bold, Section, Svg, Desc, Defs, Path, Circle, Group, Text, TextSpan, Use, Polyline, Table, Caption, TableHead, TableBody, Row, Heading, Cell, Division, Span, Preformatted}
+use Rattle.markup.specs.declared.tag.Tag.TheVariants.{Html, Head, Title, Style, Script, Body, Header, H1, H2, H3, Paragraph, Nav, Anchor, Button, TextArea, Main, Listing, Item, Small, Bold, Section, Svg, Desc, Defs, Path, Circle, Group, Text, TextSpan, Use, Polyline, Table, Caption, TableHead, TableBody, Row, Heading, Cell, Division, Span, Preformatted}
 use Rattle.markup.specs.declared.tag.Attr.TheVariants.{Class, Id, Href, X, Y, D, R, Fill, Stroke, StrokeWidth, Dash, Points, Transform, ViewBox, Role, Scope, Hidden, Width, Height, Xmlns, TabIndex, Label}
 
 -- the name of an element
@@ -11,6 +11,7 @@ name_of_tag Html = codes "html"
 name_of_tag Head = codes "head"
 name_of_tag Title = codes "title"
 name_of_tag Style = codes "style"
+name_of_tag Script = codes "script"
 name_of_tag Body = codes "body"
 name_of_tag Header = codes "header"
 name_of_tag H1 = codes "h1"
@@ -19,6 +20,8 @@ name_of_tag H3 = codes "h3"
 name_of_tag Paragraph = codes "p"
 name_of_tag Nav = codes "nav"
 name_of_tag Anchor = codes "a"
+name_of_tag Button = codes "button"
+name_of_tag TextArea = codes "textarea"
 name_of_tag Main = codes "main"
 name_of_tag Listing = codes "ul"
 name_of_tag Item = codes "li"

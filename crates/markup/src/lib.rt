@@ -10,7 +10,7 @@
 //! (what a writer keeps), `Escaped` (a text of any bytes, and how it reads).
 //!
 //! Reading order: `point`, `tag`, `writer`, `piece`, `elements`, `table_forms` (sections and
-//! tables), `livery` (the colours and lines of a company), `laws`.
+//! tables), `livery` (the colours and lines of a company), `script`, `laws`.
 #![tactic(auto)]
 
 mod elements;
@@ -18,6 +18,7 @@ pub mod laws;
 mod livery;
 mod piece;
 mod point;
+mod script;
 mod table_forms;
 mod tag;
 mod writer;

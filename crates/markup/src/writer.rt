@@ -7,6 +7,7 @@ ghost use Rattle.markup.specs.Written.{IsRead, closing_of, is_apart, is_plain, p
 ghost use Rattle.markup.specs.declared.writer.WriterPlace.TheVariants.{Between};
 
 use crate::piece::{PagePiece, put_bytes, put_piece, put_text};
+use crate::script::POLICY;
 use crate::tag::{Attr, Tag};
 use std::alloc::{AllocError, Global};
 
@@ -44,6 +45,23 @@ impl Writer {
         let mut stack = Vec::new(alloc);
         let mut fault = None;
         add(&mut text, &mut fault, PROLOGUE);
+        keep(&mut stack, &mut fault, Tag::Html);
+        keep(&mut stack, &mut fault, Tag::Head);
+        Writer {
+            text,
+            stack,
+            spot: WriterPlace::Between,
+            fault,
+        }
+    }
+
+    /// Returns a writer of a page with a script, in its head.
+    pub fn scripted_page(alloc: Global) -> Writer {
+        let mut text = Vec::new(alloc);
+        let mut stack = Vec::new(alloc);
+        let mut fault = None;
+        add(&mut text, &mut fault, PROLOGUE);
+        add(&mut text, &mut fault, POLICY);
         keep(&mut stack, &mut fault, Tag::Html);
         keep(&mut stack, &mut fault, Tag::Head);
         Writer {

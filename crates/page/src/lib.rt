@@ -30,4 +30,4 @@ mod worth_history;
 
 pub use all_tiles::tile_sheet;
 pub use bulletin_part::bulletin;
-pub use whole_page::page;
+pub use whole_page::{page, page_to_hexes};

@@ -31,9 +31,19 @@ use sheets::{Sheets, collect};
 use std::alloc::{AllocError, Global};
 use tables::{COMPANIES, Company, Round};
 
+/// Which page is made.
+#[derive(Clone, Copy)]
+enum Form {
+    /// All of it.
+    Whole,
+    /// With a script, up to its hexes in words, and with this style behind that of all pages.
+    ToHexes(&'static str),
+}
+
 /// What a page shows of the order file besides its game.
 #[derive(Clone, Copy)]
 struct Told<'a> {
+    form: Form,
     source: Source,
     /// The bulletin of the round.
     bulletin: &'a [u8],
@@ -50,26 +60,50 @@ pub fn page(alloc: Global, file: &[u8], asked: Option<Round>) -> Result<Vec<u8>,
     ensures well_formed { IfOk result (λ page. IsWellFormed page.items) }
     ensures fault { IfErr result (λ fault. HasNoState fault file.now) }
 {
+    let out = begun(alloc, file, asked, Form::Whole)?;
+    Ok(out.finish()?)
+}
+
+/// Returns the same page for a script, up to its hexes in words, which the caller adds, with a style
+/// for these. The errors are those of `page`.
+pub fn page_to_hexes(
+    alloc: Global,
+    file: &[u8],
+    asked: Option<Round>,
+    style: &'static str,
+) -> Result<Writer, DeskFault>
+    ensures accepted { OnOk result (IsAccepted file.now) }
+    ensures fault { IfErr result (λ fault. HasNoState fault file.now) }
+{
+    begun(alloc, file, asked, Form::ToHexes(style))
+}
+
+/// Returns the page of the game of an order file, not yet ended.
+#[tactic(auto, using(desk_base::proofs::Refusals::no_state_where_it_fails, desk_base::proofs::Refusals::no_state_of_game))]
+fn begun(alloc: Global, file: &[u8], asked: Option<Round>, form: Form) -> Result<Writer, DeskFault>
+    ensures accepted { OnOk result (IsAccepted file.now) }
+    ensures fault { IfErr result (λ fault. HasNoState fault file.now) }
+{
     let sheets = collect(alloc, file)?;
     let source = Source {
         lines: line_count(file),
         checksum: checksum(file),
     };
-    page_of(alloc, &sheets, source, asked)
+    page_of(alloc, &sheets, source, asked, form)
 }
 
-/// Returns the page of the game of some sheets.
+/// Returns the page of the game of some sheets, not yet ended.
 fn page_of(
     alloc: Global,
     sheets: &Sheets,
     source: Source,
     asked: Option<Round>,
-) -> Result<Vec<u8>, DeskFault>
-    ensures well_formed { IfOk result (λ page. IsWellFormed page.items) }
-    ensures fault { IfErr result IsOfGame }
+    form: Form,
+) -> Result<Writer, DeskFault>
+    ensures { IfErr result IsOfGame }
 {
     let played = play_to(alloc, sheets, asked)?;
-    page_of_play(alloc, &played.play, source, played.entries.as_slice())
+    page_of_play(alloc, &played.play, source, played.entries.as_slice(), form)
 }
 
 /// Returns the page of a game played up to here, with its history round by round.
@@ -78,12 +112,12 @@ fn page_of_play(
     play: &Play,
     source: Source,
     entries: &[Entry],
-) -> Result<Vec<u8>, DeskFault>
-    ensures well_formed { IfOk result (λ page. IsWellFormed page.items) }
-    ensures fault { IfErr result IsOfGame }
+    form: Form,
+) -> Result<Writer, DeskFault>
+    ensures { IfErr result IsOfGame }
 {
     match stood_now(play) {
-        Some(stood) => Ok(page_of_stood(alloc, &stood, source, entries)?),
+        Some(stood) => Ok(page_of_stood(alloc, &stood, source, entries, form)?),
         None => Err(DeskFault::Round),
     }
 }
@@ -94,11 +128,11 @@ fn page_of_stood(
     stood: &Stood,
     source: Source,
     entries: &[Entry],
-) -> Result<Vec<u8>, AllocError>
-    ensures { IfOk result (λ page. IsWellFormed page.items) }
-{
+    form: Form,
+) -> Result<Writer, AllocError> {
     let bulletin = bulletin_text(alloc, stood)?;
     let told = Told {
+        form,
         source,
         bulletin: bulletin.as_slice(),
     };
@@ -111,15 +145,16 @@ fn page_text(
     scene: &Scene,
     told: Told,
     entries: &[Entry],
-) -> Result<Vec<u8>, AllocError>
-    ensures { IfOk result (λ page. IsWellFormed page.items) }
-{
+) -> Result<Writer, AllocError> {
     let history = scene.history;
     let routes = last_routes(alloc, history)?;
     let order = all_in_order(alloc, history)?;
     let entries = thinned(alloc, entries)?;
-    let mut out = Writer::page(alloc);
-    begin_page(&mut out, scene, order.as_slice(), told.source);
+    let mut out = match told.form {
+        Form::Whole => Writer::page(alloc),
+        Form::ToHexes(_) => Writer::scripted_page(alloc),
+    };
+    begin_page(&mut out, scene, order.as_slice(), told);
     put_result(&mut out, scene);
     put_map_section(alloc, &mut out, scene, &routes)?;
     put_bulletin(&mut out, history.now().round(), told.bulletin);
@@ -130,12 +165,16 @@ fn page_text(
     put_tables(alloc, &mut out, scene, order.as_slice())?;
     put_tiles_left(&mut out, history);
     put_laid(&mut out, history);
-    put_hexes(&mut out, scene);
-    out.finish()
+    if let Form::Whole = told.form {
+        put_hexes(&mut out, scene);
+    }
+    Ok(out)
 }
 
 /// Returns the players.
-fn players_of<'a>(scene: &Scene<'a>) -> Players<'a> {
+fn players_of<'a>(scene: &Scene<'a>) -> Players<'a>
+    ensures { result.seats ≡ scene.now.seats }
+{
     Players {
         names: scene.names,
         seats: scene.seats,
@@ -167,15 +206,18 @@ fn token_of(history: &History, company: Company) -> Option<ChartToken>
 }
 
 /// Adds what comes before the sections.
-fn begin_page(out: &mut Writer, scene: &Scene, order: &[Company], source: Source) {
+fn begin_page(out: &mut Writer, scene: &Scene, order: &[Company], told: Told) {
     status_part::put_title(out, scene, Tag::Title);
     out.element(Tag::Style, &[Words(STYLE)]);
+    if let Form::ToHexes(style) = told.form {
+        out.element(Tag::Style, &[Words(style)]);
+    }
     out.end();
     out.begin(Tag::Body);
     status_part::put_skip(out);
     put_head(out, scene);
     out.begin(Tag::Main);
-    status_part::put_status(out, scene, order, source);
+    status_part::put_status(out, scene, order, told.source);
 }
 
 /// Adds what is above the sections.

@@ -278,17 +278,27 @@ fn put_private(out: &mut Writer, scene: &Scene, private: Private) {
 
 /// Adds each hex in words, as a list that the hexes of the map link to.
 pub fn put_hexes(out: &mut Writer, scene: &Scene) {
-    begin_section(out, "hexes", "Hexes in words", "");
-    out.begin_as(Tag::Listing, "hexes");
-    out.within();
+    begin_hexes(out);
     for &hex in &Hex::ALL {
-        out.put(&[Words("\n")]);
-        out.begin(Tag::Item);
-        out.value(Attr::Id, &[Words("hex-"), Named(hex)]);
-        out.within();
-        put_words(out, scene, &Look::on(scene.history.lays(), hex));
+        begin_hex(out, scene, hex);
         out.end();
     }
     out.end();
     out.end();
+}
+
+/// Begins the list of the hexes in words.
+pub fn begin_hexes(out: &mut Writer) {
+    begin_section(out, "hexes", "Hexes in words", "");
+    out.begin_as(Tag::Listing, "hexes");
+    out.within();
+}
+
+/// Begins a hex of the list, with its words.
+pub fn begin_hex(out: &mut Writer, scene: &Scene, hex: Hex) {
+    out.put(&[Words("\n")]);
+    out.begin(Tag::Item);
+    out.value(Attr::Id, &[Words("hex-"), Named(hex)]);
+    out.within();
+    put_words(out, scene, &Look::on(scene.history.lays(), hex));
 }

@@ -1,0 +1,2 @@
+-- Lemmas on turns.
+pub mod TurnLemmas

@@ -1,0 +1,5 @@
+-- What may be done, on the page of a game.
+pub mod Allowed
+pub mod MoveRows
+pub mod Players
+pub mod Turns

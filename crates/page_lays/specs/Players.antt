@@ -1,0 +1,31 @@
+-- What each player may do at the head of their first turn of an opening or a stock round that comes, in the order of turns,
+-- if those before them pass.
+use Rattle.std.specs.Prelude.{◌≡◌, ℕ, zero, suc, false, List, [], ◌∷◌, ◌++◌, None, map}
+use Rattle.foresight.specs.Turn.{passed_ahead, seat_after}
+use Rattle.moves.specs.OpeningRows.{opening_orders, opening_row}
+use Rattle.moves.specs.StandingRows.{standing_rows}
+use Rattle.moves.specs.StockRows.{stock_orders, stock_row}
+use Rattle.moves.specs.declared.row.Row.{Row}
+use Rattle.page_lays.specs.declared.players.Player.{Player}
+use Rattle.tables.specs.declared.round.Round.{Round}
+use Rattle.tables.specs.declared.round.Round.TheVariants.{Opening}
+use Rattle.tables.specs.declared.seat.Seat.{Seat}
+use Rattle.totals.specs.LookBack.{Game}
+
+-- the orders of a seat's turn at its head: of an opening, or else of a stock round
+abbrev pub head_rows : Game → Round → Seat → List Row
+head_rows game (Opening number) seat = map (opening_row game.seats game.events seat false) (opening_orders game.events)
+head_rows game other seat = map (stock_row game.seats game.events seat None) (stock_orders game.events seat)
+
+-- what is told of a player at the head of their turn: their standing lines, and the orders of the turn
+pub record IsPlayerAt (round : Round) (game : Game) (seat : Seat) (player : Player) : Type 0 where
+  pub seat : player.seat ≡ seat
+  pub standing : player.standing.items ≡ standing_rows game.events seat round
+  pub turn : player.turn.items ≡ head_rows game round seat
+
+-- the players of so many turns, each before whom the others have passed
+abbrev pub ArePlayersIn : Round → Game → ℕ → List Player → Type 0
+ArePlayersIn round old zero players = players ≡ []
+ArePlayersIn round old (suc count) players =
+    (before : List Player) × (last : Player) × ArePlayersIn round old count before
+    × IsPlayerAt round (passed_ahead round old count) (seat_after old count) last × (players ≡ before ++ last ∷ [])

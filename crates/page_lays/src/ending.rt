@@ -1,0 +1,86 @@
+//! The end of a page that shows what may be done.
+ghost use Rattle.std.specs.Prelude.{IfOk};
+ghost use Rattle.markup.specs.Reading.{IsWellFormed};
+
+use crate::company_turns::Wanted;
+use crate::hexes_part::put_hexes;
+use crate::may::may_in;
+use crate::may_part::put_may;
+use crate::progress::Progress;
+use desk_base::{DeskFault, Stood, play_behind, stood_at_last, stood_now};
+use markup::PagePiece::Words;
+use markup::{Tag, Writer, begin_section};
+use page_map::Scene;
+use rounds::{End, play};
+use sheets::{Sheets, collect};
+use std::alloc::Global;
+
+/// Ends the page of the game of an order file: adds its hexes in words, with what companies may lay
+/// and place on each in the next round, and what each player may do.
+///
+/// Fails with `File` if the file is refused, with `Round` if the named round was not played, and with
+/// `Memory` if allocation fails.
+pub fn end_page<P: Progress>(
+    alloc: Global,
+    out: Writer,
+    file: &[u8],
+    wanted: Wanted,
+    progress: &mut P,
+) -> Result<Vec<u8>, DeskFault>
+    ensures { IfOk result (λ page. IsWellFormed page.items) }
+{
+    let mut out = out;
+    let sheets = collect(alloc, file)?;
+    put_moves(alloc, &mut out, &sheets, wanted, progress)?;
+    Ok(out.finish()?)
+}
+
+/// Adds what may be done in the game of some sheets.
+fn put_moves<P: Progress>(
+    alloc: Global,
+    out: &mut Writer,
+    sheets: &Sheets,
+    wanted: Wanted,
+    progress: &mut P,
+) -> Result<(), DeskFault> {
+    match wanted.after {
+        Some(round) => {
+            let play = play_behind(alloc, sheets, round)?;
+            match stood_now(&play) {
+                Some(stood) => put_moves_of(alloc, out, &stood, wanted, progress),
+                None => Err(DeskFault::Round),
+            }
+        }
+        None => {
+            let game = play(alloc, sheets)?;
+            put_moves_of(alloc, out, &stood_at_last(&game), wanted, progress)
+        }
+    }
+}
+
+/// Adds what may be done in a game at a moment.
+fn put_moves_of<P: Progress>(
+    alloc: Global,
+    out: &mut Writer,
+    stood: &Stood,
+    wanted: Wanted,
+    progress: &mut P,
+) -> Result<(), DeskFault> {
+    let scene = Scene::of(stood);
+    let End::Awaiting(round) = stood.end else {
+        put_over(out, &scene);
+        return Ok(());
+    };
+    let may = may_in(alloc, stood.sheets, round, wanted, progress)?;
+    put_hexes(alloc, out, &scene, &may)?;
+    Ok(put_may(alloc, out, &scene, &may, wanted)?)
+}
+
+/// Adds the hexes, and that the game is over.
+fn put_over(out: &mut Writer, scene: &Scene) {
+    page_map::put_hexes(out, scene);
+    begin_section(out, "may", "What may be done", "");
+    let words = "The game is over.";
+    out.element(Tag::Paragraph, &[Words(words)]);
+    out.end();
+}

@@ -1,0 +1,85 @@
+//! What may be done in the next round.
+ghost use Rattle.std.specs.Prelude.{◌≡◌, length};
+ghost use Rattle.history.specs.Sound.{IsSound};
+ghost use Rattle.sheets.specs.File.{players_of};
+
+use crate::coming::{Coming, coming_in};
+use crate::company_turns::{Turn, Wanted, turns_of};
+use crate::groups::Of;
+use crate::offers::presidents;
+use crate::players::{Player, players_in_operating, players_in_turns};
+use crate::progress::Progress;
+use desk_base::DeskFault;
+use page_map::Scene;
+use sheets::Sheets;
+use std::alloc::{AllocError, Global};
+use tables::{Round, Seat};
+
+/// What may be done in the next round.
+#[derive(Drop)]
+pub(crate) struct May {
+    pub(crate) round: Round,
+    /// Who presides over each company at its start, in roster order.
+    pub(crate) presidents: Vec<Option<Seat>>,
+    pub(crate) players: Vec<Player>,
+    /// The turns of companies.
+    pub(crate) turns: Vec<Turn>,
+}
+
+impl May {
+    /// Returns the place of a seat's lines on the page.
+    pub(crate) fn of<'a>(&'a self, scene: &'a Scene<'a>, seat: Seat) -> Of<'a> {
+        Of {
+            scene,
+            seat,
+            round: self.round,
+            presidents: self.presidents.as_slice(),
+        }
+    }
+}
+
+/// Returns what may be done in the next round. The error is `Round` if the round before it was not
+/// played, or `Memory`.
+pub(crate) fn may_in<P: Progress>(
+    alloc: Global,
+    sheets: &Sheets,
+    round: Round,
+    wanted: Wanted,
+    progress: &mut P,
+) -> Result<May, DeskFault> {
+    let coming = coming_in(alloc, sheets, wanted.after)?;
+    let presidents = presidents(alloc, &coming.history)?;
+    Ok(may_before(alloc, coming, round, presidents, wanted, progress)?)
+}
+
+/// Returns what may be done in the next round of a game.
+fn may_before<P: Progress>(
+    alloc: Global,
+    coming: Coming,
+    round: Round,
+    presidents: Vec<Option<Seat>>,
+    wanted: Wanted,
+    progress: &mut P,
+) -> Result<May, AllocError>
+    requires sound { IsSound coming.history }
+    requires seats { coming.history.seats ≡ length (players_of coming.sheets.now) }
+{
+    // For the proof alone: the seats are at most six.
+    let _few = coming.sheets.seats();
+    let (players, turns) = match round {
+        Round::Operating { .. } => {
+            let players = players_in_operating(alloc, &coming.history, round)?;
+            (players, turns_of(alloc, coming, round, wanted, progress)?)
+        }
+        Round::Opening(_) | Round::Stock(_) => {
+            let players = players_in_turns(alloc, coming.history, round)?;
+            (players, Vec::new(alloc))
+        }
+    };
+    Ok(May {
+        round,
+        presidents,
+        players,
+        turns,
+    })
+}

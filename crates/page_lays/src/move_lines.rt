@@ -1,0 +1,83 @@
+//! Lays and tokens, each with what the company's best runs would earn after it.
+ghost use Rattle.std.specs.Prelude.{◌≡◌, IfOk, filter, map};
+ghost use Rattle.page_lays.specs.MoveRows.{is_on, row_of};
+
+use crate::best_after::Trains;
+use crate::move_rows::Move;
+use crate::progress::Progress;
+use map_tables::{Hex, Lay, laid_links};
+use moves::Priced;
+use std::alloc::{AllocError, Global};
+use tables::Money;
+
+/// A lay or a token, with what the best runs would earn after it.
+#[derive(Clone, Copy)]
+pub(crate) struct Line {
+    pub(crate) row: Priced<Move>,
+    /// In dollars; `None` if not requested.
+    pub(crate) best: Option<Money>,
+}
+
+/// Returns some lays and tokens, each with what the trains would earn after it, if trains are given.
+/// Fails only if allocation fails.
+pub(crate) fn lines_of<P: Progress>(
+    alloc: Global,
+    rows: &[Priced<Move>],
+    trains: Option<Trains>,
+    progress: &mut P,
+) -> Result<Vec<Line>, AllocError>
+    ensures { IfOk result (λ lines. map row_of lines.items ≡ rows.now) }
+{
+    let mut lines = Vec::new(alloc);
+    for row in rows {
+        let best = match trains {
+            Some(trains) => Some(best_of(trains, lines.as_slice(), row.what)?),
+            None => None,
+        };
+        lines.push(Line { row: *row, best })?;
+        if trains.is_some() {
+            progress.tell(lines.len(), rows.len());
+        }
+    }
+    Ok(lines)
+}
+
+/// Returns what the trains would earn after a lay or a token. An earlier line with the same track
+/// has the same revenue.
+fn best_of(trains: Trains, before: &[Line], what: Move) -> Result<Money, AllocError> {
+    for line in before {
+        if let Some(best) = line.best
+            && is_same_track(line.row.what, what)
+        {
+            return Ok(best);
+        }
+    }
+    trains.best_after(what)
+}
+
+/// Returns whether two moves lay the same track: the same tile on the same hex, in rotations that
+/// look alike.
+fn is_same_track(a: Move, b: Move) -> bool {
+    match (a, b) {
+        (Move::Lay(a), Move::Lay(b)) => has_same_track(a, b),
+        _ => false,
+    }
+}
+
+/// Returns whether two lays give the same track.
+fn has_same_track(a: Lay, b: Lay) -> bool {
+    a.hex == b.hex && a.tile == b.tile && laid_links(a).as_slice() == laid_links(b).as_slice()
+}
+
+/// Returns the lines on a hex, in order. Fails only if allocation fails.
+pub(crate) fn lines_on(alloc: Global, lines: &[Line], hex: Hex) -> Result<Vec<Line>, AllocError>
+    ensures { IfOk result (λ found. found.items ≡ filter (is_on hex) lines.now) }
+{
+    let mut found = Vec::new(alloc);
+    for line in lines {
+        if line.row.what.hex() == hex {
+            found.push(*line)?;
+        }
+    }
+    Ok(found)
+}
