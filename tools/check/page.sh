@@ -1,8 +1,8 @@
 # The part `page`: the page of a game, byte for byte and read back as a picture.
 
-# The games whose pages are read: the first round, one whose lines have all signs of a page, a long one of each kind, six
-# players, and the ends.
-read_games=(first-round signs-of-a-page presidents-run-their-best three-companies-build to-the-first-diesel
+# The games whose pages are read: the first round, one whose lines have all signs of a page, bids of the last seat, a long one of
+# each kind, privates of companies, six players, and the ends, one of them after 200 rounds.
+read_games=(first-round signs-of-a-page desk/round-bids-of-six presidents-run-their-best three-companies-build to-the-first-diesel
   to-the-first-diesel-of-four ninety-five-tiles conditions three-presidents-deal stock-round-of-six broken-bank-by-a-dividend
   a-president-is-bankrupt)
 
@@ -26,9 +26,10 @@ play_page() {
 # told_of GAME FOLDER: what the desk tells of a game: its page, its state, and the runs of its last operating round.
 told_of() {
   local orders=games/$1.orders round word
-  round=$(awk '/^ROUND OR/ { round = $2 } END { print round }' "games/$1.report")
   mkdir -p "$2"
-  cp "$orders" "$2/orders" && cp "games/$1.report" "$2/report"
+  cp "$orders" "$2/orders"
+  if [ -f "games/$1.report" ]; then cp "games/$1.report" "$2/report"; else "$program" report < "$orders" > "$2/report"; fi
+  round=$(awk '/^ROUND OR/ { round = $2 } END { print round }' "$2/report")
   "$desk" page < "$orders" > "$2/page" 2> "$scratch/err" || return
   for word in state round bulletin; do
     "$desk" "$word" < "$orders" > "$2/$word" 2> "$scratch/err" || return
@@ -46,9 +47,10 @@ read_page() {
 
 # read_game GAME: the same of a game, as the desk tells of it.
 read_game() {
-  told_of "$1" "$scratch/page.$1" || { count "the page of $1" 'the desk does not tell of it' && return; }
-  read_page "$1" "$scratch/page.$1"
-  rm -rf "$scratch/page.$1"
+  local folder=$scratch/page.${1##*/}
+  told_of "$1" "$folder" || { count "the page of $1" 'the desk does not tell of it' && return; }
+  read_page "$1" "$folder"
+  rm -rf "$folder"
 }
 
 # The games of whose pages what may be done is read: an opening, a stock round, operating rounds, and the ends.
@@ -136,6 +138,11 @@ page_must_fail() {
   sees 'a route off its lane' 1 turned_page 's/\(class="rc" d="M728 332C[-0-9 ]* \)\([0-9]*\) \([0-9]*\)C/\1\2 1\3C/'
   sees 'a sum of another run' 1 turned_page '0,/>290<\/text>/s//>280<\/text>/'
   sees 'a closed border that is not told' 1 turned_page 's/; closed border at side 5//'
+  sees 'tokens of a square in another order' 1 turned_page 's/#mB" x="570"/#mH" x="570"/; s/#mH" x="551"/#mB" x="551"/'
+  sees 'a private of another owner' 1 turned_page '0,/<td>closed<\/td>/s//<td>DAN<\/td>/'
+  sees 'a bid that nobody made' 1 turned_page 's/<td>closed<\/td><td>&#183;/<td>closed<\/td><td>EVE 60/'
+  sees 'a history without the last round' 1 turned_page 's/OR11.3<\/th><td>1787/OR11.1<\/th><td>1787/'
+  sees 'a red area with the value of another phase' 1 turned_page '0,/class="pw" x="17" y="5">70/s//class="pw" x="17" y="5">40/'
   sees 'a token that is not marked as moved' 1 turned_page '0,/<use href="#nm"[^>]*>/s///'
   sees 'a revenue of another round' 1 turned_page '/id="revenue"/,$s/>OR11.2<\/th>/>OR11.4<\/th>/'
   sees 'a revenue that was not withheld' 1 turned_page '0,/<td class="num">170 w<\/td>/s//<td class="num">170<\/td>/'

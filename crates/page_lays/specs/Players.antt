@@ -1,5 +1,5 @@
--- What each player may do at the head of their first turn of an opening or a stock round that comes, in the order of turns,
--- if those before them pass.
+-- What each player may do in a round that comes, apart from their companies: in an operating round the standing lines; in an
+-- opening or a stock round also the orders at the head of their first turn, in the order of turns, if those before them pass.
 use Rattle.std.specs.Prelude.{◌≡◌, ℕ, zero, suc, false, List, [], ◌∷◌, ◌++◌, None, map}
 use Rattle.foresight.specs.Turn.{passed_ahead, seat_after}
 use Rattle.moves.specs.OpeningRows.{opening_orders, opening_row}
@@ -7,6 +7,7 @@ use Rattle.moves.specs.StandingRows.{standing_rows}
 use Rattle.moves.specs.StockRows.{stock_orders, stock_row}
 use Rattle.moves.specs.declared.row.Row.{Row}
 use Rattle.page_lays.specs.declared.players.Player.{Player}
+use Rattle.tables.specs.Seat.{seat_at}
 use Rattle.tables.specs.declared.round.Round.{Round}
 use Rattle.tables.specs.declared.round.Round.TheVariants.{Opening}
 use Rattle.tables.specs.declared.seat.Seat.{Seat}
@@ -19,7 +20,7 @@ head_rows game other seat = map (stock_row game.seats game.events seat None) (st
 
 -- what is told of a player at the head of their turn: their standing lines, and the orders of the turn
 pub record IsPlayerAt (round : Round) (game : Game) (seat : Seat) (player : Player) : Type 0 where
-  pub seat : player.seat ≡ seat
+  pub its : player.seat ≡ seat
   pub standing : player.standing.items ≡ standing_rows game.events seat round
   pub turn : player.turn.items ≡ head_rows game round seat
 
@@ -29,3 +30,16 @@ ArePlayersIn round old zero players = players ≡ []
 ArePlayersIn round old (suc count) players =
     (before : List Player) × (last : Player) × ArePlayersIn round old count before
     × IsPlayerAt round (passed_ahead round old count) (seat_after old count) last × (players ≡ before ++ last ∷ [])
+
+-- what is told of a player before an operating round: their standing lines
+pub record IsStandingAt (round : Round) (game : Game) (seat : Seat) (player : Player) : Type 0 where
+  pub its : player.seat ≡ seat
+  pub standing : player.standing.items ≡ standing_rows game.events seat round
+  pub none : player.turn.items ≡ []
+
+-- so many players, in the order of the PLAYERS line
+abbrev pub AreStandingIn : Round → Game → ℕ → List Player → Type 0
+AreStandingIn round game zero players = players ≡ []
+AreStandingIn round game (suc count) players =
+    (before : List Player) × (last : Player) × AreStandingIn round game count before
+    × IsStandingAt round game (seat_at count) last × (players ≡ before ++ last ∷ [])

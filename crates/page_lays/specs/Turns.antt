@@ -1,9 +1,11 @@
 -- The turns of the companies in an operating round that comes, in operating order: of each company that is asked for what it
 -- may lay, place and buy, at the head of its orders if nobody orders anything before. Trains are those once it has withheld,
 -- since a TRAIN line withholds first.
-use Rattle.std.specs.Prelude.{◌≡◌, ◌↔◌, ◌⊎◌, ℕ, zero, suc, Bool, true, false, IsTrue, List, [], ◌∷◌, ◌++◌, Option, Some, None, map}
+use Rattle.std.specs.Prelude.{◌≡◌, ◌↔◌, ◌⊎◌, ◌==◌, ◌||◌, ℕ, zero, suc, Bool, true, false, IsTrue, Some, None}
+use Rattle.std.specs.Prelude.{List, [], ◌∷◌, ◌++◌, length, map}
 use Rattle.std.specs.List.{list_any}
 use Rattle.desk_may.specs.OperatingLines.{private_rows_of, train_rows_of}
+use Rattle.forced_purchase.specs.declared.operator.Operator.{Operator}
 use Rattle.foresight.specs.Ahead.{AheadState, HasEnded, HasTurn, IsBehindDraft, OrdersState, withheld_in}
 use Rattle.market.specs.OperatingOrder.{next_company}
 use Rattle.operating.specs.TurnEnd.{IsDue}
@@ -11,12 +13,12 @@ use Rattle.page_lays.specs.MoveRows.{AreMovesIn, row_of}
 use Rattle.page_lays.specs.declared.company_turns.Turn.{Turn}
 use Rattle.tables.specs.Roster.{same_company}
 use Rattle.tables.specs.declared.roster.Company.{Company}
+use Rattle.tables.specs.declared.seat.Seat.{Seat}
 use Rattle.totals.specs.Shares.{president_of}
 
 -- a company is asked for: none is named, or it is among these
 abbrev pub is_wanted : List Company → Company → Bool
-is_wanted [] company = true
-is_wanted (first ∷ others) company = list_any (same_company company) (first ∷ others)
+is_wanted companies company = (length companies == 0) || list_any (same_company company) companies
 
 -- what is told of a company at the head of its orders
 pub record IsTold (orders : OrdersState) (turn : Turn) : Type 0 where
@@ -27,18 +29,24 @@ pub record IsTold (orders : OrdersState) (turn : Turn) : Type 0 where
   pub must_buy : IsTrue turn.must_buy ↔ IsDue (withheld_in orders).turn.game orders.by.company
 
 -- the turn of a company of which is told, by its president
-pub record IsToldTurn (company : Company) (old new : AheadState) (turn : Turn) : Type 0 where
+pub record IsToldTurn (by : Operator) (old new : AheadState) (turn : Turn) : Type 0 where
   pub orders : OrdersState
-  pub its : orders.by.company ≡ company
-  pub led : president_of old.game.events company ≡ Some orders.by.president
-  pub behind : IsBehindDraft old orders.by orders
+  pub led : president_of old.game.events by.company ≡ Some by.president
+  pub behind : IsBehindDraft old by orders
   pub told : IsTold orders turn
   pub ended : HasEnded (withheld_in orders) new
 
--- the turn of a company: told, or another, since it is not asked for or has no president
+-- that turn is added to a list
+pub record AddsTurnBy (by : Operator) (before after : AheadState) (old new : List Turn) : Type 0 where
+  pub turn : Turn
+  pub its : IsToldTurn by before after turn
+  pub added : new ≡ old ++ turn ∷ []
+
+-- the turn of a company: told, if it is asked for; or another, since it is not asked for or has no president
 abbrev pub IsTurnIn : (Company → Bool) → Company → AheadState → AheadState → List Turn → Type 0
 IsTurnIn is_asked company old new turns =
-    ((turn : Turn) × IsToldTurn company old new turn × (turns ≡ turn ∷ []))
+    ((is_asked company ≡ true) × (president : Seat) × (turn : Turn)
+    × IsToldTurn (record { company = company; president = president }) old new turn × (turns ≡ turn ∷ []))
     ⊎ (((is_asked company ≡ false) ⊎ (president_of old.game.events company ≡ None)) × HasTurn company old new
     × (turns ≡ []))
 

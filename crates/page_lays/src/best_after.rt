@@ -1,5 +1,5 @@
 //! The greatest revenue of a company's trains: now, and after a lay or a token.
-ghost use Rattle.std.specs.Prelude.{IfOk};
+ghost use Rattle.std.specs.Prelude.{◌≡◌, IfOk, OnOk};
 ghost use Rattle.board_state.specs.MapState.{position_of};
 ghost use Rattle.legal_runs.specs.Set.{IsGreatestMoney};
 ghost use Rattle.operating.specs.MapState.{map_state_now};
@@ -41,10 +41,7 @@ impl Trains<'_> {
             its.company its.kinds.now) }
     {
         let mut board = board_at(self.alloc, &self.history.now())?;
-        match what {
-            Move::Lay(lay) => board.put_lay(lay)?,
-            Move::Token(place) => board.put_token(place, self.company)?,
-        }
+        put_move(&mut board, what, self.company)?;
         self.best_on(&board)
     }
 
@@ -61,5 +58,15 @@ impl Trains<'_> {
             // An allocation failed: passed on.
             Err(_) => Err(AllocError),
         }
+    }
+}
+
+/// Lays a tile or places a company's token on a board. Fails only if allocation fails.
+fn put_move(board: &mut Board, what: Move, company: Company) -> Result<(), AllocError>
+    ensures { OnOk result (board.new ≡ with_move board.old what company) }
+{
+    match what {
+        Move::Lay(lay) => board.put_lay(lay),
+        Move::Token(place) => board.put_token(place, company),
     }
 }

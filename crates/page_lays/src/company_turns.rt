@@ -7,22 +7,25 @@ ghost use Rattle.foresight.specs.Ahead.{opened_state, withheld_in};
 ghost use Rattle.history.specs.Sound.{IsSound};
 ghost use Rattle.market.specs.OperatingOrder.{next_company};
 ghost use Rattle.page_lays.specs.MoveRows.{AreMovesIn, row_of};
-ghost use Rattle.page_lays.specs.Turns.{AddsTurn, AddsTurns, IsTold, is_wanted};
+ghost use Rattle.page_lays.specs.Turns.{AddsTurn, AddsTurnBy, AddsTurns, AreTurnsIn, IsTold};
+ghost use Rattle.page_lays.specs.Turns.{is_wanted};
 ghost use Rattle.sheets.specs.File.{players_of};
 ghost use Rattle.tables.specs.Roster.{same_company};
+ghost use Rattle.totals.specs.Shares.{president_of};
 
 use crate::best_after::Trains;
 use crate::coming::Coming;
 use crate::move_lines::{Line, lines_of};
 use crate::move_rows::rows_of;
 use crate::progress::Progress;
+use board_state::same_company;
 use desk_base::trains_of;
 use desk_may::push_until_then;
 use forced_purchase::Operator;
 use foresight::{Draft, OrdersAhead, RoundAhead};
 use moves::{Row, private_rows, train_rows};
 use std::alloc::{AllocError, Global};
-use tables::{COMPANIES, Company, Money, Round};
+use tables::{COMPANIES, Company, Money, Round, Seat};
 
 /// A company in its turn.
 #[derive(Drop)]
@@ -71,7 +74,7 @@ pub struct Wanted<'a> {
 impl Wanted<'_> {
     /// Returns whether it shows the turn of a company.
     fn has(self, company: Company) -> bool
-        ensures { result ≡ is_wanted self.companies.now company }
+        ensures { result ≡ is_wanted self.entry.companies.now company }
     {
         self.companies.is_empty() || is_among(self.companies, company)
     }
@@ -81,7 +84,7 @@ impl Wanted<'_> {
 fn is_among(companies: &[Company], company: Company) -> bool
     ensures { result ≡ list_any (same_company company) companies.now }
 {
-    companies.iter().any(|other| *other == company)
+    companies.iter().any(|other| same_company(company, *other))
 }
 
 /// Returns the turns of the companies to be shown, in operating order. Fails only if allocation
@@ -95,8 +98,9 @@ pub(crate) fn turns_of<P: Progress>(
 ) -> Result<Vec<Turn>, AllocError>
     requires sound { IsSound coming.history }
     requires seats { coming.history.seats ≡ length (players_of coming.sheets.now) }
-    ensures { IfOk result (λ turns. AddsTurns (is_wanted wanted.companies.now)
-        (opened_state coming.sheets.now None round coming.history) [] turns.items) }
+    ensures { let before = coming.entry in let companies = wanted.entry.companies.now in
+        IfOk result (λ turns. AreTurnsIn (is_wanted companies)
+        (opened_state before.sheets.now None round before.history) turns.items) }
 {
     let Coming { sheets, history } = coming;
     let from = history.events().len();
@@ -118,7 +122,7 @@ fn push_turns<P: Progress>(
     asked: (usize, Wanted),
     progress: &mut P,
 ) -> Result<(), AllocError>
-    ensures { OnOk result (AddsTurns (is_wanted asked.1.companies.now) opened.entry
+    ensures { OnOk result (AddsTurns (is_wanted asked.entry.1.companies.now) opened.entry
         list.old.items list.new.items) }
 {
     let mut ahead = opened;
@@ -144,19 +148,47 @@ fn push_turn<'a, P: Progress>(
     progress: &mut P,
 ) -> Result<RoundAhead<'a>, AllocError>
     requires { next_company ahead.game.events ≡ Some company }
-    ensures { IfOk result (λ new. AddsTurn (is_wanted asked.1.companies.now) company ahead.entry new
-        list.old.items list.new.items) }
+    ensures { let companies = asked.entry.1.companies.now in IfOk result (λ new.
+        AddsTurn (is_wanted companies) company ahead.entry new list.old.items list.new.items) }
 {
     let (begun, wanted) = asked;
     if !wanted.has(company) {
         return ahead.take_turn(company);
     }
-    let Some(president) = ahead.history().now().president(company) else {
-        return ahead.take_turn(company);
-    };
+    match president_in(&ahead, company) {
+        Some(president) => {
+            let by = Operator { company, president };
+            push_turn_by(alloc, list, ahead, by, (begun, wanted.best), progress)
+        }
+        None => ahead.take_turn(company),
+    }
+}
+
+/// Returns the president of a company in a round.
+fn president_in(ahead: &RoundAhead, company: Company) -> Option<Seat>
+    ensures { result ≡ president_of ahead.now.game.events company }
+{
+    ahead.history().now().president(company)
+}
+
+/// Adds the turn of the next company, by its president. Returns the round after that turn.
+fn push_turn_by<'a, P: Progress>(
+    alloc: Global,
+    list: &mut Vec<Turn>,
+    ahead: RoundAhead<'a>,
+    by: Operator,
+    asked: (usize, bool),
+    progress: &mut P,
+) -> Result<RoundAhead<'a>, AllocError>
+    requires next { next_company ahead.game.events ≡ Some by.company }
+    requires led { president_of ahead.game.events by.company ≡ Some by.president }
+    ensures { IfOk result (λ new.
+        AddsTurnBy by ahead.entry new list.old.items list.new.items) }
+{
+    let (begun, is_best) = asked;
     let from = list.as_slice().last().map_or(begun, |turn| turn.head.at);
-    let orders = ahead.turn_of(Operator { company, president })?;
-    let (turn, orders) = turn_at(alloc, orders, from, wanted.best, progress)?;
+    let orders = ahead.turn_of(by)?;
+    let (turn, orders) = turn_at(alloc, orders, from, is_best, progress)?;
     list.push(turn)?;
     orders.finish()
 }

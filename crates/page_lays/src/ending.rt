@@ -11,15 +11,15 @@ use desk_base::{DeskFault, Stood, play_behind, stood_at_last, stood_now};
 use markup::PagePiece::Words;
 use markup::{Tag, Writer, begin_section};
 use page_map::Scene;
-use rounds::{End, play};
+use rounds::{End, Play};
 use sheets::{Sheets, collect};
 use std::alloc::Global;
 
 /// Ends the page of the game of an order file: adds its hexes in words, with what companies may lay
 /// and place on each in the next round, and what each player may do.
 ///
-/// Fails with `File` if the file is refused, with `Round` if the named round was not played, and with
-/// `Memory` if allocation fails.
+/// Fails with `File` if the file is refused, with `Round` if the named round was not played, and
+/// with `Memory` if allocation fails.
 pub fn end_page<P: Progress>(
     alloc: Global,
     out: Writer,
@@ -46,15 +46,27 @@ fn put_moves<P: Progress>(
     match wanted.after {
         Some(round) => {
             let play = play_behind(alloc, sheets, round)?;
-            match stood_now(&play) {
-                Some(stood) => put_moves_of(alloc, out, &stood, wanted, progress),
-                None => Err(DeskFault::Round),
-            }
+            put_moves_in(alloc, out, &play, wanted, progress)
         }
         None => {
-            let game = play(alloc, sheets)?;
-            put_moves_of(alloc, out, &stood_at_last(&game), wanted, progress)
+            let game = rounds::play(alloc, sheets)?;
+            let stood = stood_at_last(&game);
+            put_moves_of(alloc, out, &stood, wanted, progress)
         }
+    }
+}
+
+/// Adds what may be done in a game played up to here.
+fn put_moves_in<P: Progress>(
+    alloc: Global,
+    out: &mut Writer,
+    play: &Play,
+    wanted: Wanted,
+    progress: &mut P,
+) -> Result<(), DeskFault> {
+    match stood_now(play) {
+        Some(stood) => put_moves_of(alloc, out, &stood, wanted, progress),
+        None => Err(DeskFault::Round),
     }
 }
 

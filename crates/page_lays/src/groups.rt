@@ -27,12 +27,12 @@ pub(crate) enum Block {
 
 /// A sheet: whose it is, and for which round.
 #[derive(Clone, Copy)]
-pub(crate) struct Of<'a> {
-    pub(crate) scene: &'a Scene<'a>,
+pub(crate) struct Of<'p, 's, 'n> {
+    pub(crate) scene: &'s Scene<'n>,
     pub(crate) seat: Seat,
     pub(crate) round: Round,
     /// Who presides over each company at the start of the round, in roster order.
-    pub(crate) presidents: &'a [Option<Seat>],
+    pub(crate) presidents: &'p [Option<Seat>],
 }
 
 /// Begins a group of lines, with its label.
@@ -72,8 +72,8 @@ pub(crate) fn put_group_on(
     Ok(())
 }
 
-/// Adds a lay or a token: its order as a button, its price, and by how much it raises the revenue of
-/// the best runs.
+/// Adds a lay or a token: its order as a button, its price, and by how much it raises the revenue
+/// of the best runs.
 fn put_move(
     alloc: Global,
     out: &mut Writer,

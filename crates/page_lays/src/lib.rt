@@ -1,20 +1,20 @@
 //! What may be done next, on the page of a game: under each hex what each company may lay and place
-//! there, and below the hexes what each player may do. Each line is an order. A press adds it to the
-//! text of a sheet.
+//! there, and below the hexes what each player may do. Each line is an order. A press adds it to
+//! the text of a sheet.
 //!
-//! The lines are the rows of `moves`, at the head of a company's orders or of a player's turn in the
-//! next round, if nobody orders anything before. Contracts say which rows there are. Tests cover how
-//! they are printed.
+//! The lines are the rows of `moves`, at the head of a company's orders or of a player's turn in
+//! the next round, if nobody orders anything before. Contracts say which rows there are, and that
+//! the page is well-formed. Tests cover how rows are printed.
 //!
 //! The definitions, in `specs/`: `MoveRows` (the lays and tokens of a company, and those on a hex),
-//! `Turns` (of the companies of a round), `Players` (at the heads of their turns), `Allowed` (which
-//! orders of players the page shows).
+//! `Turns` (of the companies of a round), `Players` (their standing lines, and the heads of their
+//! turns), `NextRound` (all of it), `Allowed` (which orders of players the page shows).
 //!
 //! Reading order: `coming` (the game before the next round), `move_rows` (lays and tokens as rows),
 //! `best_after` and `move_lines` (what the best runs would earn after each), `progress`,
-//! `company_turns` (the companies of the round), `players`, `offers` (of trains), `may` (all of it);
-//! `pictures` (of tiles), `groups` (lines on the page), `hexes_part`, `may_part`, `style`, `ending`
-//! (`end_page`).
+//! `company_turns` (the companies of the round), `players`, `offers` (of trains), `may` (all of
+//! it); `pictures` (of tiles), `groups` (lines on the page), `hexes_part`, `may_part`, `style`,
+//! `ending` (`end_page`).
 #![tactic(auto)]
 
 mod best_after;

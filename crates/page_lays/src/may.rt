@@ -1,6 +1,7 @@
 //! What may be done in the next round.
-ghost use Rattle.std.specs.Prelude.{◌≡◌, length};
+ghost use Rattle.std.specs.Prelude.{◌≡◌, IfOk, length};
 ghost use Rattle.history.specs.Sound.{IsSound};
+ghost use Rattle.page_lays.specs.NextRound.{IsMayIn};
 ghost use Rattle.sheets.specs.File.{players_of};
 
 use crate::coming::{Coming, coming_in};
@@ -28,7 +29,11 @@ pub(crate) struct May {
 
 impl May {
     /// Returns the place of a seat's lines on the page.
-    pub(crate) fn of<'a>(&'a self, scene: &'a Scene<'a>, seat: Seat) -> Of<'a> {
+    pub(crate) fn of<'p, 's, 'n>(&'p self, scene: &'s Scene<'n>, seat: Seat) -> Of<'p, 's, 'n>
+        ensures seat { result.seat ≡ seat }
+        ensures round { result.round ≡ self.now.round }
+        ensures presidents { result.presidents.now ≡ self.now.presidents.items }
+    {
         Of {
             scene,
             seat,
@@ -48,38 +53,44 @@ pub(crate) fn may_in<P: Progress>(
     progress: &mut P,
 ) -> Result<May, DeskFault> {
     let coming = coming_in(alloc, sheets, wanted.after)?;
-    let presidents = presidents(alloc, &coming.history)?;
-    Ok(may_before(alloc, coming, round, presidents, wanted, progress)?)
+    Ok(may_before(alloc, coming, round, wanted, progress)?)
 }
 
-/// Returns what may be done in the next round of a game.
+/// Returns what may be done in the next round of a game. Fails only if allocation fails.
 fn may_before<P: Progress>(
     alloc: Global,
     coming: Coming,
     round: Round,
-    presidents: Vec<Option<Seat>>,
     wanted: Wanted,
     progress: &mut P,
 ) -> Result<May, AllocError>
     requires sound { IsSound coming.history }
     requires seats { coming.history.seats ≡ length (players_of coming.sheets.now) }
+    ensures { let before = coming.entry in let companies = wanted.entry.companies.now in
+        IfOk result (IsMayIn companies round before.sheets.now before.history) }
 {
-    // For the proof alone: the seats are at most six.
+    // For the proof only: the seats are at most six.
     let _few = coming.sheets.seats();
-    let (players, turns) = match round {
+    let presidents = presidents(alloc, &coming.history)?;
+    match round {
         Round::Operating { .. } => {
             let players = players_in_operating(alloc, &coming.history, round)?;
-            (players, turns_of(alloc, coming, round, wanted, progress)?)
+            let turns = turns_of(alloc, coming, round, wanted, progress)?;
+            Ok(May {
+                round,
+                presidents,
+                players,
+                turns,
+            })
         }
         Round::Opening(_) | Round::Stock(_) => {
             let players = players_in_turns(alloc, coming.history, round)?;
-            (players, Vec::new(alloc))
+            Ok(May {
+                round,
+                presidents,
+                players,
+                turns: Vec::new(alloc),
+            })
         }
-    };
-    Ok(May {
-        round,
-        presidents,
-        players,
-        turns,
-    })
+    }
 }

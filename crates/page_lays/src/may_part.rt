@@ -72,10 +72,20 @@ fn put_position(out: &mut Writer, round: Round, best: bool) {
     out.end();
 }
 
-/// Adds a company's turn: what its best runs earn, the hexes where it may lay or place, and what
-/// happens before its orders.
+/// Adds a company's turn: its code, a summary, and what happens before its orders.
 fn put_turn(out: &mut Writer, scene: &Scene, turn: &Turn) {
-    out.element(Tag::H3, &[Words(turn.by.company.code())]);
+    put_code(out, turn.by.company);
+    put_summary(out, scene, turn);
+    put_told(out, turn.head.before.as_slice());
+}
+
+/// Adds the code of a company as a heading.
+fn put_code(out: &mut Writer, company: Company) {
+    out.element(Tag::H3, &[Words(company.code())]);
+}
+
+/// Adds who leads a company, what its best runs earn, and the hexes where it may lay or place.
+fn put_summary(out: &mut Writer, scene: &Scene, turn: &Turn) {
     out.begin(Tag::Paragraph);
     out.within();
     out.put(&[Words("Of "), Name(scene.name(turn.by.president))]);
@@ -90,7 +100,6 @@ fn put_turn(out: &mut Writer, scene: &Scene, turn: &Turn) {
         }
     }
     out.end();
-    put_told(out, turn.head.before.as_slice());
 }
 
 /// Adds each named company that gives no orders.

@@ -5,6 +5,7 @@ ghost use Rattle.page_lays.specs.MoveRows.{is_on, row_of};
 use crate::best_after::Trains;
 use crate::move_rows::Move;
 use crate::progress::Progress;
+use board_state::same_hex;
 use map_tables::{Hex, Lay, laid_links};
 use moves::Priced;
 use std::alloc::{AllocError, Global};
@@ -18,8 +19,8 @@ pub(crate) struct Line {
     pub(crate) best: Option<Money>,
 }
 
-/// Returns some lays and tokens, each with what the trains would earn after it, if trains are given.
-/// Fails only if allocation fails.
+/// Returns some lays and tokens, each with what the trains would earn after it, if trains are
+/// given. Fails only if allocation fails.
 pub(crate) fn lines_of<P: Progress>(
     alloc: Global,
     rows: &[Priced<Move>],
@@ -75,7 +76,7 @@ pub(crate) fn lines_on(alloc: Global, lines: &[Line], hex: Hex) -> Result<Vec<Li
 {
     let mut found = Vec::new(alloc);
     for line in lines {
-        if line.row.what.hex() == hex {
+        if same_hex(line.row.what.hex(), hex) {
             found.push(*line)?;
         }
     }

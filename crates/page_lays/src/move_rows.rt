@@ -1,7 +1,8 @@
 //! A company's lays and tokens as rows with prices, lays first.
-ghost use Rattle.std.specs.Prelude.{◌≡◌, ◌++◌, IfOk, OnOk, filter, map};
+ghost use Rattle.std.specs.Prelude.{◌≡◌, ◌++◌, IfOk, OnOk, map};
 ghost use Rattle.order_grammar.specs.Print.{spelling_of};
-ghost use Rattle.page_lays.specs.MoveRows.{AreMovesIn, hex_of_move, lay_row, order_of_move, token_row};
+ghost use Rattle.page_lays.specs.MoveRows.{AreMovesIn, hex_of_move, lay_row, order_of_move};
+ghost use Rattle.page_lays.specs.MoveRows.{token_row};
 
 use desk_base::board_at;
 use foresight::OrdersAhead;
@@ -42,7 +43,7 @@ impl Move {
 
     /// Returns its order as a line of a sheet. Fails only if allocation fails.
     pub(crate) fn text(self, alloc: Global) -> Result<Vec<u8>, AllocError>
-        ensures { IfOk result (λ text. text.items ≡ spelling_of (order_of_move self.entry)) }
+        ensures { IfOk result (λ text. text.items ≡ spelling_of (order_of_move self)) }
     {
         let mut text = Vec::new(alloc);
         print_order(&mut text, &self.order())?;
@@ -50,8 +51,8 @@ impl Move {
     }
 }
 
-/// Returns every lay and every token of a company at this point of its turn, with prices in dollars.
-/// Fails only if allocation fails.
+/// Returns every lay and every token of a company at this point of its turn, with prices in
+/// dollars. Fails only if allocation fails.
 pub(crate) fn rows_of(alloc: Global, orders: &OrdersAhead) -> Result<Vec<Priced<Move>>, AllocError>
     ensures { IfOk result (λ rows.
         AreMovesIn orders.now.turn orders.now.by.company rows.items) }

@@ -1,6 +1,6 @@
 //! Who may offer a train: an OFFER is a standing line, ruled at the start of an operating round.
 ghost use Rattle.std.specs.Prelude.{◌≡◌, IfOk};
-ghost use Rattle.desk_may.specs.Offerers.{may_offer, presidents_of};
+ghost use Rattle.desk_may.specs.Offerers.{led_it, may_offer, presidents_of};
 ghost use Rattle.page_lays.specs.Allowed.{is_allowed};
 
 use history::History;
@@ -21,15 +21,24 @@ pub(crate) fn presidents(alloc: Global, history: &History) -> Result<Vec<Option<
     Ok(presidents)
 }
 
-/// Returns whether an offer of a seat can be obeyed, given the presidents at the start of the round.
+/// Returns whether a seat presided over a company at the start of the round, given who presided
+/// over each.
+fn led_it(presidents: &[Option<Seat>], company: Company, seat: Seat) -> bool
+    ensures { result ≡ led_it presidents.now company seat }
+{
+    match presidents.get(company.index()) {
+        Some(president) => is_president(*president, seat),
+        None => false,
+    }
+}
+
+/// Returns whether an offer of a seat can be obeyed, given the presidents at the start of the
+/// round.
 fn may_offer(presidents: &[Option<Seat>], giver: Seat, offer: Offer) -> bool
     ensures { result ≡ may_offer presidents.now giver offer }
 {
     match offer {
-        Offer::Train { seller, .. } => match presidents.get(seller.index()) {
-            Some(president) => is_president(*president, giver),
-            None => false,
-        },
+        Offer::Train { seller, .. } => led_it(presidents, seller, giver),
         Offer::Private { .. } => true,
     }
 }

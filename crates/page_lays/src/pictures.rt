@@ -19,7 +19,10 @@ pub(crate) fn put_tiles(out: &mut Writer, turns: &[Turn]) {
     out.begin_as(Tag::Svg, "defs");
     out.begin(Tag::Defs);
     for &tile in &TileNo::ALL {
-        if turns.iter().any(|turn| lays_tile(&turn.map.lines, tile)) {
+        if turns
+            .iter()
+            .any(|turn| lays_tile(turn.map.lines.as_slice(), tile))
+        {
             put_tile(out, tile);
         }
     }
@@ -28,7 +31,7 @@ pub(crate) fn put_tiles(out: &mut Writer, turns: &[Turn]) {
 }
 
 /// Returns whether some lines lay a tile.
-fn lays_tile(lines: &Vec<Line>, tile: TileNo) -> bool {
+fn lays_tile(lines: &[Line], tile: TileNo) -> bool {
     lines.iter().any(|line| matches!(line.row.what, Move::Lay(lay) if lay.tile == tile))
 }
 

@@ -1,7 +1,8 @@
 //! What each player may do in the next round, apart from their companies.
-ghost use Rattle.std.specs.Prelude.{◌≤◌, IfOk};
+ghost use Rattle.std.specs.Prelude.{◌≡◌, ◌≤◌, IfOk};
 ghost use Rattle.history.specs.Sound.{IsSound};
-ghost use Rattle.page_lays.specs.Players.{ArePlayersIn, IsPlayerAt};
+ghost use Rattle.page_lays.specs.Players.{ArePlayersIn, AreStandingIn, IsPlayerAt, IsStandingAt};
+ghost use Rattle.page_lays.specs.Players.{head_rows};
 
 use history::{Event, History};
 use moves::{Row, opening_rows, standing_rows, stock_rows};
@@ -18,26 +19,40 @@ pub(crate) struct Player {
     pub(crate) turn: Vec<Row>,
 }
 
-/// Returns the standing lines of each player for the next operating round. Fails only if allocation
-/// fails.
+/// Returns the standing lines of each player for the next operating round, in the order of the
+/// PLAYERS line. Fails only if allocation fails.
 pub(crate) fn players_in_operating(
     alloc: Global,
     history: &History,
     round: Round,
 ) -> Result<Vec<Player>, AllocError>
     requires { history.now.seats ≤ 6 }
+    ensures { IfOk result (λ players.
+        AreStandingIn round history.now history.now.seats players.items) }
 {
     let mut players = Vec::new(alloc);
     for number in 0..history.seats() {
-        let seat = Seat::at(number);
-        let standing = standing_rows(alloc, history, seat, round)?;
-        players.push(Player {
-            seat,
-            standing,
-            turn: Vec::new(alloc),
-        })?;
+        let player = standing_player(alloc, history, round, Seat::at(number))?;
+        players.push(player)?;
     }
     Ok(players)
+}
+
+/// Returns the standing lines of a player for the next operating round.
+fn standing_player(
+    alloc: Global,
+    history: &History,
+    round: Round,
+    seat: Seat,
+) -> Result<Player, AllocError>
+    ensures { IfOk result (IsStandingAt round history.now seat) }
+{
+    let standing = standing_rows(alloc, history, seat, round)?;
+    Ok(Player {
+        seat,
+        standing,
+        turn: Vec::new(alloc),
+    })
 }
 
 /// Returns what each player may do at the head of their first turn of the next opening or stock
@@ -50,7 +65,7 @@ pub(crate) fn players_in_turns(
     requires sound { IsSound history }
     requires few { history.seats ≤ 6 }
     ensures { IfOk result (λ players.
-        ArePlayersIn round history.entry history.entry.seats players.items) }
+        ArePlayersIn round history history.seats players.items) }
 {
     let mut history = history;
     let seats = history.seats();
@@ -76,13 +91,25 @@ fn player_at(
     ensures { IfOk result (IsPlayerAt round history.now seat) }
 {
     let standing = standing_rows(alloc, history, seat, round)?;
-    let turn = match round {
-        Round::Opening(_) => opening_rows(alloc, history, seat, false)?,
-        Round::Stock(_) | Round::Operating { .. } => stock_rows(alloc, history, seat, None)?,
-    };
+    let turn = head_rows(alloc, history, round, seat)?;
     Ok(Player {
         seat,
         standing,
         turn,
     })
+}
+
+/// Returns the orders of a player's turn at its head.
+fn head_rows(
+    alloc: Global,
+    history: &History,
+    round: Round,
+    seat: Seat,
+) -> Result<Vec<Row>, AllocError>
+    ensures { IfOk result (λ rows. rows.items ≡ head_rows history.now round seat) }
+{
+    match round {
+        Round::Opening(_) => opening_rows(alloc, history, seat, false),
+        Round::Stock(_) | Round::Operating { .. } => stock_rows(alloc, history, seat, None),
+    }
 }

@@ -1,4 +1,4 @@
-use Rattle.std.proofs.Common.{◌≡◌, List, ◌++◌, inl, sym, ap, ◌∙◌, append_assoc, arith}
+use Rattle.std.proofs.Common.{List, ◌++◌, inl, sym, ap, ◌∙◌, append_assoc, arith}
 use Rattle.page_lays.proofs.TurnLemmas.{one_more}
 use Rattle.page_lays.specs.Turns.{is_wanted}
 use Rattle.page_lays.specs.declared.company_turns.Turn.{Turn}

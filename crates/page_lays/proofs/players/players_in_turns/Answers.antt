@@ -1,8 +1,7 @@
 use Rattle.std.proofs.Common.{◌≡◌, ℕ, suc, ap, sym, refl, subst, ◌∙◌, arith}
 use Rattle.foresight.specs.Turn.{passed_ahead, seat_after}
 use Rattle.events.specs.declared.event.Event.TheVariants as event
-use Rattle.page_lays.specs.Players.{ArePlayersIn, IsPlayerAt}
-use Rattle.page_lays.specs.declared.players.Player.{Player}
+use Rattle.page_lays.specs.Players.{IsPlayerAt}
 use Rattle.tables.specs.Seat.{left_of}
 use Rattle.tables.specs.declared.seat.Seat.{Seat}
 use Rattle.totals.specs.LookBack.{Game, priority_of, with_event}
@@ -11,8 +10,8 @@ use Rattle.page_lays.proofs.players.players_in_turns.Goals as goal
 pub loop-init : goal.loop-init
 loop-init c =
     let old : Game = c.args.history in
-    let first : c.priority.result ≡ priority_of old.seats old.events =
-    c.priority.ensures
+    let first : c.priority-seat.result ≡ priority_of old.seats old.events =
+    c.priority-seat.ensures
     ∙ ap (λ (seats : ℕ). priority_of seats c.now.result.events.now) c.now.ensures.seats
     ∙ ap (priority_of old.seats) c.now.ensures.events in
     record {
@@ -20,7 +19,7 @@ loop-init c =
       counted = refl;
       its = sym first;
       there = c.in_ok-record_event.ensures.ok;
-      told = refl;
+      told = c.new-players.ensures.items;
       sound = c.in_ok-record_event.ensures.sound;
     }
 
@@ -46,6 +45,6 @@ loop-preserved c =
           ∙ ap (λ (game : Game). with_event game (event.Passes c.loop.seat)) before.there
           ∙ ap (λ (seat : Seat). with_event (passed_ahead c.args.round old before.count) (event.Passes seat))
           (sym before.its);
-      told = (c.loop.players.items, c.in_ok-player.player, before.told, at, c.in_ok-push.ensures);
+      told = (c.loop.players.items, c.in_ok-player.player, before.told, at, c.in_ok-push.ensures.items);
       sound = c.in_ok-record_event-2.ensures.sound;
     }
