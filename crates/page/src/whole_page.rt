@@ -64,8 +64,8 @@ pub fn page(alloc: Global, file: &[u8], asked: Option<Round>) -> Result<Vec<u8>,
     Ok(out.finish()?)
 }
 
-/// Returns the same page for a script, up to its hexes in words, which the caller adds, with a style
-/// for these. The errors are those of `page`.
+/// Returns the same page for a script, up to its hexes in words, which the caller adds, with a
+/// style for these. The errors are those of `page`.
 pub fn page_to_hexes(
     alloc: Global,
     file: &[u8],
