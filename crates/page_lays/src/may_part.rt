@@ -9,7 +9,7 @@ use markup::PagePiece::{Count, Name, Number, Round as Named, Words};
 use markup::{Attr, Tag, Writer, begin_plain_section, begin_section};
 use page_map::Scene;
 use std::alloc::{AllocError, Global};
-use tables::{Company, Round};
+use tables::{Company, Money, Round};
 
 /// The position that the lines of an operating round assume.
 const AT_ORDERS: &str = ". Each line is shown as the first order of its company's turn, if nobody \
@@ -90,16 +90,25 @@ fn put_summary(out: &mut Writer, scene: &Scene, turn: &Turn) {
     out.within();
     out.put(&[Words("Of "), Name(scene.name(turn.by.president))]);
     if let Some(now) = turn.map.now {
-        out.put(&[Words("; its best runs earn "), Number(now)]);
+        put_best(out, now);
     }
-    let count = Count(turn.map.lines.len());
-    out.put(&[Words("; lays and tokens: "), count]);
+    put_count(out, turn.map.lines.len());
     for &hex in &Hex::ALL {
         if turn.map.lines.iter().any(|line| line.row.what.hex() == hex) {
             put_link(out, hex);
         }
     }
     out.end();
+}
+
+/// Adds what the best runs of a company earn.
+fn put_best(out: &mut Writer, now: Money) {
+    out.put(&[Words("; its best runs earn "), Number(now)]);
+}
+
+/// Adds how many lays and tokens a company has.
+fn put_count(out: &mut Writer, lines: usize) {
+    out.put(&[Words("; lays and tokens: "), Count(lines)]);
 }
 
 /// Adds each named company that gives no orders.
