@@ -35,6 +35,8 @@ struct Telling<'a> {
     round: Round,
     /// The lines of the sheets for it.
     lines: &'a [SheetLine<'a>],
+    /// Whether refused lines and the stops of runs are left out.
+    is_short: bool,
 }
 
 /// How much of a round has been written.
@@ -62,6 +64,34 @@ pub fn turns(
     ensures played { OnOk result (was_played history.now.events round ≡ true) }
     ensures fault { IfErr result (HasNoTurns history.now.events round) }
 {
+    turns_by(alloc, sheets, history, round, false)
+}
+
+/// Returns the turns of a round in the same way, but without the lines that were refused and the
+/// stops of runs. The errors are those of `turns`.
+pub fn turns_in_short(
+    alloc: Global,
+    sheets: &Sheets,
+    history: &History,
+    round: Round,
+) -> Result<Vec<u8>, DeskFault>
+    ensures played { OnOk result (was_played history.now.events round ≡ true) }
+    ensures fault { IfErr result (HasNoTurns history.now.events round) }
+{
+    turns_by(alloc, sheets, history, round, true)
+}
+
+/// Returns the turns of a round, in short or not.
+fn turns_by(
+    alloc: Global,
+    sheets: &Sheets,
+    history: &History,
+    round: Round,
+    is_short: bool,
+) -> Result<Vec<u8>, DeskFault>
+    ensures played { OnOk result (was_played history.now.events round ≡ true) }
+    ensures fault { IfErr result (HasNoTurns history.now.events round) }
+{
     if !was_played(history.events(), round) {
         return Err(DeskFault::Round);
     }
@@ -72,6 +102,7 @@ pub fn turns(
         history,
         round,
         lines: lines.as_slice(),
+        is_short,
     };
     Ok(told(telling)?)
 }
@@ -188,7 +219,7 @@ impl Telling<'_> {
         }
         self.push_reported(out, event)?;
         match event {
-            Event::Runs { company, .. } => {
+            Event::Runs { company, .. } if !self.is_short => {
                 let view = view_behind(&mut course.now, passed, self.history.seats());
                 self.push_stops(out, &view, *company)
             }
@@ -276,11 +307,15 @@ impl Telling<'_> {
         number: u32,
         ruling: &PackedRuling,
     ) -> Result<(), AllocError> {
+        let is_obeyed = matches!(ruling.verdict(), Verdict::Obeyed);
+        if self.is_short && !is_obeyed {
+            return Ok(());
+        }
         let mut shown = Vec::new(self.alloc);
         self.push_line(&mut shown, seat, number, &ruling.ruling())?;
         push(out, &[Right(4, Money::from(number)), Words("  ")])?;
         push_wrapped(out, BROUGHT + 4, shown.as_slice())?;
-        if let Verdict::Obeyed = ruling.verdict() {
+        if is_obeyed {
             return Ok(());
         }
         let ruled = Ruled {
