@@ -1,11 +1,11 @@
 //! What each company has: its place on the stock market, its figures, its shares and its tokens.
+ghost use Rattle.std.specs.Prelude.{◌<◌, ◌^◌};
 
-use crate::earnings::earnings_of;
-use crate::stack::before_in_stack;
+use crate::earnings::Earnings;
 use crate::state_players::push_privates;
-use crate::state_rows::{company_row, share_row};
+use crate::state_rows::{CompanyLine, company_line};
 use desk_base::Piece::{Bytes, Column, Number, Right, Words};
-use desk_base::{Piece, Stood, fill, push, tokens_left};
+use desk_base::{Piece, Stood, fill, push};
 use history::{History, Holder, Shareholder};
 use report::name;
 use sheets::Sheets;
@@ -58,7 +58,8 @@ pub(crate) fn push_companies(
         &[],
     )?;
     for company in order {
-        push_figures(out, stood, *company)?;
+        let line = company_line(&stood.history.now(), *company);
+        push_figures(out, stood, &line)?;
     }
     push_all_shares(out, stood, order)?;
     push_all_tokens(out, stood.history, order)
@@ -72,7 +73,8 @@ pub(crate) fn push_all_shares(
 ) -> Result<(), AllocError> {
     push_share_heading(out, stood.sheets)?;
     for company in order {
-        push_shares(out, stood, *company)?;
+        let line = company_line(&stood.history.now(), *company);
+        push_shares(out, stood, &line)?;
     }
     Ok(())
 }
@@ -85,17 +87,18 @@ pub(crate) fn push_all_tokens(
 ) -> Result<(), AllocError> {
     fill(out, "\nTOKENS  LEFT  PLACED\n", &[])?;
     for company in order {
-        push_tokens(out, history, *company)?;
+        let line = company_line(&history.now(), *company);
+        push_tokens(out, history, &line)?;
     }
     Ok(())
 }
 
 /// Adds how many tokens a company has left, and the places of those on the map.
-fn push_tokens(out: &mut Vec<u8>, history: &History, company: Company) -> Result<(), AllocError> {
-    let left = tokens_left(&history.now(), company) as Money;
-    push(out, &[Words(company.code()), Column(8), Right(4, left)])?;
+fn push_tokens(out: &mut Vec<u8>, history: &History, line: &CompanyLine) -> Result<(), AllocError> {
+    let code = Words(line.company.code());
+    push(out, &[code, Column(8), Right(4, line.tokens as Money)])?;
     for token in history.tokens() {
-        if token.1 == company {
+        if token.1 == line.company {
             let place = token.0.text();
             fill(out, "% %", &[Column(TOKENS), Bytes(place.as_slice())])?;
         }
@@ -106,12 +109,13 @@ fn push_tokens(out: &mut Vec<u8>, history: &History, company: Company) -> Result
 /// Adds the line of a company's figures: its price, its square, the place of its token in the stack
 /// there, its president, and what it has. A company that has not floated has few of them, and one
 /// that has not started none.
-fn push_figures(out: &mut Vec<u8>, stood: &Stood, company: Company) -> Result<(), AllocError> {
-    let view = stood.history.now();
-    let row = company_row(&view, company);
+fn push_figures(out: &mut Vec<u8>, stood: &Stood, line: &CompanyLine) -> Result<(), AllocError>
+    requires { line.now.earnings.dollars < 2 ^ 127 }
+{
+    let (row, company) = (line.row, line.company);
     push(out, &[Words(company.code())])?;
     if let Some(square) = row.square {
-        push_square(out, square, before_in_stack(&view, square, company))?;
+        push_square(out, square, line.above)?;
     }
     let president = match row.president {
         Some(president) => Bytes(name(stood.sheets, president)),
@@ -119,7 +123,7 @@ fn push_figures(out: &mut Vec<u8>, stood: &Stood, company: Company) -> Result<()
     };
     push(out, &[Column(PRESIDENT), president])?;
     if row.operates {
-        push_treasury(out, stood.history, row.cash, company)?;
+        push_treasury(out, stood.history, line)?;
     } else {
         let started = if row.is_started { "floated" } else { "started" };
         fill(out, "% not %", &[Column(TRAINS), Words(started)])?;
@@ -144,27 +148,31 @@ fn push_square(out: &mut Vec<u8>, square: Square, above: usize) -> Result<(), Al
 }
 
 /// Adds a company's cash, its last revenue with its round, and its trains.
-fn push_treasury(
-    out: &mut Vec<u8>,
-    history: &History,
-    cash: Money,
-    company: Company,
-) -> Result<(), AllocError> {
-    push(out, &[Column(CASH), Right(8, cash)])?;
-    let earnings = earnings_of(history.events(), company);
-    if let Some(round) = earnings.round {
-        let dollars = earnings.dollars as Money;
-        push(
-            out,
-            &[Right(8, dollars), Column(ROUND), Piece::Round(round)],
-        )?;
-    }
+fn push_treasury(out: &mut Vec<u8>, history: &History, line: &CompanyLine) -> Result<(), AllocError>
+    requires { line.now.earnings.dollars < 2 ^ 127 }
+{
+    push(out, &[Column(CASH), Right(8, line.row.cash)])?;
+    push_earnings(out, line.earnings)?;
     for kind in &Kind::ALL {
-        for _ in 0..history.trains(Some(company), *kind) {
+        for _ in 0..history.trains(Some(line.company), *kind) {
             fill(out, "% %", &[Column(TRAINS), Words(kind.code())])?;
         }
     }
     Ok(())
+}
+
+/// Adds a company's last revenue with its round; nothing if it has not operated.
+fn push_earnings(out: &mut Vec<u8>, earnings: Earnings) -> Result<(), AllocError>
+    requires { earnings.dollars < 2 ^ 127 }
+{
+    let Some(round) = earnings.round else {
+        return Ok(());
+    };
+    let dollars = earnings.dollars as Money;
+    push(
+        out,
+        &[Right(8, dollars), Column(ROUND), Piece::Round(round)],
+    )
 }
 
 /// Adds the heading of the table of shares.
@@ -179,9 +187,8 @@ fn push_share_heading(out: &mut Vec<u8>, sheets: &Sheets) -> Result<(), AllocErr
 }
 
 /// Adds a company's par and its shares by their holders; the president's are marked.
-fn push_shares(out: &mut Vec<u8>, stood: &Stood, company: Company) -> Result<(), AllocError> {
-    let history = stood.history;
-    let row = share_row(&history.now(), company);
+fn push_shares(out: &mut Vec<u8>, stood: &Stood, line: &CompanyLine) -> Result<(), AllocError> {
+    let (history, company, row) = (stood.history, line.company, line.shares);
     let par = match row.par {
         Some(par) => Right(SHARES, par),
         None => Words("    -"),
@@ -196,7 +203,7 @@ fn push_shares(out: &mut Vec<u8>, stood: &Stood, company: Company) -> Result<(),
             Right(SHARES, row.pool),
         ],
     )?;
-    let president = history.now().president(company);
+    let president = line.row.president;
     for seat in 0..stood.sheets.seats() {
         let seat = Seat::at(seat);
         push(

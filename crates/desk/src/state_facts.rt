@@ -1,11 +1,9 @@
 //! The state of a game as JSON, from the rows that its text is made of.
 
-use crate::earnings::earnings_of;
 use crate::facts::{FORM, Fact, Object, Written};
 use crate::player_figures::purse_of;
-use crate::stack::before_in_stack;
-use crate::state_rows::{company_row, game_row, private_row, share_row, train_row};
-use desk_base::{Stood, owes, tile_on, tiles_left, tokens_left};
+use crate::state_rows::{company_line, game_row, private_row, train_row};
+use desk_base::{Stood, owes, tile_on, tiles_left};
 use history::{History, Holder, Shareholder};
 use map_tables::{Hex, TileNo};
 use report::name;
@@ -332,14 +330,13 @@ impl Serialize for Figures<'_> {
     fn serialize<S: Serializer>(&self, out: &mut S) -> Result<(), S::Error> {
         let (stood, company) = (self.stood, self.company);
         let view = stood.history.now();
-        let row = company_row(&view, company);
-        let shares = share_row(&view, company);
-        let earnings = earnings_of(stood.history.events(), company);
+        let line = company_line(&view, company);
+        let (row, shares, earnings) = (line.row, line.shares, line.earnings);
         let (at, square, place) = match row.square {
             Some(square) => (
                 Fact::from(price(square)),
                 Fact::from(square),
-                Fact::Number(before_in_stack(&view, square, company) as Money + 1),
+                Fact::Number(line.above as Money + 1),
             ),
             None => (Fact::Nothing, Fact::Nothing, Fact::Nothing),
         };
@@ -369,7 +366,7 @@ impl Serialize for Figures<'_> {
             ("revenue_round", round),
             ("offering", Fact::from(shares.offering)),
             ("pool", Fact::from(shares.pool)),
-            ("tokens_left", Fact::from(tokens_left(&view, company))),
+            ("tokens_left", Fact::from(line.tokens)),
         ];
         Object {
             alloc: self.alloc,

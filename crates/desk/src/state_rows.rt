@@ -1,19 +1,11 @@
 //! The rows of a state: the figures of a company, its shares, a private, a kind of train, and the
 //! game. What is printed is a function of the row alone.
-ghost use Rattle.std.specs.Prelude.{◌≡◌, option_map, pos};
-ghost use Rattle.desk_base.specs.StockLeft.{trains_left};
-ghost use Rattle.events.specs.Event.{party_of_company};
-ghost use Rattle.events.specs.declared.event.Shareholder.TheVariants.{BankPool, InitialOffering};
-ghost use Rattle.market.specs.OperatingOrder.{operates};
-ghost use Rattle.privates.specs.Bank.{price_of};
-ghost use Rattle.std.specs.Prelude.{None};
-ghost use Rattle.tables.specs.Roster.{certificate_limit_of, face_of};
-ghost use Rattle.tables.specs.Train.{limit_of, trains_of};
-ghost use Rattle.totals.specs.LookBack.{cash_of, is_sold, owner_of, priority_of};
-ghost use Rattle.totals.specs.Shares.{is_started, par_of, president_of, shares_of, square_of};
-ghost use Rattle.totals.specs.Trains.{phase_of, trains_held};
+ghost use Rattle.std.specs.Prelude.{◌≡◌, ◌<◌, ◌^◌};
+ghost use Rattle.desk.specs.Rows.{above_on, company_line, company_row, game_row, private_row, share_row, train_row};
 
-use desk_base::trains_left;
+use crate::earnings::{Earnings, earnings_of};
+use crate::stack::before_in_stack;
+use desk_base::{tokens_left, trains_left};
 use history::{GameView, Holder, Party, ShareCount, Shareholder, TrainCount};
 use market::operates;
 use privates::price_of;
@@ -36,10 +28,7 @@ pub(crate) struct GameRow {
 
 /// Returns the figures of a game.
 pub(crate) fn game_row(view: &GameView) -> GameRow
-    ensures phase { result.phase ≡ phase_of view.now.events.now }
-    ensures priority { result.priority ≡ priority_of view.now.seats view.now.events.now }
-    ensures certificates { result.certificates ≡ certificate_limit_of view.now.seats }
-    ensures trains { result.trains ≡ limit_of (phase_of view.now.events.now) }
+    ensures { result ≡ game_row view.now.seats view.now.events.now }
 {
     GameRow {
         phase: view.phase(),
@@ -64,10 +53,7 @@ pub(crate) struct PrivateRow {
 
 /// Returns the figures of a private.
 pub(crate) fn private_row(view: &GameView, private: Private) -> PrivateRow
-    ensures face { result.face ≡ face_of private }
-    ensures price { result.price ≡ price_of view.now.events.now private }
-    ensures is_sold { result.is_sold ≡ is_sold view.now.events.now private }
-    ensures owner { result.owner ≡ owner_of view.now.events.now private }
+    ensures { result ≡ private_row view.now.events.now private }
 {
     PrivateRow {
         face: face(private),
@@ -94,12 +80,7 @@ pub(crate) struct CompanyRow {
 
 /// Returns the figures of a company.
 pub(crate) fn company_row(view: &GameView, company: Company) -> CompanyRow
-    ensures square { result.square ≡ square_of view.now.events.now company }
-    ensures president { result.president ≡ president_of view.now.events.now company }
-    ensures is_started { result.is_started ≡ is_started view.now.events.now company }
-    ensures operates { result.operates ≡ operates view.now.events.now company }
-    ensures cash { result.cash
-        ≡ cash_of view.now.seats view.now.events.now (party_of_company company) }
+    ensures { result ≡ company_row view.now.seats view.now.events.now company }
 {
     CompanyRow {
         square: view.square(company),
@@ -123,15 +104,50 @@ pub(crate) struct ShareRow {
 
 /// Returns the shares of a company that no player has.
 pub(crate) fn share_row(view: &GameView, company: Company) -> ShareRow
-    ensures par { result.par ≡ option_map pos (par_of view.now.events.now company) }
-    ensures offering { result.offering
-        ≡ shares_of view.now.events.now company InitialOffering }
-    ensures pool { result.pool ≡ shares_of view.now.events.now company BankPool }
+    ensures { result ≡ share_row view.now.events.now company }
 {
     ShareRow {
         par: view.par(company),
         offering: view.shares(company, Shareholder::InitialOffering),
         pool: view.shares(company, Shareholder::BankPool),
+    }
+}
+
+/// All of a company that is a cell of its own.
+#[derive(Clone, Copy)]
+pub(crate) struct CompanyLine {
+    pub(crate) company: Company,
+    pub(crate) row: CompanyRow,
+    /// How many tokens are above its own on its square; 0 if it has none.
+    pub(crate) above: usize,
+    pub(crate) earnings: Earnings,
+    pub(crate) shares: ShareRow,
+    /// The tokens that it has left.
+    pub(crate) tokens: usize,
+}
+
+/// Returns all of a company that is a cell of its own.
+pub(crate) fn company_line(view: &GameView, company: Company) -> CompanyLine
+    ensures row { result ≡ company_line view.now.seats view.now.events.now company }
+    ensures small { result.earnings.dollars < 2 ^ 127 }
+{
+    CompanyLine {
+        company,
+        row: company_row(view, company),
+        above: above_on(view, company, view.square(company)),
+        earnings: earnings_of(view.events, company),
+        shares: share_row(view, company),
+        tokens: tokens_left(view, company),
+    }
+}
+
+/// Returns how many tokens are above a company's own, if it has this square.
+fn above_on(view: &GameView, company: Company, square: Option<Square>) -> usize
+    ensures { result ≡ above_on view.now.events.now company square }
+{
+    match square {
+        Some(square) => before_in_stack(view, square, company),
+        None => 0,
     }
 }
 
@@ -148,9 +164,7 @@ pub(crate) struct TrainRow {
 
 /// Returns the figures of a kind of train.
 pub(crate) fn train_row(view: &GameView, kind: Kind) -> TrainRow
-    ensures left { result.left ≡ trains_left view.now.events.now kind }
-    ensures pool { result.pool ≡ trains_held view.now.events.now None kind }
-    ensures price { result.price ≡ (trains_of kind).price }
+    ensures { result ≡ train_row view.now.events.now kind }
 {
     TrainRow {
         left: trains_left(view, kind),

@@ -2,6 +2,8 @@
 //!
 //! Its figures come from the rows of a state, and the ranks of the result from `standing`. The rest
 //! is layout.
+ghost use Rattle.std.specs.Prelude.{◌≡◌, ◌++◌, IfOk, OnOk};
+ghost use Rattle.desk.specs.Statement.{before_round, started_in, started_one};
 
 use crate::stack::all_in_order;
 use crate::state_companies::{push_all_shares, push_all_tokens};
@@ -66,18 +68,36 @@ fn started_in(
     alloc: Global,
     history: &History,
     order: &[Company],
-) -> Result<Vec<Company>, AllocError> {
+) -> Result<Vec<Company>, AllocError>
+    ensures { IfOk result (λ started. started.items
+        ≡ started_in history.now.events order.now) }
+{
     let mut started = Vec::new(alloc);
     for company in order {
-        if history.now().is_started(*company) {
-            started.push(*company)?;
-        }
+        push_started(&mut started, history, *company)?;
     }
     Ok(started)
 }
 
+/// Adds a company, if it is started.
+fn push_started(
+    started: &mut Vec<Company>,
+    history: &History,
+    company: Company,
+) -> Result<(), AllocError>
+    ensures { OnOk result (started.new.items
+        ≡ started.old.items ++ started_one history.now.events company) }
+{
+    if history.now().is_started(company) {
+        started.push(company)?;
+    }
+    Ok(())
+}
+
 /// Returns the number of events before the round that began last; 0 if none began.
-fn before_round(events: &[Event]) -> usize {
+fn before_round(events: &[Event]) -> usize
+    ensures { result ≡ before_round events.now }
+{
     let mut before = 0;
     for (place, event) in events.iter().enumerate() {
         if event.round().is_some() {

@@ -5,6 +5,8 @@ pub mod Cause
 pub mod Coming
 pub mod Fault
 pub mod Laid
+pub mod Moments
+pub mod Objections
 pub mod Reason
 pub mod Refusal
 pub mod SetNumber

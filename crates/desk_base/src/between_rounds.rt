@@ -1,6 +1,9 @@
 //! A game between two rounds: after the last that its sheets play, after a round, or before one.
-ghost use Rattle.std.specs.Prelude.{IfErr};
+ghost use Rattle.std.specs.Prelude.{◌≡◌, IfErr, IfOk, MatchOption, None};
+ghost use Rattle.desk_base.specs.Moments.{IsBehind, IsNumbered, StandsIn, end_shown, is_last};
 ghost use Rattle.desk_base.specs.Refusal.{IsOfGame};
+ghost use Rattle.desk_base.specs.SetNumber.{IsNumberPlayed, number_in_set};
+ghost use Rattle.rounds.specs.Steps.{game_so_far};
 ghost use Rattle.rounds.specs.Play.{IsTheGame};
 
 use crate::fault::DeskFault;
@@ -41,6 +44,10 @@ pub struct Stood<'a> {
 /// Returns a game after the last round that its sheets play.
 pub fn stood_at_last<'a>(game: &'a Game<'a>) -> Stood<'a>
     requires { IsTheGame game.now }
+    ensures file { result.sheets.now ≡ game.now.file }
+    ensures game { result.history.now ≡ game.now.game }
+    ensures end { result.end ≡ game.now.end }
+    ensures in_set { IsNumberPlayed game.now result.in_set }
 {
     Stood {
         sheets: game.sheets(),
@@ -50,20 +57,43 @@ pub fn stood_at_last<'a>(game: &'a Game<'a>) -> Stood<'a>
     }
 }
 
-/// Returns a game after the rounds played so far; `None` once a fault has stopped play.
-pub fn stood_now<'a>(play: &'a Play<'a>) -> Option<Stood<'a>> {
-    let history = play.history()?;
-    let end = match (play.outcome(), play.last_round()) {
-        (Some(end), _) => end,
-        (None, Some(round)) => end_after(history, round),
-        (None, None) => End::Awaiting(Round::Opening(1)),
-    };
-    Some(Stood {
+/// Returns a game after the rounds that were played; `None` once a fault has stopped play.
+pub fn stood_now<'a>(play: &'a Play<'a>) -> Option<Stood<'a>>
+    ensures { MatchOption result (game_so_far play.now ≡ None) (λ stood. StandsIn play.now stood) }
+{
+    match play.history() {
+        Some(history) => Some(stood_in(play, history)),
+        None => None,
+    }
+}
+
+/// Returns a game after the rounds that were played, in which this happened.
+fn stood_in<'a>(play: &'a Play<'a>, history: &'a History) -> Stood<'a>
+    ensures file { result.sheets.now ≡ play.now.file }
+    ensures game { result.history.now ≡ history.now }
+    ensures end { IsNumbered play.now.last_round → result.end
+        ≡ end_shown play.now.outcome play.now.last_round history.now.events }
+    ensures in_set { result.in_set ≡ number_in_set result.end history.now.events }
+{
+    let end = end_shown(play.outcome(), play.last_round(), history);
+    Stood {
         sheets: play.sheets(),
         history,
         end,
         in_set: number_after(history, end),
-    })
+    }
+}
+
+/// Returns what comes after all that has happened, or how the game ended: by the end that a step
+/// has returned, or else by the round that was played last.
+fn end_shown(outcome: Option<End>, last: Option<Round>, history: &History) -> End
+    ensures { IsNumbered last → result ≡ end_shown outcome last history.now.events }
+{
+    match (outcome, last) {
+        (Some(end), _) => end,
+        (None, Some(round)) => end_after(history, round),
+        (None, None) => End::Awaiting(Round::Opening(1)),
+    }
 }
 
 /// Plays the game of some sheets up to the end of a round. Fails with `Round` if that round is not
@@ -73,13 +103,14 @@ pub fn play_behind<'a>(
     sheets: &'a Sheets<'a>,
     asked: Round,
 ) -> Result<Play<'a>, DeskFault>
-    ensures { IfErr result IsOfGame }
+    ensures behind { IfOk result (IsBehind sheets.now asked) }
+    ensures fault { IfErr result IsOfGame }
 {
     let mut play = Play::start(alloc, sheets)?;
     let mut search = Search::new(alloc);
     loop {
         match play.step(&mut search) {
-            Ok(Step::Played(round)) if round == asked => return Ok(play),
+            Ok(Step::Played(_)) if is_last(play.last_round(), asked) => return Ok(play),
             Ok(Step::Played(_)) => {}
             Ok(Step::Ended(_)) => return Err(DeskFault::Round),
             Err(fault) => return Err(DeskFault::from(fault.want_of_memory())),
@@ -94,7 +125,8 @@ pub fn play_before<'a>(
     sheets: &'a Sheets<'a>,
     asked: Round,
 ) -> Result<Play<'a>, DeskFault>
-    ensures { IfErr result IsOfGame }
+    ensures file { IfOk result (λ play. play.file ≡ sheets.now) }
+    ensures fault { IfErr result IsOfGame }
 {
     let mut play = Play::start(alloc, sheets)?;
     let mut search = Search::new(alloc);
@@ -110,7 +142,17 @@ pub fn play_before<'a>(
     }
 }
 
-/// Returns whether a round comes next and every player has a sheet for it.
+/// Returns whether the round that was played last is this.
+fn is_last(last: Option<Round>, asked: Round) -> bool
+    ensures { result ≡ is_last last asked }
+{
+    match last {
+        Some(round) => round == asked,
+        None => false,
+    }
+}
+
+/// Returns whether a round comes next, and each player has a sheet for it.
 fn comes_next(play: &Play, asked: Round) -> bool {
     match stood_now(play) {
         Some(

@@ -1,5 +1,5 @@
 //! The map in a state of a game, and the best runs of a company's trains there.
-ghost use Rattle.std.specs.Prelude.{◌≡◌, ◌++◌, IfOk, OnOk, replicate};
+ghost use Rattle.std.specs.Prelude.{◌≡◌, ◌++◌, ◌≤◌, IfOk, OnOk, length, replicate, take};
 ghost use Rattle.legal_runs.specs.Claim.{ClaimHolds};
 ghost use Rattle.legal_runs.specs.Set.{IsGreatest};
 ghost use Rattle.desk_base.specs.Laid.{laid_then};
@@ -15,13 +15,24 @@ use std::alloc::{AllocError, Global};
 use tables::{Company, Kind, Money};
 
 /// Returns the view of a game of this many seats after this many events of a walk. If the walk has
-/// fewer events, it returns the view where the walk is. (Callers never ask for more, which the
-/// prover does not know.)
-pub fn view_behind<'a>(walk: &'a mut Walk, passed: usize, seats: usize) -> GameView<'a> {
+/// fewer events, it returns the view where the walk is. (Callers count events, so it has as many.)
+pub fn view_behind<'a>(walk: &'a mut Walk, passed: usize, seats: usize) -> GameView<'a>
+    ensures seats { result.seats ≡ seats }
+    ensures events { passed ≤ length walk.old.events.now →
+        result.events.now ≡ take passed walk.old.events.now }
+{
+    go_behind(walk, passed);
+    walk.view(seats)
+}
+
+/// Goes to the place after this many events of a walk, if it has as many.
+fn go_behind(walk: &mut Walk, passed: usize)
+    ensures events { walk.new.events.now ≡ walk.old.events.now }
+    ensures passed { passed ≤ length walk.old.events.now → walk.new.passed ≡ passed }
+{
     if passed <= walk.events.len() {
         walk.go(passed);
     }
-    walk.view(seats)
 }
 
 /// Returns the board of a game. Fails only if allocation fails.

@@ -1,5 +1,5 @@
 -- What the proofs of a look through a file share.
-pub mod FaultLemmas
+pub mod SaidLemmas
 pub mod FileLemmas
 pub mod HeadLemmas
 pub mod NumberedLemmas

@@ -5,6 +5,7 @@ pub mod Heads
 pub mod Looked
 pub mod Mail
 pub mod Numbered
+pub mod OrderSteps
 pub mod Refusals
 pub mod Refused
 pub mod Replaced
@@ -12,5 +13,6 @@ pub mod RoundsPlayed
 pub mod SheetFaults
 pub mod SheetLike
 pub mod SheetLines
+pub mod SheetSaid
 pub mod Trials
 pub mod Unplayed

@@ -1,5 +1,5 @@
 -- What a trial of sheets plays, and which lines of a sheet it refuses.
-use Rattle.std.specs.Prelude.{◌≡◌, ℕ, Bool, ◌&&◌, nat_le, if◌then◌else◌, List, [], ◌∷◌}
+use Rattle.std.specs.Prelude.{◌≡◌, ℕ, Bool, ◌&&◌, ◌||◌, nat_le, if◌then◌else◌, List, [], ◌∷◌, length}
 use Rattle.std.specs.List.{flat_map}
 use Rattle.desk_check.specs.Heads.{came}
 use Rattle.desk_check.specs.Refusals.{refused_of}
@@ -9,6 +9,7 @@ use Rattle.desk_check.specs.declared.check_sheets.Heads.{Heads}
 use Rattle.desk_check.specs.declared.check_sheets.Sent.{Sent}
 use Rattle.desk_check.specs.declared.trials.Tried.{Tried}
 use Rattle.rounds.specs.Play.{IsTheGame}
+use Rattle.sheets.specs.Limits.{file_most, sheets_most}
 use Rattle.tables.specs.Round.{same_round}
 use Rattle.tables.specs.declared.round.Round.{Round}
 
@@ -25,6 +26,10 @@ head_if heads round from head = if is_for heads round from head then head ∷ []
 -- the heads that do
 abbrev pub sheets_for : Heads → Round → ℕ → List Head
 sheets_for heads round from = flat_map (head_if heads round from) heads.heads.items
+
+-- the file has no room for one sheet more
+abbrev pub has_no_room : List ℕ → Heads → Bool
+has_no_room file heads = nat_le file_most (length file) || nat_le sheets_most (length heads.heads.items)
 
 -- the trial plays the game of its file; its rows are the lines of a sheet that were refused in that game, but not for their
 -- condition, or have a fault

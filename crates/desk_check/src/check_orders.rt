@@ -1,6 +1,12 @@
-//! The step of a company's turn that the orders of a sheet have reached.
+//! The steps of a company's turn that the orders of a sheet have passed.
+ghost use Rattle.std.specs.Prelude.{◌≡◌};
+ghost use Rattle.desk_check.specs.OrderSteps.{beside_best, block_then, is_best, is_past, is_run, no_orders};
+ghost use Rattle.desk_check.specs.OrderSteps.{objection_behind, objection_in_step, passed_by, passed_rule};
+ghost use Rattle.desk_check.specs.OrderSteps.{step_of, without_run};
 
 use desk_base::Objection;
+use history::{PayRule, Refusal};
+use map_tables::{LayRule, RunRule, TokenRule};
 use order_grammar::Order;
 
 /// The steps of a company's turn.
@@ -26,7 +32,9 @@ pub(crate) struct Block {
 }
 
 /// Returns the step of an order; `None` if it may come at any step.
-fn step_of(order: &Order) -> Option<u8> {
+fn step_of(order: &Order) -> Option<u8>
+    ensures { result ≡ step_of order.now }
+{
     match order {
         Order::Lay(_) => Some(LAY),
         Order::Token(_) => Some(TOKEN),
@@ -37,9 +45,70 @@ fn step_of(order: &Order) -> Option<u8> {
     }
 }
 
+/// Returns whether an order has trains run.
+fn is_run(order: &Order) -> bool
+    ensures { result ≡ is_run order.now }
+{
+    matches!(order, Order::Run { .. } | Order::RunBest)
+}
+
+/// Returns whether an order has trains run their best.
+fn is_best(order: &Order) -> bool
+    ensures { result ≡ is_best order.now }
+{
+    matches!(order, Order::RunBest)
+}
+
+/// Returns the rule of an order whose step is past, if it has a step.
+fn passed_rule(order: &Order) -> Option<Refusal>
+    ensures { result ≡ passed_rule order.now }
+{
+    match order {
+        Order::Lay(_) => Some(Refusal::Lay(LayRule::StepUsed)),
+        Order::Token(_) => Some(Refusal::Token(TokenRule::StepUsed)),
+        Order::Run { .. } | Order::RunBest => Some(Refusal::Run(RunRule::StepUsed)),
+        Order::Pay | Order::Withhold => Some(Refusal::Pay(PayRule::NothingToPay)),
+        _ => None,
+    }
+}
+
+/// Returns that a step is past by this rule, if there is one.
+fn passed_by(rule: Option<Refusal>) -> Option<(Refusal, Objection)>
+    ensures { result ≡ passed_by rule }
+{
+    match rule {
+        Some(rule) => Some((rule, Objection::Passed)),
+        None => None,
+    }
+}
+
+/// Returns why a run is not obeyed beside RUN BEST, if that is among the orders.
+fn beside_best(has_best: bool) -> Option<(Refusal, Objection)>
+    ensures { result ≡ beside_best has_best }
+{
+    if has_best {
+        Some((Refusal::Run(RunRule::NoTrain), Objection::Best))
+    } else {
+        None
+    }
+}
+
+/// Returns why nothing is paid, if no train is to run.
+fn without_run(has_run: bool) -> Option<(Refusal, Objection)>
+    ensures { result ≡ without_run has_run }
+{
+    if has_run {
+        None
+    } else {
+        Some((Refusal::Pay(PayRule::NothingToPay), Objection::NoRun))
+    }
+}
+
 impl Block {
     /// Returns a block without orders.
-    pub(crate) fn none() -> Block {
+    pub(crate) fn none() -> Block
+        ensures { result ≡ no_orders }
+    {
         Block {
             step: LAY,
             has_run: false,
@@ -47,32 +116,49 @@ impl Block {
         }
     }
 
-    /// Returns the block with one more order, which may be conditional.
-    pub(crate) fn with(self, order: &Order, is_conditional: bool) -> Block {
-        let is_run = matches!(order, Order::Run { .. } | Order::RunBest);
-        let has_run = self.has_run || is_run;
+    /// Returns the block with one more order, which may be under a condition.
+    pub(crate) fn with(self, order: &Order, is_conditional: bool) -> Block
+        ensures { result ≡ block_then self order.now is_conditional }
+    {
+        let has_run = self.has_run || is_run(order);
         if is_conditional {
             return Block { has_run, ..self };
         }
         Block {
             step: step_of(order).unwrap_or(LAY).max(self.step),
             has_run,
-            has_best: self.has_best || matches!(order, Order::RunBest),
+            has_best: self.has_best || is_best(order),
         }
     }
 
-    /// Returns why an order cannot be obeyed after these, with the code of the rule; `None` if it
+    /// Returns why an order cannot be obeyed after these, with the rule that it breaks; `None` if it
     /// may be.
-    pub(crate) fn objection(self, order: &Order) -> Option<(&'static str, Objection)> {
-        let step = step_of(order)?;
-        let (behind, is_run) = (step < self.step, step == RUN);
+    pub(crate) fn objection(self, order: &Order) -> Option<(Refusal, Objection)>
+        ensures { result ≡ objection_behind self order.now }
+    {
+        if self.is_past(step_of(order)) {
+            return passed_by(passed_rule(order));
+        }
+        self.objection_in_step(order)
+    }
+
+    /// Returns whether a step, if there is one, is before that of the orders so far.
+    fn is_past(self, step: Option<u8>) -> bool
+        ensures { result ≡ is_past self step }
+    {
+        match step {
+            Some(step) => step < self.step,
+            None => false,
+        }
+    }
+
+    /// Returns why an order whose step is not past cannot be obeyed.
+    fn objection_in_step(self, order: &Order) -> Option<(Refusal, Objection)>
+        ensures { result ≡ objection_in_step self order.now }
+    {
         match order {
-            Order::Lay(_) if behind => Some(("L1", Objection::Passed)),
-            Order::Token(_) if behind => Some(("K1", Objection::Passed)),
-            Order::Run { .. } | Order::RunBest if behind => Some(("R1", Objection::Passed)),
-            Order::Pay | Order::Withhold if behind => Some(("D1", Objection::Passed)),
-            Order::Pay if !self.has_run => Some(("D1", Objection::NoRun)),
-            _ if is_run && self.has_best => Some(("R2", Objection::Best)),
+            Order::Pay => without_run(self.has_run),
+            Order::Run { .. } | Order::RunBest => beside_best(self.has_best),
             _ => None,
         }
     }

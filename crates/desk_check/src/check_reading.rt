@@ -1,9 +1,14 @@
 //! A sheet line by line: faults, orders without a place, and what can be seen to be wrong before
 //! its round is played.
-ghost use Rattle.std.specs.Prelude.{◌≡◌, ◌≤◌, [], OnOk, Ok, false};
-ghost use Rattle.desk_check.specs.SheetFaults.{TellsFaults, ends_sheet, fault_of_line, fault_said};
-ghost use Rattle.desk_check.specs.SheetFaults.{faults_of, is_open_then, is_out_of_place};
-ghost use Rattle.desk_check.specs.SheetFaults.{number_then, said_of_fault, told_from};
+ghost use Rattle.std.specs.Prelude.{◌≡◌, ◌≤◌, IfOk, OnOk, option_copied, option_map};
+ghost use Rattle.desk_check.specs.SheetFaults.{ends_sheet, is_out_of_place, said_of_fault};
+ghost use Rattle.desk_check.specs.SheetSaid.{Adds, TakesLines, begun_at, begun_by, begun_by_order, begun_then, begun_with};
+ghost use Rattle.desk_check.specs.SheetSaid.{fault_told, game_of, is_operating, is_purchase};
+ghost use Rattle.desk_check.specs.SheetSaid.{is_silent, nothing_read, presided, presided_by};
+ghost use Rattle.desk_check.specs.SheetSaid.{read_by_fault, read_by_head, read_by_order, read_then};
+ghost use Rattle.desk_check.specs.SheetSaid.{said_of_company, said_of_head, said_of_head_order, said_of_line, said_of_order};
+ghost use Rattle.desk_check.specs.SheetSaid.{said_of_wrong, shown_from, shown_of_sheet};
+ghost use Rattle.desk_check.specs.SheetSaid.{silent_in, silent_one, wrong_by_game, wrong_by_itself};
 ghost use Rattle.desk_check.specs.Unplayed.{has_place, look_of};
 ghost use Rattle.sheets.specs.Limits.{lines_most};
 ghost use Rattle.sheets.specs.Part.{line_read};
@@ -16,20 +21,16 @@ use crate::check_seat::has_to_order;
 use crate::check_sheets::{Head, Sent};
 use crate::sheet_like::closes;
 use desk_base::{Objection, objection_by_view, objection_to, other_president};
-use history::GameView;
+use history::{GameView, Refusal};
 use order_grammar::{Fault, Order, Version};
 use sheets::{LINES_MOST, NumberedLine, UnreadLine, is_blank, is_head_of, is_of_file};
 use std::alloc::AllocError;
-use tables::{COMPANIES, Company, PerCompany, Round};
+use tables::{COMPANIES, Company, PerCompany, Round, Seat};
 
-/// How far the check of a sheet has come.
-#[derive(Drop)]
-struct Reader<'v, 'g> {
-    /// The version of the file.
-    version: Version,
-    /// The game as the sheet's round begins; `None` if that is not known.
-    view: Option<&'v GameView<'g>>,
-    /// How many lines of the sheet have numbers so far.
+/// How far a sheet was looked at.
+#[derive(Clone, Copy)]
+pub(crate) struct Read {
+    /// How many lines were numbered.
     number: u32,
     /// Whether a head has come.
     is_open: bool,
@@ -39,29 +40,37 @@ struct Reader<'v, 'g> {
     begun: PerCompany<Option<usize>>,
 }
 
+/// What a sheet is looked at by.
+#[derive(Clone, Copy)]
+struct Reader<'v, 'g> {
+    /// The version of the file.
+    version: Version,
+    /// The game as the sheet's round begins; `None` if that is not known.
+    view: Option<&'v GameView<'g>>,
+    /// Whose sheet it is, and for which round.
+    sent: Sent,
+}
+
 /// Finds what is wrong with the lines of a sheet of a file of some version, and the companies that
-/// it leaves without orders, by the game at the start of its round if that is known. All lines past
-/// `LINES_MOST` have the same fault, and only the first of them is read.
-#[tactic(auto, using(crate::proofs::FaultLemmas::tells_no_more))]
+/// it leaves without orders, by the game as its round begins, where that is known. Of lines past
+/// `LINES_MOST`, which have one fault whatever they say, only the first is read.
 pub(crate) fn look_at_sheet<'a>(
     version: Version,
     view: Option<&GameView>,
     head: &Head<'a>,
     found: &mut Found<'a>,
 ) -> Result<(), AllocError>
-    ensures { OnOk result (TellsFaults found.old found.new
-        (faults_of version found.old.from head.now)) }
+    ensures { let game = option_map (λ view. view.events.now) (option_copied view.entry) in
+        OnOk result (Adds found.old found.new
+        (shown_of_sheet version game found.old.from head.now)) }
 {
-    let mut reader = Reader {
+    let reader = Reader {
         version,
         view,
-        number: 0,
-        is_open: false,
-        block: Block::none(),
-        begun: [None; COMPANIES],
+        sent: head.sent,
     };
-    reader.take_lines(head, found)?;
-    reader.add_silent(head, found)?;
+    let read = reader.take_lines(head, found)?;
+    reader.add_silent(head, &read.begun, found)?;
     Ok(())
 }
 
@@ -80,8 +89,8 @@ fn add_said<'a>(
     said: Option<Said>,
     found: &mut Found<'a>,
 ) -> Result<(), AllocError>
-    ensures { OnOk result (TellsFaults found.old found.new
-        (told_from found.old.from sent line.now.number (fault_said said))) }
+    ensures { OnOk result (Adds found.old found.new
+        (shown_from found.old.from sent line.now.number said)) }
 {
     let Some(said) = said else {
         return Ok(());
@@ -90,140 +99,361 @@ fn add_said<'a>(
     Ok(())
 }
 
-impl Reader<'_, '_> {
-    /// Finds what is wrong with the lines of a sheet.
-    fn take_lines<'a>(&mut self, head: &Head<'a>, found: &mut Found<'a>) -> Result<(), AllocError>
-        requires none { self.old.number ≡ 0 }
-        requires closed { self.old.is_open ≡ false }
-        ensures { OnOk result (TellsFaults found.old found.new
-            (faults_of self.old.version found.old.from head.now)) }
+/// Returns the line on which a company's orders begin, if they do.
+fn begun_at(begun: &[Option<usize>], company: Company) -> Option<usize>
+    ensures { result ≡ begun_at begun.now company }
+{
+    match begun.get(company.index()) {
+        Some(line) => *line,
+        None => None,
+    }
+}
+
+/// Returns the lines on which orders begin, with those that a head on a line begins.
+fn begun_by(
+    begun: PerCompany<Option<usize>>,
+    line: usize,
+    read: &NumberedLine,
+) -> PerCompany<Option<usize>>
+    ensures { result ≡ begun_by begun line (line_read read.now).reading }
+{
+    match read.order() {
+        Ok(order) => begun_by_order(begun, line, order),
+        Err(_) => begun,
+    }
+}
+
+/// Returns them with those that this order begins, if it heads a company's orders.
+fn begun_by_order(
+    begun: PerCompany<Option<usize>>,
+    line: usize,
+    order: &Order,
+) -> PerCompany<Option<usize>>
+    ensures { result ≡ begun_by_order begun line order.now }
+{
+    match order {
+        Order::Company(company) => {
+            let first = begun_at(&begun, *company);
+            begun_with(begun, *company, line, first)
+        }
+        _ => begun,
+    }
+}
+
+/// Returns them with those of a company, unless they began on a line before.
+fn begun_with(
+    begun: PerCompany<Option<usize>>,
+    company: Company,
+    line: usize,
+    first: Option<usize>,
+) -> PerCompany<Option<usize>>
+    ensures { result ≡ begun_with begun company line first }
+{
+    match first {
+        Some(_) => begun,
+        None => begun_then(begun, company, line),
+    }
+}
+
+/// Returns them with those of a company, which begin on a line.
+fn begun_then(
+    begun: PerCompany<Option<usize>>,
+    company: Company,
+    line: usize,
+) -> PerCompany<Option<usize>>
+    ensures { result ≡ begun_then begun company line }
+{
+    let mut begun = begun;
+    begun[company.index()] = Some(line);
+    begun
+}
+
+impl Read {
+    /// Returns that no line has come.
+    fn nothing() -> Read
+        ensures { result ≡ nothing_read }
     {
+        Read {
+            number: 0,
+            is_open: false,
+            block: Block::none(),
+            begun: [None; COMPANIES],
+        }
+    }
+
+    /// Returns how far it is behind the head of a turn, or of a company's orders, on a line.
+    fn with_head(self, line: usize, read: &NumberedLine) -> Read
+        requires { self.number ≤ lines_most }
+        ensures { result ≡ read_by_head self line (line_read read.now).reading }
+    {
+        Read {
+            number: self.number + 1,
+            is_open: true,
+            block: Block::none(),
+            begun: begun_by(self.begun, line, read),
+        }
+    }
+
+    /// Returns how far it is behind an order that has a place in a sheet.
+    fn with_order(self, sent: Sent, read: &NumberedLine) -> Read
+        requires { self.number ≤ lines_most }
+        ensures { result ≡ read_by_order sent self (line_read read.now) }
+    {
+        let number = self.number + 1;
+        match read.order() {
+            Ok(order) if wrong_by_itself(sent, self.is_open, self.block, order).is_none() => Read {
+                number,
+                block: self.block.with(order, read.condition.is_some()),
+                ..self
+            },
+            _ => Read { number, ..self },
+        }
+    }
+
+    /// Returns how far it is behind a line with a fault.
+    fn with_fault(self) -> Read
+        requires { self.number ≤ lines_most }
+        ensures { result ≡ read_by_fault self }
+    {
+        Read {
+            number: self.number + 1,
+            ..self
+        }
+    }
+}
+
+/// Returns why an order is wrong by the orders before it, or by the map and the tables.
+fn wrong_by_itself(
+    sent: Sent,
+    is_open: bool,
+    block: Block,
+    order: &Order,
+) -> Option<(Refusal, Objection)>
+    ensures { result ≡ wrong_by_itself sent is_open block order.now }
+{
+    block
+        .objection(order)
+        .or(objection_to(sent.round, is_open, order))
+}
+
+/// Returns what is said of an order that breaks a rule, if it breaks one.
+fn said_of_wrong(wrong: Option<(Refusal, Objection)>) -> Option<Said>
+    ensures { result ≡ said_of_wrong wrong }
+{
+    match wrong {
+        Some((rule, reason)) => Some(Said::Breaks(rule, reason)),
+        None => None,
+    }
+}
+
+impl Reader<'_, '_> {
+    /// Finds what is wrong with the lines of a sheet. Returns how far it was read.
+    fn take_lines<'a>(&self, head: &Head<'a>, found: &mut Found<'a>) -> Result<Read, AllocError>
+        ensures { IfOk result (TakesLines self.now head.now found.old found.new) }
+    {
+        let mut read = Read::nothing();
         let lines = FileLines {
             passed: head.line.number,
             rest: head.line.rest,
         };
         for line in lines {
-            if ends_sheet(self.number, line.text) {
-                return Ok(());
+            if ends_sheet(read.number, line.text) {
+                return Ok(read);
             }
-            let said = self.take(head, &line);
-            add_said(&line, head.sent, said, found)?;
+            let said = self.take(&mut read, &line);
+            add_said(&line, self.sent, said, found)?;
         }
-        Ok(())
+        Ok(read)
     }
 
     /// Takes the next line. Returns what there is to say of it; `None` for mail.
-    fn take(&mut self, head: &Head, line: &FileLine) -> Option<Said>
-        requires { self.old.number ≤ lines_most }
-        ensures version { self.new.version ≡ self.old.version }
-        ensures number { self.new.number ≡ number_then self.old.number line.now.text.now }
-        ensures is_open { self.new.is_open ≡ is_open_then self.old.version head.now.sent.round
-            self.old.number self.old.is_open line.now.text.now }
-        ensures fault { fault_said result ≡ fault_of_line self.old.version head.now.sent.round
-            self.old.number self.old.is_open line.now.text.now }
+    fn take(&self, read: &mut Read, line: &FileLine) -> Option<Said>
+        requires { read.old.number ≤ lines_most }
+        ensures read { read.new ≡ read_then self.now.version self.now.sent read.old
+            line.now.number line.now.text.now }
+        ensures said { result ≡ said_of_line self.now.version (game_of self.now) self.now.sent
+            read.old line.now.text.now }
     {
         if is_blank(line.text) {
             return None;
         }
-        self.number += 1;
-        let read = UnreadLine {
+        let before = *read;
+        let numbered = UnreadLine {
             version: self.version,
-            number: self.number,
+            number: before.number + 1,
             text: line.text,
         }
         .read();
-        match look_at(&read, head.sent.round, self.is_open) {
-            Look::Bad(_) if is_mail(line.text) => None,
-            Look::Bad(fault) => Some(said_of_fault(self.is_open, fault)),
-            Look::Head => {
-                self.is_open = true;
-                self.begin(head, line, &read)
+        match look_at(&numbered, self.sent.round, before.is_open) {
+            Look::Bad(fault) => {
+                *read = before.with_fault();
+                fault_said(before.is_open, fault, line.text)
             }
-            Look::Good => self.object(head, &read),
+            Look::Head => {
+                *read = before.with_head(line.number, &numbered);
+                self.said_of_head(&before.begun, &numbered)
+            }
+            Look::Good => {
+                *read = before.with_order(self.sent, &numbered);
+                self.said_of_order(before, &numbered)
+            }
         }
     }
 
-    /// Takes the head of a turn, or of a company's orders. Returns what there is to say of it.
-    fn begin(&mut self, head: &Head, line: &FileLine, read: &NumberedLine) -> Option<Said>
-        ensures version { self.new.version ≡ self.old.version }
-        ensures number { self.new.number ≡ self.old.number }
-        ensures is_open { self.new.is_open ≡ self.old.is_open }
-        ensures no_fault { fault_said result ≡ None }
+    /// Returns what there is to say of the head of a turn, or of a company's orders.
+    fn said_of_head(&self, begun: &[Option<usize>], read: &NumberedLine) -> Option<Said>
+        ensures { result ≡ said_of_head (game_of self.now) self.now.sent begun.now
+            (line_read read.now).reading }
     {
-        self.block = Block::none();
-        let Ok(Order::Company(company)) = read.order() else {
-            return None;
-        };
-        if let Some(first) = self.begun[company.index()] {
-            return Some(Said::Again(*company, first));
+        match read.order() {
+            Ok(order) => self.said_of_head_order(begun, order),
+            Err(_) => None,
         }
-        self.begun[company.index()] = Some(line.number);
-        let president = other_president(self.view?, *company, head.sent.seat)?;
-        Some(Said::Presided(*company, president))
     }
 
-    /// Takes an order that has a place. Returns what there is to say of it if it is wrong.
-    fn object(&mut self, head: &Head, read: &NumberedLine) -> Option<Said>
-        ensures version { self.new.version ≡ self.old.version }
-        ensures number { self.new.number ≡ self.old.number }
-        ensures is_open { self.new.is_open ≡ self.old.is_open }
-        ensures no_fault { fault_said result ≡ None }
+    /// Returns what there is to say of a head with this order.
+    fn said_of_head_order(&self, begun: &[Option<usize>], order: &Order) -> Option<Said>
+        ensures { result ≡ said_of_head_order (game_of self.now) self.now.sent begun.now order.now }
     {
-        let (code, reason) = self.wrong_with(head, read)?;
-        Some(Said::Breaks(code, reason))
+        match order {
+            Order::Company(company) => self.said_of_company(*company, begun_at(begun, *company)),
+            _ => None,
+        }
     }
 
-    /// Takes an order that has a place. Returns why it is wrong, with the code of the rule that it
-    /// breaks.
-    fn wrong_with(&mut self, head: &Head, read: &NumberedLine) -> Option<(&'static str, Objection)>
-        ensures version { self.new.version ≡ self.old.version }
-        ensures number { self.new.number ≡ self.old.number }
-        ensures is_open { self.new.is_open ≡ self.old.is_open }
+    /// Returns what there is to say of the head of a company's orders, which begin on this line
+    /// before it, if they do.
+    fn said_of_company(&self, company: Company, first: Option<usize>) -> Option<Said>
+        ensures { result ≡ said_of_company (game_of self.now) self.now.sent company first }
     {
-        let Ok(order) = read.order() else {
-            return None;
-        };
-        let wrong = match self.block.objection(order) {
-            Some(of_block) => Some(of_block),
-            None => objection_to(head.sent.round, self.is_open, order),
-        };
-        if wrong.is_some() {
-            return wrong;
+        match first {
+            Some(first) => Some(Said::Again(company, first)),
+            None => self.presided(company),
         }
-        self.block = self.block.with(order, read.condition.is_some());
-        if let Order::BuyTrain { .. } = order {
-            return None;
-        }
-        objection_by_view(self.view?, head.sent.seat, order)
     }
 
-    /// Finds the companies that a sheet leaves without orders.
-    fn add_silent<'a>(&self, head: &Head<'a>, found: &mut Found<'a>) -> Result<(), AllocError>
-        ensures { OnOk result (TellsFaults found.old found.new []) }
+    /// Returns who presides over a company, if it is another than whose sheet it is.
+    fn presided(&self, company: Company) -> Option<Said>
+        ensures { result ≡ presided (game_of self.now) self.now.sent company }
+    {
+        match self.view {
+            Some(view) => presided_by(company, other_president(view, company, self.sent.seat)),
+            None => None,
+        }
+    }
+
+    /// Returns what there is to say of an order that has a place.
+    fn said_of_order(&self, before: Read, read: &NumberedLine) -> Option<Said>
+        ensures { result ≡ said_of_order (game_of self.now) self.now.sent before.is_open
+            before.block (line_read read.now).reading }
+    {
+        match read.order() {
+            Ok(order) => said_of_wrong(wrong_by_itself(
+                self.sent,
+                before.is_open,
+                before.block,
+                order,
+            ).or(self.wrong_by_game(order))),
+            Err(_) => None,
+        }
+    }
+
+    /// Returns why an order is wrong by the game as the round begins. Of a train that is bought
+    /// that is not looked at.
+    fn wrong_by_game(&self, order: &Order) -> Option<(Refusal, Objection)>
+        ensures { result ≡ wrong_by_game (game_of self.now) self.now.sent order.now }
+    {
+        match self.view {
+            Some(view) if !is_purchase(order) => objection_by_view(view, self.sent.seat, order),
+            _ => None,
+        }
+    }
+
+    /// Adds the companies that a sheet leaves without orders.
+    fn add_silent<'a>(
+        &self,
+        head: &Head<'a>,
+        begun: &[Option<usize>],
+        found: &mut Found<'a>,
+    ) -> Result<(), AllocError>
+        ensures { OnOk result (Adds found.old found.new
+            (silent_in (game_of self.now) self.now.sent head.now.line.number begun.now)) }
     {
         for company in &Company::ALL {
-            if !self.is_silent(head.sent, *company) {
-                continue;
-            }
-            found.add(&head.line, Matter::Silent(*company))?;
+            self.add_if_silent(head, begun, *company, found)?;
+        }
+        Ok(())
+    }
+
+    /// Adds a company, if a sheet leaves it without orders.
+    fn add_if_silent<'a>(
+        &self,
+        head: &Head<'a>,
+        begun: &[Option<usize>],
+        company: Company,
+        found: &mut Found<'a>,
+    ) -> Result<(), AllocError>
+        ensures { OnOk result (Adds found.old found.new
+            (silent_one (game_of self.now) self.now.sent head.now.line.number begun.now company)) }
+    {
+        if self.is_silent(begun, company) {
+            found.add(&head.line, Matter::Silent(company))?;
         }
         Ok(())
     }
 
     /// Returns whether a sheet has no orders for a company that operates, over which its player
     /// presides.
-    fn is_silent(&self, sent: Sent, company: Company) -> bool {
-        let begun = self.begun[company.index()];
-        let Some(view) = self.view else {
-            return false;
-        };
-        matches!(sent.round, Round::Operating { .. })
-            && begun.is_none()
-            && has_to_order(view, company, sent.seat)
+    fn is_silent(&self, begun: &[Option<usize>], company: Company) -> bool
+        ensures { result ≡ is_silent (game_of self.now) self.now.sent begun.now company }
+    {
+        match self.view {
+            Some(view) => {
+                is_operating(self.sent.round)
+                    && begun_at(begun, company).is_none()
+                    && has_to_order(view, company, self.sent.seat)
+            }
+            None => false,
+        }
     }
 }
 
-/// Returns what is said of a line with this fault, after a head or before the first.
+/// Returns whether a round is an operating round.
+fn is_operating(round: Round) -> bool
+    ensures { result ≡ is_operating round }
+{
+    matches!(round, Round::Operating { .. })
+}
+
+/// Returns whether an order buys a train.
+fn is_purchase(order: &Order) -> bool
+    ensures { result ≡ is_purchase order.now }
+{
+    matches!(order, Order::BuyTrain { .. })
+}
+
+/// Returns what is said where this other presides over a company, if another does.
+fn presided_by(company: Company, other: Option<Option<Seat>>) -> Option<Said>
+    ensures { result ≡ presided_by company other }
+{
+    match other {
+        Some(president) => Some(Said::Presided(company, president)),
+        None => None,
+    }
+}
+
+/// Returns what is said of a line with this fault, behind a head or before the first; nothing of
+/// mail.
+fn fault_said(is_open: bool, fault: Fault, text: &[u8]) -> Option<Said>
+    ensures { result ≡ fault_told is_open fault text.now }
+{
+    if is_mail(text) {
+        return None;
+    }
+    Some(said_of_fault(is_open, fault))
+}
+
+/// Returns what is said of a line with this fault, behind a head or before the first.
 fn said_of_fault(is_open: bool, fault: Fault) -> Said
     ensures { result ≡ said_of_fault is_open fault }
 {

@@ -17,10 +17,10 @@ const MAIL: &str = "it is of a mail; cut it off, or put # before it";
 const TOO_LONG: &str = "it has over 1,024 bytes";
 
 /// What is wrong with a line that has a stray byte before its comment.
-const STRAY_BYTE: &str = "it has a byte that is not printable ASCII, such as a tab or a hard space";
+const STRAY_BYTE: &str = "it has a byte that is no printable ASCII, as a tab or a hard space";
 
 /// What is wrong with a line that is not a header.
-const NO_HEADER: &str = "the first line must be GAME 1830 1 or GAME 1830 2";
+const NO_HEADER: &str = "the first line is to be GAME 1830 1 or GAME 1830 2";
 
 /// Why a file is refused.
 #[derive(Clone, Copy)]
@@ -85,10 +85,10 @@ fn written_line(file: &[u8], before: usize) -> Option<FileLine<'_>> {
 /// Returns what is wrong with the first line of a file that is not blank.
 fn cause_of_header(file: &[u8], line: Option<FileLine>) -> &'static str {
     let Some(FileLine { text, .. }) = line else {
-        return "it has no line that is not blank; the first must be GAME 1830 1";
+        return "it has no line that is not blank; the first is to be GAME 1830 1";
     };
     if text.starts_with(BYTE_ORDER_MARK) {
-        return "there is a byte order mark before it; save the file without one";
+        return "a byte order mark stands before it; save the file without one";
     }
     if is_wide(file) {
         return "the file is UTF-16; save it as plain text";

@@ -87,8 +87,8 @@ pub(crate) fn push_said(
             };
             fill(out, "; there is no % line above it", &[Words(head)])
         }
-        Said::Breaks(code, reason) => {
-            push_rule(out, code)?;
+        Said::Breaks(rule, reason) => {
+            push_rule(out, rule.code())?;
             push_objection(out, sheets, reason)?;
             match reason {
                 Objection::NoTrain(..) => fill(out, " as the round begins", &[]),

@@ -1,7 +1,8 @@
 //! The SHEET lines of a file: whose sheet for which round each begins, and which it replaces.
 ghost use Rattle.std.specs.Prelude.{◌≡◌, ◌≤◌, OnOk, [], option_map};
-ghost use Rattle.desk_check.specs.Heads.{AreKept, came, with_head};
-ghost use Rattle.desk_check.specs.SheetLines.{Begins, complete_by, is_at, last_line};
+ghost use Rattle.std.specs.HashMap.{get};
+ghost use Rattle.desk_check.specs.Heads.{AreKept, came, first_then, with_head};
+ghost use Rattle.desk_check.specs.SheetLines.{Begins, complete_by, first_line, is_at, last_line, same_sent};
 ghost use Rattle.desk_check.specs.SheetLines.{sheet_key_of};
 ghost use Rattle.order_grammar.specs.Line.{reading_of};
 ghost use Rattle.sheets.specs.File.{players_of, sheet_key_begun};
@@ -38,9 +39,9 @@ pub(crate) struct Heads<'a> {
     pub(crate) heads: Vec<Head<'a>>,
     /// How many players there are.
     pub(crate) seats: usize,
-    /// The number of the first line that begins each sheet.
+    /// The number of the first line that begins each sheet which a later line begins again.
     first: HashMap<Sent, usize>,
-    /// The number of the last line that does.
+    /// The number of the last line that begins each sheet.
     last: HashMap<Sent, usize>,
 }
 
@@ -73,11 +74,38 @@ impl<'a> Heads<'a> {
             sent,
             replaces,
         })?;
-        if replaces.is_some() {
+        self.keep_first(sent, replaces)
+    }
+
+    /// Keeps the line that began a sheet before a line that begins it again, unless an earlier one is
+    /// kept.
+    fn keep_first(&mut self, sent: Sent, replaces: Option<usize>) -> Result<(), AllocError>
+        ensures heads { self.new.heads ≡ self.old.heads }
+        ensures seats { self.new.seats ≡ self.old.seats }
+        ensures last { self.new.last ≡ self.old.last }
+        ensures first { OnOk result ((its : Sent) → get same_sent self.new.first its
+            ≡ first_then sent replaces (get same_sent self.old.first sent)
+            (get same_sent self.old.first its) its) }
+    {
+        let Some(before) = replaces else {
+            return Ok(());
+        };
+        if self.first.contains_key(&sent) {
             return Ok(());
         }
-        self.first.insert(sent, line.number)?;
+        self.first.insert(sent, before)?;
         Ok(())
+    }
+
+    /// Returns the number of the first line that begins a sheet; `None` if none does.
+    fn first_line(&self, sent: Sent) -> Option<usize>
+        requires { AreKept self.now }
+        ensures { result ≡ first_line (sheet_key_of sent) (came self.now) }
+    {
+        match self.first.get(&sent) {
+            Some(first) => Some(*first),
+            None => self.last.get(&sent).copied(),
+        }
     }
 
     /// Returns the number of the line by which every player had a sheet for a round; `None` if some
@@ -89,8 +117,8 @@ impl<'a> Heads<'a> {
         let mut by = 0;
         for number in 0..self.seats {
             let seat = Seat::at(number);
-            let first = self.first.get(&Sent { seat, round })?;
-            by = by.max(*first);
+            let first = self.first_line(Sent { seat, round })?;
+            by = by.max(first);
         }
         Some(by)
     }

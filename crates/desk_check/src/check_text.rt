@@ -144,7 +144,7 @@ fn push_replaced(
         Lateness::NotReached => (
             "; every player had one for ",
             Piece::Round(round),
-            ", and the game does not reach it",
+            ", and the game does not come to it",
         ),
         Lateness::Played => (". ", Piece::Round(round), " WAS PLAYED"),
         Lateness::Corrects => (", a correction in the same batch", NOTHING, ""),

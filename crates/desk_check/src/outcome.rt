@@ -1,5 +1,6 @@
 //! What became of a round that was played, which decides what is reported of the trials of its
 //! sheets alone.
+ghost use Rattle.std.specs.Prelude.{◌≡◌, ◌==◌, ◌&&◌};
 
 use crate::check_changed::are_alike;
 use crate::check_sheets::Sent;
@@ -111,6 +112,8 @@ pub(crate) fn rows_beyond(
 }
 
 /// Returns whether a line is the one with this number in the sheet of a seat.
-fn is_line(line: &SeatLine, seat: Seat, number: u32) -> bool {
+fn is_line(line: &SeatLine, seat: Seat, number: u32) -> bool
+    ensures { result ≡ (line.now.seat.0 == seat.0 && line.now.number == number) }
+{
     line.seat == seat && line.number == number
 }

@@ -3,7 +3,7 @@ ghost use Rattle.std.specs.Prelude.{◌≡◌, ◌++◌, IfOk, OnOk};
 ghost use Rattle.std.specs.List.{flat_map};
 ghost use Rattle.foresight.specs.TrialFile.{IsBegun, alone_file, tried_file};
 ghost use Rattle.desk_check.specs.Heads.{AreKept};
-ghost use Rattle.desk_check.specs.Trials.{IsTried, head_if, sheets_for};
+ghost use Rattle.desk_check.specs.Trials.{IsTried, has_no_room, head_if, sheets_for};
 
 use crate::check_found::{Found, Standing};
 use crate::check_sheets::{Head, Heads, Sent};
@@ -14,7 +14,7 @@ use crate::refusals::{RefusedLine, refused_of};
 use crate::told::{Trial, TriedSheet, tell_forced, tell_refused};
 use foresight::TrialFile;
 use rounds::{End, Game, play};
-use sheets::{FileFault, Sheets, collect};
+use sheets::{FILE_MOST, FileFault, SHEETS_MOST, Sheets, collect};
 use std::alloc::{AllocError, Global};
 use tables::Round;
 
@@ -52,7 +52,7 @@ pub(crate) fn try_sheets<'a>(
 {
     let last = last_to_try(alloc, heads, reached, found.from)?;
     let awaited = awaited_to_try(alloc, heads, reached)?;
-    if last.is_empty() && awaited.is_empty() {
+    if last.is_empty() && awaited.is_empty() || has_no_room(file, heads) {
         return Ok(());
     }
     let mut trial = TrialFile::begin(alloc, file)?;
@@ -82,6 +82,14 @@ pub(crate) fn try_sheets<'a>(
         alone.as_slice(),
         beyond,
     )
+}
+
+/// Returns whether a file has no room for one sheet more. Then each trial is refused, and no copy of
+/// the file is made for it.
+fn has_no_room(file: &[u8], heads: &Heads) -> bool
+    ensures { result ≡ has_no_room file.now heads.now }
+{
+    file.len() >= FILE_MOST || heads.heads.len() >= SHEETS_MOST
 }
 
 /// Returns the heads of the sheets for the last round that was played that are tried: those that

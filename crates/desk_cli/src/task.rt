@@ -297,19 +297,20 @@ fn argument_of<'a>(alloc: Global, operand: Operand) -> Arg<'a> {
         Operand::Before => flag(alloc, "before").help("The state before that round"),
         Operand::Json => flag(alloc, "json").help("Write facts for other programs, as JSON"),
         Operand::All => flag(alloc, "all").help("Show everything"),
-        Operand::From => Arg::new(alloc, "from")
-            .long("from")
-            .value_name("LINE")
-            .help("Show only findings from this line of the file on"),
+        Operand::From => Arg::new(alloc, "from").long("from").value_name("LINE").help(
+            "Show only findings from this line of the file on",
+        ),
         Operand::Due => Arg::new(alloc, "due")
             .long("due")
             .value_name("TEXT")
             .help("When the next sheets are due, in your own words"),
-        Operand::Codes => Arg::new(alloc, "CODE").num_args(0..).help(
-            "The codes, such as G3; a list of them all if none is named",
-        ),
+        Operand::Codes => Arg::new(alloc, "CODE")
+            .num_args(0..)
+            .help("The codes, such as G3; a list of them all if none is named"),
         Operand::Lines => {
-            flag(alloc, "lines").help("Write only order lines, each with its price or outcome")
+            flag(alloc, "lines").help(
+                "Write only order lines, each with its price or outcome",
+            )
         }
         Operand::Best => {
             flag(alloc, "best").help("Show what the company's best runs would earn after each")
@@ -334,9 +335,9 @@ fn argument_of<'a>(alloc: Global, operand: Operand) -> Arg<'a> {
         Operand::Hex => Arg::new(alloc, "HEX")
             .required(true)
             .help("The hex, such as H10"),
-        Operand::Trains => Arg::new(alloc, "TRAIN").num_args(0..).help(
-            "The trains, such as 4 4 D; those that it has if none is named",
-        ),
+        Operand::Trains => Arg::new(alloc, "TRAIN")
+            .num_args(0..)
+            .help("The trains, such as 4 4 D; those that it has if none is named"),
         Operand::Player => {
             Arg::new(alloc, "PLAYER")
                 .required(true)

@@ -1,6 +1,6 @@
 -- A round's part of the report of a file.
 use Rattle.std.proofs.Common.{◌≡◌, ℕ, true, List, Option}
-use Rattle.desk_base.specs.Refusal.{HasNone}
+use Rattle.desk_base.specs.Refusal.{HasNone, IsOfGame}
 use Rattle.desk_round.specs.RoundPart.{HasNoText, IsRoundFault, IsRoundPart}
 use Rattle.desk_round.specs.RoundPart.{is_played, round_asked, text_of_round}
 use Rattle.desk_base.specs.declared.fault.DeskFault.{DeskFault}
@@ -32,3 +32,10 @@ pub no_part_where_it_fails : (fault : DeskFault) (asked : Option the_round.Round
 no_part_where_it_fails Round asked file none = absurd none
 no_part_where_it_fails Memory asked file none = none
 no_part_where_it_fails (File fault) asked file none = none
+
+-- a round that is not there is no fault of a file
+pub of_game : (fault : DeskFault) (played : Played) (asked : Option the_round.Round) → HasNoText played asked fault
+    → IsOfGame fault
+of_game Round played asked none = tt
+of_game Memory played asked none = tt
+of_game (File fault) played asked none = absurd none

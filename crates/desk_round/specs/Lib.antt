@@ -1,6 +1,7 @@
 -- What the desk tells of a round.
 pub mod Cause
 pub mod Change
+pub mod Detail
 pub mod Done
 pub mod Figures
 pub mod Groups

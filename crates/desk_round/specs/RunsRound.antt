@@ -1,14 +1,17 @@
 -- Of which round the runs are told: of that which is asked for, if it was played; otherwise of the last
 -- in which a company ran, or of the last that was played if none ran.
-use Rattle.std.specs.Prelude.{if◌then◌else◌, List, Option, Some, None, Result, Ok, Err}
-use Rattle.std.specs.List.{fold}
+use Rattle.std.specs.Prelude.{ℕ, ◌+◌, Bool, true, false, if◌then◌else◌, List, [], ◌∷◌, ◌++◌, Option, Some, None, Result, Ok, Err}
+use Rattle.std.specs.List.{cons_option, fold}
 use Rattle.std.specs.Option.{option_or}
 use Rattle.desk_base.specs.declared.fault.DeskFault.{DeskFault}
 use Rattle.desk_base.specs.declared.fault.DeskFault.TheVariants as desk
 use Rattle.desk_round.specs.Played.{was_played}
+use Rattle.desk_round.specs.Refused.{within_then}
+use Rattle.desk_round.specs.declared.train_runs.RunRow.{RunRow}
 use Rattle.desk_round.specs.declared.train_runs.Seen.{Seen}
 use Rattle.events.specs.declared.event.Event.{Event}
-use Rattle.events.specs.declared.event.Event.TheVariants.{Round as Begun, Runs}
+use Rattle.events.specs.declared.event.Event.TheVariants.{Round as Begun, Ruled, Runs}
+use Rattle.tables.specs.declared.roster.Company.{Company}
 use Rattle.tables.specs.declared.round.Round.{Round}
 
 -- after one more event
@@ -32,3 +35,50 @@ round_if (Some round) = Ok round
 abbrev pub round_of_runs : List Event → Option Round → Result Round DeskFault
 round_of_runs events (Some round) = if was_played events round then Ok round else Err desk.Round
 round_of_runs events None = round_if (last_with_runs events)
+
+-- how many events precede the last ruling of a line, with one more event
+abbrev pub ruled_then : Option ℕ → ℕ → Event → Option ℕ
+ruled_then ruled passed (Ruled seat line ruling) = Some passed
+ruled_then ruled passed other = ruled
+
+-- what a company earned, if it was in the round, and a line had been ruled
+abbrev pub ran : Bool → Option ℕ → ℕ → Company → ℕ → Option RunRow
+ran within None passed company revenue = None
+ran within (Some ruled) passed company revenue =
+    if within
+    then Some (record { place = passed; ruled = ruled; company = company; revenue = revenue })
+    else None
+
+-- by an event that this many precede
+abbrev pub run_by : Bool → Option ℕ → ℕ → Event → Option RunRow
+run_by within ruled passed (Runs company revenue) = ran within ruled passed company revenue
+run_by within ruled passed other = None
+
+-- as a list
+abbrev pub runs_by : Bool → Option ℕ → ℕ → Event → List RunRow
+runs_by within ruled passed event = cons_option (run_by within ruled passed event) []
+
+-- whether the round is in hand, how many events there are, how many precede the last ruling, and what companies earned
+pub record RunsSoFar : Type 0 where
+  pub within : Bool
+  pub passed : ℕ
+  pub ruled : Option ℕ
+  pub rows : List RunRow
+
+-- before the first event
+abbrev pub no_runs : RunsSoFar
+no_runs = record { within = false; passed = 0; ruled = None; rows = [] }
+
+-- after one more event
+abbrev pub runs_then : Round → RunsSoFar → Event → RunsSoFar
+runs_then round so_far event =
+    record {
+      within = within_then round so_far.within event;
+      passed = so_far.passed + 1;
+      ruled = ruled_then so_far.ruled so_far.passed event;
+      rows = so_far.rows ++ runs_by so_far.within so_far.ruled so_far.passed event;
+    }
+
+-- what each company earned in a round, in order: each of its runs, and no other
+abbrev pub runs_in : Round → List Event → List RunRow
+runs_in round events = (fold (runs_then round) no_runs events).rows

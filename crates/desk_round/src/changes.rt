@@ -5,7 +5,7 @@ ghost use Rattle.totals.specs.Bids.{free_cash_of};
 ghost use Rattle.totals.specs.LookBack.{cash_of};
 
 use crate::bulletin_text::BROUGHT;
-use crate::groups::Whose;
+use crate::groups::{Whose, same_whose};
 use desk_base::Piece::{Bytes, Column, Number, Right, Words};
 use desk_base::{Piece, fill, push, push_wrapped};
 use history::{GameView, Party};
@@ -127,7 +127,7 @@ pub(crate) fn push_changes(
     let mut free = Vec::new(alloc);
     for seat in 0..sheets.seats() {
         let seat = Seat::at(seat);
-        if whose != Whose::Seat(seat) {
+        if !same_whose(whose, Whose::Seat(seat)) {
             let player = Bytes(name(sheets, seat));
             push_if_changed(
                 &mut cash,
@@ -140,7 +140,7 @@ pub(crate) fn push_changes(
         }
     }
     for company in &Company::ALL {
-        if whose != Whose::Company(*company) {
+        if !same_whose(whose, Whose::Company(*company)) {
             let change = cash_change(before, after, Party::of_company(*company));
             push_if_changed(&mut cash, Words(company.code()), change)?;
         }

@@ -1,14 +1,17 @@
 //! The events of a round in groups: each belongs to the turn of a company, of a player, or to none.
-ghost use Rattle.std.specs.Prelude.{◌≡◌, ◌++◌, OnOk};
-ghost use Rattle.desk_round.specs.Groups.{any_group, pass_of};
+ghost use Rattle.std.specs.Prelude.{◌≡◌, ◌+◌, ◌<◌, ◌^◌, ◌++◌, IfOk, OnOk};
+ghost use Rattle.desk_round.specs.Groups.{any_group, grouped_then, groups_of, is_pass, joined, pass_of};
+ghost use Rattle.desk_round.specs.Groups.{same_whose, whose_behind, whose_line, whose_now, whose_place};
+ghost use Rattle.desk_round.specs.Groups.{whose_turn, with_event};
 
-use crate::sheet_line::{SheetLine, find_line};
+use crate::played::same_round;
+use crate::sheet_line::{LinePlace, SheetLine, find_line};
 use history::Event;
 use std::alloc::{AllocError, Global};
 use tables::{Company, Round, Seat};
 
 /// Whose turn some events belong to.
-#[derive(Clone, Copy, PartialEq, Eq)]
+#[derive(Clone, Copy)]
 pub(crate) enum Whose {
     /// A company's.
     Company(Company),
@@ -44,6 +47,24 @@ impl Group {
     }
 }
 
+/// How far the events of a game are grouped.
+#[derive(Clone, Copy)]
+pub(crate) struct Grouping {
+    /// Whether the round is in hand.
+    within: bool,
+    /// Whether the event before is a pass of the round.
+    has_passed: bool,
+    /// The group that goes on, if one does.
+    group: Option<Group>,
+}
+
+/// What an event brings: the group that ends before it, if one does, and how far it is behind it.
+#[derive(Clone, Copy)]
+pub(crate) struct Grouped {
+    ended: Option<Group>,
+    now: Grouping,
+}
+
 /// Returns the groups of the events of a round, without the event that begins it. Fails only if
 /// allocation fails.
 pub(crate) fn groups_of(
@@ -51,42 +72,113 @@ pub(crate) fn groups_of(
     lines: &[SheetLine],
     events: &[Event],
     round: Round,
-) -> Result<Vec<Group>, AllocError> {
+) -> Result<Vec<Group>, AllocError>
+    ensures { IfOk result (λ groups. groups.items ≡ groups_of lines.now round events.now) }
+{
     let mut groups = Vec::new(alloc);
-    let mut open: Option<Group> = None;
-    let mut within = false;
-    let mut has_passed = false;
+    let mut now = Grouping {
+        within: false,
+        has_passed: false,
+        group: None,
+    };
     for (passed, event) in events.iter().enumerate() {
-        if let Event::Round(begun) = event {
-            within = *begun == round;
-            continue;
-        }
-        if !within {
-            continue;
-        }
-        let now = match open {
-            Some(group) => group.whose,
-            None => Whose::Nobody,
-        };
-        let whose = whose_turn(lines, now, has_passed, event);
-        has_passed = matches!(event, Event::Passes(_));
-        open = match open {
-            Some(group) if group.whose == whose => Some(Group {
-                to: passed.saturating_add(1),
-                ..group
-            }),
-            before => {
-                push_any(&mut groups, before)?;
-                Some(Group {
-                    whose,
-                    from: passed,
-                    to: passed.saturating_add(1),
-                })
-            }
-        };
+        let grouped = now.then(lines, round, passed, event);
+        push_any(&mut groups, grouped.ended)?;
+        now = grouped.now;
     }
-    push_any(&mut groups, open)?;
+    push_any(&mut groups, now.group)?;
     Ok(groups)
+}
+
+impl Grouping {
+    /// Returns what the next event brings, before which this many passed.
+    fn then(self, lines: &[SheetLine], round: Round, passed: usize, event: &Event) -> Grouped
+        requires { passed + 1 < 2 ^ 64 }
+        ensures { result ≡ grouped_then lines.now round self passed event.now }
+    {
+        match event.round() {
+            Some(begun) => Grouped {
+                ended: None,
+                now: Grouping {
+                    within: same_round(begun, round),
+                    ..self
+                },
+            },
+            None => self.with_event(lines, passed, event),
+        }
+    }
+
+    /// Returns what an event brings that begins no round.
+    fn with_event(self, lines: &[SheetLine], passed: usize, event: &Event) -> Grouped
+        requires { passed + 1 < 2 ^ 64 }
+        ensures { result ≡ with_event lines.now self passed event.now }
+    {
+        if !self.within {
+            return Grouped {
+                ended: None,
+                now: self,
+            };
+        }
+        let whose = whose_turn(lines, whose_now(self.group), self.has_passed, event);
+        joined(self.group, whose, passed, is_pass(event))
+    }
+}
+
+/// Returns what an event of this turn brings, where this group goes on, if one does. It is a pass or
+/// not.
+fn joined(last: Option<Group>, whose: Whose, passed: usize, is_pass: bool) -> Grouped
+    requires { passed + 1 < 2 ^ 64 }
+    ensures { result ≡ joined last whose passed is_pass }
+{
+    let to = passed + 1;
+    let (ended, group) = match last {
+        Some(group) if same_whose(group.whose, whose) => (None, Group { to, ..group }),
+        before => (
+            before,
+            Group {
+                whose,
+                from: passed,
+                to,
+            },
+        ),
+    };
+    Grouped {
+        ended,
+        now: Grouping {
+            within: true,
+            has_passed: is_pass,
+            group: Some(group),
+        },
+    }
+}
+
+/// Returns whether an event is a pass.
+fn is_pass(event: &Event) -> bool
+    ensures { result ≡ is_pass event.now }
+{
+    matches!(event, Event::Passes(_))
+}
+
+/// Returns whose turn a group is of, if there is one.
+fn whose_now(last: Option<Group>) -> Whose
+    ensures { result ≡ whose_now last }
+{
+    match last {
+        Some(group) => group.whose,
+        None => Whose::Nobody,
+    }
+}
+
+/// Returns whether two turns are of the same party.
+pub(crate) fn same_whose(one: Whose, other: Whose) -> bool
+    ensures { result ≡ same_whose one other }
+{
+    match (one, other) {
+        (Whose::Company(one), Whose::Company(other)) => one == other,
+        (Whose::Seat(one), Whose::Seat(other)) => one == other,
+        (Whose::Nobody, Whose::Nobody) => true,
+        _ => false,
+    }
 }
 
 /// Adds a group, if there is one.
@@ -99,19 +191,34 @@ fn push_any(groups: &mut Vec<Group>, group: Option<Group>) -> Result<(), AllocEr
     Ok(())
 }
 
-/// Returns the company whose orders a line is among, if any.
-fn company_of(lines: &[SheetLine], seat: Seat, line: u32) -> Option<Company> {
-    find_line(lines, seat, line)?.place.company()
+/// Returns whose turn a line of a sheet is of: the company's among whose orders it is, or else its
+/// player's.
+fn whose_line(lines: &[SheetLine], seat: Seat, number: u32) -> Whose
+    ensures { result ≡ whose_line lines.now seat number }
+{
+    match find_line(lines, seat, number) {
+        Some(line) => whose_place(seat, line.place),
+        None => Whose::Seat(seat),
+    }
+}
+
+/// Returns whose turn a line at this place of the sheet of a seat is of.
+fn whose_place(seat: Seat, place: LinePlace) -> Whose
+    ensures { result ≡ whose_place seat place }
+{
+    match place.company() {
+        Some(company) => Whose::Company(company),
+        None => Whose::Seat(seat),
+    }
 }
 
 /// Returns whose turn an event belongs to. `now` is whose turn the event before it belongs to, and
 /// `has_passed` whether that event is a pass.
-fn whose_turn(lines: &[SheetLine], now: Whose, has_passed: bool, event: &Event) -> Whose {
+fn whose_turn(lines: &[SheetLine], now: Whose, has_passed: bool, event: &Event) -> Whose
+    ensures { result ≡ whose_turn lines.now now has_passed event.now }
+{
     match event {
-        Event::Ruled { seat, line, .. } => match company_of(lines, *seat, *line) {
-            Some(company) => Whose::Company(company),
-            None => Whose::Seat(*seat),
-        },
+        Event::Ruled { seat, line, .. } => whose_line(lines, *seat, *line),
         Event::Passes(seat) => Whose::Seat(*seat),
         Event::Revenue { .. } | Event::Price { .. } | Event::Left { .. } => Whose::Nobody,
         Event::Home { company, .. }
@@ -120,7 +227,13 @@ fn whose_turn(lines: &[SheetLine], now: Whose, has_passed: bool, event: &Event) 
         | Event::Withheld { company, .. }
         | Event::Runs { company, .. }
         | Event::Forced(company) => Whose::Company(*company),
-        _ if has_passed => Whose::Nobody,
-        _ => now,
+        _ => whose_behind(now, has_passed),
     }
+}
+
+/// Returns whose turn an event belongs to that begins no turn.
+fn whose_behind(now: Whose, has_passed: bool) -> Whose
+    ensures { result ≡ whose_behind now has_passed }
+{
+    if has_passed { Whose::Nobody } else { now }
 }

@@ -1,8 +1,11 @@
 //! What is added after the rule that refused an order: the figures that it compared, and the cause
 //! if there are several.
+ghost use Rattle.std.specs.Prelude.{◌≡◌, ◌<◌};
+ghost use Rattle.desk_round.specs.Detail.{cause_at, colour_after, colour_then, detail_of};
+ghost use Rattle.map_tables.specs.Hex.{same_hex};
 
 use crate::cause::{cause_of, cause_out_of_place};
-use crate::figures::{cost_in_turn, figures_of, push_figures};
+use crate::figures::{Figures, cost_in_turn, figures_of, push_figures};
 use crate::sheet_line::{LinePlace, SheetLine};
 use crate::track::break_of;
 use crate::ways::{push_ways_to_stop, push_ways_to_tile};
@@ -12,11 +15,11 @@ use desk_base::{
     objection_to, push, push_beyond, push_objection,
 };
 use history::{
-    GameView, Holder, LayRule, OpeningRule, Party, PrivateRule, Refusal, Ruling, RunRule,
+    Event, GameView, Holder, LayRule, OpeningRule, Party, PrivateRule, Refusal, Ruling, RunRule,
     Shareholder, StockRule, TokenRule, TrainRule,
 };
 use map_tables::{Colour, Hex, Lay, Place, printed_colour, tile};
-use order_grammar::{Fault, Order, TrainSource};
+use order_grammar::{Condition, Fault, Order, TrainSource};
 use report::name;
 use sheets::Sheets;
 use std::alloc::{AllocError, Global};
@@ -46,6 +49,43 @@ impl Ruled<'_> {
     }
 }
 
+/// What is told of a ruling that refused an order, beside its rule.
+#[derive(Clone, Copy)]
+pub(crate) struct Detail {
+    /// The figures that the rule compared; `None` if it compares none.
+    figures: Option<Figures>,
+    /// The cause of several; `None` if the rule has one alone, or what is told beside it says which.
+    cause: Option<Cause>,
+}
+
+/// Returns what is told of a ruling that refused an order for a rule. The seat is one of six.
+fn detail_of(ruled: Ruled, condition: Option<Condition>, order: &Order, rule: Refusal) -> Detail
+    ensures { let view = ruled.entry.view.now in ruled.entry.seat.0 < 6 → result
+        ≡ detail_of view.seats view.events.now ruled.entry.seat ruled.entry.place condition
+        order.now rule }
+{
+    Detail {
+        figures: figures_of(ruled.view, ruled.seat, condition, order, rule),
+        cause: cause_at(ruled.view, ruled.seat, ruled.place, order, rule),
+    }
+}
+
+/// Returns the cause for which a rule refused an order, if it is known where that stands.
+fn cause_at(
+    view: &GameView,
+    seat: Seat,
+    place: Option<LinePlace>,
+    order: &Order,
+    rule: Refusal,
+) -> Option<Cause>
+    ensures { result ≡ cause_at view.now.seats view.now.events.now seat place order.now rule }
+{
+    match place {
+        Some(place) => cause_of(view, seat, place, order, rule),
+        None => None,
+    }
+}
+
 /// Adds the figures that a rule compared when it refused an order, and the cause if there are
 /// several.
 pub(crate) fn push_refusal_detail<'a>(
@@ -62,12 +102,11 @@ pub(crate) fn push_refusal_detail<'a>(
     else {
         return Ok(());
     };
-    if let Some(figures) = figures_of(ruled.view, ruled.seat, *condition, order, *rule) {
+    let detail = detail_of(ruled, *condition, order, *rule);
+    if let Some(figures) = detail.figures {
         push_figures(out, ruled.sheets, ruled.seat, figures)?;
     }
-    if let Some(place) = ruled.place
-        && let Some(cause) = cause_of(ruled.view, ruled.seat, place, order, *rule)
-    {
+    if let (Some(place), Some(cause)) = (ruled.place, detail.cause) {
         push_cause(out, place, cause)?;
     }
     push_by_order(alloc, out, ruled, *rule, order)
@@ -141,7 +180,7 @@ fn push_of_par(
     order: &Order,
 ) -> Result<(), AllocError> {
     match objection_to(ruled.round, false, order) {
-        Some((code, reason)) if code == rule.code() => push_objection(out, ruled.sheets, reason),
+        Some((broken, reason)) if broken == rule => push_objection(out, ruled.sheets, reason),
         _ => Ok(()),
     }
 }
@@ -173,7 +212,7 @@ fn push_by_tables(
     order: &Order,
 ) -> Result<(), AllocError> {
     match objection_to(ruled.round, true, order) {
-        Some((code, reason)) if code == rule.code() => push_objection(out, ruled.sheets, reason),
+        Some((broken, reason)) if broken == rule => push_objection(out, ruled.sheets, reason),
         _ => push_by_view(alloc, out, ruled, rule, order),
     }
 }
@@ -212,11 +251,7 @@ fn push_by_view(
             push_colour(out, ruled.view, lay.hex)
         }
         _ => match objection_by_view(ruled.view, ruled.seat, order) {
-            Some((code, reason)) if code == rule.code() => push_objection(
-                out,
-                ruled.sheets,
-                reason,
-            ),
+            Some((broken, reason)) if broken == rule => push_objection(out, ruled.sheets, reason),
             _ => Ok(()),
         },
     }
@@ -249,20 +284,40 @@ fn push_full(
 /// Adds the colour of a hex at a moment of the game.
 fn push_colour(out: &mut Vec<u8>, view: &GameView, hex: Hex) -> Result<(), AllocError> {
     let code = hex.text();
-    let colour = Words(colour_of(view, hex));
+    let colour = Words(colour_name(colour_after(view.events, hex)));
     fill(out, " (% is % now)", &[Bytes(code.as_slice()), colour])
 }
 
-/// Returns the name of the colour of a hex at a moment of the game.
-fn colour_of(view: &GameView, hex: Hex) -> &'static str {
+/// Returns the colour of a hex after some events: that of its print, or of the tile laid last.
+fn colour_after(events: &[Event], hex: Hex) -> Colour
+    ensures { result ≡ colour_after hex events.now }
+{
     let mut colour = printed_colour(hex);
-    for event in view.events {
-        if let Some(lay) = event.lay()
-            && lay.hex == hex
-        {
-            colour = tile(lay.tile).colour;
-        }
+    for event in events {
+        colour = colour_then(colour, event, hex);
     }
+    colour
+}
+
+/// Returns the colour of a hex after one more event.
+fn colour_then(colour: Colour, event: &Event, hex: Hex) -> Colour
+    ensures { result ≡ colour_then hex colour event.now }
+{
+    match event.lay() {
+        Some(lay) if same_hex(lay.hex, hex) => tile(lay.tile).colour,
+        _ => colour,
+    }
+}
+
+/// Returns whether two hexes are the same.
+fn same_hex(hex: Hex, other: Hex) -> bool
+    ensures { result ≡ same_hex hex other }
+{
+    hex.index() == other.index()
+}
+
+/// Returns the name of a colour.
+fn colour_name(colour: Colour) -> &'static str {
     match colour {
         Colour::White => "white",
         Colour::Yellow => "yellow",

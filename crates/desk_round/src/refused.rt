@@ -25,7 +25,7 @@ pub fn refused_in(alloc: Global, events: &[Event], round: Round) -> Result<Vec<u
 }
 
 /// Returns whether a round is the current one after an event.
-fn within_then(within: bool, event: &Event, round: Round) -> bool
+pub(crate) fn within_then(within: bool, event: &Event, round: Round) -> bool
     ensures { result ≡ within_then round within event.now }
 {
     match event.round() {

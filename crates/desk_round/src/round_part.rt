@@ -1,7 +1,9 @@
 //! A round's part of the report, with or without the rules that refused lines broke.
 ghost use Rattle.std.specs.Prelude.{◌≡◌, IfErr, IfOk, OnOk, true};
+ghost use Rattle.desk_base.specs.Refusal.{HasNoState, IsOfGame};
 ghost use Rattle.desk_round.specs.RoundPart.{HasNoText, IsRoundFault, IsRoundPart, is_played};
 ghost use Rattle.desk_round.specs.RoundPart.{round_asked, text_of_round};
+ghost use Rattle.sheets.specs.File.{IsAccepted};
 
 use crate::played::was_played;
 use crate::refusal_detail::Ruled;
@@ -46,16 +48,22 @@ pub fn round_with_rules(
     alloc: Global,
     file: &[u8],
     asked: Option<Round>,
-) -> Result<Vec<u8>, DeskFault> {
+) -> Result<Vec<u8>, DeskFault>
+    ensures accepted { OnOk result (IsAccepted file.now) }
+    ensures fault { IfErr result (λ fault. HasNoState fault file.now) }
+{
     tell(alloc, file, asked, Told::Rules)
 }
 
 /// Returns that part of a game's report, with the broken rules.
+#[tactic(auto, using(crate::proofs::RoundParts::of_game))]
 pub(crate) fn rules_of(
     alloc: Global,
     game: &Game,
     asked: Option<Round>,
-) -> Result<Vec<u8>, DeskFault> {
+) -> Result<Vec<u8>, DeskFault>
+    ensures { IfErr result IsOfGame }
+{
     let Some(round) = round_asked(game, asked) else {
         return Err(DeskFault::Round);
     };

@@ -1,4 +1,7 @@
 //! The texts of a round of the game of a file, other than its part of the report.
+ghost use Rattle.std.specs.Prelude.{IfErr, OnOk};
+ghost use Rattle.desk_base.specs.Refusal.{HasNoState, IsOfGame};
+ghost use Rattle.sheets.specs.File.{IsAccepted};
 
 use crate::round_part::rules_of;
 use crate::train_runs::runs_of;
@@ -18,12 +21,16 @@ pub(crate) enum Told {
 }
 
 /// Returns a text of a round of the game of a file.
+#[tactic(auto, using(desk_base::proofs::Refusals::no_state_where_it_fails, desk_base::proofs::Refusals::no_state_of_game))]
 pub(crate) fn tell(
     alloc: Global,
     file: &[u8],
     asked: Option<Round>,
     told: Told,
-) -> Result<Vec<u8>, DeskFault> {
+) -> Result<Vec<u8>, DeskFault>
+    ensures accepted { OnOk result (IsAccepted file.now) }
+    ensures fault { IfErr result (λ fault. HasNoState fault file.now) }
+{
     let sheets = collect(alloc, file)?;
     tell_in(alloc, &sheets, asked, told)
 }
@@ -34,7 +41,9 @@ fn tell_in(
     sheets: &Sheets,
     asked: Option<Round>,
     told: Told,
-) -> Result<Vec<u8>, DeskFault> {
+) -> Result<Vec<u8>, DeskFault>
+    ensures { IfErr result IsOfGame }
+{
     let game = play(alloc, sheets)?;
     match told {
         Told::Runs => runs_of(alloc, &game, asked),

@@ -1,6 +1,6 @@
 //! The lines of the sheets for a round, by number: the text of each, and where it is.
-ghost use Rattle.std.specs.Prelude.{◌≡◌, ◌==◌, IfSome};
-ghost use Rattle.desk_round.specs.Why.{IsLineOf, company_at};
+ghost use Rattle.std.specs.Prelude.{◌≡◌, ◌==◌, find};
+ghost use Rattle.desk_round.specs.Why.{company_at, is_line_of, line_at};
 
 use order_grammar::Order;
 use sheets::{Sheets, UnreadLine};
@@ -121,15 +121,27 @@ fn place_behind(head: UnreadLine) -> LinePlace {
 /// Returns the line with this number in the sheet of a seat, among those of all sheets; `None` if
 /// there is no such line, or it is not kept.
 pub fn find_line<'a>(lines: &[SheetLine<'a>], seat: Seat, number: u32) -> Option<SheetLine<'a>>
-    ensures { IfSome result (IsLineOf seat number) }
+    ensures { result ≡ line_at lines.now seat number }
 {
     if number > LINES_KEPT {
         return None;
     }
-    for line in lines {
-        if line.number == number && line.seat == seat {
-            return Some(*line);
-        }
-    }
-    None
+    first_of(lines, seat, number)
+}
+
+/// Returns the first of some lines that has this number in the sheet of a seat.
+fn first_of<'a>(lines: &[SheetLine<'a>], seat: Seat, number: u32) -> Option<SheetLine<'a>>
+    ensures { result ≡ find (is_line_of seat number) lines.now }
+{
+    lines
+        .iter()
+        .copied()
+        .find(|line| is_line_of(line, seat, number))
+}
+
+/// Returns whether a line has this number in the sheet of a seat.
+fn is_line_of(line: &SheetLine, seat: Seat, number: u32) -> bool
+    ensures { result ≡ is_line_of seat number line.now }
+{
+    line.number == number && line.seat == seat
 }

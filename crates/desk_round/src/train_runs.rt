@@ -1,8 +1,12 @@
 //! What the trains of each company ran in a round, stop by stop.
-ghost use Rattle.std.specs.Prelude.{◌≡◌};
-ghost use Rattle.desk_round.specs.RunsRound.{last_with_runs, round_of_runs, seen_then};
+ghost use Rattle.std.specs.Prelude.{◌≡◌, ◌++◌, IfErr, IfOk, OnOk};
+ghost use Rattle.desk_base.specs.Refusal.{HasNoState, IsOfGame};
+ghost use Rattle.desk_round.specs.RunsRound.{last_with_runs, ran, round_of_runs, ruled_then, run_by};
+ghost use Rattle.desk_round.specs.RunsRound.{runs_by, runs_in, seen_then};
+ghost use Rattle.sheets.specs.File.{IsAccepted};
 
 use crate::played::was_played;
+use crate::refused::within_then;
 use crate::round_texts::{Told, tell};
 use desk_base::Piece::{Number, Words};
 use desk_base::{DeskFault, Piece, best_at, board_at, fill, push, push_run, view_behind};
@@ -17,7 +21,10 @@ use tables::{Amount, Company, Money, Round};
 /// earn the most. If nothing ran, a line says so. If no round is named, it takes the last in which
 /// a company ran, or the last one played if none ran. Fails with `Round` if the named round was not
 /// played, or no round was.
-pub fn runs(alloc: Global, file: &[u8], asked: Option<Round>) -> Result<Vec<u8>, DeskFault> {
+pub fn runs(alloc: Global, file: &[u8], asked: Option<Round>) -> Result<Vec<u8>, DeskFault>
+    ensures accepted { OnOk result (IsAccepted file.now) }
+    ensures fault { IfErr result (λ fault. HasNoState fault file.now) }
+{
     tell(alloc, file, asked, Told::Runs)
 }
 
@@ -26,7 +33,9 @@ pub(crate) fn runs_of(
     alloc: Global,
     game: &Game,
     asked: Option<Round>,
-) -> Result<Vec<u8>, DeskFault> {
+) -> Result<Vec<u8>, DeskFault>
+    ensures { IfErr result IsOfGame }
+{
     let round = round_with_runs(game.history().events(), asked)?;
     let mut out = Vec::new(alloc);
     push_runs(alloc, &mut out, game.history(), round)?;
@@ -36,7 +45,8 @@ pub(crate) fn runs_of(
 /// Returns the named round if it was played; if none is named, the last in which a company ran, or
 /// the last that was played if none ran. Fails with `Round` otherwise.
 fn round_with_runs(events: &[Event], asked: Option<Round>) -> Result<Round, DeskFault>
-    ensures { result ≡ round_of_runs events.now asked }
+    ensures round { result ≡ round_of_runs events.now asked }
+    ensures fault { IfErr result IsOfGame }
 {
     match asked {
         Some(round) if was_played(events, round) => Ok(round),
@@ -94,6 +104,18 @@ fn last_with_runs(events: &[Event]) -> Option<Round>
     }
 }
 
+/// What a company earned in a round.
+#[derive(Clone, Copy)]
+pub(crate) struct RunRow {
+    /// How many events precede it.
+    place: usize,
+    /// How many events precede the ruling of the line by which it ran.
+    ruled: usize,
+    company: Company,
+    /// What it earned, in dollars.
+    revenue: Amount,
+}
+
 /// Adds a round of a game, and what each company ran in it.
 fn push_runs(
     alloc: Global,
@@ -102,26 +124,113 @@ fn push_runs(
     asked: Round,
 ) -> Result<(), AllocError> {
     fill(out, "ROUND %\n", &[Piece::Round(asked)])?;
+    let rows = runs_in(alloc, history.events(), asked)?;
+    push_rows(alloc, out, history, asked, rows.as_slice())?;
+    let end = if rows.is_empty() { "NO RUNS\n" } else { "" };
+    push(out, &[Words(end)])
+}
+
+/// Returns what each company earned in a round, in order. Fails only if allocation fails.
+fn runs_in(alloc: Global, events: &[Event], round: Round) -> Result<Vec<RunRow>, AllocError>
+    ensures { IfOk result (λ rows. rows.items ≡ runs_in round events.now) }
+{
+    let mut rows = Vec::new(alloc);
+    let mut within = false;
+    let mut ruled = None;
+    for (passed, event) in events.iter().enumerate() {
+        push_if_run(&mut rows, within, ruled, passed, event)?;
+        within = within_then(within, event, round);
+        ruled = ruled_then(ruled, passed, event);
+    }
+    Ok(rows)
+}
+
+/// Adds what a company earns by an event that this many precede, if it is one of the round, and a
+/// line has been ruled.
+fn push_if_run(
+    rows: &mut Vec<RunRow>,
+    within: bool,
+    ruled: Option<usize>,
+    passed: usize,
+    event: &Event,
+) -> Result<(), AllocError>
+    ensures { OnOk result (rows.new.items
+        ≡ rows.old.items ++ runs_by within ruled passed event.now) }
+{
+    if let Some(row) = run_by(within, ruled, passed, event) {
+        rows.push(row)?;
+    }
+    Ok(())
+}
+
+/// Returns what a company earns by an event that this many precede, if it is one of the round, and
+/// a line has been ruled.
+fn run_by(within: bool, ruled: Option<usize>, passed: usize, event: &Event) -> Option<RunRow>
+    ensures { result ≡ run_by within ruled passed event.now }
+{
+    match event {
+        Event::Runs { company, revenue } => ran(within, ruled, passed, *company, *revenue),
+        _ => None,
+    }
+}
+
+/// Returns what a company earned, if it was in the round, and a line had been ruled.
+fn ran(
+    within: bool,
+    ruled: Option<usize>,
+    passed: usize,
+    company: Company,
+    revenue: Amount,
+) -> Option<RunRow>
+    ensures { result ≡ ran within ruled passed company revenue }
+{
+    match ruled {
+        Some(ruled) if within => Some(RunRow {
+            place: passed,
+            ruled,
+            company,
+            revenue,
+        }),
+        _ => None,
+    }
+}
+
+/// Returns how many events precede the last ruling of a line, with one more event.
+fn ruled_then(ruled: Option<usize>, passed: usize, event: &Event) -> Option<usize>
+    ensures { result ≡ ruled_then ruled passed event.now }
+{
+    match event {
+        Event::Ruled { .. } => Some(passed),
+        _ => ruled,
+    }
+}
+
+/// Adds what each company earned in a round, and by which runs.
+fn push_rows(
+    alloc: Global,
+    out: &mut Vec<u8>,
+    history: &History,
+    _round: Round,
+    rows: &[RunRow],
+) -> Result<(), AllocError>
+    requires { rows.now ≡ runs_in _round history.now.events }
+{
     let events = history.events();
     let mut walk = Walk::along(events);
-    let mut within = false;
-    let mut last = None;
-    let mut end = "NO RUNS\n";
-    for (passed, event) in events.iter().enumerate() {
-        match event {
-            Event::Round(round) => within = *round == asked,
-            Event::Ruled { ruling, .. } => last = Some(ruling),
-            Event::Runs { company, revenue } => {
-                if let (true, Some(last)) = (within, last) {
-                    end = "";
-                    let view = view_behind(&mut walk, passed, history.seats());
-                    push_earned(alloc, out, &view, *company, *revenue, &last.ruling())?;
-                }
-            }
-            _ => {}
+    for row in rows {
+        if let Some(Event::Ruled { ruling, .. }) = events.get(row.ruled) {
+            let view = view_behind(&mut walk, row.place, history.seats());
+            push_earned(
+                alloc,
+                out,
+                &view,
+                row.company,
+                row.revenue,
+                &ruling.ruling(),
+            )?;
         }
     }
-    push(out, &[Words(end)])
+    Ok(())
 }
 
 /// Adds what a company earned by an obeyed order, and by which runs; nothing if the ruling did not

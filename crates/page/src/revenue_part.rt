@@ -1,6 +1,9 @@
 //! What each company earned, operating round by operating round.
-ghost use Rattle.std.specs.Prelude.{◌≡◌, ◌+◌, ◌<◌, ◌≤◌, ◌^◌};
-ghost use Rattle.page.specs.Revenue.{revenue_in, revenue_then};
+ghost use Rattle.std.specs.Prelude.{◌≡◌, ◌+◌, ◌<◌, ◌≤◌, ◌^◌, ◌++◌, IfOk, OnOk};
+ghost use Rattle.std.specs.Prelude.{map, option_to_list};
+ghost use Rattle.page.specs.Revenue.{operating_round, revenue_in, revenue_row, revenue_rows};
+ghost use Rattle.page.specs.Revenue.{revenue_then};
+ghost use Rattle.tables.specs.Roster.{companies};
 
 use history::{Event, History};
 use markup::PagePiece::{Number, Round as Named, Words};
@@ -8,8 +11,9 @@ use markup::{
     Attr, NOTHING, Tag, Writer, begin_head, begin_heading, begin_row, begin_table, end_head,
     put_caption, put_heading, put_row_head, put_token,
 };
+use report::length_of_round;
 use std::alloc::{AllocError, Global};
-use tables::{Company, Money, Round};
+use tables::{Company, Money, PerCompany, Round};
 
 /// What a company earned in a round.
 #[derive(Clone, Copy)]
@@ -64,44 +68,70 @@ pub(crate) fn revenue_in(events: &[Event], company: Company) -> Revenue
     revenue
 }
 
-/// An operating round, with the places of its events in the list, as a range.
+/// A row of the table: an operating round, and what each company earned in it.
 #[derive(Clone, Copy)]
-struct Span {
+pub(crate) struct RevenueRow {
     round: Round,
-    from: usize,
-    to: usize,
+    earned: PerCompany<Revenue>,
 }
 
 /// The most operating rounds that the table shows.
 const ROUNDS_MOST: usize = 60;
 
-/// Returns the operating rounds of a list of events. Fails only if allocation fails.
-fn operating_rounds(alloc: Global, events: &[Event]) -> Result<Vec<Span>, AllocError> {
-    let mut spans: Vec<Span> = Vec::new(alloc);
-    let mut current = None;
-    for (place, event) in events.iter().enumerate() {
-        if let Event::Round(round) = event {
-            if let Some((round, from)) = current {
-                spans.push(Span {
-                    round,
-                    from,
-                    to: place,
-                })?;
-            }
-            current = match round {
-                Round::Operating { .. } => Some((*round, place)),
-                _ => None,
-            };
-        }
+/// Returns the rows of a list of events, one for each of its operating rounds, in order. Fails only
+/// if allocation fails.
+fn revenue_rows(alloc: Global, events: &[Event]) -> Result<Vec<RevenueRow>, AllocError>
+    ensures { IfOk result (λ rows. rows.items ≡ revenue_rows events.now) }
+{
+    let mut rows = Vec::new(alloc);
+    let mut begun = 0;
+    while begun < events.len() {
+        let end = begun + length_of_round(&events[begun..]);
+        add_row(&mut rows, &events[begun..end])?;
+        begun = end;
     }
-    if let Some((round, from)) = current {
-        spans.push(Span {
+    Ok(rows)
+}
+
+/// Adds the row of a round, if it is an operating round.
+fn add_row(rows: &mut Vec<RevenueRow>, events: &[Event]) -> Result<(), AllocError>
+    ensures { OnOk result
+        (rows.new.items ≡ rows.old.items ++ option_to_list (revenue_row events.now)) }
+{
+    if let Some(row) = revenue_row(events) {
+        rows.push(row)?;
+    }
+    Ok(())
+}
+
+/// Returns the row of a round by its events, if it is an operating round.
+fn revenue_row(events: &[Event]) -> Option<RevenueRow>
+    ensures { result ≡ revenue_row events.now }
+{
+    match operating_round(events) {
+        Some(round) => Some(RevenueRow {
             round,
-            from,
-            to: events.len(),
-        })?;
+            earned: earned_in(events),
+        }),
+        None => None,
     }
-    Ok(spans)
+}
+
+/// Returns the operating round that these events begin with, if they do.
+fn operating_round(events: &[Event]) -> Option<Round>
+    ensures { result ≡ operating_round events.now }
+{
+    match events.first()?.round()? {
+        round @ Round::Operating { .. } => Some(round),
+        _ => None,
+    }
+}
+
+/// Returns what each company earned by the events of a round.
+fn earned_in(events: &[Event]) -> PerCompany<Revenue>
+    ensures { result ≡ map (revenue_in events.now) companies }
+{
+    Company::ALL.map(|company| revenue_in(events, company))
 }
 
 /// Adds what each company earned, operating round by operating round. Fails only if allocation
@@ -111,8 +141,8 @@ pub(crate) fn put_revenue(
     out: &mut Writer,
     history: &History,
 ) -> Result<(), AllocError> {
-    let spans = operating_rounds(alloc, history.events())?;
-    if spans.is_empty() {
+    let rows = revenue_rows(alloc, history.events())?;
+    if rows.is_empty() {
         begin_table(out, "revenue", "wide");
         put_caption(out, "No operating round has been played.", "");
         out.end();
@@ -134,29 +164,32 @@ pub(crate) fn put_revenue(
     }
     end_head(out);
     out.begin(Tag::TableBody);
-    let left_out = spans.len().saturating_sub(ROUNDS_MOST);
-    for span in spans.iter().skip(left_out) {
-        put_row(out, history.events(), span);
+    let left_out = rows.len().saturating_sub(ROUNDS_MOST);
+    for row in rows.iter().skip(left_out) {
+        put_row(out, row);
     }
     out.end();
     out.end();
     Ok(())
 }
 
-/// Adds the row of an operating round.
-fn put_row(out: &mut Writer, events: &[Event], span: &Span) {
+/// Adds a row of the table.
+fn put_row(out: &mut Writer, row: &RevenueRow) {
     begin_row(out, "");
-    put_row_head(out, &[Named(span.round)]);
-    let events = events.get(span.from..span.to).unwrap_or(&[]);
-    for &company in &Company::ALL {
-        let revenue = revenue_in(events, company);
-        if revenue.has_operated {
-            let mark = if revenue.is_withheld { " w" } else { "" };
-            let dollars = Number(revenue.dollars as Money);
-            out.element_as(Tag::Cell, "num", &[dollars, Words(mark)]);
-        } else {
-            out.element_as(Tag::Cell, "num", &[Words(NOTHING)]);
-        }
+    put_row_head(out, &[Named(row.round)]);
+    for revenue in &row.earned {
+        put_cell(out, revenue);
     }
     out.end();
+}
+
+/// Adds what a company earned in a round.
+fn put_cell(out: &mut Writer, revenue: &Revenue) {
+    if revenue.has_operated {
+        let mark = if revenue.is_withheld { " w" } else { "" };
+        let dollars = Money::try_from(revenue.dollars).unwrap_or(Money::MAX);
+        out.element_as(Tag::Cell, "num", &[Number(dollars), Words(mark)]);
+    } else {
+        out.element_as(Tag::Cell, "num", &[Words(NOTHING)]);
+    }
 }

@@ -4,8 +4,8 @@ use Rattle.totals.specs.LookBack.{cash_of}
 use Rattle.desk.proofs.state_rows.company_row.Goals as goal
 
 -- the cash is that of the party of the company
-pub returns-clause-cash : goal.returns-clause-cash
-returns-clause-cash c =
+pub returns : goal.returns
+returns c =
     let view = c.args.view.now in
     let same : c.cash.result ≡ cash_of view.seats view.events.now (party_of_company c.args.company) =
     c.cash.ensures.sum ∙ ap (cash_of view.seats view.events.now) c.of_company.ensures in

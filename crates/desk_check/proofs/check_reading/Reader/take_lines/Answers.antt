@@ -1,73 +1,75 @@
 use Rattle.std.proofs.Common.{◌≡◌, ℕ, false, List, ◌∷◌, rules, refl, sym, ap, subst, ◌∙◌, arith}
-use Rattle.desk_check.proofs.FaultLemmas.{faults_ended, faults_left, is_read, number_within, tells_first, tells_next, tells_none}
-use Rattle.desk_check.specs.SheetFaults.{TellsFaults, ends_sheet, fault_of_line, faults_in, is_open_then}
-use Rattle.order_grammar.specs.declared.condition.Version.{Version}
+use Rattle.desk_check.proofs.SaidLemmas.{adds_none, behind_ended, behind_first, behind_further, behind_left, is_read}
+use Rattle.desk_check.proofs.SaidLemmas.{number_within, shown_ended, shown_first, shown_further, shown_left}
+use Rattle.desk_check.specs.SheetFaults.{ends_sheet}
+use Rattle.desk_check.specs.SheetSaid.{Adds, game_of}
 use Rattle.desk_check.specs.declared.check_lines.FileLines.{FileLines}
+use Rattle.desk_check.specs.declared.check_reading.Read.{Read}
 use Rattle.sheets.specs.Text.{lines_of}
 use Rattle.desk_check.proofs.check_reading.Reader.take_lines.Goals as goal
 
 pub loop-line-init : goal.loop-line-init
-loop-line-init c = (
-  search rules,
-  search rules,
-  omega (arith, c.requires.none),
-  refl,
-  refl,
-  λ new told.
-      let same = c.into_iter-line-iterator.ensures.into_iter_gives in
-      let head = c.args.head.now in
-      let version = c.args.self.now.version in
-      let from = c.args.found.now.from in
-      subst (λ (passed : ℕ).
-      TellsFaults c.args.found.now new (faults_in version head.sent from 0 false passed (lines_of head.line.rest.now)))
-      (ap (λ (lines : FileLines). lines.passed) same)
-      (subst (λ (rest : List ℕ). TellsFaults c.args.found.now new
-      (faults_in version head.sent from 0 false c.into_iter-line-iterator.result.passed (lines_of rest)))
-      (ap (λ (lines : FileLines). lines.rest.now) same)
-      (tells_first c.args.found.now new version head.sent from c.args.self.now.number c.args.self.now.is_open
-      c.into_iter-line-iterator.result.passed (lines_of c.into_iter-line-iterator.result.rest.now) c.requires.none
-      c.requires.closed told)),
-)
+loop-line-init c =
+    let same = c.into_iter-line-iterator.ensures.into_iter_gives in
+    let passed = ap (λ (lines : FileLines). lines.passed) same in
+    let texts = ap (λ (lines : FileLines). lines_of lines.rest.now) same in
+    let reader = c.args.self.now in (
+      search rules,
+      search rules,
+      rw (ap (λ (read : Read). read.number) c.nothing-read.ensures) (omega arith),
+      refl,
+      λ new told.
+          shown_first c.args.found.now new reader.version (game_of reader) reader.sent c.args.found.now.from _ _ _ _ _
+          c.nothing-read.ensures passed texts told,
+      behind_first reader.version reader.sent _ _ _ _ _ c.nothing-read.ensures passed texts,
+    )
 
 pub take-said-requires : goal.take-said-requires
 take-said-requires c =
-    is_read c.loop-line.self.number c.in-Some.line.text.now (sym c.ends_sheet.ensures ∙ c.if-ends_sheet.false)
+    is_read c.loop-line.read.number c.in-Some.line.text.now (sym c.ends_sheet.ensures ∙ c.if-ends_sheet.false)
 
 pub returns-then-ends_sheet : goal.returns-then-ends_sheet
 returns-then-ends_sheet c =
-    c.loop-line.invariant.5 c.loop-line.found
-    (subst (TellsFaults c.loop-line.found c.loop-line.found)
-    (sym (faults_ended _ _ _ _ _ _ c.in-Some.line.text.now _ _ c.in-Some.ensures.steps.text
-    (sym c.ends_sheet.ensures ∙ c.if-ends_sheet.true)))
-    (tells_none c.loop-line.found))
+    let text = c.in-Some.line.text.now in
+    let comes = c.in-Some.ensures.steps.text in
+    let ended = sym c.ends_sheet.ensures ∙ c.if-ends_sheet.true in
+    record {
+      adds =
+          c.loop-line.invariant.4 c.loop-line.found
+          (subst (Adds c.loop-line.found c.loop-line.found) (sym (shown_ended _ _ _ _ _ _ text _ _ comes ended))
+          (adds_none c.loop-line.found));
+      read_is = sym (behind_ended _ _ _ _ text _ _ comes ended) ∙ c.loop-line.invariant.5;
+    }
 
 pub loop-line-preserved : goal.loop-line-preserved
 loop-line-preserved c =
     let before = c.loop-line.invariant in
     let line = c.in-Some.line in
-    let head = c.args.head.now in
-    let number = c.loop-line.self.number in
-    let is_open = c.loop-line.self.is_open in
-    let goes_on : ends_sheet number line.text.now ≡ false = sym c.ends_sheet.ensures ∙ c.if-ends_sheet.false in (
+    let reader = c.args.self.now in
+    let read = c.loop-line.read in
+    let goes_on : ends_sheet read.number line.text.now ≡ false = sym c.ends_sheet.ensures ∙ c.if-ends_sheet.false in
+    let comes =
+    c.in-Some.ensures.steps.text ∙ ap (λ (rest : List ℕ). line.text.now ∷ lines_of rest) (sym c.in-Some.ensures.steps.left)
+    in (
       search rules,
       search rules,
-      rw c.take-said.ensures.number (number_within number line.text.now (is_read number line.text.now goes_on)),
-      c.take-said.ensures.version ∙ before.3,
-      c.in_ok-add_said.ensures.from ∙ before.4,
-      tells_next c.args.found.now c.loop-line.found _ _ c.args.self.now.version head.sent c.args.found.now.from number is_open
-          _ line.text.now _ _ line.number _ _ _ _ before.5
-          (c.in-Some.ensures.steps.text ∙ ap (λ (rest : List ℕ). line.text.now ∷ lines_of rest) (sym c.in-Some.ensures.steps.left))
-          goes_on before.4 c.in-Some.ensures.steps.number c.in-Some.ensures.steps.passed c.take-said.ensures.number
-          (c.take-said.ensures.is_open
-          ∙ ap (λ (version : Version). is_open_then version head.sent.round number is_open line.text.now) before.3)
-          (c.take-said.ensures.fault
-          ∙ ap (λ (version : Version). fault_of_line version head.sent.round number is_open line.text.now) before.3)
-          c.in_ok-add_said.ensures,
+      rw c.take-said.ensures.read
+          (number_within reader.version reader.sent read line.number line.text.now (is_read read.number line.text.now goes_on)),
+      c.in_ok-add_said.ensures.from ∙ before.3,
+      shown_further c.args.found.now c.loop-line.found _ _ reader.version (game_of reader) reader.sent c.args.found.now.from
+          read _ line.text.now _ _ line.number _ _ _ before.4 comes goes_on before.3 c.in-Some.ensures.steps.number
+          c.in-Some.ensures.steps.passed c.take-said.ensures.read c.take-said.ensures.said c.in_ok-add_said.ensures,
+      behind_further _ reader.version reader.sent read _ line.text.now _ _ line.number _ _ before.5 comes goes_on
+          c.in-Some.ensures.steps.number c.in-Some.ensures.steps.passed c.take-said.ensures.read,
     )
 
 pub returns : goal.returns
 returns c =
-    c.loop-line.invariant.5 c.loop-line.found
-    (subst (TellsFaults c.loop-line.found c.loop-line.found)
-    (sym (faults_left _ _ _ _ _ _ _ (ap lines_of c.in-None.ensures.steps.0)))
-    (tells_none c.loop-line.found))
+    let none = ap lines_of c.in-None.ensures.steps.0 in
+    record {
+      adds =
+          c.loop-line.invariant.4 c.loop-line.found
+          (subst (Adds c.loop-line.found c.loop-line.found) (sym (shown_left _ _ _ _ _ _ _ none))
+          (adds_none c.loop-line.found));
+      read_is = sym (behind_left _ _ _ _ _ none) ∙ c.loop-line.invariant.5;
+    }
