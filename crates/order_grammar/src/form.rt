@@ -241,6 +241,10 @@ impl Form {
             put_reading result order.new
             ≡ order_of_values row.keyword (values_by_row row (texts_of rest.now)) }
     {
+        // Most lines without a further word are told here, before there is room for values.
+        if rest.is_at_end() && !self.classes.is_empty() {
+            return Err(Fault::WrongWords);
+        }
         match self.trailing_class {
             TrailingClass::Nothing => self.read_plain(rest, order),
             _ => self.read_with_trailing(rest, order),

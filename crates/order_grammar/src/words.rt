@@ -1,6 +1,6 @@
 //! The words of a line, each with its place. They end where the line's comment begins.
 ghost use Rattle.std.specs.Bool.{OnTrue};
-ghost use Rattle.std.specs.Prelude.{◌≡◌, ◌≤◌, [], IfSome, false, length, take};
+ghost use Rattle.std.specs.Prelude.{◌≡◌, ◌≤◌, [], IfSome, IsTrue, false, length, take};
 ghost use Rattle.order_grammar.specs.Token.{GivesWord};
 ghost use Rattle.order_grammar.specs.Words.{
   before,
@@ -64,6 +64,13 @@ impl<'a> Words<'a> {
         ensures { result ≡ placed_from 0 [] text.now }
     {
         Words { text, at: 0 }
+    }
+
+    /// Returns whether the text has ended. If it has not, there may still be no word left.
+    pub(crate) fn is_at_end(&self) -> bool
+        ensures { IsTrue result → self.now ≡ [] }
+    {
+        self.at == self.text.len()
     }
 
     /// Returns the same words.
