@@ -17,6 +17,15 @@ use tables::{Company, Kind, Money, Private, Seat, face, price, revenue, rusts, t
 
 /// Adds what each company has, in this order.
 pub(crate) fn put_companies(out: &mut Writer, scene: &Scene, order: &[Company]) {
+    begin_companies(out);
+    out.begin(Tag::TableBody);
+    put_company_rows(out, scene, order);
+    out.end();
+    out.end();
+}
+
+/// Begins the table of companies up to its rows.
+pub(crate) fn begin_companies(out: &mut Writer) {
     begin_table(out, "companies", "wide");
     put_caption(out, "Companies", "(those that operate in operating order)");
     put_head(
@@ -36,12 +45,13 @@ pub(crate) fn put_companies(out: &mut Writer, scene: &Scene, order: &[Company]) 
             "Privates",
         ],
     );
-    out.begin(Tag::TableBody);
+}
+
+/// Adds the rows of the companies, in this order.
+pub(crate) fn put_company_rows(out: &mut Writer, scene: &Scene, order: &[Company]) {
     for company in order {
         put_row(out, scene, *company);
     }
-    out.end();
-    out.end();
 }
 
 /// Returns the name of a company.
@@ -185,6 +195,15 @@ fn put_city(out: &mut Writer, hex: Hex) {
 
 /// Adds who owns each private, with its price and the bids on it while it is unsold.
 pub(crate) fn put_owners(out: &mut Writer, scene: &Scene) {
+    begin_owners(out);
+    out.begin(Tag::TableBody);
+    put_owner_rows(out, scene);
+    out.end();
+    out.end();
+}
+
+/// Begins the table of privates up to its rows.
+pub(crate) fn begin_owners(out: &mut Writer) {
     begin_table(out, "privates", "");
     put_caption(out, "Privates", "");
     put_head(
@@ -193,12 +212,13 @@ pub(crate) fn put_owners(out: &mut Writer, scene: &Scene) {
             "Private", "#Face", "#Price", "#Revenue", "Hexes", "Owner", "Bids",
         ],
     );
-    out.begin(Tag::TableBody);
+}
+
+/// Adds the rows of the privates.
+pub(crate) fn put_owner_rows(out: &mut Writer, scene: &Scene) {
     for &private in &Private::ALL {
         put_private(out, scene, private);
     }
-    out.end();
-    out.end();
 }
 
 /// Adds the row of a private.
@@ -259,18 +279,28 @@ fn put_bids(out: &mut Writer, scene: &Scene, private: Private) {
 
 /// Adds how many trains of each kind the bank and its pool have, their price, and when they rust.
 pub(crate) fn put_trains(out: &mut Writer, scene: &Scene) {
+    begin_trains(out);
+    out.begin(Tag::TableBody);
+    put_train_rows(out, scene);
+    out.end();
+    out.end();
+}
+
+/// Begins the table of trains up to its rows.
+pub(crate) fn begin_trains(out: &mut Writer) {
     begin_table(out, "trains", "");
     put_caption(out, "Trains", "");
     put_head(
         out,
         &["Train", "#Bank", "#Pool", "#Price", "Stops", "Rusts"],
     );
-    out.begin(Tag::TableBody);
+}
+
+/// Adds the rows of the kinds of trains.
+pub(crate) fn put_train_rows(out: &mut Writer, scene: &Scene) {
     for &kind in &Kind::ALL {
         put_kind(out, scene, kind);
     }
-    out.end();
-    out.end();
 }
 
 /// Adds the row of a kind of train.

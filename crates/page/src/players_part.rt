@@ -15,6 +15,15 @@ use tables::{Company, Money, Private, Seat, certificate_limit, price};
 
 /// Adds what each player has, and the shares of each company by their holders.
 pub(crate) fn put_players(out: &mut Writer, scene: &Scene) {
+    begin_players(out);
+    out.begin(Tag::TableBody);
+    put_player_rows(out, scene);
+    out.end();
+    out.end();
+}
+
+/// Begins the table of players up to its rows.
+pub(crate) fn begin_players(out: &mut Writer) {
     begin_table(out, "players", "wide");
     put_caption(
         out,
@@ -22,13 +31,14 @@ pub(crate) fn put_players(out: &mut Writer, scene: &Scene) {
         "(P presides; &#9654; has priority; free is cash less bids)",
     );
     put_headings(out);
-    out.begin(Tag::TableBody);
+}
+
+/// Adds the rows of the table of players.
+pub(crate) fn put_player_rows(out: &mut Writer, scene: &Scene) {
     for number in 0..scene.seats {
         put_player(out, scene, Seat::at(number));
     }
     put_places(out, scene);
-    out.end();
-    out.end();
 }
 
 /// Adds the headings of the table of players.

@@ -40,7 +40,7 @@ pub(crate) fn put_players(out: &mut Writer, scene: &Scene) {
 }
 
 /// The sections and tables that the head links to.
-const LINKS: [(&str, &str); 13] = [
+pub(crate) const LINKS: [(&str, &str); 13] = [
     ("#bulletin", "Bulletin"),
     ("#map", "Map"),
     ("#routes", "Routes"),
@@ -65,10 +65,10 @@ pub(crate) fn put_skip(out: &mut Writer) {
     out.end();
 }
 
-/// Adds the links to the sections.
-pub(crate) fn put_links(out: &mut Writer) {
+/// Adds the links to the sections of a page.
+pub(crate) fn put_links(out: &mut Writer, links: &[(&'static str, &'static str)]) {
     out.begin(Tag::Nav);
-    for &(section, words) in &LINKS {
+    for &(section, words) in links {
         out.begin(Tag::Anchor);
         out.value(Attr::Href, &[Words(section)]);
         out.within();

@@ -53,6 +53,13 @@ const LEGEND: [(i32, &str); 7] = [
 
 /// Adds the stock chart with the tokens.
 pub fn put_chart(out: &mut Writer, tokens: &ChartTokens) {
+    begin_chart(out);
+    put_squares(out, tokens);
+    end_chart(out);
+}
+
+/// Begins the stock chart, with the numbers of its columns.
+pub fn begin_chart(out: &mut Writer) {
     out.begin_as(Tag::Svg, "chart");
     out.value(Attr::ViewBox, &[Words("-27 -21 1169 639")]);
     out.value(Attr::Role, &[Words("img")]);
@@ -68,12 +75,20 @@ pub fn put_chart(out: &mut Writer, tokens: &ChartTokens) {
         let x = WIDTH * i32::from(column) - 30;
         out.label("b0", Point { x, y: -6 }, &[At(i32::from(column))]);
     }
+}
+
+/// Adds the squares of the stock chart with the tokens.
+pub fn put_squares(out: &mut Writer, tokens: &ChartTokens) {
     for row in 0..CHART_ROWS {
         put_row(out, tokens, row);
     }
     for token in tokens.iter().flatten() {
         put_arrow(out, tokens, token);
     }
+}
+
+/// Ends the stock chart, with its legend.
+pub fn end_chart(out: &mut Writer) {
     out.begin_at(Point { x: 452, y: 470 });
     for &(y, words) in &LEGEND {
         out.words_at(Point { x: 0, y }, words);

@@ -22,9 +22,12 @@ mod signs;
 mod tiles_part;
 mod tokens;
 
-pub use hex_words::{begin_hex, begin_hexes, put_hexes};
+pub use hex_words::{begin_hex, begin_hex_item, begin_hexes, put_hexes, put_words_of};
 pub use legend::put_key;
-pub use map_part::{begin_map, end_map, put_labels, put_shade};
+pub use map_part::{
+    begin_map, begin_picture, end_map, put_borders, put_grounds, put_labels, put_shade, put_stops,
+    put_tracks,
+};
 pub use news::{
     laid_in_last_round, moved_in_last_round, placed_in_last_round, square_before_round,
 };

@@ -19,8 +19,20 @@ use tables::{Kind, Money, Private, Round};
 /// The closed borders of the map.
 const CLOSED: &str = "M378 474L402 460M586 294L610 280M662 294L638 280M846 204L870 190";
 
-/// Begins the map: its signs, its grounds and its track, up to the layer of the routes.
+/// Adds the map up to the layer of the routes: its signs, its grounds and its track.
 pub fn begin_map(out: &mut Writer, scene: &Scene, routes_of: Option<Round>) {
+    begin_picture(out, routes_of);
+    out.begin_as(Tag::Group, "ground");
+    put_grounds(out, scene);
+    out.end();
+    out.begin_as(Tag::Group, "top");
+    put_tracks(out, scene);
+    put_borders(out);
+    out.end();
+}
+
+/// Begins the picture of the map, with its signs.
+pub fn begin_picture(out: &mut Writer, routes_of: Option<Round>) {
     out.begin_as(Tag::Svg, "map");
     out.value(Attr::ViewBox, &[Words("0 0 1302 1040")]);
     out.value(Attr::Role, &[Words("group")]);
@@ -28,13 +40,16 @@ pub fn begin_map(out: &mut Writer, scene: &Scene, routes_of: Option<Round>) {
     put_description(out, routes_of);
     put_signs(out);
     put_parts(out);
-    put_grounds(out, scene);
-    put_tracks(out, scene);
 }
 
 /// Adds the stops and labels of all hexes, above the routes, and begins the layers above them.
 pub fn put_labels(out: &mut Writer, scene: &Scene) {
     out.begin_as(Tag::Group, "top");
+    put_stops(out, scene);
+}
+
+/// Adds the stops and labels of all hexes.
+pub fn put_stops(out: &mut Writer, scene: &Scene) {
     for &hex in &Hex::ALL {
         put_hex(out, scene, &Look::on(scene.history.lays(), hex));
     }
@@ -60,12 +75,10 @@ fn put_description(out: &mut Writer, routes_of: Option<Round>) {
 }
 
 /// Adds the ground of each hex, with its title.
-fn put_grounds(out: &mut Writer, scene: &Scene) {
-    out.begin_as(Tag::Group, "ground");
+pub fn put_grounds(out: &mut Writer, scene: &Scene) {
     for &hex in &Hex::ALL {
         put_ground(out, scene, hex);
     }
-    out.end();
 }
 
 /// Adds the ground of a hex, with the hex in words as its title. It is a link to the same words in
@@ -111,9 +124,8 @@ pub fn put_rim(out: &mut Writer, shade: Shade) {
     }
 }
 
-/// Adds the rims and the track of each hex, and the closed borders.
-fn put_tracks(out: &mut Writer, scene: &Scene) {
-    out.begin_as(Tag::Group, "top");
+/// Adds the rims and the track of each hex.
+pub fn put_tracks(out: &mut Writer, scene: &Scene) {
     for &hex in &Hex::ALL {
         let look = Look::on(scene.history.lays(), hex);
         if has_drawing(&look) {
@@ -127,9 +139,12 @@ fn put_tracks(out: &mut Writer, scene: &Scene) {
             out.end();
         }
     }
+}
+
+/// Adds the closed borders.
+pub fn put_borders(out: &mut Writer) {
     out.path("wa", &[Words(CLOSED)]);
     out.path("wb", &[Words(CLOSED)]);
-    out.end();
 }
 
 /// Returns whether a hex has track or a rim of its own.

@@ -7,7 +7,7 @@ use board::Board;
 use desk_base::board_at;
 use history::History;
 use markup::PagePiece::{Number, Place, Round, Words};
-use markup::{Attr, Point, Tag, Writer, begin_row, begin_table, put_company, put_head};
+use markup::{Attr, PagePiece, Point, Tag, Writer, begin_row, begin_table, put_company, put_head};
 use reach::Network;
 use std::alloc::{AllocError, Global};
 use tables::{Amount, Money};
@@ -32,20 +32,36 @@ pub fn put_table(
         out.element(Tag::Paragraph, &words);
         return Ok(());
     }
-    let board = board_at(alloc, &history.now())?;
+    begin_runs(out, &[Words("Routes of "), Round(round), Words(" ")]);
+    out.begin(Tag::TableBody);
+    put_rows(alloc, out, history, routes)?;
+    out.end();
+    out.end();
+    Ok(())
+}
+
+/// Begins the table of routes up to its rows, with these words as its caption.
+pub fn begin_runs(out: &mut Writer, words: &[PagePiece]) {
     begin_table(out, "runs", "wide");
     out.begin(Tag::Caption);
     out.within();
-    out.put(&[Words("Routes of "), Round(round), Words(" ")]);
+    out.put(words);
     out.element(Tag::Small, &[Words(REMARK)]);
     out.end();
     put_head(out, &["Company", "Line", "Train", "Route", "#Sum", "Order"]);
-    out.begin(Tag::TableBody);
+}
+
+/// Adds the rows of the routes. Fails only if allocation fails.
+pub fn put_rows(
+    alloc: Global,
+    out: &mut Writer,
+    history: &History,
+    routes: &Routes,
+) -> Result<(), AllocError> {
+    let board = board_at(alloc, &history.now())?;
     for (number, route) in routes.routes.iter().enumerate() {
         put_row(out, &board, routes.routes.as_slice(), number, route);
     }
-    out.end();
-    out.end();
     Ok(())
 }
 
