@@ -14,8 +14,8 @@ module _ (names : List (List ℕ)) where
   pick : (b : Bool) (f g : List (List ℕ) → Read) (opens : List (List ℕ)) → f (opens ++ names) ≡ over (f opens)
       → g (opens ++ names) ≡ over (g opens)
       → (if b then f (opens ++ names) else g (opens ++ names)) ≡ over (if b then f opens else g opens)
-  pick true f g opens yes no = yes
-  pick false f g opens yes no = no
+  pick true f g opens first second = first
+  pick false f g opens first second = second
 
   -- behind a start tag
   opened_over : (opens : List (List ℕ)) (name : List ℕ) → opened (opens ++ names) name ≡ over (opened opens name)

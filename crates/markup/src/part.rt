@@ -1,6 +1,5 @@
 //! A part of a page by itself.
 ghost use Rattle.std.specs.Prelude.{◌≡◌, IfOk};
-ghost use Rattle.markup.specs.Part.{part_text};
 ghost use Rattle.markup.specs.Reading.{IsWellFormed};
 
 use std::alloc::{AllocError, Global};
@@ -13,6 +12,8 @@ pub struct Part {
 }
 
 impl Part {
+    ghost use Rattle.markup.specs.Part.{part_text};
+
     /// Makes a part with a text. Fails only if allocation fails.
     pub(crate) fn new(alloc: Global, text: &[u8]) -> Result<Part, AllocError>
         requires { IsWellFormed text.now }

@@ -1,10 +1,10 @@
 -- What the lists of parts show, as pages are added to them.
 use Rattle.std.proofs.Common.{◌≡◌, ℕ, ◌+◌, ◌-◌, ◌<◌, ◌≤◌, Bool, true, false, List, [], ◌∷◌, ◌++◌, length, take, drop, get_or, refl, ap, ◌∙◌, sym, subst, append_assoc, below_more, arith}
-use Rattle.std.specs.Prelude.{◌&&◌, if◌then◌else◌, map, nat_le, slice_range, zero, suc}
+use Rattle.std.specs.Prelude.{◌&&◌, Option, Some, None, option_to_list, if◌then◌else◌, map, nat_le, slice_range, zero, suc}
 use Rattle.std.specs.List.{flat_map}
 use Rattle.std.proofs.lemmas.Bool.Decides.{nat_tests}
 use Rattle.std.proofs.lemmas.Grind.{common_steps, flat_map-append}
-use Rattle.std.proofs.lemmas.List.{append-nil, take_more, drop-map, take-map, map-append}
+use Rattle.std.proofs.lemmas.List.{append-nil, take_more, drop_more, drop-map, map-append, length-map}
 use Rattle.std.proofs.lemmas.List.Elements.{All-push}
 use Rattle.std.proofs.lemmas.List.Folds.{drop_split}
 use Rattle.markup.specs.Part.{part_text}
@@ -16,7 +16,7 @@ use Rattle.replay.specs.declared.lasting.Layers.{Layers}
 -- what is shown with one more part
 shown-push : (page : ℕ) (parts : List Lasting) (one : Lasting) → shown page (parts ++ one ∷ []) ≡ shown page parts ++ text_in page one
 shown-push page parts one =
-    flat_map-append (text_in page) parts (one ∷ []) ∙ ap (λ text. shown page parts ++ text) (append-nil (text_in page one))
+    flat_map-append (text_in page) parts (one ∷ []) ∙ ap (λ (text : List (List ℕ)). shown page parts ++ text) (append-nil (text_in page one))
 
 -- a part lives in the pages from its first up to its last
 alive : (page : ℕ) (part : Part) (from to : ℕ) → from ≤ page → page ≤ to
@@ -59,15 +59,20 @@ pub new_step : (old was now : List Lasting) (page : List Part) (i number : ℕ) 
     → AddsNew old was (texts (take i page)) number → AddsNew old now (texts (take (i + 1) page)) number
 new_step old was now page i number d part within is same adds =
     let one : Lasting = record { part = part; from = number; to = number } in
-    let here : text_in number one ≡ part_text (get_or page i d) ∷ [] =
-    alive number part number number (omega arith) (omega arith) ∙ ap (λ text. text ∷ []) same in
-    let more : texts (take (i + 1) page) ≡ texts (take i page) ++ part_text (get_or page i d) ∷ [] =
+    let text : List ℕ = part_text (get_or page i d) in
+    let here : text_in number one ≡ text ∷ [] =
+    alive number part number number (omega arith) (omega arith) ∙ ap (λ (t : List ℕ). t ∷ []) same in
+    let more : texts (take (i + 1) page) ≡ texts (take i page) ++ text ∷ [] =
     ap texts (take_more page i d within) ∙ map-append part_text (take i page) (get_or page i d ∷ []) in
     record {
-      now = ap (shown number) is ∙ (shown-push number was one ∙ (rw (here, more, adds.now)
-          (append_assoc (shown number old) (texts (take i page)) (part_text (get_or page i d) ∷ []))));
-      earlier = λ n before. ap (shown n) is ∙ (shown-push n was one ∙ (rw (not_yet n part number number before)
-          (append-nil (shown n was) ∙ adds.earlier n before)));
+      now = ap (shown number) is ∙ (shown-push number was one
+          ∙ (ap (λ (t : List (List ℕ)). shown number was ++ t) here
+          ∙ (ap (λ (t : List (List ℕ)). t ++ text ∷ []) adds.now
+          ∙ (append_assoc (shown number old) (texts (take i page)) (text ∷ [])
+          ∙ ap (λ (t : List (List ℕ)). shown number old ++ t) (sym more)))));
+      earlier = λ n before. ap (shown n) is ∙ (shown-push n was one
+          ∙ (ap (λ (t : List (List ℕ)). shown n was ++ t) (not_yet n part number number before)
+          ∙ (append-nil (shown n was) ∙ adds.earlier n before)));
       bound = λ bound. subst (IsBefore (number + 1)) (sym is)
           (All-push (LivesBefore (number + 1)) was one (adds.bound bound)
           (record { ordered = omega arith; before = omega arith }));
@@ -84,7 +89,22 @@ range_texts : (page : List Part) (taken place : ℕ) → taken ≤ place
 range_texts page taken place ordered =
     drop-map part_text taken page ∙ (ap texts (drop_split page taken place ordered)
     ∙ (map-append part_text (slice_range page taken place) (drop place page)
-    ∙ ap (λ text. texts (slice_range page taken place) ++ text) (sym (drop-map part_text place page))))
+    ∙ ap (λ (text : List (List ℕ)). texts (slice_range page taken place) ++ text) (sym (drop-map part_text place page))))
+
+-- a part of the page before has this place where it has the text of the part there
+pub place_found : (old : Lasting) (page : List Part) (taken place number : ℕ) (d : Part) → old.to + 1 ≡ number
+    → taken ≤ place → place < length page → part_text (get_or page place d) ≡ part_text old.part
+    → IsPlace old (texts page) taken place number
+place_found old page taken place number d last from within same =
+    let size : length (texts page) ≡ length page = length-map page part_text in
+    record {
+      last = last;
+      from = from;
+      within = omega (arith, size);
+      is = drop-map part_text place page ∙ (ap texts (drop_more page place d within)
+          ∙ (ap (λ (text : List ℕ). text ∷ texts (drop (place + 1) page)) same
+          ∙ ap (λ (t : List (List ℕ)). part_text old.part ∷ t) (sym (drop-map part_text (place + 1) page))));
+    }
 
 -- a part that the page has too is added behind those of the page before it
 pub kept_step : (old mid new : List Lasting) (one : Lasting) (page : List Part) (taken place number : ℕ)
@@ -100,15 +120,18 @@ kept_step old mid new one page taken place number lives at adds is =
     let range : List (List ℕ) = texts (slice_range page taken place) in
     let behind : List (List ℕ) = drop (place + 1) (texts page) in
     let now : shown number new ≡ (before ++ range) ++ part_text one.part ∷ [] =
-    ap (shown number) is ∙ (shown-push number mid last ∙ rw (here, adds.now) refl) in
+    ap (shown number) is ∙ (shown-push number mid last
+    ∙ (ap (λ (t : List (List ℕ)). shown number mid ++ t) here
+    ∙ ap (λ (t : List (List ℕ)). t ++ part_text one.part ∷ []) adds.now)) in
     record {
-      now = ap (λ text. text ++ behind) now
+      now = ap (λ (text : List (List ℕ)). text ++ behind) now
           ∙ (append_assoc (before ++ range) (part_text one.part ∷ []) behind
-          ∙ (ap (λ text. (before ++ range) ++ text) (sym at.is)
+          ∙ (ap (λ (text : List (List ℕ)). (before ++ range) ++ text) (sym at.is)
           ∙ (append_assoc before range (drop place (texts page))
-          ∙ ap (λ text. before ++ text) (sym (range_texts page taken place at.from)))));
+          ∙ ap (λ (text : List (List ℕ)). before ++ text) (sym (range_texts page taken place at.from)))));
       earlier = λ n earlier. ap (shown n) is ∙ (shown-push n mid last
-          ∙ rw (adds.earlier n earlier, as_before n number one earlier at.last) refl);
+          ∙ (ap (λ (t : List (List ℕ)). shown n mid ++ t) (as_before n number one earlier at.last)
+          ∙ ap (λ (t : List (List ℕ)). t ++ text_in n one) (adds.earlier n earlier)));
       bound = λ bound. subst (IsBefore (number + 1)) (sym is)
           (All-push (LivesBefore (number + 1)) mid last (adds.bound bound)
           (record { ordered = omega (arith, lives.ordered, lives.before); before = omega arith }));
@@ -119,8 +142,9 @@ pub left_step : (old new : List Lasting) (one : Lasting) (page : List (List ℕ)
     → LivesBefore number one → new ≡ old ++ one ∷ [] → AddsOld old new one page taken taken number
 left_step old new one page taken number lives is =
     record {
-      now = ap (λ text. text ++ drop taken page) (ap (shown number) is ∙ (shown-push number old one
-          ∙ (rw (no_more number one lives.before) (append-nil (shown number old)))));
+      now = ap (λ (text : List (List ℕ)). text ++ drop taken page) (ap (shown number) is ∙ (shown-push number old one
+          ∙ (ap (λ (t : List (List ℕ)). shown number old ++ t) (no_more number one lives.before)
+          ∙ append-nil (shown number old))));
       earlier = λ n earlier. ap (shown n) is ∙ shown-push n old one;
       bound = λ bound. subst (IsBefore (number + 1)) (sym is)
           (All-push (LivesBefore (number + 1)) old one bound
@@ -138,7 +162,14 @@ pub record Merging (start rest parts : List Lasting) (page : List (List ℕ)) (t
 pub begin_merging : (start : List Lasting) (page : List (List ℕ)) (number : ℕ) → IsBefore number start
     → Merging start start [] page 0 number
 begin_merging start page number before =
-    record { now = refl; earlier = λ n earlier. refl; to_come = before; bound = tt }
+    record { now = refl; earlier = λ n earlier. refl; to_come = before; bound = λ k d below. absurd (omega arith) }
+
+-- the first of the parts to come lives before
+pub first_before : (start rest more parts : List Lasting) (one : Lasting) (page : List (List ℕ)) (taken number : ℕ)
+    → rest ≡ one ∷ more → Merging start rest parts page taken number → LivesBefore number one
+first_before start rest more parts one page taken number is merging =
+    let come : IsBefore number (one ∷ more) = subst (IsBefore number) is merging.to_come in
+    come 0 one (omega arith)
 
 -- one more part is merged
 pub merge_step : (start rest more parts new : List Lasting) (one : Lasting) (page : List (List ℕ)) (taken next number : ℕ)
@@ -146,24 +177,36 @@ pub merge_step : (start rest more parts new : List Lasting) (one : Lasting) (pag
     → Merging start more new page next number
 merge_step start rest more parts new one page taken next number is merging adds =
     let come : IsBefore number (one ∷ more) = subst (IsBefore number) is merging.to_come in
+    let later : IsBefore number more = λ k d below. come (suc k) d (omega arith) in
     record {
       now = adds.now ∙ merging.now;
-      earlier = λ n earlier. ap (λ text. text ++ shown n more) (adds.earlier n earlier)
+      earlier = λ n earlier. ap (λ (text : List (List ℕ)). text ++ shown n more) (adds.earlier n earlier)
           ∙ (append_assoc (shown n parts) (text_in n one) (shown n more)
-          ∙ (ap (λ all. shown n parts ++ shown n all) (sym is) ∙ merging.earlier n earlier));
-      to_come = come.1;
+          ∙ (ap (λ (all : List Lasting). shown n parts ++ shown n all) (sym is) ∙ merging.earlier n earlier));
+      to_come = later;
       bound = adds.bound merging.bound;
     }
 
+-- none is left where none was first
+pub none_left : (first : Option Lasting) (rest more : List Lasting) → ((one : Lasting) → first ≡ Some one → ⊥)
+    → rest ≡ option_to_list first ++ more → more ≡ drop 1 rest → rest ≡ []
+none_left (Some one) rest more none is later = absurd (none one refl)
+none_left None [] more none is later = refl
+none_left None (one ∷ rest) more none is later =
+    let same : one ∷ rest ≡ rest = is ∙ later in
+    absurd (omega (arith, ap length same))
+
 -- the rest of the page is added last
-pub end_merging : (start rest parts new : List Lasting) (page : List Part) (taken number : ℕ) → rest ≡ []
-    → Merging start rest parts (texts page) taken number → AddsNew parts new (texts (drop taken page)) number
-    → AddsPage start new (texts page) number
-end_merging start rest parts new page taken number is merging adds =
+pub end_merging : (start rest parts new : List Lasting) (page last : List Part) (taken number : ℕ) → rest ≡ []
+    → last ≡ drop taken page → Merging start rest parts (texts page) taken number
+    → AddsNew parts new (texts last) number → AddsPage start new (texts page) number
+end_merging start rest parts new page last taken number is all merging adds =
     record {
-      now = adds.now ∙ (ap (λ text. shown number parts ++ text) (sym (drop-map part_text taken page)) ∙ merging.now);
+      now = adds.now ∙ (ap (λ (text : List Part). shown number parts ++ texts text) all
+          ∙ (ap (λ (text : List (List ℕ)). shown number parts ++ text) (sym (drop-map part_text taken page))
+          ∙ merging.now));
       earlier = λ n earlier. adds.earlier n earlier ∙ (sym (append-nil (shown n parts))
-          ∙ (ap (λ all. shown n parts ++ shown n all) (sym is) ∙ merging.earlier n earlier));
+          ∙ (ap (λ (all : List Lasting). shown n parts ++ shown n all) (sym is) ∙ merging.earlier n earlier));
       bound = adds.bound merging.bound;
     }
 

@@ -11,6 +11,7 @@ use std::collections::VecDeque;
 
 /// Returns the parts of a layer of some pages, each with the pages that have it: for each page,
 /// those that live in it are the parts of its layer, in order. Fails only if allocation fails.
+#[tactic(auto, using(crate::proofs::ShownLemmas::page_step))]
 pub fn replay_of(
     alloc: Global,
     pages: &[Layers],
@@ -26,6 +27,7 @@ pub fn replay_of(
 }
 
 /// Returns the parts of the pages before one and of that page.
+#[tactic(auto, using(crate::proofs::ShownLemmas::begin_merging, crate::proofs::ShownLemmas::first_before, crate::proofs::ShownLemmas::merge_step, crate::proofs::ShownLemmas::end_merging))]
 fn with_page(
     alloc: Global,
     before: VecDeque<Lasting>,
@@ -47,6 +49,7 @@ fn with_page(
 
 /// Adds a part of the pages before one. If that page has it too, the parts of the page before it
 /// are added first. Returns how many parts of the page have been taken.
+#[tactic(auto, using(crate::proofs::ShownLemmas::kept_step, crate::proofs::ShownLemmas::left_step))]
 fn add_old(
     alloc: Global,
     parts: &mut VecDeque<Lasting>,
@@ -84,6 +87,7 @@ fn add_old(
 
 /// Returns the place of a part among those of a page, from this one on, if it lives in the page
 /// before.
+#[tactic(auto, using(crate::proofs::ShownLemmas::place_found))]
 fn place_of(old: &Lasting, page: &[Part], taken: usize, number: usize) -> Option<usize>
     requires { LivesBefore number old.now }
     ensures { IfSome result (λ place. IsPlace old.now (texts page.now) taken place number) }
