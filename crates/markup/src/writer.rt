@@ -88,10 +88,13 @@ impl Writer {
         keep(&mut stack, &mut fault, Tag::Html);
         keep(&mut stack, &mut fault, Tag::Head);
         Writer {
+            alloc,
             text,
             stack,
             spot: WriterPlace::Between,
             fault,
+            is_parted: false,
+            parts: Vec::new(alloc),
         }
     }
 
