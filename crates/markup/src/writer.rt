@@ -177,7 +177,6 @@ impl Writer {
     }
 
     /// Adds a part to the children of the innermost open element.
-    #[tactic(auto, using(crate::proofs::PartLemmas::whole_kept))]
     pub fn put_part(&mut self, part: &Part) {
         self.within();
         add_bytes(&mut self.text, &mut self.fault, part.bytes());
@@ -228,6 +227,15 @@ impl Writer {
     /// Ends the innermost open element.
     pub fn end(&mut self) {
         self.end_innermost();
+        if self.is_parted && self.stack.is_empty() {
+            cut(self.alloc, &mut self.text, &mut self.fault, &mut self.parts);
+        }
+    }
+
+    /// Makes a part of what a writer of parts has written since the last one, if no element is open:
+    /// a text without an element becomes a part too.
+    pub fn end_part(&mut self) {
+        self.within();
         if self.is_parted && self.stack.is_empty() {
             cut(self.alloc, &mut self.text, &mut self.fault, &mut self.parts);
         }
