@@ -10,7 +10,7 @@ use crate::played::was_played;
 use crate::refusal_detail::Ruled;
 use crate::sheet_line::{SheetLine, find_line, lines_of};
 use crate::train_runs::push_ran;
-use crate::why::{FAULTY_COLUMNS, push_rule};
+use crate::why::{FAULTY_COLUMNS, push_code, push_rule};
 use desk_base::Piece::{Bytes, Column, Cut, Number, Right, Words};
 use desk_base::{DeskFault, Piece, fill, push, push_wrapped, push_wrapped_lines, view_behind, who};
 use history::{Event, GameView, History, Holder, PackedRuling, Ruling, Verdict, Walk};
@@ -35,6 +35,8 @@ struct Telling<'a> {
     round: Round,
     /// The lines of the sheets for it.
     lines: &'a [SheetLine<'a>],
+    /// Whether a refused line has the code of the rule alone.
+    is_short: bool,
 }
 
 /// How much of a round has been written.
@@ -62,6 +64,34 @@ pub fn turns(
     ensures played { OnOk result (was_played history.now.events round ≡ true) }
     ensures fault { IfErr result (HasNoTurns history.now.events round) }
 {
+    turns_by(alloc, sheets, history, round, false)
+}
+
+/// Returns the turns of a round in the same way, but of a refused line only the code of the rule
+/// that it broke. The errors are those of `turns`.
+pub fn turns_in_short(
+    alloc: Global,
+    sheets: &Sheets,
+    history: &History,
+    round: Round,
+) -> Result<Vec<u8>, DeskFault>
+    ensures played { OnOk result (was_played history.now.events round ≡ true) }
+    ensures fault { IfErr result (HasNoTurns history.now.events round) }
+{
+    turns_by(alloc, sheets, history, round, true)
+}
+
+/// Returns the turns of a round, in short or not.
+fn turns_by(
+    alloc: Global,
+    sheets: &Sheets,
+    history: &History,
+    round: Round,
+    is_short: bool,
+) -> Result<Vec<u8>, DeskFault>
+    ensures played { OnOk result (was_played history.now.events round ≡ true) }
+    ensures fault { IfErr result (HasNoTurns history.now.events round) }
+{
     if !was_played(history.events(), round) {
         return Err(DeskFault::Round);
     }
@@ -72,6 +102,7 @@ pub fn turns(
         history,
         round,
         lines: lines.as_slice(),
+        is_short,
     };
     Ok(told(telling)?)
 }
@@ -282,6 +313,10 @@ impl Telling<'_> {
         push_wrapped(out, BROUGHT + 4, shown.as_slice())?;
         if let Verdict::Obeyed = ruling.verdict() {
             return Ok(());
+        }
+        if self.is_short {
+            fill(out, "%REFUSED ", &[Column(BROUGHT)])?;
+            return push_code(out, ruling);
         }
         let ruled = Ruled {
             sheets: self.sheets,

@@ -29,7 +29,7 @@ mod train_runs;
 mod ways;
 mod why;
 
-pub use bulletin_text::turns;
+pub use bulletin_text::{turns, turns_in_short};
 pub use refusal_detail::Ruled;
 pub use refused::refused_in;
 pub use round_part::{round, round_with_rules};

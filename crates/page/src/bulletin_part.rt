@@ -7,7 +7,7 @@ ghost use Rattle.sheets.specs.File.{IsAccepted};
 
 use desk::statement;
 use desk_base::{DeskFault, Stood, play_behind, stood_at_last, stood_now};
-use desk_round::turns;
+use desk_round::{turns, turns_in_short};
 use markup::PagePiece::{Round as Named, Words};
 use markup::{Tag, Writer, begin_section};
 use rounds::{Game, Play, play};
@@ -115,13 +115,16 @@ fn text_or_none(alloc: Global, told: Result<Vec<u8>, DeskFault>) -> Result<Vec<u
     }
 }
 
-/// Returns what happened in the last round, the first part of its bulletin; no text if no round has
-/// been played. Fails only if allocation fails.
+/// Returns what happened in the last round, of refused lines with the codes of the rules alone; no
+/// text if no round has been played. Fails only if allocation fails.
 pub(crate) fn turns_text(alloc: Global, stood: &Stood) -> Result<Vec<u8>, AllocError> {
     let Some(round) = stood.history.now().round() else {
         return Ok(Vec::new(alloc));
     };
-    text_or_none(alloc, turns(alloc, stood.sheets, stood.history, round))
+    text_or_none(
+        alloc,
+        turns_in_short(alloc, stood.sheets, stood.history, round),
+    )
 }
 
 /// Adds the bulletin of a round, if there is one.
@@ -148,7 +151,7 @@ pub(crate) fn put_told_of(
 }
 
 /// Adds a text as printed.
-fn put_told(out: &mut Writer, text: &[u8]) {
+pub(crate) fn put_told(out: &mut Writer, text: &[u8]) {
     out.begin_as(Tag::Preformatted, "told");
     out.text(text);
     out.end();

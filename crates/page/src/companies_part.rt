@@ -13,21 +13,23 @@ use markup::{
 use page_map::Scene;
 use picture::city_name;
 use privates::price_of;
-use tables::{Company, Kind, Money, Private, Seat, face, price, revenue, rusts, train};
+use tables::{Company, Kind, Money, Private, Seat, Square, face, price, revenue, rusts, train};
 
 /// Adds what each company has, in this order.
 pub(crate) fn put_companies(out: &mut Writer, scene: &Scene, order: &[Company]) {
-    begin_companies(out);
+    begin_companies(out, "(those that operate in operating order)");
     out.begin(Tag::TableBody);
-    put_company_rows(out, scene, order);
+    for company in order {
+        put_row(out, scene, *company);
+    }
     out.end();
     out.end();
 }
 
-/// Begins the table of companies up to its rows.
-pub(crate) fn begin_companies(out: &mut Writer) {
+/// Begins the table of companies up to its rows, with this remark in its caption.
+pub(crate) fn begin_companies(out: &mut Writer, remark: &'static str) {
     begin_table(out, "companies", "wide");
-    put_caption(out, "Companies", "(those that operate in operating order)");
+    put_caption(out, "Companies", remark);
     put_head(
         out,
         &[
@@ -47,15 +49,8 @@ pub(crate) fn begin_companies(out: &mut Writer) {
     );
 }
 
-/// Adds the rows of the companies, in this order.
-pub(crate) fn put_company_rows(out: &mut Writer, scene: &Scene, order: &[Company]) {
-    for company in order {
-        put_row(out, scene, *company);
-    }
-}
-
 /// Returns the name of a company.
-fn name_of(company: Company) -> &'static str {
+pub(crate) fn name_of(company: Company) -> &'static str {
     match company {
         Company::Pennsylvania => "Pennsylvania",
         Company::NewYorkCentral => "New York Central",
@@ -99,17 +94,23 @@ const FLOATS_AT: Money = 4;
 /// Adds a cell for a company that does not operate: how many more shares must be sold before it
 /// floats, or that it has not started.
 fn put_waiting(out: &mut Writer, scene: &Scene, company: Company) {
+    out.begin(Tag::Cell);
+    out.within();
+    put_waiting_words(out, scene, company);
+    out.end();
+}
+
+/// Adds how many more shares of a company must be sold before it floats, or that it has not
+/// started.
+pub(crate) fn put_waiting_words(out: &mut Writer, scene: &Scene, company: Company) {
     let offered = scene.history.shares(company, Shareholder::InitialOffering);
     if !scene.history.now().is_started(company) {
-        out.element(Tag::Cell, &[Words("not started")]);
+        out.put(&[Words("not started")]);
     } else if offered > FLOATS_AT {
         let more = Number(offered - FLOATS_AT);
-        out.element(
-            Tag::Cell,
-            &[Words("not floated, "), more, Words(" shares to go")],
-        );
+        out.put(&[Words("not floated, "), more, Words(" shares to go")]);
     } else {
-        out.element(Tag::Cell, &[Words("not floated")]);
+        out.put(&[Words("not floated")]);
     }
 }
 
@@ -121,16 +122,26 @@ fn put_square(out: &mut Writer, view: &GameView, company: Company) {
         return;
     };
     put_number(out, Money::from(price(square)));
+    out.begin(Tag::Cell);
+    out.within();
+    put_square_words(out, view, company, square);
+    out.end();
+}
+
+/// Adds the square of a company, and the place of its token there.
+pub(crate) fn put_square_words(
+    out: &mut Writer,
+    view: &GameView,
+    company: Company,
+    square: Square,
+) {
     let place = before_in_stack(view, square, company) as Money + 1;
-    out.element(
-        Tag::Cell,
-        &[
-            Letter(b'A'.saturating_add(square.row)),
-            Number(Money::from(square.column)),
-            Words(" no. "),
-            Number(place),
-        ],
-    );
+    out.put(&[
+        Letter(b'A'.saturating_add(square.row)),
+        Number(Money::from(square.column)),
+        Words(" no. "),
+        Number(place),
+    ]);
 }
 
 /// Adds a company's cash, its last revenue with the round, and its trains.
@@ -153,6 +164,12 @@ fn put_treasury(out: &mut Writer, scene: &Scene, company: Company) {
     }
     out.begin(Tag::Cell);
     out.within();
+    put_train_codes(out, scene, company);
+    out.end();
+}
+
+/// Adds the codes of a company's trains, or that it has none.
+pub(crate) fn put_train_codes(out: &mut Writer, scene: &Scene, company: Company) {
     let mut before = "";
     for &kind in &Kind::ALL {
         for _ in 0..scene.history.trains(Some(company), kind) {
@@ -163,13 +180,18 @@ fn put_treasury(out: &mut Writer, scene: &Scene, company: Company) {
     if before.is_empty() {
         out.put(&[Words("none")]);
     }
-    out.end();
 }
 
 /// Adds a cell with the places of a company's tokens; before its first token with its home.
 fn put_places(out: &mut Writer, scene: &Scene, company: Company) {
     out.begin(Tag::Cell);
     out.within();
+    put_token_places(out, scene, company);
+    out.end();
+}
+
+/// Adds the places of a company's tokens; before its first token its home.
+pub(crate) fn put_token_places(out: &mut Writer, scene: &Scene, company: Company) {
     let mut before = "";
     for token in scene.history.tokens() {
         if token.1 == company {
@@ -183,7 +205,6 @@ fn put_places(out: &mut Writer, scene: &Scene, company: Company) {
         out.put(&[Words("home "), Place(place)]);
         put_city(out, place.hex);
     }
-    out.end();
 }
 
 /// Adds the name of the city of a hex, if it has one.

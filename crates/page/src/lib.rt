@@ -13,14 +13,18 @@
 //!
 //! Reading order: `worth_history` (the game round by round), `checksum`, `style`, `bulletin_part`,
 //! `phases_part`, `result_part`, `players_part`, `companies_part`, `revenue_part`, `status_part`,
-//! `whole_page` (`page`), `layers`, `all_rounds` (`page_of_all`), `all_tiles` (`tile_sheet`).
+//! `whole_page` (`page`), `cells`, `layers`, `film` and `film_page` (all rounds), `all_rounds`
+//! (`page_of_all`), `all_tiles` (`tile_sheet`).
 #![tactic(auto)]
 
 mod all_rounds;
 mod all_tiles;
 mod bulletin_part;
+mod cells;
 mod checksum;
 mod companies_part;
+mod film;
+mod film_page;
 mod layers;
 mod phases_part;
 mod players_part;

@@ -6,6 +6,7 @@ pub(crate) const STYLE_OF_BUTTONS: &str = ".rd{position:fixed;top:0;left:0;opaci
     background:var(--paper);padding:4px 0}\
     .rounds label{font-size:12px;padding:3px 5px;border:1px solid var(--rule);cursor:pointer}\n\
     .rd:focus-visible~.rounds{outline:3px solid #1668b8}\n\
+    #players td{text-align:right;font-variant-numeric:tabular-nums}\n\
     @media print{.rounds{display:none}}\n";
 
 /// The style of a page. No rule for the content of a `use` depends on an ancestor, since it has

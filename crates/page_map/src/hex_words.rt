@@ -20,6 +20,14 @@ use tables::{Company, Money, Private};
 
 /// Adds what shows in a hex, in words.
 pub fn put_words(out: &mut Writer, scene: &Scene, look: &Look) {
+    put_sight(out, scene, look);
+    if is_new(scene, look) {
+        out.put(&[Words("; laid in the last round")]);
+    }
+}
+
+/// Adds what shows in a hex, in words, apart from what is new.
+fn put_sight(out: &mut Writer, scene: &Scene, look: &Look) {
     out.put(&[Named(look.hex), Words(": ")]);
     if let Some(name) = city_name(look.hex) {
         out.put(&[Words(name), Words("; ")]);
@@ -35,9 +43,6 @@ pub fn put_words(out: &mut Writer, scene: &Scene, look: &Look) {
         }
     }
     put_closed(out, look.hex);
-    if is_new(scene, look) {
-        out.put(&[Words("; laid in the last round")]);
-    }
 }
 
 /// Returns whether the tile that shows in a hex was laid in the last round.
@@ -309,6 +314,11 @@ pub fn begin_hex_item(out: &mut Writer, hex: Hex) {
 }
 
 /// Adds what shows in a hex, in words.
-pub fn put_words_of(out: &mut Writer, scene: &Scene, hex: Hex) {
+fn put_words_of(out: &mut Writer, scene: &Scene, hex: Hex) {
     put_words(out, scene, &Look::on(scene.history.lays(), hex));
+}
+
+/// Adds what shows in a hex, in words, apart from what is new.
+pub fn put_sight_of(out: &mut Writer, scene: &Scene, hex: Hex) {
+    put_sight(out, scene, &Look::on(scene.history.lays(), hex));
 }

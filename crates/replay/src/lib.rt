@@ -18,4 +18,4 @@ mod shown;
 
 pub use lasting::{Lasting, Layers};
 pub use merge::replay_of;
-pub use shown::{put_button, put_button_words, put_replay, put_rules};
+pub use shown::{put_button, put_button_words, put_cells, put_replay, put_rules};

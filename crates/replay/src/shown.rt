@@ -32,12 +32,36 @@ pub fn put_replay(out: &mut Writer, parts: VecDeque<Lasting>, last: usize, tag: 
     end_span(out, open, last);
 }
 
+/// Adds a list of parts, each in an element of this tag, with the classes of its pages.
+pub fn put_cells(out: &mut Writer, parts: VecDeque<Lasting>, last: usize, tag: Tag) {
+    for lasting in parts {
+        let span = Span {
+            from: lasting.from,
+            to: lasting.to,
+        };
+        out.begin(tag);
+        put_classes(out, span, last);
+        out.within();
+        out.put_part(&lasting.part);
+        out.end();
+    }
+}
+
 /// Begins the element of parts that some pages have not.
 fn begin_span(out: &mut Writer, span: Span, last: usize, tag: Tag) {
     if has_all(span, last) {
         return;
     }
     out.begin(tag);
+    put_classes(out, span, last);
+    out.within();
+}
+
+/// Adds the classes of parts that some pages have not.
+fn put_classes(out: &mut Writer, span: Span, last: usize) {
+    if has_all(span, last) {
+        return;
+    }
     out.attr(Attr::Class);
     if span.from > 0 {
         out.put(&[Words("f"), Count(span.from)]);
@@ -48,7 +72,6 @@ fn begin_span(out: &mut Writer, span: Span, last: usize, tag: Tag) {
     if span.to < last {
         out.put(&[Words("t"), Count(span.to)]);
     }
-    out.within();
 }
 
 /// Ends that element.
