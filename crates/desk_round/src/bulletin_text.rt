@@ -10,7 +10,7 @@ use crate::played::was_played;
 use crate::refusal_detail::Ruled;
 use crate::sheet_line::{SheetLine, find_line, lines_of};
 use crate::train_runs::push_ran;
-use crate::why::{FAULTY_COLUMNS, push_code, push_rule};
+use crate::why::{FAULTY_COLUMNS, push_rule};
 use desk_base::Piece::{Bytes, Column, Cut, Number, Right, Words};
 use desk_base::{DeskFault, Piece, fill, push, push_wrapped, push_wrapped_lines, view_behind, who};
 use history::{Event, GameView, History, Holder, PackedRuling, Ruling, Verdict, Walk};
@@ -35,7 +35,7 @@ struct Telling<'a> {
     round: Round,
     /// The lines of the sheets for it.
     lines: &'a [SheetLine<'a>],
-    /// Whether a refused line has the code of the rule alone.
+    /// Whether refused lines and the stops of runs are left out.
     is_short: bool,
 }
 
@@ -67,8 +67,8 @@ pub fn turns(
     turns_by(alloc, sheets, history, round, false)
 }
 
-/// Returns the turns of a round in the same way, but of a refused line only the code of the rule
-/// that it broke. The errors are those of `turns`.
+/// Returns the turns of a round in the same way, but without the lines that were refused and the
+/// stops of runs. The errors are those of `turns`.
 pub fn turns_in_short(
     alloc: Global,
     sheets: &Sheets,
@@ -219,7 +219,7 @@ impl Telling<'_> {
         }
         self.push_reported(out, event)?;
         match event {
-            Event::Runs { company, .. } => {
+            Event::Runs { company, .. } if !self.is_short => {
                 let view = view_behind(&mut course.now, passed, self.history.seats());
                 self.push_stops(out, &view, *company)
             }
@@ -307,16 +307,16 @@ impl Telling<'_> {
         number: u32,
         ruling: &PackedRuling,
     ) -> Result<(), AllocError> {
+        let is_obeyed = matches!(ruling.verdict(), Verdict::Obeyed);
+        if self.is_short && !is_obeyed {
+            return Ok(());
+        }
         let mut shown = Vec::new(self.alloc);
         self.push_line(&mut shown, seat, number, &ruling.ruling())?;
         push(out, &[Right(4, Money::from(number)), Words("  ")])?;
         push_wrapped(out, BROUGHT + 4, shown.as_slice())?;
-        if let Verdict::Obeyed = ruling.verdict() {
+        if is_obeyed {
             return Ok(());
-        }
-        if self.is_short {
-            fill(out, "%REFUSED ", &[Column(BROUGHT)])?;
-            return push_code(out, ruling);
         }
         let ruled = Ruled {
             sheets: self.sheets,

@@ -52,14 +52,6 @@ pub fn push_rule<'a>(
     push_refusal_detail(alloc, out, Ruled { place, ..ruled }, &ruling.ruling())
 }
 
-/// Adds a line with the code of the rule that a line of a sheet broke; nothing if it was obeyed.
-pub(crate) fn push_code(out: &mut Vec<u8>, ruling: &PackedRuling) -> Result<(), AllocError> {
-    match reason_of(ruling.verdict()) {
-        Some(reason) => fill(out, "%\n", &[Words(reason.code())]),
-        None => Ok(()),
-    }
-}
-
 /// Adds the fault of a line of a sheet, with its code, the line itself, and what to write in its
 /// place if that is known.
 fn push_fault(

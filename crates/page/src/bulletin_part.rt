@@ -115,8 +115,8 @@ fn text_or_none(alloc: Global, told: Result<Vec<u8>, DeskFault>) -> Result<Vec<u
     }
 }
 
-/// Returns what happened in the last round, of refused lines with the codes of the rules alone; no
-/// text if no round has been played. Fails only if allocation fails.
+/// Returns what happened in the last round, without lines that were refused and without the stops of
+/// runs; no text if no round has been played. Fails only if allocation fails.
 pub(crate) fn turns_text(alloc: Global, stood: &Stood) -> Result<Vec<u8>, AllocError> {
     let Some(round) = stood.history.now().round() else {
         return Ok(Vec::new(alloc));
@@ -151,7 +151,7 @@ pub(crate) fn put_told_of(
 }
 
 /// Adds a text as printed.
-pub(crate) fn put_told(out: &mut Writer, text: &[u8]) {
+fn put_told(out: &mut Writer, text: &[u8]) {
     out.begin_as(Tag::Preformatted, "told");
     out.text(text);
     out.end();

@@ -2,16 +2,15 @@
 //! element, and becomes a part by itself.
 ghost use Rattle.std.specs.Prelude.{◌<◌};
 
-use crate::companies_part::{
-    put_square_words, put_token_places, put_train_codes, put_waiting_words,
-};
+use crate::companies_part::{put_square_words, put_train_codes, put_waiting_words};
 use crate::phases_part::colours_of;
 use crate::players_part::{PLACES, figure_of, put_codes};
 use crate::status_part::put_train_on_sale;
-use desk::{earnings_of, operates, purse_of, rank_of, worths_of};
+use desk::{operates, purse_of, rank_of, worths_of};
 use desk_base::tokens_left;
 use history::{Holder, Party, Shareholder};
-use markup::PagePiece::{Count, Name, Number, Round, Words};
+use map_tables::home;
+use markup::PagePiece::{Count, Name, Number, Place, Round, Words};
 use markup::Writer;
 use page_map::Scene;
 use rounds::End;
@@ -30,7 +29,7 @@ pub(crate) const STATUS: [&str; 8] = [
 ];
 
 /// How many cells a company has.
-pub(crate) const COMPANY_CELLS: usize = 10;
+pub(crate) const COMPANY_CELLS: usize = 8;
 
 /// How many cells a player has.
 pub(crate) const PLAYER_CELLS: usize = 14;
@@ -82,7 +81,8 @@ pub(crate) fn put_place_cells(out: &mut Writer, scene: &Scene) {
 }
 
 /// Adds the cells of a company: its president, the price and square of its share, its cash, its
-/// last revenue with the round, its trains, its tokens, and its privates.
+/// trains, its tokens with how many are left, and its privates. If it does not operate, its trains
+/// are why.
 pub(crate) fn put_company_cells(out: &mut Writer, scene: &Scene, company: Company) {
     let view = scene.history.now();
     if let Some(seat) = view.president(company) {
@@ -90,44 +90,40 @@ pub(crate) fn put_company_cells(out: &mut Writer, scene: &Scene, company: Compan
     }
     out.end_part();
     let square = view.square(company);
-    match square {
-        Some(square) => put_number(out, Money::from(price(square))),
-        None => out.end_part(),
+    if let Some(square) = square {
+        out.put(&[Number(Money::from(price(square)))]);
     }
+    out.end_part();
     if let Some(square) = square {
         put_square_words(out, &view, company, square);
     }
     out.end_part();
-    put_treasury(out, scene, company);
-    put_token_places(out, scene, company);
+    if operates(&view, company) {
+        put_number(out, scene.history.cash(Party::of_company(company)));
+        put_train_codes(out, scene, company);
+    } else {
+        out.end_part();
+        put_waiting_words(out, scene, company);
+    }
     out.end_part();
+    put_tokens(out, scene, company);
     put_number(out, tokens_left(&view, company) as Money);
     let _ = put_codes(out, scene, Holder::Company(company));
     out.end_part();
 }
 
-/// Adds the cells of what a company has earned and bought; if it does not operate, why not in place
-/// of its trains.
-fn put_treasury(out: &mut Writer, scene: &Scene, company: Company) {
-    if !operates(&scene.history.now(), company) {
-        out.end_part();
-        out.end_part();
-        out.end_part();
-        put_waiting_words(out, scene, company);
-        out.end_part();
-        return;
-    }
-    put_number(out, scene.history.cash(Party::of_company(company)));
-    let earnings = earnings_of(scene.history.events(), company);
-    match earnings.round {
-        Some(round) => {
-            put_number(out, earnings.dollars as Money);
-            out.put(&[Round(round)]);
+/// Adds the cell of the places of a company's tokens; before its first token its home.
+fn put_tokens(out: &mut Writer, scene: &Scene, company: Company) {
+    let mut before = "";
+    for token in scene.history.tokens() {
+        if token.1 == company {
+            out.put(&[Words(before), Place(token.0)]);
+            before = " ";
         }
-        None => out.end_part(),
     }
-    out.end_part();
-    put_train_codes(out, scene, company);
+    if before.is_empty() {
+        out.put(&[Words("home "), Place(home(company).place())]);
+    }
     out.end_part();
 }
 

@@ -17,19 +17,8 @@ use tables::{Company, Kind, Money, Private, Seat, Square, face, price, revenue, 
 
 /// Adds what each company has, in this order.
 pub(crate) fn put_companies(out: &mut Writer, scene: &Scene, order: &[Company]) {
-    begin_companies(out, "(those that operate in operating order)");
-    out.begin(Tag::TableBody);
-    for company in order {
-        put_row(out, scene, *company);
-    }
-    out.end();
-    out.end();
-}
-
-/// Begins the table of companies up to its rows, with this remark in its caption.
-pub(crate) fn begin_companies(out: &mut Writer, remark: &'static str) {
     begin_table(out, "companies", "wide");
-    put_caption(out, "Companies", remark);
+    put_caption(out, "Companies", "(those that operate in operating order)");
     put_head(
         out,
         &[
@@ -44,6 +33,33 @@ pub(crate) fn begin_companies(out: &mut Writer, remark: &'static str) {
             "Trains",
             "Tokens",
             "#Left",
+            "Privates",
+        ],
+    );
+    out.begin(Tag::TableBody);
+    for company in order {
+        put_row(out, scene, *company);
+    }
+    out.end();
+    out.end();
+}
+
+/// Begins the table of companies up to its rows, without the columns of their last runs.
+pub(crate) fn begin_companies_alone(out: &mut Writer) {
+    begin_table(out, "companies", "wide");
+    put_caption(out, "Companies", "");
+    put_head(
+        out,
+        &[
+            "Company",
+            "Name",
+            "President",
+            "Price",
+            "Square",
+            "Cash",
+            "Trains",
+            "Tokens",
+            "Left",
             "Privates",
         ],
     );
@@ -191,7 +207,7 @@ fn put_places(out: &mut Writer, scene: &Scene, company: Company) {
 }
 
 /// Adds the places of a company's tokens; before its first token its home.
-pub(crate) fn put_token_places(out: &mut Writer, scene: &Scene, company: Company) {
+fn put_token_places(out: &mut Writer, scene: &Scene, company: Company) {
     let mut before = "";
     for token in scene.history.tokens() {
         if token.1 == company {

@@ -3,9 +3,8 @@
 ghost use Rattle.std.specs.Prelude.{◌<◌, IfOk};
 ghost use Rattle.markup.specs.Reading.{IsWellFormed};
 
-use crate::bulletin_part::put_told;
 use crate::cells::{COMPANY_CELLS, PLAYER_CELLS, STATUS};
-use crate::companies_part::{begin_companies, begin_owners, begin_trains, name_of};
+use crate::companies_part::{begin_companies_alone, begin_owners, begin_trains, name_of};
 use crate::film::Film;
 use crate::layers::{
     FIRST_COMPANY, FIRST_PLACE, FIRST_PLAYER, HexLayer, Layer, STATUS_CELLS, hex_layer,
@@ -16,7 +15,6 @@ use crate::status_part::{self, begin_item, put_next, put_source};
 use crate::style::{STYLE, STYLE_OF_BUTTONS};
 use crate::whole_page::players_of;
 use crate::worth_history::thinned;
-use desk_base::list_text;
 use map_tables::Hex;
 use markup::PagePiece::{Count, Hex as Hexed, Name, Round as Named, Words};
 use markup::{
@@ -238,12 +236,10 @@ impl Film {
         Ok(())
     }
 
-    /// Adds what happened in each round, and the codes of refused lines in words.
+    /// Adds what happened in each round.
     fn put_bulletins(&self, alloc: Global, out: &mut Writer) -> Result<(), AllocError> {
         begin_section(out, "bulletin", "What happened", "");
         self.put_layer(alloc, out, Layer::Bulletin, Tag::Division)?;
-        out.element(Tag::H3, &[Words("Why lines are refused, by code")]);
-        put_told(out, list_text(alloc)?.as_slice());
         out.end();
         Ok(())
     }
@@ -308,7 +304,7 @@ impl Film {
 
     /// Adds the table of companies.
     fn put_companies(&self, alloc: Global, out: &mut Writer) -> Result<(), AllocError> {
-        begin_companies(out, "");
+        begin_companies_alone(out);
         out.begin(Tag::TableBody);
         for &company in &Company::ALL {
             begin_row(out, "");

@@ -11,7 +11,7 @@ use crate::result_part::put_result;
 use crate::whole_page::tokens_of;
 use map_tables::{HEXES, Hex};
 use markup::{Part, Writer};
-use page_charts::put_squares;
+use page_charts::put_squares_and_moves;
 use page_map::{Scene, put_ground_of, put_sight_of, put_stops_of, put_track_of};
 use page_routes::{Routes, put_shared_lines, put_short_rows, put_tags};
 use replay::Layers;
@@ -162,7 +162,7 @@ fn parts_of(
         Layer::Sums => put_tags(alloc, &mut out, history, &ran.routes)?,
         Layer::Runs => put_short_rows(alloc, &mut out, history, &ran.routes)?,
         Layer::Bulletin => put_told_of(&mut out, "Turns of ", history.now().round(), bulletin),
-        Layer::Chart => put_squares(&mut out, &tokens_of(history)),
+        Layer::Chart => put_squares_and_moves(&mut out, &tokens_of(history)),
         Layer::Privates => put_owner_rows(&mut out, scene),
         Layer::Trains => put_train_rows(&mut out, scene),
     }

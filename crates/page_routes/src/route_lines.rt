@@ -61,7 +61,7 @@ pub fn put_shared_lines(out: &mut Writer, history: &History, shown: &Routes, rou
         };
         let name = [Count(round), Words("-"), Count(number)];
         out.begin_as(Tag::Group, "ra");
-        put_title(out, route);
+        put_short_title(out, route);
         out.begin(Tag::Path);
         out.attr(Attr::Id);
         out.put(&[Words("q")]);
@@ -95,6 +95,16 @@ fn put_title(out: &mut Writer, route: &Route) {
     }
     out.put(&[Words(", "), Number(Money::from(route.sum))]);
     out.end();
+}
+
+/// Adds a title with the train of a route and its sum.
+fn put_short_title(out: &mut Writer, route: &Route) {
+    let (company, train) = (Words(route.company.code()), Words(route.kind.code()));
+    let sum = Number(Money::from(route.sum));
+    out.element(
+        Tag::Title,
+        &[company, Words(" "), train, Words("-train, "), sum],
+    );
 }
 
 impl Course<'_> {
