@@ -121,7 +121,7 @@ page_must_fail() {
   sees 'another script than that of the head' 1 read_lays first-dividend
   desk=$2
   desk=$(desk_but 's,</svg>LAY ,&1,')
-  sees 'a lay of another tile' 1 read_lays first-dividend
+  sees 'a lay of another tile' 1 read_lays first-stock-round
   desk=$2
   told_of presidents-run-their-best "$scratch/right" || return
   sees 'a right page' 0 read_page 'what is right' "$scratch/right"
