@@ -202,6 +202,16 @@ pub heads_step : (players : List (List ℕ)) (passed : ℕ) (old new whole : Lis
 heads_step players passed old new whole lines line left h e f =
     rw (f, append_assoc) (sym (ap (λ ls. old ++ heads_in players passed ls) e) ∙ h)
 
+-- a line that begins no sheet
+pub heads_stay : (players : List (List ℕ)) (passed : ℕ) (heads whole : List HeadAt) (lines : List (List ℕ))
+    (line : List ℕ) (left : List (List ℕ)) →
+    heads ++ heads_in players passed lines ≡ whole → lines ≡ line ∷ left → begins players line ≡ None
+    → heads ++ heads_in players (passed + 1) left ≡ whole
+heads_stay players passed heads whole lines line left h e none =
+    sym (ap (λ (begun : Option SheetKey).
+    heads ++ (head_here (passed + 1) begun ++ heads_in players (passed + 1) left)) none)
+    ∙ sym (ap (λ ls. heads ++ heads_in players passed ls) e) ∙ h
+
 -- no line is left
 pub heads_end : (players : List (List ℕ)) (passed : ℕ) (heads whole : List HeadAt) (lines : List (List ℕ)) →
     heads ++ heads_in players passed lines ≡ whole → lines ≡ [] → heads ≡ whole

@@ -1,6 +1,7 @@
 //! One pass over the lines of a file: its SHEET lines, lines outside sheets, and lines that look
 //! like mail.
-ghost use Rattle.std.specs.Prelude.{◌≡◌, ◌≤◌, ◌++◌, IfOk, OnOk, length};
+ghost use Rattle.std.specs.Prelude.{◌≡◌, ℕ, ◌≤◌, ◌++◌, IfOk, List, None, OnOk, length};
+ghost use Rattle.std.specs.Bool.{OnTrue};
 ghost use Rattle.desk_check.specs.Heads.{AreKept, came};
 ghost use Rattle.desk_check.specs.SheetLines.{head_here, heads_in};
 ghost use Rattle.sheets.specs.File.{begins, players_of};
@@ -13,7 +14,7 @@ use crate::check_mail::is_mail;
 use crate::check_names::likeness_of;
 use crate::check_said::names_of;
 use crate::check_sheets::{Beginning, Head, Heads, Sent, begun_by};
-use crate::sheet_like::is_like_sheet;
+use crate::sheet_like::{closes, is_like_sheet};
 use hints::{Faulty, line_meant};
 use order_grammar::Fault;
 use report::name;
@@ -54,7 +55,7 @@ struct Closing<'a> {
 
 /// Reads the lines of a file once, for its good SHEET lines and what there is to report of other
 /// lines.
-#[tactic(auto, using(crate::proofs::HeadLemmas::heads_step, crate::proofs::HeadLemmas::heads_end))]
+#[tactic(auto, using(crate::proofs::HeadLemmas::heads_step, crate::proofs::HeadLemmas::heads_stay, crate::proofs::HeadLemmas::heads_end))]
 pub(crate) fn pass_over<'a>(
     alloc: Global,
     sheets: &Sheets,
@@ -80,6 +81,9 @@ pub(crate) fn pass_over<'a>(
         rest: file,
     };
     for line in lines {
+        if pass.open.is_some() && is_plain(line.text) {
+            continue;
+        }
         pass.take(sheets, line)?;
     }
     pass.end_closing()?;
@@ -167,8 +171,7 @@ impl<'a> Pass<'a> {
             return Ok(());
         }
         if self.preamble >= PREAMBLE {
-            let fault = unread_fault(sheets.version(), line.text);
-            return self.found.add_line(line, Matter::Unread(fault));
+            return self.take_unread(sheets, line);
         }
         self.preamble += 1;
         if self.preamble == PREAMBLE {
@@ -176,6 +179,28 @@ impl<'a> Pass<'a> {
         }
         Ok(())
     }
+
+    /// Takes a line that belongs to no sheet. Its fault is found only if the line is listed.
+    fn take_unread(&mut self, sheets: &Sheets, line: &FileLine<'a>) -> Result<(), AllocError>
+        ensures { self.new.heads ≡ self.old.heads }
+    {
+        if !self.found.lists(line.number) {
+            self.found.count(line.number);
+            return Ok(());
+        }
+        let fault = unread_fault(sheets.version(), line.text);
+        self.found.add_line(line, Matter::Unread(fault))
+    }
+}
+
+/// Returns whether there is nothing to say about a line of a sheet: it is no SHEET line, was not
+/// meant as one, and does not look like mail. (It is asked before a line is taken, since most lines
+/// are such.)
+#[tactic(auto, unfolding(sheets::specs::File::begins))]
+fn is_plain(line: &[u8]) -> bool
+    ensures { OnTrue result ((players : List (List ℕ)) → begins players line.now ≡ None) }
+{
+    !closes(line) && !is_mail(line)
 }
 
 /// Returns the sheet that a line with a fault was meant to begin; `None` if that is not known.
