@@ -1,4 +1,5 @@
 -- What the search finds is the greatest revenue, and the runs that the path gives earn it.
+use Rattle.std.specs.Prelude.{◌≤◌}
 use Rattle.std.proofs.Common.{◌≡◌, ℕ, ◌+◌, true, false, List, [], ◌∷◌, replicate, refl, sym, subst, ◌∙◌, arith}
 use Rattle.std.specs.List.{AllByRecursion}
 use Rattle.reach.proofs.Collected.{none_marked}
@@ -8,7 +9,7 @@ use Rattle.tables.specs.declared.rolling_stock.Kind.{Kind}
 use Rattle.tables.specs.declared.roster.Company.{Company}
 use Rattle.legal_runs.specs.Claim.{NameRuns}
 use Rattle.legal_runs.specs.Law.{AreItsPlaces}
-use Rattle.legal_runs.specs.Set.{IsGreatest, IsLegalSet, IsMost, RunsLegally, TrainRun, revenue_of}
+use Rattle.legal_runs.specs.Set.{IsGreatest, IsLegalSet, RunsLegally, TrainRun, revenue_of}
 use Rattle.legal_runs.specs.Written.{places_of}
 use Rattle.legal_runs.proofs.Written.{legal_written}
 use Rattle.best_run.specs.declared.memo.Found.{Found}
@@ -102,7 +103,7 @@ module _ (position : Position) (company : Company) (lawful : IsLawful position) 
       marks_earn (marks_in found.move_path) found.amount top.earns in
       record { earned = (runs_of_marks kinds [] (marks_in found.move_path), read.set, read.earns); most = most }
     where
-      most : IsMost position company kinds found.amount
+      most : (runs : List TrainRun) → IsLegalSet position company kinds runs → revenue_of position runs ≤ found.amount
       most runs set =
           let can : CanFinish task start (0 + revenue_of position runs) = can_earn runs set in
           let low = top.most can.0 can.1 in

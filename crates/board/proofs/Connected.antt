@@ -10,7 +10,7 @@ use Rattle.map_tables.specs.Fit.{is_open}
 use Rattle.map_tables.specs.Lay.{laid_links_of}
 use Rattle.map_tables.specs.OnMap.{by_tile, links_on, tile_on}
 use Rattle.map_tables.specs.Place.{joined_hex}
-use Rattle.map_tables.specs.Hex.{index_of}
+use Rattle.map_tables.specs.Hex.{index_of, hexes, site_of}
 use Rattle.map_tables.specs.Print.{groups, plain_hexes, print_of, printed_links_of}
 use Rattle.map_tables.specs.declared.hex.Hex.{Hex}
 use Rattle.map_tables.specs.declared.hex.Hex.TheVariants.{A9, I1}
@@ -21,7 +21,7 @@ use Rattle.tables.specs.declared.roster.Company.{Company}
 
 -- a hex that takes tiles is no part of another's stop
 pub open_own : (hex : Hex) → not (is_open (print_of hex).kind) ≡ false → joined_hex hex ≡ hex
-unfolding index_of groups plain_hexes print_of
+unfolding index_of hexes site_of groups plain_hexes print_of
 open_own A9 takes = absurd (let wrong : true ≡ false = takes in let no : ⊥ = cc in no)
 open_own I1 takes = absurd (let wrong : true ≡ false = takes in let no : ⊥ = cc in no)
 open_own hex takes = refl

@@ -17,7 +17,7 @@ use Rattle.map_tables.specs.Hex.{hex_at, hexes, index_of, site_of}
 use Rattle.map_tables.specs.Lay.{laid_links_of, laid_track_of}
 use Rattle.map_tables.specs.Place.{stop_at}
 use Rattle.map_tables.specs.Print.{groups, plain_hexes, print_of, printed_links_of}
-use Rattle.map_tables.specs.Tile.{printed, tile_index_of}
+use Rattle.map_tables.specs.Tile.{printed, tile_index_of, number_of_tile, tiles}
 use Rattle.map_tables.specs.declared.hex.Hex.TheVariants.{E11, H10, H12}
 use Rattle.map_tables.specs.declared.place.StopNumber.TheVariants.{First}
 use Rattle.map_tables.specs.declared.side.Side.TheVariants.{West, East}
@@ -30,8 +30,8 @@ use Rattle.tables.specs.declared.rolling_stock.Kind.TheVariants.{Two, Three}
 
 -- in phase 2 no green tile is laid
 early : Some ColourClosed ≡ first_broken (map_rules (erie_at_home Two) (beginner Erie (pos 0)) (tile_59 false))
-unfolding is_cs_lay is_dh_lay is_lay_used is_none_left on_map_of is_colour_closed tile_on index_of groups plain_hexes
-    print_of printed tile_index_of hexes
+unfolding is_cs_lay is_dh_lay is_lay_used is_none_left on_map_of is_colour_closed tile_on index_of site_of groups plain_hexes
+    print_of printed tile_index_of tiles number_of_tile hexes
 early = refl
 
 -- the lay with its stops swapped breaks no rule, and costs nothing
@@ -39,12 +39,12 @@ allowed : Ok (pos 0) ≡ cost_or (lay_cost_of (erie_at_home Three).lays E11)
     (first_broken (lay_rules (erie_at_home Three) (beginner Erie (pos 0)) (tile_59 true) true))
 unfolding is_cs_lay is_dh_lay is_lay_used is_none_left on_map_of is_colour_closed is_wrong_colour is_wrong_kind
     loses_track has_bad_side is_blocked lay_cost_of tile_on index_of groups plain_hexes print_of printed_links_of
-    printed tile_index_of hexes laid_links_of laid_track_of neighbour_of adjacent hex_at site_of
+    printed tile_index_of tiles number_of_tile hexes laid_links_of laid_track_of neighbour_of adjacent hex_at site_of
 allowed = refl
 
 -- the Erie's own token is reached
 connected : IsConnected (position_of (with_lay (erie_at_home Three) (tile_59 true))) Erie (tile_59 true)
-unfolding position_of tile_on index_of groups plain_hexes print_of printed hexes
+unfolding position_of tile_on index_of site_of groups plain_hexes print_of printed hexes
 connected = record { piece = inr (First, inl (refl, inl refl)) }
 
 -- the Pennsylvania leaves its home to the west, and reaches the city from the east
@@ -78,14 +78,14 @@ reaches =
 too_dear : Err CashTooSmall ≡ cost_or (token_cost_of pennsylvania_at_home.tokens (beginner Pennsylvania (pos 39)) H10)
     (first_broken (token_rules pennsylvania_at_home (beginner Pennsylvania (pos 39)) city_beside true))
 unfolding is_dh_token is_token_used has_none_left has_token_in is_no_free_slot kept_at laid_by token_cost_of tile_on
-    index_of groups plain_hexes print_of printed
+    index_of hexes site_of groups plain_hexes print_of printed
 too_dear = refl
 
 -- with 40 it is not
 placed : Ok (pos 40) ≡ cost_or (token_cost_of pennsylvania_at_home.tokens (beginner Pennsylvania (pos 40)) H10)
     (first_broken (token_rules pennsylvania_at_home (beginner Pennsylvania (pos 40)) city_beside true))
 unfolding is_dh_token is_token_used has_none_left has_token_in is_no_free_slot kept_at laid_by token_cost_of tile_on
-    index_of groups plain_hexes print_of printed
+    index_of hexes site_of groups plain_hexes print_of printed
 placed = refl
 
 pub worked_examples : WorkedExamples

@@ -9,7 +9,7 @@ use Rattle.map_tables.specs.Fit.{is_wrong_kind, place_of_tile_kind, takes}
 use Rattle.map_tables.specs.OnMap.{by_tile, colour_on, is_stop, slots_at, slots_on, tile_on}
 use Rattle.board.specs.LayRules.{is_wrong_colour, place_of_colour}
 use Rattle.board_state.proofs.Tiles.{last_lies, lies_there}
-use Rattle.map_tables.specs.Hex.{index_of, same_hex}
+use Rattle.map_tables.specs.Hex.{index_of, same_hex, hexes, site_of}
 use Rattle.map_tables.specs.Place.{joined_stop_of}
 use Rattle.map_tables.specs.Print.{Print, groups, plain_hexes, print_of}
 use Rattle.map_tables.specs.Tile.{entry_of, printed}
@@ -64,7 +64,7 @@ as_printed Grey print = true
 as_printed Red print = true
 
 of_print : (hex : Hex) → as_printed (print_of hex).kind (print_of hex) ≡ true
-unfolding index_of groups plain_hexes print_of slots_by city_slots york_slots as_printed
+unfolding index_of hexes site_of groups plain_hexes print_of slots_by city_slots york_slots as_printed
 of_print A9 = refl
 of_print _ = refl
 

@@ -10,9 +10,9 @@ use Rattle.board.specs.LayRules.{map_rules, is_none_left, is_tile, on_map_of}
 use Rattle.board.specs.Stock.{LayKeepsStock}
 use Rattle.board.proofs.KeptHomes.{count_le}
 use Rattle.board_state.proofs.Tiles.{last_lies}
-use Rattle.map_tables.specs.Hex.{hexes, index_of, same_hex}
+use Rattle.map_tables.specs.Hex.{hexes, index_of, same_hex, site_of}
 use Rattle.map_tables.specs.RuleCodes.{code_of_lay_rule}
-use Rattle.map_tables.specs.Tile.{entry_of, tile_index_of, tiles}
+use Rattle.map_tables.specs.Tile.{entry_of, tile_index_of, tiles, number_of_tile}
 use Rattle.map_tables.specs.declared.hex.Hex.{Hex}
 use Rattle.map_tables.specs.declared.hex.Hex.TheVariants.{A9}
 use Rattle.map_tables.specs.declared.lay.Lay.{Lay}
@@ -23,7 +23,7 @@ use Rattle.tables.proofs.Rules.{not_broken}
 
 -- a tile is at its place
 at_place : (tile : TileNo) → get_or tiles (tile_index_of tile) T1 ≡ tile
-unfolding tiles tile_index_of
+unfolding tiles tile_index_of number_of_tile
 at_place T1 = refl
 at_place _ = refl
 
@@ -34,7 +34,7 @@ tile_is a b same =
 
 -- each hex is one of the map's once
 once : (hex : Hex) → count_by (same_hex hex) hexes ≡ 1
-unfolding hexes index_of
+unfolding hexes index_of site_of
 once A9 = refl
 once _ = refl
 

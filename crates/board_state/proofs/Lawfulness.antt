@@ -6,7 +6,7 @@ use Rattle.map_tables.specs.OnMap.{by_tile, is_stop, tile_on}
 use Rattle.board_state.proofs.Parts.{parts_have_one_stop}
 use Rattle.board_state.proofs.Positions.{in_hex_is, not_on_map, shown}
 use Rattle.board_state.proofs.Tiles.{lies_there}
-use Rattle.map_tables.specs.Hex.{index_of, same_hex}
+use Rattle.map_tables.specs.Hex.{index_of, same_hex, hexes, site_of}
 use Rattle.map_tables.specs.Laws.{AreLinksOf, LaidLinksAreInOrder, NeighboursPair, PrintedLinksAreInOrder}
 use Rattle.map_tables.specs.Laws.{ValuesAreAtMost80}
 use Rattle.map_tables.specs.Lay.{laid_links_of}
@@ -62,19 +62,19 @@ worth values laid stop =
 
 -- the red areas
 gulf_is_stop : is_stop (joined_stop_of (stop_at J2 First)) ≡ true
-unfolding index_of groups plain_hexes print_of
+unfolding index_of hexes site_of groups plain_hexes print_of
 gulf_is_stop = refl
 
 gulf_is_red : is_red_kind (print_of J2).kind ≡ true
-unfolding index_of groups plain_hexes print_of
+unfolding index_of hexes site_of groups plain_hexes print_of
 gulf_is_red = refl
 
 west_is_stop : is_stop (joined_stop_of (stop_at A11 First)) ≡ true
-unfolding index_of groups plain_hexes print_of
+unfolding index_of hexes site_of groups plain_hexes print_of
 west_is_stop = refl
 
 west_is_red : is_red_kind (print_of A11).kind ≡ true
-unfolding index_of groups plain_hexes print_of
+unfolding index_of hexes site_of groups plain_hexes print_of
 west_is_red = refl
 
 -- the links of a hex are those of its print, or of what is there

@@ -6,7 +6,7 @@ use Rattle.std.proofs.lemmas.List.{get_or-map}
 use Rattle.std.specs.Prelude.{nat_lt}
 use Rattle.board_state.specs.MapState.{MapState, on_map_at, on_map_in, position_of, stop_numbers, stops_in}
 use Rattle.map_tables.specs.OnMap.{is_stop, slots_at, slots_on}
-use Rattle.map_tables.specs.Hex.{hexes, index_of, same_hex}
+use Rattle.map_tables.specs.Hex.{hexes, index_of, same_hex, site_of}
 use Rattle.map_tables.specs.Place.{joined_hex, joined_stop_of, stop_at, stop_index_of}
 use Rattle.map_tables.specs.Print.{print_of}
 use Rattle.map_tables.specs.declared.hex.Hex.{Hex}
@@ -19,7 +19,7 @@ use Rattle.reach.specs.Position.{AtStop, InHex, at_stop, empty_hex, in_hex, no_s
 
 -- each number is under that of all hexes
 index_low : (hex : Hex) → index_of hex < length hexes
-unfolding hexes index_of
+unfolding hexes index_of site_of
 index_low A9 = lit< tt
 index_low hex = lit< tt
 
@@ -43,7 +43,7 @@ numbered f (suc (suc n)) Second none = rw (lt-ltb 1 (suc (suc n)) (omega arith))
 
 -- what names an area names itself
 joined_twice : (hex : Hex) → same_hex (joined_hex (joined_hex hex)) (joined_hex hex) ≡ true
-unfolding index_of
+unfolding index_of hexes site_of
 joined_twice A9 = refl
 joined_twice hex = refl
 

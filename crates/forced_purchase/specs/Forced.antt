@@ -41,13 +41,10 @@ with_one_sold by game (Some company) = with_sale by game (one_share company)
 unfoldable pub sold_further : Operator → Game → Game
 sold_further by game = if falls_short by game then with_one_sold by game (next_to_sell by game) else game
 
--- upper bound on the shares that can be sold: 8 companies times the 5 shares that the pool takes
-abbrev pub sales_most : ℕ
-sales_most = 40
-
--- after they have sold shares one at a time, until they do not fall short or may sell none
+-- after they have sold shares one at a time, until they do not fall short or may sell none: at most
+-- 40, since the pool takes 5 shares of each of the 8 companies
 unfoldable pub sold_singly : Operator → Game → Game
-sold_singly by game = iterate (sold_further by) sales_most game
+sold_singly by game = iterate (sold_further by) 40 game
 
 -- with AID, if the company lacks anything
 unfoldable pub with_aid : Operator → Game → Game

@@ -1,11 +1,12 @@
 -- The legal runs of a company are finitely many: each is named by a list of at most 280 places, of
 -- which there are finitely many. So are its legal sets, which have at most as many runs as there
 -- are trains; and of a set of legal runs it is known whether it is legal.
+use Rattle.std.specs.Prelude.{unwrap_or}
 use Rattle.std.proofs.Common.{◌≡◌, ℕ, suc, ◌+◌, ◌<◌, ◌≤◌, lit<, Bool, true, false, eqb, ◌⊎◌, inl, inr, Option, Some}
 use Rattle.std.proofs.Common.{None, List, [], ◌∷◌, ◌++◌, length, get_or, refl, ap, sym, ◌∙◌, subst, arith}
 use Rattle.std.specs.List.{AllByRecursion}
 use Rattle.std.proofs.lemmas.Bool.{eqb-true}
-use Rattle.map_tables.specs.Hex.{hexes, index_of}
+use Rattle.map_tables.specs.Hex.{hexes, index_of, site_of}
 use Rattle.map_tables.specs.declared.hex.Hex.{Hex}
 use Rattle.map_tables.specs.declared.hex.Hex.TheVariants.{A9}
 use Rattle.map_tables.specs.declared.place.Place.{Place}
@@ -20,7 +21,7 @@ use Rattle.tables.specs.Train.{kinds}
 use Rattle.tables.specs.declared.rolling_stock.Kind.{Kind}
 use Rattle.tables.specs.declared.rolling_stock.Kind.TheVariants.{Two, Three, Four, Five, Six, Diesel}
 use Rattle.tables.specs.declared.roster.Company.{Company}
-use Rattle.legal_runs.specs.Fault.{named_steps, run_fault, steps_of}
+use Rattle.legal_runs.specs.Fault.{named_steps, run_fault}
 use Rattle.legal_runs.specs.Law.{AreItsPlaces, NameLegalRun}
 use Rattle.legal_runs.specs.Legal.{IsLegalRun, crossed}
 use Rattle.legal_runs.specs.Set.{AreApart, AreTakenFrom, IsLegalSet, RunsLegally, ShareNoBorder, TrainRun, in_number}
@@ -33,7 +34,7 @@ use Rattle.legal_runs.proofs.Written.{each_named}
 
 -- all places
 hex_among : (hex : Hex) → IsAmong hex hexes
-unfolding hexes index_of
+unfolding hexes index_of site_of
 hex_among hex = subst (λ (h : Hex). IsAmong h hexes) (at_index hex) (among_at hexes (index_of hex) A9 (low hex))
   where
     at_index : (hex : Hex) → get_or hexes (index_of hex) A9 ≡ hex
@@ -187,7 +188,7 @@ module _ (position : Position) (company : Company) where
   legal_by kind list is =
       let run : NameLegalRun position company kind [] list =
       (legal_where_unbroken position company kind [] list).0 is in
-      subst (λ (steps : List WalkStep). IsLegalRun position company kind [] steps) (sym (ap steps_of run.1)) run.2
+      subst (λ (steps : List WalkStep). IsLegalRun position company kind [] steps) (sym (ap (λ (w : Option (List WalkStep)). unwrap_or w []) run.1)) run.2
 
   among_kept :
       (fault : Option RunRule) (run other : TrainRun) (runs : List TrainRun) → IsAmong other (kept fault run runs) →
@@ -270,7 +271,7 @@ module _ (position : Position) (company : Company) where
       each_named position company run.kind [] run.steps lawful legal in
       let unbroken : run_fault position company run.kind [] written.0 ≡ None =
       (legal_where_unbroken position company run.kind [] written.0).1 (run.steps, written.1.name_it, legal) in
-      let steps : named_steps position written.0 ≡ run.steps = ap steps_of written.1.name_it in
+      let steps : named_steps position written.0 ≡ run.steps = ap (λ (w : Option (List WalkStep)). unwrap_or w []) written.1.name_it in
       subst (λ (s : List WalkStep). IsAmong (let made : TrainRun = record { kind = run.kind; steps = s } in made)
       (legal_runs kinds 280)) steps
       (legal_here kinds 280 run.kind written.0 (kind_among run.kind) written.1.most unbroken)

@@ -20,7 +20,7 @@ use Rattle.tables.specs.declared.rolling_stock.Kind.{Kind}
 use Rattle.tables.specs.declared.roster.Company.{Company}
 use Rattle.legal_runs.specs.Claim.{NameRuns}
 use Rattle.legal_runs.specs.Legal.{IsLegalRun, border_at, crossed}
-use Rattle.legal_runs.specs.Named.{arrived, leg_by_stop, leg_from, leg_over, leg_to, same_link}
+use Rattle.legal_runs.specs.Named.{arrived, leg_by_stop, leg_over, leg_to, same_link}
 use Rattle.legal_runs.specs.Named.{step_between, step_over, taken, travelled, walk_named, with_leg}
 use Rattle.legal_runs.specs.Places.{ClaimsHavePlaces, HasPlaces}
 use Rattle.legal_runs.specs.Set.{RunsLegally, TrainRun}
@@ -85,7 +85,7 @@ by_stop position made from first hex side (Some number) leg enters_first is =
 
 by_first : (position : Position) (made : List WalkStep) (at : Spot) (side : Side) (place : Place) (first : Option WalkStep)
     (leg : Leg) →
-    step_between position at.hex at.end (AtSide side) ≡ first → leg_from position side place first ≡ Some leg
+    step_between position at.hex at.end (AtSide side) ≡ first → option_and_then (λ (step : WalkStep). leg_by_stop position step place.hex (facing_of side) place.stop) first ≡ Some leg
     → IsCounted made (over_border at.end) leg
 by_first position made at side place None leg found is = absurd cc
 by_first position made at side place (Some first) leg found is =
@@ -93,7 +93,7 @@ by_first position made at side place (Some first) leg found is =
     (enters position at.hex at.end (AtSide side) first found) is
 
 by_side : (position : Position) (made : List WalkStep) (at : Spot) (place : Place) (side : Option Side) (leg : Leg)
-    → leg_over position at place side ≡ Some leg → IsCounted made (over_border at.end) leg
+    → option_and_then (leg_over position at place) side ≡ Some leg → IsCounted made (over_border at.end) leg
 by_side position made at place None leg is = absurd cc
 by_side position made at place (Some side) leg is = grind (arith, by_first)
 

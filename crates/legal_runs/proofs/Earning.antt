@@ -1,5 +1,9 @@
 -- What runs earn, by the borders that they use: a run visits at most one stop more than it crosses
 -- borders, and no stop is worth more than 80 dollars.
+use Rattle.std.specs.Prelude.{◌||◌}
+use Rattle.std.specs.Prelude.{Option}
+use Rattle.legal_runs.specs.Fault.{has_border}
+use Rattle.std.specs.Prelude.{unwrap_or}
 use Rattle.std.proofs.Common.{◌≡◌, ℕ, zero, suc, ◌+◌, ◌*◌, ◌<◌, ◌≤◌, Bool, true, false, List, [], ◌∷◌, ◌++◌, length}
 use Rattle.std.proofs.Common.{get_or, set, refl, sym, subst, ap, ◌∙◌, arith}
 use Rattle.std.specs.List.{AllByRecursion}
@@ -18,7 +22,7 @@ use Rattle.legal_runs.proofs.Joined.{distinct_borders, neither}
 use Rattle.legal_runs.proofs.TallyOfWalk.{crossed_low, length_marked, marked_is}
 use Rattle.legal_runs.proofs.Lawful.{legal_where_unbroken}
 use Rattle.legal_runs.proofs.Written.{ordered, stop_to_stop}
-use Rattle.legal_runs.specs.Fault.{has_border_twice, is_taken, named_steps, steps_of}
+use Rattle.legal_runs.specs.Fault.{has_border_twice, named_steps}
 use Rattle.legal_runs.specs.Marks.{borders_used, marked}
 use Rattle.legal_runs.specs.Law.{NameLegalRun, RunsEarnByBorders, unused}
 use Rattle.legal_runs.specs.Legal.{IsLegalRun, border_at, crossed, earned, listed, visited, worth}
@@ -71,8 +75,8 @@ marks_used : (used : List Bool) (borders : List ℕ) → AllByRecursion (λ bord
 marks_used used [] low once = omega arith
 marks_used used (border ∷ borders) low once =
     let parts : (has_border_twice (borders_used used) borders ≡ false)
-    × (is_taken (borders_used used) borders border ≡ false) =
-    neither (has_border_twice (borders_used used) borders) (is_taken (borders_used used) borders border) once in
+    × ((has_border border (borders_used used) || has_border border borders) ≡ false) =
+    neither (has_border_twice (borders_used used) borders) ((has_border border (borders_used used) || has_border border borders)) once in
     let here : border < length (marked used borders) = omega (arith, length_marked used borders, low.0) in
     let free : get_or (marked used borders) border false ≡ false = marked_is used borders border low.1 ∙ parts.1 in
     omega (arith, mark_used (marked used borders) border here free, marks_used used borders low.1 parts.0)
@@ -97,6 +101,6 @@ pub earn_by_borders : RunsEarnByBorders
 earn_by_borders position company kind used places whole lawful unbroken =
     let run : NameLegalRun position company kind (borders_used used) places =
     (legal_where_unbroken position company kind (borders_used used) places).0 unbroken in
-    let named : named_steps position places ≡ run.0 = ap steps_of run.1 in
+    let named : named_steps position places ≡ run.0 = ap (λ (w : Option (List WalkStep)). unwrap_or w []) run.1 in
     subst (λ (steps : List WalkStep). earned position steps + 160 * unused (marked used (crossed steps))
     ≤ 160 * unused used) (sym named) (legal_earns position company kind used run.0 whole lawful run.2)

@@ -1,5 +1,7 @@
 -- The runs of a claim are a legal set exactly if they are legal one after the other and no more
 -- than the trains.
+use Rattle.std.specs.Prelude.{Option}
+use Rattle.std.specs.Prelude.{unwrap_or}
 use Rattle.std.proofs.Common.{◌≡◌, ◌↔◌, ℕ, ◌+◌, ◌-◌, ◌≤◌, Bool, true, false, cond, if◌then◌else◌, ◌&&◌, count_by, inl}
 use Rattle.std.proofs.Common.{inr, Some, List, [], ◌∷◌, ◌++◌, get_or, refl, ap, sym, ◌∙◌, subst, arith}
 use Rattle.std.specs.List.{AllByRecursion, list_all}
@@ -14,7 +16,7 @@ use Rattle.tables.specs.declared.rolling_stock.Kind.{Kind}
 use Rattle.tables.specs.declared.rolling_stock.Kind.TheVariants.{Two, Three, Four, Five, Six, Diesel}
 use Rattle.tables.specs.declared.roster.Company.{Company}
 use Rattle.legal_runs.specs.Claim.{ClaimHolds, NameRuns}
-use Rattle.legal_runs.specs.Fault.{named_steps, steps_of}
+use Rattle.legal_runs.specs.Fault.{named_steps}
 use Rattle.legal_runs.specs.InTurn.{AreLegalInTurn, ClaimHoldsInTurn, has_enough, kinds_claimed}
 use Rattle.legal_runs.specs.Legal.{IsLegalRun, crossed, earned}
 use Rattle.legal_runs.specs.Marks.{MarksAre, borders_used, marked}
@@ -120,7 +122,7 @@ module _ (position : Position) (company : Company) where
   its_runs [] used marks left are legal = grind arith
   its_runs (first ∷ later) used marks left are legal =
       let steps : List WalkStep = named_steps position first.run in
-      let same : steps ≡ legal.0.0 = ap steps_of legal.0.1 in
+      let same : steps ≡ legal.0.0 = ap (λ (w : Option (List WalkStep)). unwrap_or w []) legal.0.1 in
       let run : IsLegalRun position company first.kind (borders_used marks) steps =
       subst (λ (s : List WalkStep). IsLegalRun position company first.kind (borders_used marks) s) (sym same) legal.0.2 in
       one_more first later used left steps refl (refl, legal.0.1 ∙ ap (λ (s : List WalkStep). Some s) (sym same), tt)
@@ -139,7 +141,7 @@ module _ (position : Position) (company : Company) where
   in_turn (first ∷ later) [] used marks left are named legal apart free earn = absurd named
   in_turn (first ∷ later) (run ∷ runs) used marks left are named legal apart free earn =
       let steps : List WalkStep = named_steps position first.run in
-      let same : steps ≡ run.steps = ap steps_of named.1 in
+      let same : steps ≡ run.steps = ap (λ (w : Option (List WalkStep)). unwrap_or w []) named.1 in
       let here : IsLegalRun position company first.kind (borders_used marks) run.steps =
       subst (λ (k : Kind). IsLegalRun position company k (borders_used marks) run.steps) (sym named.0)
       ((legal_by_marks position company run.kind used marks run.steps are).1 (over used run legal.0 free.0)) in

@@ -17,7 +17,7 @@ use Rattle.reach.proofs.Lists.{among_found, found_among}
 use Rattle.tables.specs.Train.{stops_of}
 use Rattle.tables.specs.declared.rolling_stock.Kind.{Kind}
 use Rattle.legal_runs.specs.Fault.{goes_through, has_border, has_border_twice, has_stop, has_stop_twice}
-use Rattle.legal_runs.specs.Fault.{is_taken, is_wrong_number, passes}
+use Rattle.legal_runs.specs.Fault.{is_wrong_number, passes}
 use Rattle.legal_runs.specs.Legal.{AreAtMost, AreDistinct, HasSuch}
 use Rattle.legal_runs.proofs.Marks.{among_is}
 
@@ -84,8 +84,8 @@ pub borders_distinct : (used : List ℕ) (borders : List ℕ) → has_border_twi
     → AreDistinct borders × AllByRecursion (λ border. ¬ IsAmong border used) borders
 borders_distinct used [] h = (tt, tt)
 borders_distinct used (border ∷ borders) h =
-    let parts : (has_border_twice used borders ≡ false) × (is_taken used borders border ≡ false) =
-    neither (has_border_twice used borders) (is_taken used borders border) h in
+    let parts : (has_border_twice used borders ≡ false) × ((has_border border used || has_border border borders) ≡ false) =
+    neither (has_border_twice used borders) ((has_border border used || has_border border borders)) h in
     let free : (has_border border used ≡ false) × (has_border border borders ≡ false) =
     neither (has_border border used) (has_border border borders) parts.1 in
     let rest : AreDistinct borders × AllByRecursion (λ b. ¬ IsAmong b used) borders =

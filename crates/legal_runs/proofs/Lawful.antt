@@ -1,4 +1,5 @@
 -- What places name is a legal run exactly if they break no rule.
+use Rattle.std.specs.Prelude.{unwrap_or}
 use Rattle.std.proofs.Common.{◌≡◌, ◌↔◌, ℕ, Bool, true, false, not, cond, Option, Some, None, is_none, List, [], ◌∷◌}
 use Rattle.std.proofs.Common.{length, refl, ap, ◌∙◌}
 use Rattle.std.proofs.lemmas.Bool.{not-false}
@@ -11,7 +12,7 @@ use Rattle.tables.proofs.Rules.{not_broken}
 use Rattle.tables.specs.Rules.{AreKept, Rule, first_broken}
 use Rattle.tables.specs.declared.rolling_stock.Kind.{Kind}
 use Rattle.tables.specs.declared.roster.Company.{Company}
-use Rattle.legal_runs.specs.Fault.{has_token, is_full, rules_of_walk, run_fault, steps_of}
+use Rattle.legal_runs.specs.Fault.{has_token, is_full, rules_of_walk, run_fault}
 use Rattle.legal_runs.specs.Law.{LegalWhereNoRuleIsBroken, NameLegalRun}
 use Rattle.legal_runs.specs.Legal.{IsLegalRun, crossed, visited}
 use Rattle.legal_runs.specs.Named.{walk_named}
@@ -93,16 +94,16 @@ module _ (position : Position) (company : Company) (kind : Kind) (used : List �
       )
 
   by_walk : (places : List Place) (walk : Option (List WalkStep)) → walk_named position places ≡ walk
-      → first_broken (ruling NoTrack (is_none walk) ∷ rules_of_walk position company kind used (steps_of walk)) ≡ None
+      → first_broken (ruling NoTrack (is_none walk) ∷ rules_of_walk position company kind used (unwrap_or walk [])) ≡ None
       → NameLegalRun position company kind used places
   by_walk places None is h = cc
   by_walk places (Some steps) is h = (steps, is, legal steps (named_is_whole position places steps is) h)
 
   by_run : (walk : Option (List WalkStep)) (steps : List WalkStep) → walk ≡ Some steps
       → IsLegalRun position company kind used steps → first_broken
-      (ruling NoTrack (is_none walk) ∷ rules_of_walk position company kind used (steps_of walk)) ≡ None
+      (ruling NoTrack (is_none walk) ∷ rules_of_walk position company kind used (unwrap_or walk [])) ≡ None
   by_run walk steps is run =
-      ap (λ w. first_broken (ruling NoTrack (is_none w) ∷ rules_of_walk position company kind used (steps_of w))) is
+      ap (λ w. first_broken (ruling NoTrack (is_none w) ∷ rules_of_walk position company kind used (unwrap_or w []))) is
       ∙ unbroken steps run
 
 -- what places name is a legal run exactly if they break no rule

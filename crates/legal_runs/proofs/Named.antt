@@ -25,7 +25,7 @@ use Rattle.reach.specs.declared.walk.WalkStep.{WalkStep}
 use Rattle.reach.proofs.Hexes.{same_index, same_side, same_stop_index, side_low}
 use Rattle.reach.proofs.Lists.{among_found}
 use Rattle.legal_runs.specs.Legal.{EndsAtStop}
-use Rattle.legal_runs.specs.Named.{arrived, is_hex, leg_by_stop, leg_from, leg_over, leg_to, same_link, side_towards}
+use Rattle.legal_runs.specs.Named.{arrived, is_hex, leg_by_stop, leg_over, leg_to, same_link, side_towards}
 use Rattle.legal_runs.specs.Named.{step_between, step_over, taken, travelled, walk_named, with_leg}
 use Rattle.legal_runs.specs.declared.leg.Leg.{Leg}
 use Rattle.legal_runs.proofs.Tests.{three}
@@ -171,7 +171,7 @@ module _ (position : Position) where
 
   on_from : (steps : List WalkStep) (at : Spot) (side : Side) (place : Place) (first : Option WalkStep) (leg : Leg)
       → Goes position steps at → neighbour_of at.hex side ≡ Some place.hex
-      → step_between position at.hex at.end (AtSide side) ≡ first → leg_from position side place first ≡ Some leg
+      → step_between position at.hex at.end (AtSide side) ≡ first → option_and_then (λ (step : WalkStep). leg_by_stop position step place.hex (facing_of side) place.stop) first ≡ Some leg
       → Goes position (with_leg taken steps leg) leg.at
   on_from steps at side place None leg goes beside found is = cc
   on_from steps at side place (Some first) leg goes beside found is =
@@ -182,7 +182,7 @@ module _ (position : Position) where
       is
 
   on_over : (steps : List WalkStep) (at : Spot) (place : Place) (side : Option Side) (leg : Leg) → Goes position steps at
-      → side_towards at.hex place.hex ≡ side → leg_over position at place side ≡ Some leg
+      → side_towards at.hex place.hex ≡ side → option_and_then (leg_over position at place) side ≡ Some leg
       → Goes position (with_leg taken steps leg) leg.at
   on_over steps at place None leg goes found is = cc
   on_over steps at place (Some side) leg goes found is =

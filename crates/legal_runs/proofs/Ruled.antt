@@ -1,4 +1,5 @@
 -- What a tally says of a run is what the table of rules says.
+use Rattle.std.specs.Prelude.{unwrap_or}
 use Rattle.std.proofs.Common.{◌≡◌, ℕ, ◌≤◌, Bool, not, Option, Some, None, option_map, is_none, List, [], ◌∷◌, length}
 use Rattle.std.proofs.Common.{refl, ap, sym, ◌∙◌}
 use Rattle.map_tables.specs.declared.place.Place.{Place}
@@ -7,7 +8,7 @@ use Rattle.reach.specs.declared.walk.WalkStep.{WalkStep}
 use Rattle.tables.specs.Rules.{Rule, first_broken}
 use Rattle.tables.specs.declared.rolling_stock.Kind.{Kind}
 use Rattle.tables.specs.declared.roster.Company.{Company}
-use Rattle.legal_runs.specs.Fault.{is_wrong_number, named_steps, rules_of_walk, run_fault, steps_of}
+use Rattle.legal_runs.specs.Fault.{is_wrong_number, named_steps, rules_of_walk, run_fault}
 use Rattle.legal_runs.specs.Legal.{crossed, earned}
 use Rattle.legal_runs.specs.Marks.{borders_used, marked}
 use Rattle.legal_runs.specs.Named.{made_along, taken, walk_named}
@@ -47,7 +48,7 @@ module _ (position : Position) (company : Company) (used : List Bool) where
   -- no walk
   no_walk : (kind : Kind) (walk : Option (List WalkStep)) → option_map (tally_of position company used) walk ≡ None
       → first_broken (ruling NoTrack (is_none walk) ∷ rules_of_walk position company kind (borders_used used)
-      (steps_of walk)) ≡ Some NoTrack
+      (unwrap_or walk [])) ≡ Some NoTrack
   no_walk kind None is = refl
   no_walk kind (Some steps) is = cc
 
@@ -71,7 +72,7 @@ module _ (position : Position) (company : Company) (used : List Bool) where
   ruled_by : (kind : Kind) → 279 ≤ length used → (walk : Option (List WalkStep)) (tally : Tally)
       → option_map (tally_of position company used) walk ≡ Some tally
       → first_broken (ruling NoTrack (is_none walk) ∷ rules_of_walk position company kind (borders_used used)
-      (steps_of walk)) ≡ tally_fault kind tally
+      (unwrap_or walk [])) ≡ tally_fault kind tally
   ruled_by kind whole None tally is = cc
   ruled_by kind whole (Some steps) tally is =
       walk_ruled kind whole steps ∙ ap (tally_fault kind) (some_is (tally_of position company used steps) tally is)
@@ -84,7 +85,7 @@ module _ (position : Position) (company : Company) (used : List Bool) where
       ruled_by kind whole (walk_named position places) tally (sym (made_is places) ∙ is)
 
   earned_by : 279 ≤ length used → (walk : Option (List WalkStep)) (tally : Tally)
-      → option_map (tally_of position company used) walk ≡ Some tally → tally.value ≡ earned position (steps_of walk)
+      → option_map (tally_of position company used) walk ≡ Some tally → tally.value ≡ earned position (unwrap_or walk [])
   earned_by whole None tally is = cc
   earned_by whole (Some steps) tally is =
       ap (λ (t : Tally). t.value) (sym (some_is (tally_of position company used steps) tally is))
@@ -98,7 +99,7 @@ module _ (position : Position) (company : Company) (used : List Bool) where
 
   crossed_by : 279 ≤ length used → (walk : Option (List WalkStep)) (tally : Tally)
       → option_map (tally_of position company used) walk ≡ Some tally
-      → tally.crossed ≡ marked used (crossed (steps_of walk))
+      → tally.crossed ≡ marked used (crossed (unwrap_or walk []))
   crossed_by whole None tally is = cc
   crossed_by whole (Some steps) tally is =
       ap (λ (t : Tally). t.crossed) (sym (some_is (tally_of position company used steps) tally is))

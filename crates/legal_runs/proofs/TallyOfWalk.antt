@@ -1,4 +1,6 @@
 -- What the tally keeps of a walk is what the tests find in it.
+use Rattle.legal_runs.specs.Fault.{has_border}
+use Rattle.std.specs.Option.{option_map_or}
 use Rattle.std.proofs.Common.{◌≡◌, ◌↔◌, ℕ, ◌+◌, ◌-◌, ◌*◌, ◌<◌, ◌≤◌, Bool, true, false, ltb, eqb, ◌||◌, ◌⊎◌, inl, inr}
 use Rattle.std.proofs.Common.{if◌then◌else◌, Option, Some, None, List, [], ◌∷◌, ◌++◌, length, get_or, set, replicate}
 use Rattle.std.proofs.Common.{refl, ◌∙◌, arith, get_or-set_same, get_or-set_other, length-set}
@@ -20,8 +22,8 @@ use Rattle.reach.proofs.Hexes.{index_low, side_low}
 use Rattle.reach.proofs.Collected.{none_marked}
 use Rattle.reach.proofs.Spots.{order_low}
 use Rattle.tables.specs.declared.roster.Company.{Company}
-use Rattle.legal_runs.specs.Fault.{has_border_twice, has_stop, has_stop_twice, has_token, is_full, is_such}
-use Rattle.legal_runs.specs.Fault.{is_taken, passes}
+use Rattle.legal_runs.specs.Fault.{has_border_twice, has_stop, has_stop_twice, has_token, is_full}
+use Rattle.legal_runs.specs.Fault.{passes}
 use Rattle.legal_runs.specs.Law.{CrossedBordersAreUsed}
 use Rattle.legal_runs.specs.Legal.{border_at, border_beyond, border_of, crossed, first_stop, listed, visited, worth}
 use Rattle.legal_runs.specs.Marks.{AreAdded, IsUsed, MarksAre, borders_used, marked}
@@ -75,7 +77,7 @@ length_marked used (border ∷ borders) = length-set (marked used borders) borde
 
 -- a border is marked where it was used or crossed
 pub marked_is : (used : List Bool) (borders : List ℕ) (border : ℕ) → AllByRecursion (λ b. b < length used) borders
-    → get_or (marked used borders) border false ≡ is_taken (borders_used used) borders border
+    → get_or (marked used borders) border false ≡ (has_border border (borders_used used) || has_border border borders)
 marked_is used [] border low = grind (arith, or_swapped, mark_listed)
 marked_is used (other ∷ borders) border low = grind (arith, or_inside, mark_more, length_marked, low, marked_is used borders border low.1)
 
@@ -158,7 +160,7 @@ module _ (position : Position) (company : Company) (used : List Bool) where
 
   later_keeps : (tally : Tally) (stop : Option Stop) (stops : List Stop) (borders : List ℕ) (full red : Bool)
       → Keeps tally true stops borders full red → Keeps (entering_stop position company tally stop) true stops borders
-      (full || is_such (is_full position company) stop) (red || is_such (is_red position) stop)
+      (full || option_map_or (is_full position company) stop false) (red || option_map_or (is_red position) stop false)
   later_keeps tally None stops borders full red kept = grind (arith, or_none)
   later_keeps tally (Some stop) stops borders full red kept =
       chosen true (passing position company tally stop) (visiting position company tally stop) tally.begun kept.begun_is
@@ -258,7 +260,7 @@ is_or false b (inr h) = h
 
 -- after a walk those borders are used that were used before, and those that it crosses
 pub taken_is : (used borders : List ℕ) (border : ℕ)
-    → (is_taken used borders border ≡ true) ↔ (IsAmong border borders ⊎ IsAmong border used)
+    → ((has_border border used || has_border border borders) ≡ true) ↔ (IsAmong border borders ⊎ IsAmong border used)
 taken_is used borders border = grind (arith, or_is, is_or, among_is)
 
 pub crossed_used : CrossedBordersAreUsed

@@ -34,7 +34,7 @@ use Rattle.reach.proofs.Lists.{found_among}
 use Rattle.tables.specs.declared.rolling_stock.Kind.{Kind}
 use Rattle.tables.specs.declared.roster.Company.{Company}
 use Rattle.legal_runs.specs.Legal.{EndsAtStop, IsLegalRun, border_at, crossed, listed}
-use Rattle.legal_runs.specs.Named.{arrived, is_hex, leg_by_stop, leg_from, leg_over, leg_to, same_link, side_towards}
+use Rattle.legal_runs.specs.Named.{arrived, is_hex, leg_by_stop, leg_over, leg_to, same_link, side_towards}
 use Rattle.legal_runs.specs.Named.{step_between, step_over, taken, travelled, walk_named, with_leg}
 use Rattle.legal_runs.specs.Law.{AreItsPlaces, EachLegalRunIsNamed}
 use Rattle.legal_runs.specs.Written.{place_at, place_over, places_of, places_over}
@@ -254,8 +254,8 @@ module _ (position : Position) (lawful : IsLawful position) where
       leg_to position from place ≡ leg_by_stop position first place.hex (facing_of side) place.stop
   unfolding leg_to
   leg_by_track from first side place beside found =
-      ap (leg_over position from place) (towards_is from.hex place.hex side beside)
-      ∙ ap (leg_from position side place) found
+      ap (option_and_then (leg_over position from place)) (towards_is from.hex place.hex side beside)
+      ∙ ap (option_and_then (λ (step : WalkStep). leg_by_stop position step place.hex (facing_of side) place.stop)) found
 
   leg_through :
       (from : Spot) (first : WalkStep) (side : Side) (hex : Hex) → neighbour_of from.hex side ≡ Some hex →

@@ -1,5 +1,7 @@
 -- What is wrong with a run: the first rule that it breaks, of a table in the order of the rules'
 -- numbers. Each rule is a test over the walk that the places name.
+use Rattle.std.specs.Option.{option_map_or}
+use Rattle.std.specs.Prelude.{unwrap_or}
 use Rattle.std.specs.Prelude.{ℕ, Bool, false, not, ◌==◌, ◌&&◌, ◌||◌, nat_lt, Option, Some, None, is_none, List, [], ◌∷◌}
 use Rattle.std.specs.Prelude.{length}
 use Rattle.std.specs.List.{list_any}
@@ -30,14 +32,9 @@ is_full position company stop =
     let here = at_stop position stop in
     nat_lt 0 here.slots && (not (nat_lt (length here.tokens) here.slots) && not (has_token position company stop))
 
--- whether a train visits too few stops or too many
-abbrev pub are_over : Option ℕ → ℕ → Bool
-are_over (Some most) count = nat_lt most count
-are_over None count = false
-
 -- a train visits under two stops, or more than its kind may
 abbrev pub is_wrong_number : Kind → ℕ → Bool
-is_wrong_number kind count = nat_lt count 2 || are_over (stops_of kind) count
+is_wrong_number kind count = nat_lt count 2 || option_map_or (λ most. nat_lt most count) (stops_of kind) false
 
 -- whether a stop is visited that was visited before; stops differ by their order on the map
 abbrev pub has_stop : Stop → List Stop → Bool
@@ -52,42 +49,30 @@ has_stop_twice (stop ∷ stops) = has_stop_twice stops || has_stop stop stops
 abbrev pub has_border : ℕ → List ℕ → Bool
 has_border border borders = list_any (λ other. other == border) borders
 
--- a border is used by an earlier run, or crossed by the walk
-abbrev pub is_taken : List ℕ → List ℕ → ℕ → Bool
-is_taken used borders border = has_border border used || has_border border borders
-
 -- a border is crossed that the walk, or an earlier run of the turn, has crossed
 abbrev pub has_border_twice : List ℕ → List ℕ → Bool
 has_border_twice used [] = false
-has_border_twice used (border ∷ borders) = has_border_twice used borders || is_taken used borders border
-
--- whether a walk passes a stop of some sort: one between two of its steps
-abbrev pub is_such : (Stop → Bool) → Option Stop → Bool
-is_such test (Some stop) = test stop
-is_such test None = false
+has_border_twice used (border ∷ borders) =
+    has_border_twice used borders
+    || (has_border border used || has_border border borders)
 
 -- a step goes on from a stop that passes a test; the first step goes on from nowhere
 abbrev pub goes_through : (Stop → Bool) → List WalkStep → WalkStep → Bool
 goes_through test [] step = false
-goes_through test (earlier ∷ before) step = is_such test (stop_of (entered_at step))
+goes_through test (earlier ∷ before) step = option_map_or test (stop_of (entered_at step)) false
 
 -- a walk goes through a stop that passes a test
 abbrev pub passes : (Stop → Bool) → List WalkStep → Bool
 passes test [] = false
 passes test (step ∷ before) = passes test before || goes_through test before step
 
--- the steps of a walk, if there is one
-abbrev pub steps_of : Option (List WalkStep) → List WalkStep
-steps_of (Some steps) = steps
-steps_of None = []
-
 -- a rule of runs, and whether it is broken
 abbrev rule : RunRule → Bool → Rule RunRule
 rule code broken = record { code = code; broken = broken }
 
--- the steps of the walk that some places name
+-- the steps of the walk that some places name; none if they name no walk
 abbrev pub named_steps : Position → List Place → List WalkStep
-named_steps position places = steps_of (walk_named position places)
+named_steps position places = unwrap_or (walk_named position places) []
 
 -- the rules of a walk
 abbrev pub rules_of_walk : Position → Company → Kind → List ℕ → List WalkStep → List (Rule RunRule)
@@ -103,7 +88,7 @@ rules_of_walk position company kind used steps =
 abbrev pub rules_of_run : Position → Company → Kind → List ℕ → List Place → List (Rule RunRule)
 rules_of_run position company kind used places =
     let walk = walk_named position places in
-    rule NoTrack (is_none walk) ∷ rules_of_walk position company kind used (steps_of walk)
+    rule NoTrack (is_none walk) ∷ rules_of_walk position company kind used (unwrap_or walk [])
 
 -- the first rule that a run breaks
 abbrev pub run_fault : Position → Company → Kind → List ℕ → List Place → Option RunRule

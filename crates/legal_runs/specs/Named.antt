@@ -2,6 +2,7 @@
 -- of a hex if its place is written with `.i`, and by through track if it is not. Places side by
 -- side meet at the border of their hexes. The first and the last place each have a stop. A list of
 -- places names one walk, or none if there is no such track.
+use Rattle.std.specs.Option.{option_map_or}
 use Rattle.std.specs.Prelude.{Bool, true, false, ◌==◌, ◌&&◌, nat_lt, if◌then◌else◌, Option, Some, None, option_map}
 use Rattle.std.specs.Prelude.{option_and_then, List, [], ◌∷◌, find}
 use Rattle.std.specs.List.{list_any}
@@ -59,29 +60,19 @@ leg_by_stop position first hex side (Some number) =
     option_map (λ second. record { first = first; second = Some second; at = spot_at hex (AtStop number) })
     (step_between position hex (AtSide side) (AtStop number))
 
--- the leg whose first step leaves the hex by this side, on to the place that is named next
-abbrev pub leg_from : Position → Side → Place → Option WalkStep → Option Leg
-leg_from position side place None = None
-leg_from position side place (Some first) = leg_by_stop position first place.hex (facing_of side) place.stop
-
 -- the leg from where the train is to a place of a neighbouring hex at this side
-abbrev pub leg_over : Position → Spot → Place → Option Side → Option Leg
-leg_over position at place None = None
-leg_over position at place (Some side) =
-    leg_from position side place (step_between position at.hex at.end (AtSide side))
+abbrev pub leg_over : Position → Spot → Place → Side → Option Leg
+leg_over position at place side =
+    option_and_then (λ first. leg_by_stop position first place.hex (facing_of side) place.stop)
+    (step_between position at.hex at.end (AtSide side))
 
 -- the leg from where the train is to the place that is named next
 unfoldable pub leg_to : Position → Spot → Place → Option Leg
-leg_to position at place = leg_over position at place (side_towards at.hex place.hex)
-
--- what is made of the steps of a leg, one after the other
-abbrev pub with_second : {A : Type 0} → (A → WalkStep → A) → A → Option WalkStep → A
-with_second take made None = made
-with_second take made (Some step) = take made step
+leg_to position at place = option_and_then (leg_over position at place) (side_towards at.hex place.hex)
 
 -- what is made of both steps of a leg, one after the other
 abbrev pub with_leg : {A : Type 0} → (A → WalkStep → A) → A → Leg → A
-with_leg take made leg = with_second take (take made leg.first) leg.second
+with_leg take made leg = option_map_or (take (take made leg.first)) leg.second (take made leg.first)
 
 -- a train that has arrived: it is at a stop
 abbrev pub arrived : {A : Type 0} → TrackEnd → A → Option A

@@ -56,20 +56,10 @@ abbrev pub revenue_of : Position → List TrainRun → ℕ
 revenue_of position [] = 0
 revenue_of position (run ∷ runs) = earned position run.steps + revenue_of position runs
 
--- some legal set earns this much
-abbrev pub IsEarned : Position → Company → List Kind → ℕ → Type 0
-IsEarned position company trains revenue =
-    (runs : List TrainRun) × IsLegalSet position company trains runs × (revenue_of position runs ≡ revenue)
-
--- no legal set earns more
-abbrev pub IsMost : Position → Company → List Kind → ℕ → Type 0
-IsMost position company trains revenue =
-    (runs : List TrainRun) → IsLegalSet position company trains runs → revenue_of position runs ≤ revenue
-
 -- the greatest revenue: some legal set earns it, and none earns more
 pub record IsGreatest (position : Position) (company : Company) (trains : List Kind) (revenue : ℕ) : Type 0 where
-  pub earned : IsEarned position company trains revenue
-  pub most : IsMost position company trains revenue
+  pub earned : (runs : List TrainRun) × IsLegalSet position company trains runs × (revenue_of position runs ≡ revenue)
+  pub most : (runs : List TrainRun) → IsLegalSet position company trains runs → revenue_of position runs ≤ revenue
 
 -- a sum of money is the greatest revenue
 abbrev pub IsGreatestMoney : Position → Company → List Kind → ℤ → Type 0

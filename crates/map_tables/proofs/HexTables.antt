@@ -10,13 +10,13 @@ use Rattle.map_tables.specs.Hex.{hexes, index_of, site_of, row_of, column_of, sa
 
 -- each hex has its row in the code's table
 pub row_at : (hex : Hex) → get_or ROWS.now (index_of hex) 0 ≡ row_of hex
-unfolding index_of site_of
+unfolding index_of hexes site_of
 row_at A9 = refl
 row_at _ = refl
 
 -- and its column
 pub column_at : (hex : Hex) → get_or COLUMNS (index_of hex) 0 ≡ column_of hex
-unfolding index_of site_of
+unfolding index_of hexes site_of
 column_at A9 = refl
 column_at _ = refl
 
@@ -49,13 +49,13 @@ column_within hex = (leb-true 1 (column_of hex) (column_above hex), leb-true (co
 
 -- each hex is in the list of hexes at its place
 pub hex_at_index : (hex : Hex) → get_or hexes (index_of hex) A9 ≡ hex
-unfolding hexes index_of
+unfolding hexes index_of site_of
 hex_at_index A9 = refl
 hex_at_index _ = refl
 
 -- and each place is that of the hex there
 pub hexes_at : (index : ℕ) (d : Hex) → index < 93 → index_of (get_or hexes index d) ≡ index
-unfolding hexes index_of
+unfolding hexes index_of site_of
 hexes_at index d low =
     sym (get_or-map index_of hexes index d 0 low) ∙ get_or-range_with_len 0 93 index 0 low ∙ omega arith
 

@@ -10,7 +10,7 @@ use Rattle.map_tables.specs.declared.tiles.TileNo.TheVariants.{T1}
 use Rattle.map_tables.specs.declared.track.TrackSegment.{TrackSegment}
 use Rattle.map_tables.specs.declared.track.Link.{Link}
 use Rattle.map_tables.specs.declared.lay.Lay.{Lay}
-use Rattle.map_tables.specs.Hex.{index_of}
+use Rattle.map_tables.specs.Hex.{index_of, hexes, site_of}
 use Rattle.map_tables.specs.Track.{links_in}
 use Rattle.map_tables.specs.Print.{groups, plain_hexes, print_of, printed_links_of}
 use Rattle.map_tables.specs.Tile.{printed}
@@ -34,7 +34,7 @@ links_of hex track fit =
     record { in_order = parts.0; here = here hex track; few = leb-true (length (links_in hex track)) 6 parts.1 }
 
 printed_fit : (hex : Hex) → are_fit (printed_links_of hex) ≡ true
-unfolding are_fit index_of groups plain_hexes print_of printed_links_of
+unfolding are_fit index_of hexes site_of groups plain_hexes print_of printed_links_of
 printed_fit A9 = refl
 printed_fit _ = refl
 

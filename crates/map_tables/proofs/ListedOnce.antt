@@ -6,7 +6,7 @@ use Rattle.map_tables.specs.declared.hex.Hex.{Hex}
 use Rattle.map_tables.specs.declared.hex.Hex.TheVariants.{A9}
 use Rattle.map_tables.specs.declared.tiles.TileNo.{TileNo}
 use Rattle.map_tables.specs.declared.tiles.TileNo.TheVariants.{T1}
-use Rattle.map_tables.specs.Hex.{hexes, index_of, same_hex}
+use Rattle.map_tables.specs.Hex.{hexes, index_of, same_hex, site_of}
 use Rattle.map_tables.specs.Tile.{tiles, tile_index_of, number_of_tile, tile_numbered}
 use Rattle.map_tables.specs.Print.{groups, plain_hexes, is_one_of}
 use Rattle.map_tables.specs.Laws.{IsHexListed, IsTileListed}
@@ -14,12 +14,12 @@ use Rattle.map_tables.proofs.HexAt.{hex_at-site}
 use Rattle.map_tables.proofs.HexTables.{same_hex-true, same_hex-same}
 
 hex_below : (hex : Hex) → ltb (index_of hex) 93 ≡ true
-unfolding index_of
+unfolding index_of hexes site_of
 hex_below A9 = refl
 hex_below _ = refl
 
 hex_there : (hex : Hex) → slice_get hexes (index_of hex) ≡ Some hex
-unfolding hexes index_of
+unfolding hexes index_of site_of
 hex_there A9 = refl
 hex_there _ = refl
 
@@ -39,12 +39,12 @@ pub hexes_told_apart : (a b : Hex) → (same_hex a b ≡ true) ↔ (a ≡ b)
 hexes_told_apart a b = (same_hex-true a b, same_hex-same a b)
 
 tile_below : (tile : TileNo) → ltb (tile_index_of tile) 46 ≡ true
-unfolding tile_index_of
+unfolding tile_index_of tiles number_of_tile
 tile_below T1 = refl
 tile_below _ = refl
 
 tile_there : (tile : TileNo) → slice_get tiles (tile_index_of tile) ≡ Some tile
-unfolding tiles tile_index_of
+unfolding tiles tile_index_of number_of_tile
 tile_there T1 = refl
 tile_there _ = refl
 
@@ -66,6 +66,6 @@ tile_is_listed tile = record {
 }
 
 pub one_print : (hex : Hex) → count_by (λ group. is_one_of hex group.hexes) groups ≡ 1
-unfolding index_of groups plain_hexes
+unfolding index_of hexes site_of groups plain_hexes
 one_print A9 = refl
 one_print _ = refl

@@ -9,19 +9,19 @@ use Rattle.map_tables.specs.declared.place.Stop.{Stop}
 use Rattle.map_tables.specs.declared.print.HexKind.TheVariants.{Red}
 use Rattle.map_tables.specs.declared.tiles.TileNo.{TileNo}
 use Rattle.map_tables.specs.declared.tiles.TileNo.TheVariants.{T1}
-use Rattle.map_tables.specs.Hex.{index_of}
+use Rattle.map_tables.specs.Hex.{index_of, hexes, site_of}
 use Rattle.map_tables.specs.Place.{joined_hex, joined_stop_of, stop_at}
 use Rattle.map_tables.specs.Print.{groups, plain_hexes, print_of}
 use Rattle.map_tables.specs.Tile.{printed, entry_of}
 use Rattle.map_tables.specs.Home.{home_of}
 
 early : (hex : Hex) → leb (print_of hex).value.before_phase_five 80 ≡ true
-unfolding index_of groups plain_hexes print_of
+unfolding index_of hexes site_of groups plain_hexes print_of
 early A9 = refl
 early _ = refl
 
 late : (hex : Hex) → leb (print_of hex).value.from_phase_five 80 ≡ true
-unfolding index_of groups plain_hexes print_of
+unfolding index_of hexes site_of groups plain_hexes print_of
 late A9 = refl
 late _ = refl
 
@@ -42,7 +42,7 @@ pub tile_value : (tile : TileNo) → (entry_of tile).value ≤ 80
 tile_value tile = leb-true (entry_of tile).value 80 (of_tile tile)
 
 joined : (hex : Hex) → (joined_hex hex ≡ hex) ⊎ (((print_of hex).kind ≡ Red) × ((print_of (joined_hex hex)).kind ≡ Red))
-unfolding index_of groups plain_hexes print_of
+unfolding index_of hexes site_of groups plain_hexes print_of
 joined A9 = inr (refl, refl)
 joined I1 = inr (refl, refl)
 joined _ = inl refl
@@ -56,7 +56,7 @@ red_area stop =
     ]
 
 home_takes : (company : Company) → ltb 0 (print_of (home_of company).hex).slots ≡ true
-unfolding index_of groups plain_hexes print_of
+unfolding index_of hexes site_of groups plain_hexes print_of
 home_takes Pennsylvania = refl
 home_takes _ = refl
 

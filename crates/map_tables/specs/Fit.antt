@@ -7,6 +7,7 @@
 use Rattle.std.specs.Prelude.{◌≡◌, ℕ, ◌==◌, ◌&&◌, ◌||◌, Bool, true, false, not, nat_lt, List, [], ◌++◌, map, Option}
 use Rattle.std.specs.Prelude.{Some, None}
 use Rattle.std.specs.List.{filter, list_any}
+use Rattle.std.specs.Option.{option_map_or}
 use Rattle.map_tables.specs.Border.{neighbour_of}
 use Rattle.map_tables.specs.Home.{home_of}
 use Rattle.map_tables.specs.Lay.{laid_links_of}
@@ -69,14 +70,9 @@ has_print_at hex side = list_any (λ link. is_side side link.a || is_side side l
 abbrev pub is_shut : Hex → Side → Bool
 is_shut hex side = not (is_open (print_of hex).kind) && not (has_print_at hex side)
 
--- whether track may not lead over a side to the neighbour there; it may not where there is none
-abbrev pub is_shut_to : Option Hex → Side → Bool
-is_shut_to None side = true
-is_shut_to (Some other) side = is_shut other (facing_of side)
-
--- whether an end of track in a hex is a bad side
+-- whether an end of track in a hex is a bad side: it has no neighbour there, or one that is shut
 abbrev pub is_bad_end : Hex → TrackEnd → Bool
-is_bad_end hex (AtSide side) = is_shut_to (neighbour_of hex side) side
+is_bad_end hex (AtSide side) = option_map_or (λ other. is_shut other (facing_of side)) (neighbour_of hex side) true
 is_bad_end hex (AtNumber number) = false
 
 -- whether some track of a tile leads to a bad side

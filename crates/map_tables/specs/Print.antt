@@ -107,7 +107,7 @@ use Rattle.map_tables.specs.declared.tiles.Colour.TheVariants.{White, Yellow}
 use Rattle.map_tables.specs.declared.track.TrackSegment.{TrackSegment}
 use Rattle.map_tables.specs.declared.track.Link.{Link}
 use Rattle.map_tables.specs.Hex.{same_hex}
-use Rattle.map_tables.specs.Track.{in_order, through, city_track, two_city_track, links_in}
+use Rattle.map_tables.specs.Track.{in_order, through, stop_track, links_in}
 use Rattle.map_tables.specs.Tile.{stops_of_kind}
 
 -- the printed hex
@@ -124,10 +124,6 @@ pub record Print : Type 0 where
 abbrev pub always : ℕ → PrintedValue
 always value = record { before_phase_five = value; from_phase_five = value }
 
--- a value before phase 5, and another from then on
-abbrev pub at_first_and_later : ℕ → ℕ → PrintedValue
-at_first_and_later before from = record { before_phase_five = before; from_phase_five = from }
-
 -- how many tokens a city takes by its print; towns take none
 abbrev pub slots_of_kind : TileKind → ℕ
 slots_of_kind Plain = 0
@@ -138,48 +134,35 @@ slots_of_kind CityB = 1
 slots_of_kind CitiesNY = 1
 slots_of_kind CitiesOO = 1
 
--- a red area, whose stop takes no token
-abbrev pub red_of : ℕ → ℕ → List TrackSegment → Print
-red_of before from track =
+-- a red area, whose stop takes no token: its value before and from phase 5, and the sides
+abbrev red : ℕ → ℕ → List ℕ → Print
+red before from sides =
     record {
       kind = Red;
       cost = 0;
       colour = White;
       stops = 1;
       slots = 0;
-      value =
-          at_first_and_later before from;
-      track = track;
+      value = record { before_phase_five = before; from_phase_five = from };
+      track = in_order (stop_track sides []);
     }
 
--- a red area with track from its stop to these sides
-abbrev red : ℕ → ℕ → List ℕ → Print
-red before from sides = red_of before from (in_order (city_track sides))
+-- a grey hex: its stops, the tokens that each takes, its value and sides, and track past it
+abbrev grey : ℕ → ℕ → ℕ → List ℕ → List TrackSegment → Print
+grey stops slots value sides track =
+    record {
+      kind = Grey;
+      cost = 0;
+      colour = White;
+      stops = stops;
+      slots = slots;
+      value = always value;
+      track = in_order (stop_track sides [] ++ track);
+    }
 
--- a grey hex
-abbrev pub grey_of : ℕ → ℕ → ℕ → List TrackSegment → Print
-grey_of stops slots value track =
-    record { kind = Grey; cost = 0; colour = White; stops = stops; slots = slots; value = always value; track = track }
-
--- a grey hex with a city, and track past it
-abbrev grey_city_and_track : ℕ → List ℕ → List TrackSegment → Print
-grey_city_and_track value sides track = grey_of 1 1 value (in_order (city_track sides ++ track))
-
--- a grey hex with a city
-abbrev grey_city : ℕ → List ℕ → Print
-grey_city value sides = grey_of 1 1 value (in_order (city_track sides))
-
--- a grey hex with a town
-abbrev grey_town : ℕ → List ℕ → Print
-grey_town value sides = grey_of 1 0 value (in_order (city_track sides))
-
--- a grey hex with through track alone
-abbrev grey_track : List TrackSegment → Print
-grey_track track = grey_of 0 0 0 (in_order track)
-
--- a hex whose print is a yellow tile
-abbrev pub yellow_of : TileKind → ℕ → ℕ → List TrackSegment → Print
-yellow_of kind cost value track =
+-- a hex whose print is a yellow tile with cities: the value of each, and the sides of each
+abbrev yellow : TileKind → ℕ → ℕ → List ℕ → List ℕ → Print
+yellow kind cost value first second =
     record {
       kind = Open kind;
       cost = cost;
@@ -188,16 +171,8 @@ yellow_of kind cost value track =
       slots =
           slots_of_kind kind;
       value = always value;
-      track = track;
+      track = in_order (stop_track first second);
     }
-
--- a hex with one printed yellow city
-abbrev yellow_city : TileKind → ℕ → List ℕ → Print
-yellow_city kind value sides = yellow_of kind 0 value (in_order (city_track sides))
-
--- a hex with two printed yellow cities
-abbrev yellow_cities : TileKind → ℕ → ℕ → List ℕ → List ℕ → Print
-yellow_cities kind cost value first second = yellow_of kind cost value (in_order (two_city_track first second))
 
 -- a hex without track, whose stops are worth nothing until a tile lies
 abbrev pub white : TileKind → ℕ → Print
@@ -240,24 +215,24 @@ groups =
     for_hexes (A9 ∷ []) (red 30 50 (5 ∷ [])) ∷
     for_hexes (K13 ∷ []) (red 30 40 (2 ∷ 3 ∷ [])) ∷
     for_hexes (B24 ∷ []) (red 20 30 (1 ∷ 0 ∷ [])) ∷
-    -- grey: cities and towns with their values and sides, and track
-    for_hexes (D2 ∷ []) (grey_city 20 (5 ∷ 4 ∷ [])) ∷
-    for_hexes (F6 ∷ []) (grey_city 30 (5 ∷ 0 ∷ [])) ∷
-    for_hexes (E9 ∷ []) (grey_track (through 2 3 ∷ [])) ∷
-    for_hexes (H12 ∷ []) (grey_city_and_track 10 (1 ∷ 4 ∷ []) (through 1 4 ∷ [])) ∷
-    for_hexes (D14 ∷ []) (grey_city 20 (1 ∷ 4 ∷ 0 ∷ [])) ∷
-    for_hexes (C15 ∷ []) (grey_town 10 (1 ∷ 3 ∷ [])) ∷
-    for_hexes (K15 ∷ []) (grey_city 20 (2 ∷ [])) ∷
-    for_hexes (A17 ∷ []) (grey_track (through 0 5 ∷ [])) ∷
-    for_hexes (A19 ∷ []) (grey_city 40 (5 ∷ 0 ∷ [])) ∷
-    for_hexes (I19 ∷ F24 ∷ []) (grey_town 10 (1 ∷ 2 ∷ [])) ∷
-    for_hexes (D24 ∷ []) (grey_track (through 1 0 ∷ [])) ∷
+    -- grey: stops, tokens, value, sides, and track past the stop
+    for_hexes (D2 ∷ []) (grey 1 1 20 (5 ∷ 4 ∷ []) []) ∷
+    for_hexes (F6 ∷ []) (grey 1 1 30 (5 ∷ 0 ∷ []) []) ∷
+    for_hexes (E9 ∷ []) (grey 0 0 0 [] (through 2 3 ∷ [])) ∷
+    for_hexes (H12 ∷ []) (grey 1 1 10 (1 ∷ 4 ∷ []) (through 1 4 ∷ [])) ∷
+    for_hexes (D14 ∷ []) (grey 1 1 20 (1 ∷ 4 ∷ 0 ∷ []) []) ∷
+    for_hexes (C15 ∷ []) (grey 1 0 10 (1 ∷ 3 ∷ []) []) ∷
+    for_hexes (K15 ∷ []) (grey 1 1 20 (2 ∷ []) []) ∷
+    for_hexes (A17 ∷ []) (grey 0 0 0 [] (through 0 5 ∷ [])) ∷
+    for_hexes (A19 ∷ []) (grey 1 1 40 (5 ∷ 0 ∷ []) []) ∷
+    for_hexes (I19 ∷ F24 ∷ []) (grey 1 0 10 (1 ∷ 2 ∷ []) []) ∷
+    for_hexes (D24 ∷ []) (grey 0 0 0 [] (through 1 0 ∷ [])) ∷
     -- yellow print: kind, cost of terrain, value of each city, and the sides of each
-    for_hexes (I15 ∷ []) (yellow_city CityB 30 (4 ∷ 0 ∷ [])) ∷
-    for_hexes (E23 ∷ []) (yellow_city CityB 30 (3 ∷ 5 ∷ [])) ∷
-    for_hexes (G19 ∷ []) (yellow_cities CitiesNY 80 40 (3 ∷ []) (0 ∷ [])) ∷
-    for_hexes (E5 ∷ D10 ∷ []) (yellow_cities CitiesOO 80 0 [] []) ∷
-    for_hexes (E11 ∷ H18 ∷ []) (yellow_cities CitiesOO 0 0 [] []) ∷
+    for_hexes (I15 ∷ []) (yellow CityB 0 30 (4 ∷ 0 ∷ []) []) ∷
+    for_hexes (E23 ∷ []) (yellow CityB 0 30 (3 ∷ 5 ∷ []) []) ∷
+    for_hexes (G19 ∷ []) (yellow CitiesNY 80 40 (3 ∷ []) (0 ∷ [])) ∷
+    for_hexes (E5 ∷ D10 ∷ []) (yellow CitiesOO 80 0 [] []) ∷
+    for_hexes (E11 ∷ H18 ∷ []) (yellow CitiesOO 0 0 [] []) ∷
     -- white, without track: the kind, and the cost of terrain
     for_hexes (E19 ∷ H4 ∷ B10 ∷ H10 ∷ H16 ∷ B16 ∷ []) (white City 0) ∷
     for_hexes (F4 ∷ J14 ∷ F22 ∷ []) (white City 80) ∷

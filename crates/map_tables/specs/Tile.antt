@@ -1,6 +1,7 @@
 -- The tiles: of each how many there are, its colour, what it shows, and its track. A tile that is
 -- turned by r adds r to the numbers of its sides, modulo six.
 use Rattle.std.specs.Prelude.{ℕ, ◌==◌, List, [], ◌∷◌, Option, find}
+use Rattle.std.specs.List.{position_or_len}
 use Rattle.map_tables.specs.declared.tiles.TileNo.{TileNo}
 use Rattle.map_tables.specs.declared.tiles.TileNo.TheVariants.{
   T1,
@@ -56,7 +57,7 @@ use Rattle.map_tables.specs.declared.tiles.Colour.{Colour}
 use Rattle.map_tables.specs.declared.tiles.Colour.TheVariants.{Yellow, Green, Brown}
 use Rattle.map_tables.specs.declared.tiles.TileEntry.{TileEntry}
 use Rattle.map_tables.specs.declared.track.TrackSegment.{TrackSegment}
-use Rattle.map_tables.specs.Track.{in_order, through, city_track, two_city_track}
+use Rattle.map_tables.specs.Track.{in_order, through, stop_track}
 
 -- the tiles, in the order of their numbers
 unfoldable pub tiles : List TileNo
@@ -64,55 +65,6 @@ tiles =
     T1 ∷ T2 ∷ T3 ∷ T4 ∷ T7 ∷ T8 ∷ T9 ∷ T14 ∷ T15 ∷ T16 ∷ T18 ∷ T19 ∷ T20 ∷ T23 ∷ T24 ∷ T25 ∷
     T26 ∷ T27 ∷ T28 ∷ T29 ∷ T39 ∷ T40 ∷ T41 ∷ T42 ∷ T43 ∷ T44 ∷ T45 ∷ T46 ∷ T47 ∷ T53 ∷ T54 ∷
     T55 ∷ T56 ∷ T57 ∷ T58 ∷ T59 ∷ T61 ∷ T62 ∷ T63 ∷ T64 ∷ T65 ∷ T66 ∷ T67 ∷ T68 ∷ T69 ∷ T70 ∷ []
-
--- the place of a tile in that order, from 0
-unfoldable pub tile_index_of : TileNo → ℕ
-tile_index_of T1 = 0
-tile_index_of T2 = 1
-tile_index_of T3 = 2
-tile_index_of T4 = 3
-tile_index_of T7 = 4
-tile_index_of T8 = 5
-tile_index_of T9 = 6
-tile_index_of T14 = 7
-tile_index_of T15 = 8
-tile_index_of T16 = 9
-tile_index_of T18 = 10
-tile_index_of T19 = 11
-tile_index_of T20 = 12
-tile_index_of T23 = 13
-tile_index_of T24 = 14
-tile_index_of T25 = 15
-tile_index_of T26 = 16
-tile_index_of T27 = 17
-tile_index_of T28 = 18
-tile_index_of T29 = 19
-tile_index_of T39 = 20
-tile_index_of T40 = 21
-tile_index_of T41 = 22
-tile_index_of T42 = 23
-tile_index_of T43 = 24
-tile_index_of T44 = 25
-tile_index_of T45 = 26
-tile_index_of T46 = 27
-tile_index_of T47 = 28
-tile_index_of T53 = 29
-tile_index_of T54 = 30
-tile_index_of T55 = 31
-tile_index_of T56 = 32
-tile_index_of T57 = 33
-tile_index_of T58 = 34
-tile_index_of T59 = 35
-tile_index_of T61 = 36
-tile_index_of T62 = 37
-tile_index_of T63 = 38
-tile_index_of T64 = 39
-tile_index_of T65 = 40
-tile_index_of T66 = 41
-tile_index_of T67 = 42
-tile_index_of T68 = 43
-tile_index_of T69 = 44
-tile_index_of T70 = 45
 
 -- the number of a tile
 unfoldable pub number_of_tile : TileNo → ℕ
@@ -163,6 +115,10 @@ number_of_tile T68 = 68
 number_of_tile T69 = 69
 number_of_tile T70 = 70
 
+-- the place of a tile in the order of the tiles, from 0
+unfoldable pub tile_index_of : TileNo → ℕ
+tile_index_of tile = position_or_len (λ other. number_of_tile tile == number_of_tile other) tiles
+
 -- the tile of a number, if there is one
 unfoldable pub tile_numbered : ℕ → Option TileNo
 tile_numbered number = find (λ tile. number_of_tile tile == number) tiles
@@ -192,24 +148,14 @@ pub record Printed : Type 0 where
 abbrev plain : Colour → ℕ → List TrackSegment → Printed
 plain colour count track = record { entry = entry count colour Plain 0 0; track = in_order track }
 
--- a yellow town of 10, at some sides
-abbrev town : ℕ → List ℕ → Printed
-town count sides = record { entry = entry count Yellow Town 10 0; track = in_order (city_track sides) }
+-- two stops: colour, kind, count, value and slots of each, and the sides of each
+abbrev two_stops : Colour → TileKind → ℕ → ℕ → ℕ → List ℕ → List ℕ → Printed
+two_stops colour kind count value slots first second =
+    record { entry = entry count colour kind value slots; track = in_order (stop_track first second) }
 
--- two yellow towns of 10
-abbrev two_towns : ℕ → List ℕ → List ℕ → Printed
-two_towns count first second =
-    record { entry = entry count Yellow TwoTowns 10 0; track = in_order (two_city_track first second) }
-
--- a city: colour, kind, count, value, slots and sides
-abbrev city : Colour → TileKind → ℕ → ℕ → ℕ → List ℕ → Printed
-city colour kind count value slots sides =
-    record { entry = entry count colour kind value slots; track = in_order (city_track sides) }
-
--- two cities: colour, kind, count, value and slots of each, and the sides of each
-abbrev two_cities : Colour → TileKind → ℕ → ℕ → ℕ → List ℕ → List ℕ → Printed
-two_cities colour kind count value slots first second =
-    record { entry = entry count colour kind value slots; track = in_order (two_city_track first second) }
+-- one stop: colour, kind, count, value, slots and sides
+abbrev one_stop : Colour → TileKind → ℕ → ℕ → ℕ → List ℕ → Printed
+one_stop colour kind count value slots sides = two_stops colour kind count value slots sides []
 
 -- the manifest
 unfoldable pub printed : TileNo → Printed
@@ -237,28 +183,28 @@ printed T45 = plain Brown 2 (through 0 3 ∷ through 2 4 ∷ through 0 4 ∷ thr
 printed T46 = plain Brown 2 (through 0 3 ∷ through 2 4 ∷ through 3 4 ∷ through 0 2 ∷ [])
 printed T47 = plain Brown 1 (through 0 3 ∷ through 1 4 ∷ through 1 3 ∷ through 0 4 ∷ [])
 printed T70 = plain Brown 1 (through 0 1 ∷ through 0 2 ∷ through 1 3 ∷ through 2 3 ∷ [])
-printed T3 = town 2 (0 ∷ 1 ∷ [])
-printed T58 = town 2 (0 ∷ 2 ∷ [])
-printed T4 = town 2 (0 ∷ 3 ∷ [])
-printed T1 = two_towns 1 (1 ∷ 3 ∷ []) (0 ∷ 4 ∷ [])
-printed T2 = two_towns 1 (0 ∷ 3 ∷ []) (1 ∷ 2 ∷ [])
-printed T55 = two_towns 1 (0 ∷ 3 ∷ []) (1 ∷ 4 ∷ [])
-printed T56 = two_towns 1 (0 ∷ 2 ∷ []) (1 ∷ 3 ∷ [])
-printed T69 = two_towns 1 (0 ∷ 3 ∷ []) (2 ∷ 4 ∷ [])
-printed T57 = city Yellow City 4 20 1 (0 ∷ 3 ∷ [])
-printed T14 = city Green City 3 30 2 (0 ∷ 1 ∷ 3 ∷ 4 ∷ [])
-printed T15 = city Green City 2 30 2 (0 ∷ 1 ∷ 2 ∷ 3 ∷ [])
-printed T53 = city Green CityB 2 50 1 (0 ∷ 2 ∷ 4 ∷ [])
-printed T63 = city Brown City 3 40 2 (0 ∷ 1 ∷ 2 ∷ 3 ∷ 4 ∷ 5 ∷ [])
-printed T61 = city Brown CityB 2 60 1 (0 ∷ 1 ∷ 3 ∷ 5 ∷ [])
-printed T54 = two_cities Green CitiesNY 1 60 1 (0 ∷ 1 ∷ []) (2 ∷ 3 ∷ [])
-printed T59 = two_cities Green CitiesOO 2 40 1 (0 ∷ []) (2 ∷ [])
-printed T62 = two_cities Brown CitiesNY 1 80 2 (0 ∷ 1 ∷ []) (2 ∷ 3 ∷ [])
-printed T64 = two_cities Brown CitiesOO 1 50 1 (0 ∷ 2 ∷ []) (3 ∷ 4 ∷ [])
-printed T65 = two_cities Brown CitiesOO 1 50 1 (0 ∷ 4 ∷ []) (2 ∷ 3 ∷ [])
-printed T66 = two_cities Brown CitiesOO 1 50 1 (0 ∷ 3 ∷ []) (1 ∷ 2 ∷ [])
-printed T67 = two_cities Brown CitiesOO 1 50 1 (0 ∷ 3 ∷ []) (2 ∷ 4 ∷ [])
-printed T68 = two_cities Brown CitiesOO 1 50 1 (0 ∷ 3 ∷ []) (1 ∷ 4 ∷ [])
+printed T3 = one_stop Yellow Town 2 10 0 (0 ∷ 1 ∷ [])
+printed T58 = one_stop Yellow Town 2 10 0 (0 ∷ 2 ∷ [])
+printed T4 = one_stop Yellow Town 2 10 0 (0 ∷ 3 ∷ [])
+printed T1 = two_stops Yellow TwoTowns 1 10 0 (1 ∷ 3 ∷ []) (0 ∷ 4 ∷ [])
+printed T2 = two_stops Yellow TwoTowns 1 10 0 (0 ∷ 3 ∷ []) (1 ∷ 2 ∷ [])
+printed T55 = two_stops Yellow TwoTowns 1 10 0 (0 ∷ 3 ∷ []) (1 ∷ 4 ∷ [])
+printed T56 = two_stops Yellow TwoTowns 1 10 0 (0 ∷ 2 ∷ []) (1 ∷ 3 ∷ [])
+printed T69 = two_stops Yellow TwoTowns 1 10 0 (0 ∷ 3 ∷ []) (2 ∷ 4 ∷ [])
+printed T57 = one_stop Yellow City 4 20 1 (0 ∷ 3 ∷ [])
+printed T14 = one_stop Green City 3 30 2 (0 ∷ 1 ∷ 3 ∷ 4 ∷ [])
+printed T15 = one_stop Green City 2 30 2 (0 ∷ 1 ∷ 2 ∷ 3 ∷ [])
+printed T53 = one_stop Green CityB 2 50 1 (0 ∷ 2 ∷ 4 ∷ [])
+printed T63 = one_stop Brown City 3 40 2 (0 ∷ 1 ∷ 2 ∷ 3 ∷ 4 ∷ 5 ∷ [])
+printed T61 = one_stop Brown CityB 2 60 1 (0 ∷ 1 ∷ 3 ∷ 5 ∷ [])
+printed T54 = two_stops Green CitiesNY 1 60 1 (0 ∷ 1 ∷ []) (2 ∷ 3 ∷ [])
+printed T59 = two_stops Green CitiesOO 2 40 1 (0 ∷ []) (2 ∷ [])
+printed T62 = two_stops Brown CitiesNY 1 80 2 (0 ∷ 1 ∷ []) (2 ∷ 3 ∷ [])
+printed T64 = two_stops Brown CitiesOO 1 50 1 (0 ∷ 2 ∷ []) (3 ∷ 4 ∷ [])
+printed T65 = two_stops Brown CitiesOO 1 50 1 (0 ∷ 4 ∷ []) (2 ∷ 3 ∷ [])
+printed T66 = two_stops Brown CitiesOO 1 50 1 (0 ∷ 3 ∷ []) (1 ∷ 2 ∷ [])
+printed T67 = two_stops Brown CitiesOO 1 50 1 (0 ∷ 3 ∷ []) (2 ∷ 4 ∷ [])
+printed T68 = two_stops Brown CitiesOO 1 50 1 (0 ∷ 3 ∷ []) (1 ∷ 4 ∷ [])
 
 -- the entry of a tile
 abbrev pub entry_of : TileNo → TileEntry

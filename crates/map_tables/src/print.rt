@@ -168,7 +168,6 @@ macro_rules! white {
 }
 
 /// Returns the printed hex.
-#[tactic(auto, unfolding(crate::specs::Hex::index_of, crate::specs::Print::groups, crate::specs::Print::plain_hexes, crate::specs::Print::print_of))]
 fn print(hex: Hex) -> &'static PrintedHex
     ensures { print_seen result.now ≡ print_of hex }
 {

@@ -10,7 +10,7 @@ use Rattle.events.specs.declared.event.Event.TheVariants as event
 use Rattle.totals.specs.LookBack.{Game, with_event}
 use Rattle.totals.specs.Operating.{tokens_of}
 use Rattle.totals.specs.Shares.{president_of}
-use Rattle.map_tables.specs.Hex.{index_of}
+use Rattle.map_tables.specs.Hex.{index_of, hexes, site_of}
 use Rattle.map_tables.specs.Home.{home_of}
 use Rattle.map_tables.specs.OnMap.{has_token, names}
 use Rattle.map_tables.specs.Place.{place_of}
@@ -41,7 +41,7 @@ by_either stop company before after =
 -- HOME places it at the company's home
 lies_by_home : (company : Company) → has_home_token (event.Home company (place_of (home_of company)) ∷ []) company
     ≡ true
-unfolding index_of
+unfolding index_of hexes site_of
 lies_by_home Pennsylvania = refl
 lies_by_home company = refl
 

@@ -15,7 +15,7 @@ use Rattle.events.specs.declared.ruling.Ruling.TheVariants.{Obeyed, Refused}
 use Rattle.forced_purchase.specs.declared.operator.Operator.{Operator}
 use Rattle.history.proofs.Payments.{lay_sound}
 use Rattle.history.specs.Sound.{IsSound}
-use Rattle.map_tables.specs.Hex.{index_of}
+use Rattle.map_tables.specs.Hex.{index_of, hexes, site_of}
 use Rattle.map_tables.specs.OnMap.{by_tile, tile_on}
 use Rattle.map_tables.specs.Print.{groups, plain_hexes, print_of}
 use Rattle.map_tables.specs.declared.hex.Hex.{Hex}
@@ -42,7 +42,7 @@ use Rattle.totals.specs.Operating.{lays_of}
 
 -- no terrain costs over 120
 terrain_test : (hex : Hex) → leb (print_of hex).cost 120 ≡ true
-unfolding index_of groups plain_hexes print_of
+unfolding index_of hexes site_of groups plain_hexes print_of
 terrain_test A9 = refl
 terrain_test _ = refl
 

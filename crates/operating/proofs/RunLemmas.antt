@@ -1,5 +1,7 @@
 -- What a run is that is obeyed: it breaks no rule of runs, so that it is legal, and a train may do
 -- it.
+use Rattle.std.specs.Prelude.{[]}
+use Rattle.std.specs.Prelude.{unwrap_or}
 use Rattle.std.proofs.Common.{◌≡◌, Option, Some, None, Ok, refl, List, sym, subst, ap, Bool, true, false, ◌||◌}
 use Rattle.std.proofs.Common.{ℕ, ◌≤◌, ℤ, pos, arith, ◌+◌, ◌*◌, ◌≤ℤ◌, ◌∙◌}
 use Rattle.std.proofs.lemmas.Int.{ints}
@@ -10,7 +12,7 @@ use mir.Syntax.{w128}
 use mir.Val.{of_z, to_z}
 use Rattle.legal_runs.proofs.TallyOfWalk.{length_marked}
 use Rattle.legal_runs.proofs.Lawful.{legal_where_unbroken}
-use Rattle.legal_runs.specs.Fault.{named_steps, run_fault, steps_of}
+use Rattle.legal_runs.specs.Fault.{named_steps, run_fault}
 use Rattle.legal_runs.specs.Law.{NameLegalRun, RunsEarnByBorders, unused}
 use Rattle.legal_runs.specs.Legal.{IsLegalRun, crossed, earned}
 use Rattle.legal_runs.specs.Marks.{borders_used, marked}
@@ -57,7 +59,7 @@ judged_legal turn company kind run ran is =
     fault judged in
     let legal : NameLegalRun position company kind used run =
     (legal_where_unbroken position company kind used run).0 unbroken in
-    subst (λ (steps : List WalkStep). IsLegalRun position company kind used steps) (sym (ap steps_of legal.1)) legal.2
+    subst (λ (steps : List WalkStep). IsLegalRun position company kind used steps) (sym (ap (λ (w : Option (List WalkStep)). unwrap_or w []) legal.1)) legal.2
 
 -- what is done is what the run does
 done_is : (ran done : CompletedRun) (found : Option RunRule) → ran_unless ran found ≡ Ok done → done ≡ ran

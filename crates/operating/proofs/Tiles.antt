@@ -16,7 +16,7 @@ use Rattle.events.specs.declared.event.Event.TheVariants as event
 use Rattle.totals.proofs.InOrder.{lays_grow}
 use Rattle.totals.specs.LookBack.{Game, with_event}
 use Rattle.totals.specs.Operating.{lays_of}
-use Rattle.map_tables.specs.Hex.{hexes, index_of, same_hex}
+use Rattle.map_tables.specs.Hex.{hexes, index_of, same_hex, site_of}
 use Rattle.map_tables.specs.Tile.{entry_of}
 use Rattle.map_tables.specs.declared.hex.Hex.{Hex}
 use Rattle.map_tables.specs.declared.hex.Hex.TheVariants.{A9}
@@ -34,7 +34,7 @@ use Rattle.reach.proofs.Hexes.{same_index}
 
 -- each hex is one of the map's once
 once : (hex : Hex) → count_by (same_hex hex) hexes ≡ 1
-unfolding hexes index_of
+unfolding hexes index_of site_of
 once A9 = refl
 once _ = refl
 

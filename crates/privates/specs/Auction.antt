@@ -69,14 +69,11 @@ abbrev pub price_among : Bidder → Bidder → List Bidder → ℤ
 price_among winner first others =
     int_max (highest_bid first others) (int_min (limit_by winner) (second_limit winner (first ∷ others) +ℤ pos 5))
 
--- the winner among a bidder and others buys
-abbrev pub knocked_down : Bidder → Bidder → List Bidder → Seat × ℤ
-knocked_down winner first others = (winner.0, price_among winner first others)
-
 -- who buys and for how much
 abbrev pub auction_of : List Bidder → Seat × ℤ
 auction_of [] = (record { 0 = 0 }, pos 0)
-auction_of (first ∷ others) = knocked_down (winner_among first others) first others
+auction_of (first ∷ others) =
+    let winner = winner_among first others in (winner.0, price_among winner first others)
 
 -- this holds of each of some bidders
 abbrev pub EachBidder : (Bidder → Type 0) → List Bidder → Type 0

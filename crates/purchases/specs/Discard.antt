@@ -3,6 +3,7 @@
 -- too many trains, the obeyed lines of its president in this round come first, in order, each once.
 -- A line is passed over if the company has no such train, and may be used later in the round. If
 -- there is no line to use, the company discards a train of its least kind.
+use Rattle.std.specs.Option.{option_map_or}
 use Rattle.std.specs.Prelude.{◌==◌, Bool, false, not, ◌||◌, if◌then◌else◌, List, [], ◌∷◌, ◌++◌, Option, Some, None}
 use Rattle.std.specs.Prelude.{is_some, pos}
 use Rattle.std.specs.Int.Signed.{lt_z}
@@ -58,11 +59,6 @@ pub record Lines : Type 0 where
   pub presides : Bool
   pub kinds : List Kind
 
--- with a kind at the end, if there is one
-abbrev pub with_kind : List Kind → Option Kind → List Kind
-with_kind lines None = lines
-with_kind lines (Some kind) = lines ++ kind ∷ []
-
 -- the kind that a seat's obeyed order says, if it is one
 abbrev pub line_of : Seat → Company → Option Obeyance → Option Kind
 line_of seat company None = None
@@ -89,7 +85,7 @@ abbrev pub kinds_then : Seat → Company → Lines → Event → List Kind
 kinds_then seat company lines event =
     if is_some (round_begun_by event)
     then []
-    else without (with_kind lines.kinds (line_of seat company (obeyed_of event)))
+    else without (option_map_or (λ kind. lines.kinds ++ kind ∷ []) (line_of seat company (obeyed_of event)) lines.kinds)
     (if lines.presides then discarded_by company event else None)
 
 -- whether the seat presides after an event

@@ -1,7 +1,7 @@
 -- The numbers of hexes: each hex has its own, under 93.
 use Rattle.std.proofs.Common.{◌≡◌, ◌<◌, get_or, refl, ap, sym, ◌∙◌, lit<}
 use Rattle.map_tables.proofs.HexTables.{hex_at_index}
-use Rattle.map_tables.specs.Hex.{hexes, index_of}
+use Rattle.map_tables.specs.Hex.{hexes, index_of, site_of}
 use Rattle.map_tables.specs.Place.{joined_hex, joined_stop_of, stop_index_of}
 use Rattle.map_tables.specs.Side.{sides, number_of, facing_of}
 use Rattle.map_tables.specs.declared.hex.Hex.{Hex}
@@ -18,7 +18,7 @@ same_index a b same = sym (hex_at_index a) ∙ ap (λ n. get_or hexes n A9) same
 
 -- each number is under 93
 pub index_low : (hex : Hex) → index_of hex < 93
-unfolding index_of
+unfolding index_of hexes site_of
 index_low A9 = lit< tt
 index_low hex = lit< tt
 

@@ -13,7 +13,7 @@ use Rattle.map_tables.specs.Hex.{hex_at, hexes, index_of, site_of}
 use Rattle.map_tables.specs.Lay.{laid_links_of, laid_track_of}
 use Rattle.map_tables.specs.OnMap.{tile_on}
 use Rattle.map_tables.specs.Print.{groups, plain_hexes, print_of, printed_links_of}
-use Rattle.map_tables.specs.Tile.{printed, tile_index_of}
+use Rattle.map_tables.specs.Tile.{printed, tile_index_of, number_of_tile, tiles}
 use Rattle.map_tables.specs.declared.hex.Hex.{Hex}
 use Rattle.map_tables.specs.declared.hex.Hex.TheVariants.{H10, H12, H14, H16}
 use Rattle.map_tables.specs.declared.lay.Lay.{Lay}
@@ -57,43 +57,43 @@ all_three = stop H10 ∷ stop H12 ∷ through H14 ∷ stop H16 ∷ []
 
 -- one after the other they run west and east, for 30 each
 pub first_west : broken [] Three to_the_west ≡ None
-unfolding position_of tile_on index_of groups plain_hexes print_of printed_links_of printed tile_index_of hexes
+unfolding position_of tile_on index_of groups plain_hexes print_of printed_links_of printed tile_index_of tiles number_of_tile hexes
     laid_links_of laid_track_of neighbour_of adjacent hex_at site_of side_towards step_between leg_to border_of
 first_west = refl
 
 pub then_east : broken to_the_west Two to_the_east ≡ None
-unfolding position_of tile_on index_of groups plain_hexes print_of printed_links_of printed tile_index_of hexes
+unfolding position_of tile_on index_of groups plain_hexes print_of printed_links_of printed tile_index_of tiles number_of_tile hexes
     laid_links_of laid_track_of neighbour_of adjacent hex_at site_of side_towards step_between leg_to border_of
 then_east = refl
 
 pub west_earns : earned map_now (named_steps map_now to_the_west) ≡ 30
-unfolding position_of tile_on index_of groups plain_hexes print_of printed_links_of printed tile_index_of hexes
+unfolding position_of tile_on index_of groups plain_hexes print_of printed_links_of printed tile_index_of tiles number_of_tile hexes
     laid_links_of laid_track_of neighbour_of adjacent hex_at site_of side_towards step_between leg_to border_of
 west_earns = refl
 
 pub east_earns : earned map_now (named_steps map_now to_the_east) ≡ 30
-unfolding position_of tile_on index_of groups plain_hexes print_of printed_links_of printed tile_index_of hexes
+unfolding position_of tile_on index_of groups plain_hexes print_of printed_links_of printed tile_index_of tiles number_of_tile hexes
     laid_links_of laid_track_of neighbour_of adjacent hex_at site_of side_towards step_between leg_to border_of
 east_earns = refl
 
 -- the 3-train may visit all three cities, for 50
 pub all_are_visited : broken [] Three all_three ≡ None
-unfolding position_of tile_on index_of groups plain_hexes print_of printed_links_of printed tile_index_of hexes
+unfolding position_of tile_on index_of groups plain_hexes print_of printed_links_of printed tile_index_of tiles number_of_tile hexes
     laid_links_of laid_track_of neighbour_of adjacent hex_at site_of side_towards step_between leg_to border_of
 all_are_visited = refl
 
 pub all_earn : earned map_now (named_steps map_now all_three) ≡ 50
-unfolding position_of tile_on index_of groups plain_hexes print_of printed_links_of printed tile_index_of hexes
+unfolding position_of tile_on index_of groups plain_hexes print_of printed_links_of printed tile_index_of tiles number_of_tile hexes
     laid_links_of laid_track_of neighbour_of adjacent hex_at site_of side_towards step_between leg_to border_of
 all_earn = refl
 
 -- then the 2-train may run neither west nor east (R6)
 pub not_west : broken all_three Two to_the_west ≡ Some rule.BorderTwice
-unfolding position_of tile_on index_of groups plain_hexes print_of printed_links_of printed tile_index_of hexes
+unfolding position_of tile_on index_of groups plain_hexes print_of printed_links_of printed tile_index_of tiles number_of_tile hexes
     laid_links_of laid_track_of neighbour_of adjacent hex_at site_of side_towards step_between leg_to border_of
 not_west = refl
 
 pub not_east : broken all_three Two to_the_east ≡ Some rule.BorderTwice
-unfolding position_of tile_on index_of groups plain_hexes print_of printed_links_of printed tile_index_of hexes
+unfolding position_of tile_on index_of groups plain_hexes print_of printed_links_of printed tile_index_of tiles number_of_tile hexes
     laid_links_of laid_track_of neighbour_of adjacent hex_at site_of side_towards step_between leg_to border_of
 not_east = refl

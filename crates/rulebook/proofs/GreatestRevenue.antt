@@ -71,12 +71,12 @@ both = stop_at H10 First ∷ stop_at H12 First ∷ []
 
 -- a hex is at its number
 at_index : (hex : Hex) → get_or hexes (index_of hex) A9 ≡ hex
-unfolding hexes index_of
+unfolding hexes index_of site_of
 at_index A9 = refl
 at_index hex = refl
 
 index_low : (hex : Hex) → index_of hex < length hexes
-unfolding hexes index_of
+unfolding hexes index_of site_of
 index_low A9 = lit< tt
 index_low hex = lit< tt
 
@@ -200,7 +200,7 @@ reaches_h10 =
     )
 
 reaches_h12 : ReachesStop small_map Pennsylvania (stop_at H12 First)
-unfolding small_map hexes index_of
+unfolding small_map hexes index_of site_of
 reaches_h12 = inl (refl, inl refl)
 
 -- PRR reaches these two stops and no other
@@ -215,7 +215,7 @@ among_is stop (inl token) = inr (inl (sym (sym token.0 ∙ token_at (joined_hex 
 among_is stop (inr walked) = touched stop walked.0 walked.1.walk walked.2
 
 are_reached : AreReached small_map Pennsylvania both
-unfolding hexes index_of
+unfolding hexes index_of site_of
 are_reached = record { exact = λ stop. (reached_is stop, among_is stop); in_order = ((lit< tt, tt), (tt, tt)) }
 
 -- the run from H12.0 to H10.0, and the claim that the two trains earn 30 by it
@@ -248,7 +248,7 @@ each_once Two = lit≤ tt
 each_once kind = lit≤ tt
 
 holds : ClaimHolds small_map Pennsylvania (Two ∷ Two ∷ []) claim
-unfolding small_map hexes index_of
+unfolding small_map hexes index_of site_of
 holds = (
   record { kind = Two; steps = walk_west } ∷ [],
   (refl, named, tt),

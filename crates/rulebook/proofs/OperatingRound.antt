@@ -194,7 +194,7 @@ into_city = record { link = record { hex = H10; a = AtSide East; b = AtStop Firs
 
 -- PRR reaches the track that it lays
 connected : IsConnected (position_of (with_lay (map_state_now at_first.game.events) lay)) Pennsylvania lay
-unfolding position_of tile_on index_of groups plain_hexes print_of printed_links_of printed tile_index_of hexes
+unfolding position_of tile_on index_of groups plain_hexes print_of printed_links_of printed tile_index_of tiles number_of_tile hexes
     laid_links_of laid_track_of neighbour_of adjacent hex_at site_of is_sheet_line sheet_of players_of body_of
     content_of version_of written_lines is_blank begins
 connected =
@@ -217,7 +217,7 @@ connected =
 
 -- and the city in which it places its token
 reached : IsReachedPlace (position_of (map_state_now once_laid.game.events)) Pennsylvania token_place
-unfolding position_of tile_on index_of groups plain_hexes print_of printed_links_of printed tile_index_of hexes
+unfolding position_of tile_on index_of groups plain_hexes print_of printed_links_of printed tile_index_of tiles number_of_tile hexes
     laid_links_of laid_track_of neighbour_of adjacent hex_at site_of is_sheet_line sheet_of players_of body_of
     content_of version_of written_lines is_blank begins
 reached =

@@ -10,7 +10,7 @@ use Rattle.map_tables.specs.Lay.{laid_links_of, laid_track_of}
 use Rattle.map_tables.specs.OnMap.{tile_on}
 use Rattle.map_tables.specs.Place.{stop_at}
 use Rattle.map_tables.specs.Print.{groups, plain_hexes, print_of, printed_links_of}
-use Rattle.map_tables.specs.Tile.{printed, tile_index_of}
+use Rattle.map_tables.specs.Tile.{printed, tile_index_of, number_of_tile, tiles}
 use Rattle.map_tables.specs.declared.hex.Hex.TheVariants.{H10, H12}
 use Rattle.map_tables.specs.declared.place.StopNumber.TheVariants.{First}
 use Rattle.map_tables.specs.declared.side.Rotation.TheVariants.{One}
@@ -33,7 +33,7 @@ map_now =
 pub track_of_h10 :
     links_of map_now H10
     ≡ record { hex = H10; a = AtSide West; b = AtStop First } ∷ record { hex = H10; a = AtSide East; b = AtStop First } ∷ []
-unfolding position_of tile_on index_of groups plain_hexes print_of printed_links_of printed tile_index_of hexes
+unfolding position_of tile_on index_of site_of groups plain_hexes print_of printed_links_of printed tile_index_of tiles number_of_tile hexes
     laid_links_of laid_track_of
 track_of_h10 = refl
 
@@ -47,7 +47,7 @@ into_city = record { link = record { hex = H10; a = AtSide East; b = AtStop Firs
 
 -- by this walk PRR reaches H10.0
 pub reaches_h10 : ReachesStop map_now Pennsylvania (stop_at H10 First)
-unfolding position_of tile_on index_of groups plain_hexes print_of printed_links_of printed tile_index_of hexes
+unfolding position_of tile_on index_of groups plain_hexes print_of printed_links_of printed tile_index_of tiles number_of_tile hexes
     laid_links_of laid_track_of neighbour_of adjacent hex_at site_of
 reaches_h10 =
     inr (

@@ -11,7 +11,7 @@ use Rattle.map_tables.specs.Hex.{hex_at, hexes, index_of, site_of}
 use Rattle.map_tables.specs.Lay.{laid_links_of, laid_track_of}
 use Rattle.map_tables.specs.OnMap.{tile_on}
 use Rattle.map_tables.specs.Print.{groups, plain_hexes, print_of, printed_links_of}
-use Rattle.map_tables.specs.Tile.{printed, tile_index_of}
+use Rattle.map_tables.specs.Tile.{printed, tile_index_of, number_of_tile, tiles}
 use Rattle.map_tables.specs.declared.hex.Hex.{Hex}
 use Rattle.map_tables.specs.declared.hex.Hex.TheVariants.{H10, H12, H14, H16}
 use Rattle.map_tables.specs.declared.lay.Lay.{Lay}
@@ -48,12 +48,12 @@ broken used run = run_fault map_now Pennsylvania Two used run
 
 -- from H10.0 to H12.0 for 30
 pub short_run : broken [] (stop H10 ∷ stop H12 ∷ []) ≡ None
-unfolding position_of tile_on index_of groups plain_hexes print_of printed_links_of printed tile_index_of hexes
+unfolding position_of tile_on index_of groups plain_hexes print_of printed_links_of printed tile_index_of tiles number_of_tile hexes
     laid_links_of laid_track_of neighbour_of adjacent hex_at site_of side_towards step_between leg_to border_of
 short_run = refl
 
 pub short_run_earns : earned map_now (named_steps map_now (stop H10 ∷ stop H12 ∷ [])) ≡ 30
-unfolding position_of tile_on index_of groups plain_hexes print_of printed_links_of printed tile_index_of hexes
+unfolding position_of tile_on index_of groups plain_hexes print_of printed_links_of printed tile_index_of tiles number_of_tile hexes
     laid_links_of laid_track_of neighbour_of adjacent hex_at site_of side_towards step_between leg_to border_of
 short_run_earns = refl
 
@@ -62,29 +62,29 @@ abbrev long_run : List Place
 long_run = stop H10 ∷ through H12 ∷ through H14 ∷ stop H16 ∷ []
 
 pub long_run_is_legal : broken [] long_run ≡ None
-unfolding position_of tile_on index_of groups plain_hexes print_of printed_links_of printed tile_index_of hexes
+unfolding position_of tile_on index_of groups plain_hexes print_of printed_links_of printed tile_index_of tiles number_of_tile hexes
     laid_links_of laid_track_of neighbour_of adjacent hex_at site_of side_towards step_between leg_to border_of
 long_run_is_legal = refl
 
 pub long_run_earns : earned map_now (named_steps map_now long_run) ≡ 40
-unfolding position_of tile_on index_of groups plain_hexes print_of printed_links_of printed tile_index_of hexes
+unfolding position_of tile_on index_of groups plain_hexes print_of printed_links_of printed tile_index_of tiles number_of_tile hexes
     laid_links_of laid_track_of neighbour_of adjacent hex_at site_of side_towards step_between leg_to border_of
 long_run_earns = refl
 
 -- after it the short run crosses a border again (R6)
 pub border_again : broken (crossed (named_steps map_now long_run)) (stop H10 ∷ stop H12 ∷ []) ≡ Some rule.BorderTwice
-unfolding position_of tile_on index_of groups plain_hexes print_of printed_links_of printed tile_index_of hexes
+unfolding position_of tile_on index_of groups plain_hexes print_of printed_links_of printed tile_index_of tiles number_of_tile hexes
     laid_links_of laid_track_of neighbour_of adjacent hex_at site_of side_towards step_between leg_to border_of
 border_again = refl
 
 -- by all three cities it visits too many stops for a 2 (R4), and no track joins H10 and H14
 -- directly (R3)
 pub three_stops : broken [] (stop H10 ∷ stop H12 ∷ through H14 ∷ stop H16 ∷ []) ≡ Some rule.WrongNumber
-unfolding position_of tile_on index_of groups plain_hexes print_of printed_links_of printed tile_index_of hexes
+unfolding position_of tile_on index_of groups plain_hexes print_of printed_links_of printed tile_index_of tiles number_of_tile hexes
     laid_links_of laid_track_of neighbour_of adjacent hex_at site_of side_towards step_between leg_to border_of
 three_stops = refl
 
 pub no_track : broken [] (stop H10 ∷ stop H14 ∷ []) ≡ Some rule.NoTrack
-unfolding position_of tile_on index_of groups plain_hexes print_of printed_links_of printed tile_index_of hexes
+unfolding position_of tile_on index_of groups plain_hexes print_of printed_links_of printed tile_index_of tiles number_of_tile hexes
     laid_links_of laid_track_of neighbour_of adjacent hex_at site_of side_towards step_between leg_to border_of
 no_track = refl

@@ -6,10 +6,10 @@ use Rattle.board.specs.Example.{beginner}
 use Rattle.board.specs.TokenRules.{has_none_left, has_token_in, is_no_free_slot, is_token_used, kept_at, laid_by}
 use Rattle.board.specs.TokenRules.{slot_rules}
 use Rattle.board_state.specs.MapState.{MapState, map_state_of}
-use Rattle.map_tables.specs.Hex.{hexes, index_of}
+use Rattle.map_tables.specs.Hex.{hexes, index_of, site_of}
 use Rattle.map_tables.specs.OnMap.{tile_on}
 use Rattle.map_tables.specs.Print.{groups, plain_hexes, print_of}
-use Rattle.map_tables.specs.Tile.{printed, tile_index_of}
+use Rattle.map_tables.specs.Tile.{printed, tile_index_of, number_of_tile, tiles}
 use Rattle.map_tables.specs.declared.hex.Hex.{Hex}
 use Rattle.map_tables.specs.declared.hex.Hex.TheVariants.{E19, H8, H10, H12}
 use Rattle.map_tables.specs.declared.place.Place.{Place}
@@ -38,18 +38,18 @@ broken hex = first_broken (slot_rules laid (beginner Pennsylvania (pos 40)) (sto
 
 -- on H10 none
 pub on_h10 : broken H10 ≡ None
-unfolding tile_on index_of groups plain_hexes print_of printed tile_index_of hexes is_token_used has_none_left
+unfolding tile_on index_of site_of groups plain_hexes print_of printed tile_index_of tiles number_of_tile hexes is_token_used has_none_left
     has_token_in is_no_free_slot kept_at laid_by
 on_h10 = refl
 
 -- on E19 the slot is kept for NYC, and on H8 there is no city (K3)
 pub kept_for_nyc : broken E19 ≡ Some rule.NoFreeSlot
-unfolding tile_on index_of groups plain_hexes print_of printed tile_index_of hexes is_token_used has_none_left
+unfolding tile_on index_of site_of groups plain_hexes print_of printed tile_index_of tiles number_of_tile hexes is_token_used has_none_left
     has_token_in is_no_free_slot kept_at laid_by
 kept_for_nyc = refl
 
 pub no_city : broken H8 ≡ Some rule.NoFreeSlot
-unfolding tile_on index_of groups plain_hexes print_of printed tile_index_of hexes is_token_used has_none_left
+unfolding tile_on index_of site_of groups plain_hexes print_of printed tile_index_of tiles number_of_tile hexes is_token_used has_none_left
     has_token_in is_no_free_slot kept_at laid_by
 no_city = refl
 

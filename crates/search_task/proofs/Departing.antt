@@ -3,8 +3,12 @@
 use Rattle.std.proofs.Common.{◌≡◌, ℕ, zero, suc, ◌+◌, ◌*◌, ◌<◌, ◌≤◌, Bool, true, false, ◌⊎◌, inl, inr, Option, Some}
 use Rattle.std.proofs.Common.{None, List, [], ◌∷◌, ◌++◌, length, get_or, slice_get, take, refl, sym, ap, subst, ◌∙◌}
 use Rattle.std.proofs.Common.{arith, length-append}
+use Rattle.std.specs.List.{AllByRecursion}
+use Rattle.std.specs.List.Sorted.{IsPermutation}
 use Rattle.std.proofs.lemmas.Bool.{cases_lt}
 use Rattle.std.proofs.lemmas.List.{take_at}
+use Rattle.std.proofs.lemmas.List.Elements.{All-from_recursion, recursion_from_All}
+use Rattle.std.proofs.lemmas.List.Sorted.{All-permutation, IsPermutation-sym}
 use Rattle.std.proofs.lemmas.Option.{slice_get_read, slice_get_within}
 use Rattle.reach.specs.Position.{IsAmong}
 use Rattle.reach.specs.declared.walk.WalkStep.{WalkStep}
@@ -260,6 +264,33 @@ from_all task stop index legs all are =
       sound = are.sound;
       complete = λ place segment hops to leads leads_to free. are.complete place segment hops to
           (omega (arith, all, place_low task stop place segment leads)) leads leads_to free;
+    }
+
+-- what is said of each of some
+all_of : {A : Type 0} (P : A → Type 0) (xs : List A) → ((x : A) → IsAmong x xs → P x) → AllByRecursion P xs
+all_of P [] each = tt
+all_of P (x ∷ xs) each = (each x (inl refl), all_of P xs (λ y among. each y (inr among)))
+
+of_all : {A : Type 0} (P : A → Type 0) (xs : List A) → AllByRecursion P xs → (x : A) → IsAmong x xs → P x
+of_all P [] all x among = absurd among
+of_all P (y ∷ ys) all x (inl same) = subst P same all.0
+of_all P (y ∷ ys) all x (inr among) = of_all P ys all.1 x among
+
+-- the same things in another order
+among_moved : {A : Type 0} (xs ys : List A) → IsPermutation xs ys → (x : A) → IsAmong x ys → IsAmong x xs
+among_moved xs ys moved =
+    of_all (λ x. IsAmong x xs) ys (recursion_from_All (λ x. IsAmong x xs) ys
+    (All-permutation (λ x. IsAmong x xs) xs ys moved
+    (All-from_recursion (λ x. IsAmong x xs) xs (all_of (λ x. IsAmong x xs) xs (λ x among. among)))))
+
+pub legs_moved : (task : Task) (stop : ℕ) (legs moved : List Leg) → IsPermutation legs moved
+    → AreLegsOf task stop legs → AreLegsOf task stop moved
+legs_moved task stop legs moved are_same are =
+    record {
+      sound = λ leg among. are.sound leg (among_moved legs moved are_same leg among);
+      complete = λ place segment hops to leads leads_to free. has_kept task none_used [] place segment hops to legs moved
+          (among_moved moved legs (IsPermutation-sym legs moved are_same))
+          (are.complete place segment hops to leads leads_to free);
     }
 
 -- the departures, spot by spot

@@ -47,7 +47,7 @@ pub struct Leg {
 /// The legs from a stop.
 #[derive(Drop)]
 pub struct Departures {
-    /// The legs, in the order of their first segments.
+    /// The legs, those of the fewest steps first.
     pub legs: Vec<Leg>,
 }
 

@@ -1,4 +1,6 @@
 -- A file that is not refused names 3 to 6 players.
+use Rattle.sheets.specs.File.{header_version}
+use Rattle.std.specs.Prelude.{is_some}
 use Rattle.std.proofs.Common.{◌≡◌, ℕ, ◌&&◌, Bool, true, false, nat_le, nat_lt, cond, List, [], ◌∷◌, length, Option}
 use Rattle.std.proofs.Common.{Some, None, Result, Ok, Err, IsOk, refl, subst, arith, rules}
 use Rattle.std.proofs.lemmas.Bool.{and_parts}
@@ -7,7 +9,7 @@ use Rattle.order_grammar.specs.Line.{reading_of}
 use Rattle.order_grammar.specs.declared.fault.Fault.{Fault}
 use Rattle.order_grammar.specs.declared.order.Order.{Order}
 use Rattle.order_grammar.specs.declared.order.Order.TheVariants as order
-use Rattle.sheets.specs.File.{Content, all_differ, body_content, content_of, good_lines, is_header, lines_content}
+use Rattle.sheets.specs.File.{Content, all_differ, body_content, content_of, good_lines, lines_content}
 use Rattle.sheets.specs.File.{players_content, players_in, players_named, players_of}
 use Rattle.sheets.specs.Laws.{MayPlay, ThreeToSixPlay}
 use Rattle.sheets.specs.Limits.{file_most, sheets_most}
@@ -66,7 +68,7 @@ from_players (line ∷ lines) = from_body lines (players_named (reading_of line)
 from_lines : (lines : List (List ℕ)) → HasPlayers (lines_content lines)
 from_lines [] = refused Header
 from_lines (line ∷ lines) =
-    chosen (is_header (reading_of line)) (players_content lines) (Err Header) (from_players lines) (refused Header)
+    chosen (is_some (header_version (reading_of line))) (players_content lines) (Err Header) (from_players lines) (refused Header)
 
 -- a file that is not refused has 3 to 6 players
 pub three_to_six_play_law : ThreeToSixPlay

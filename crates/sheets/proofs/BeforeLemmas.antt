@@ -1,4 +1,6 @@
 -- Larger limits keep what a file says.
+use Rattle.sheets.specs.File.{header_version}
+use Rattle.std.specs.Prelude.{is_some}
 use Rattle.std.proofs.Common.{◌≡◌, ℕ, ◌≤◌, List, [], ◌∷◌, Bool, true, false, cond, Option, Some, None, Err, length, refl}
 use Rattle.std.proofs.Common.{arith}
 use Rattle.std.proofs.lemmas.Bool.{le-ltb, ltb-false}
@@ -6,7 +8,7 @@ use Rattle.std.specs.Prelude.{nat_lt}
 use Rattle.order_grammar.specs.Line.{reading_of}
 use Rattle.sheets.specs.Before.{LargerLimitsChangeNothing, body_before, content_before, file_before, lines_before}
 use Rattle.sheets.specs.Before.{players_before, sheets_before}
-use Rattle.sheets.specs.File.{body_content, content_of, good_lines, is_header, lines_content, players_content}
+use Rattle.sheets.specs.File.{body_content, content_of, good_lines, lines_content, players_content}
 use Rattle.sheets.specs.File.{players_named}
 use Rattle.sheets.specs.Limits.{file_most, sheets_most}
 use Rattle.sheets.specs.Text.{written_lines}
@@ -42,7 +44,7 @@ same_lines_by lines false few = refl
 same_lines : (lines : List (List ℕ)) → (lines_before lines ≡ Err TooManySheets → ⊥)
     → lines_content lines ≡ lines_before lines
 same_lines [] few = refl
-same_lines (line ∷ lines) few = same_lines_by lines (is_header (reading_of line)) few
+same_lines (line ∷ lines) few = same_lines_by lines (is_some (header_version (reading_of line))) few
 
 same_file_by : (file : List ℕ) (over : Bool) → nat_lt file_before (length file) ≡ over
     → (content_before file ≡ Err TooLong → ⊥) → (content_before file ≡ Err TooManySheets → ⊥)

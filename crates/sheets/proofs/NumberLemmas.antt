@@ -1,4 +1,5 @@
 -- The round of a sheet is one that its SHEET line names, so its number is small.
+use Rattle.std.specs.Prelude.{option_map}
 use Rattle.std.proofs.Common.{◌≡◌, ℕ, ◌≤◌, ◌==◌, ◌↔◌, Bool, true, false, cond, List, [], ◌∷◌, Option, Some, None}
 use Rattle.std.proofs.Common.{Result, Ok, Err, IsSome, refl, ap, subst, arith, rules}
 use Rattle.std.specs.Option.{option_or}
@@ -10,7 +11,7 @@ use Rattle.order_grammar.specs.declared.fault.Fault.{Fault}
 use Rattle.order_grammar.specs.declared.order.Order.{Order}
 use Rattle.order_grammar.specs.declared.order.Order.TheVariants as order
 use Rattle.sheets.specs.File.{begins, body_of, is_sheet_line, lines_begun, players_of, sheet_key_at, sheet_lines}
-use Rattle.sheets.specs.File.{sheet_key_begun, sheet_key_for, same_sheet_key, seat_from, sheet_in, sheet_of}
+use Rattle.sheets.specs.File.{sheet_key_begun, same_sheet_key, seat_from, sheet_in, sheet_of}
 use Rattle.sheets.specs.Laws.{SheetsAreNumbered, number_of}
 use Rattle.sheets.specs.declared.sheet_key.SheetKey.{SheetKey}
 use Rattle.tables.specs.Round.{number_most, same_round}
@@ -44,7 +45,7 @@ small_round (Operating set number) small = small
 module _ (spelt : ReadWhereSpelt) (players : List (List ℕ)) where
   -- a sheet is for the round that its line names
   named_small : (line : List ℕ) (name : List ℕ) (round : Round) (seat : Option Seat) (sheet_key : SheetKey)
-      → reading_of line ≡ Ok (order.Sheet name round) → sheet_key_for round seat ≡ Some sheet_key
+      → reading_of line ≡ Ok (order.Sheet name round) → option_map (λ its. record { seat = its; round = round }) seat ≡ Some sheet_key
       → number_of sheet_key.round ≤ number_most
   named_small line name round None sheet_key read begun = cc
   named_small line name round (Some seat) sheet_key read begun =

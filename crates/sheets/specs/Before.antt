@@ -1,8 +1,10 @@
 -- What a file said by the limits of before, 4,194,304 bytes and 4,096 good SHEET lines, and that
 -- larger limits keep it.
+use Rattle.sheets.specs.File.{header_version}
+use Rattle.std.specs.Prelude.{is_some}
 use Rattle.std.specs.Prelude.{◌≡◌, ℕ, nat_lt, if◌then◌else◌, List, [], ◌∷◌, length, Option, Some, None, Result, Ok, Err}
 use Rattle.order_grammar.specs.Line.{reading_of}
-use Rattle.sheets.specs.File.{Content, content_of, good_lines, is_header, players_named}
+use Rattle.sheets.specs.File.{Content, content_of, good_lines, players_named}
 use Rattle.sheets.specs.Text.{written_lines}
 use Rattle.sheets.specs.declared.fault.FileFault.{FileFault}
 use Rattle.sheets.specs.declared.fault.FileFault.TheVariants.{Header, Players, TooLong, TooManySheets}
@@ -30,7 +32,7 @@ players_before (line ∷ lines) = body_before lines (players_named (reading_of l
 -- what the written lines of a file said
 abbrev pub lines_before : List (List ℕ) → Result Content FileFault
 lines_before [] = Err Header
-lines_before (line ∷ lines) = if is_header (reading_of line) then players_before lines else Err Header
+lines_before (line ∷ lines) = if is_some (header_version (reading_of line)) then players_before lines else Err Header
 
 -- what a file said, or why it was refused
 unfoldable pub content_before : List ℕ → Result Content FileFault

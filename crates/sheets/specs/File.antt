@@ -1,5 +1,6 @@
 -- What an order file says: whether it is refused, who plays, the sheet of a player for a round, and
 -- the lines that are in no sheet.
+use Rattle.std.specs.Prelude.{option_map}
 use Rattle.std.specs.Prelude.{◌≡◌, ℕ, ◌==◌, ◌+◌, Bool, true, false, ◌&&◌, not, nat_le, nat_lt, if◌then◌else◌, List, []}
 use Rattle.std.specs.Prelude.{◌∷◌, ◌++◌, length, codes, Option, Some, None, Result, Ok, Err, IsOk, take_while, is_some}
 use Rattle.std.specs.Prelude.{unwrap_or}
@@ -53,10 +54,6 @@ abbrev pub header_version : Result Order Fault → Option Version
 header_version (Ok (order.Game game version)) = if game == 1830 then version_numbered version else None
 header_version other = None
 
--- the order of a header line
-abbrev pub is_header : Result Order Fault → Bool
-is_header reading = is_some (header_version reading)
-
 -- the version of a file with these written lines: that which its header line names
 abbrev pub version_in : List (List ℕ) → Version
 version_in [] = One
@@ -100,14 +97,10 @@ is_sheet_line line = same_word (first_of_words (words_of line)) (codes "SHEET")
 abbrev pub sheet_key_at : ℕ → Round → SheetKey
 sheet_key_at seat round = record { seat = record { 0 = seat }; round = round }
 
--- the sheet for a round of the one who has a seat
-abbrev pub sheet_key_for : Round → Option Seat → Option SheetKey
-sheet_key_for round None = None
-sheet_key_for round (Some seat) = Some (record { seat = seat; round = round })
-
 -- the sheet that a line with this order begins: that of a player
 abbrev pub sheet_key_begun : List (List ℕ) → Result Order Fault → Option SheetKey
-sheet_key_begun players (Ok (order.Sheet name round)) = sheet_key_for round (seat_from 0 players name)
+sheet_key_begun players (Ok (order.Sheet name round)) =
+    option_map (λ seat. record { seat = seat; round = round }) (seat_from 0 players name)
 sheet_key_begun players other = None
 
 -- the sheet that a line begins whose first word is SHEET, which all versions read the same; a line
@@ -186,7 +179,7 @@ players_content (line ∷ lines) = body_content lines (players_named (reading_of
 -- what the written lines of a file say
 abbrev pub lines_content : List (List ℕ) → Result Content FileFault
 lines_content [] = Err Header
-lines_content (line ∷ lines) = if is_header (reading_of line) then players_content lines else Err Header
+lines_content (line ∷ lines) = if is_some (header_version (reading_of line)) then players_content lines else Err Header
 
 -- what a file says, or why it is refused
 unfoldable pub content_of : List ℕ → Result Content FileFault

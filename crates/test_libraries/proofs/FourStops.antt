@@ -2,7 +2,7 @@
 use Rattle.std.proofs.Common.{◌≡◌, ◌∙◌, ap, sym, subst, refl, ◌<◌, ◌≤◌, lit<, lit≤, length, get_or}
 use Rattle.std.proofs.lemmas.List.{get_or-map}
 use Rattle.test_libraries.specs.FourStops.{four_stops, on_map_in, standing_in}
-use Rattle.map_tables.specs.Hex.{hexes, index_of}
+use Rattle.map_tables.specs.Hex.{hexes, index_of, site_of}
 use Rattle.map_tables.specs.Laws.{AreLinksOf, NeighboursPair}
 use Rattle.map_tables.specs.Place.{joined_hex, stop_at, stop_index_of}
 use Rattle.map_tables.specs.declared.hex.Hex.{Hex}
@@ -17,13 +17,13 @@ use Rattle.reach.specs.Position.{InHex, IsAmong, at_stop, empty_hex, in_hex, no_
 
 -- a hex is at its number
 at_index : (hex : Hex) → get_or hexes (index_of hex) A9 ≡ hex
-unfolding hexes index_of
+unfolding hexes index_of site_of
 at_index A9 = refl
 at_index hex = refl
 
 -- each number is under that of all hexes
 index_low : (hex : Hex) → index_of hex < length hexes
-unfolding hexes index_of
+unfolding hexes index_of site_of
 index_low A9 = lit< tt
 index_low hex = lit< tt
 

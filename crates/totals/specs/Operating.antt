@@ -1,6 +1,7 @@
 -- Operating rounds: the tiles that were laid and the tokens that were placed, oldest first. Also
 -- which companies have operated since the last round began, and how many lines of a seat's sheet
 -- were ruled since then.
+use Rattle.std.specs.Option.{option_map_or}
 use Rattle.std.specs.Prelude.{ℕ, ◌+◌, ◌==◌, Bool, if◌then◌else◌, List, Option, Some, None, is_some}
 use Rattle.std.specs.List.{count_by, filter_map, fold}
 use Rattle.events.specs.Event.{Lay, Place, operated_by, round_begun_by, ruled_by, tile_laid, token_placed}
@@ -31,14 +32,12 @@ turn_said company (Some operated) = if same_company operated company then Some o
 abbrev pub has_operated : List Event → Company → Bool
 has_operated events company = is_some (now_said (in_round (λ event. turn_said company (operated_by event))) events)
 
--- one more, if the line that was ruled is this seat's
-abbrev pub ruling_added : Seat → ℕ → Option Seat → ℕ
-ruling_added seat count None = count
-ruling_added seat count (Some by) = if by.0 == seat.0 then count + 1 else count
-
--- the count of a seat's rulings after one more event: a round begins it again
+-- the count of a seat's rulings after one more event: a round begins it again, and a ruling of the
+-- seat's line adds one
 abbrev pub rulings_then : Seat → ℕ → Event → ℕ
-rulings_then seat count event = if is_some (round_begun_by event) then 0 else ruling_added seat count (ruled_by event)
+rulings_then seat count event =
+    if is_some (round_begun_by event) then 0 else
+    option_map_or (λ by. if by.0 == seat.0 then count + 1 else count) (ruled_by event) count
 
 -- how many lines of a seat's sheet were ruled since the last round began
 abbrev pub rulings_in_round : List Event → Seat → ℕ
