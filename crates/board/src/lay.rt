@@ -32,18 +32,18 @@ impl Board {
     pub fn try_lay(&self, asker: &Asker, lay: Lay) -> Result<Money, LayFault>
         ensures { IsLayOutcome self.now asker.now lay result }
     {
-        if let Some(rule) = self.ground_rule(asker, lay) {
+        if let Some(rule) = self.judge_ground(asker, lay) {
             return Err(LayFault::Rule(rule));
         }
         let reached = self.would_reach(asker.company, lay);
-        let cost = self.lay_answer(asker, lay, reached)?;
+        let cost = self.judge_lay(asker, lay, reached)?;
         Ok(cost)
     }
 
     /// Returns what a lay costs, in dollars, or the first rule that it breaks, given whether some
     /// track of the tile is reached. It returns so only for a lay that keeps the rules before that
     /// one.
-    fn lay_answer(&self, asker: &Asker, lay: Lay, reached: bool) -> Result<Money, LayRule>
+    fn judge_lay(&self, asker: &Asker, lay: Lay, reached: bool) -> Result<Money, LayRule>
         requires { first_broken (map_rules self.now asker.now lay) ≡ None }
         ensures { result ≡ lay_answer_of self.now asker.now lay reached }
     {
@@ -59,7 +59,7 @@ impl Board {
     }
 
     /// Returns the first rule that a lay breaks, of those that do not depend on what is reached.
-    fn ground_rule(&self, asker: &Asker, lay: Lay) -> Option<LayRule>
+    fn judge_ground(&self, asker: &Asker, lay: Lay) -> Option<LayRule>
         ensures { result ≡ first_broken (map_rules self.now asker.now lay) }
     {
         rules! { LayRule

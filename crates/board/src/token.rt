@@ -21,17 +21,17 @@ impl Board {
     pub fn try_token(&self, asker: &Asker, place: Place) -> Result<Money, TokenFault>
         ensures { IsTokenOutcome self.now asker.now place result }
     {
-        if let Some(rule) = self.slot_rule(asker, place) {
+        if let Some(rule) = self.judge_slot(asker, place) {
             return Err(TokenFault::Rule(rule));
         }
         let reached = self.reaches(asker.company, place);
-        let cost = self.token_answer(asker, place, reached)?;
+        let cost = self.judge_token(asker, place, reached)?;
         Ok(cost)
     }
 
     /// Returns what a token costs, in dollars, or the first rule that it breaks, given whether the
     /// stop is reached. The token keeps the rules before that one.
-    fn token_answer(&self, asker: &Asker, place: Place, reached: bool) -> Result<Money, TokenRule>
+    fn judge_token(&self, asker: &Asker, place: Place, reached: bool) -> Result<Money, TokenRule>
         requires { first_broken (slot_rules self.now asker.now place) ≡ None }
         ensures { result ≡ token_answer_of self.now asker.now place reached }
     {
@@ -47,7 +47,7 @@ impl Board {
     }
 
     /// Returns the first rule that a token breaks, of those that do not depend on what is reached.
-    fn slot_rule(&self, asker: &Asker, place: Place) -> Option<TokenRule>
+    fn judge_slot(&self, asker: &Asker, place: Place) -> Option<TokenRule>
         ensures { result ≡ first_broken (slot_rules self.now asker.now place) }
     {
         rules! { TokenRule

@@ -33,7 +33,7 @@ pub fn may_buy(
     ensures { result ≡ allowed
         (purchase_judgement history.now.seats history.now.events seat purchase bought) }
 {
-    match broken_by(&history.now(), seat, purchase, bought) {
+    match judge_purchase(&history.now(), seat, purchase, bought) {
         Some(rule) => Err(rule),
         None => Ok(()),
     }
@@ -41,7 +41,7 @@ pub fn may_buy(
 
 /// Returns the first rule that a purchase breaks.
 #[tactic(auto, unfolding(crate::specs::Purchase::purchase_judgement))]
-fn broken_by(
+fn judge_purchase(
     now: &GameView,
     seat: Seat,
     purchase: Purchase,

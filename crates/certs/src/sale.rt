@@ -22,7 +22,7 @@ pub fn may_sell(
     ensures { result ≡ allowed
         (sale_judgement history.now.seats history.now.events seat sale operating) }
 {
-    match broken_by(&history.now(), seat, sale, operating) {
+    match judge_sale(&history.now(), seat, sale, operating) {
         Some(rule) => Err(rule),
         None => Ok(()),
     }
@@ -30,7 +30,7 @@ pub fn may_sell(
 
 /// Returns the first rule that a sale breaks.
 #[tactic(auto, unfolding(crate::specs::Sale::sale_judgement))]
-fn broken_by(
+fn judge_sale(
     now: &GameView,
     seat: Seat,
     sale: Sale,

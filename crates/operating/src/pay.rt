@@ -23,7 +23,7 @@ use tables::{Amount, Company, rules};
 use turns::record;
 
 /// Returns the rule that a PAY breaks; `None` if it breaks none.
-fn pay_rule(progress: &Progress) -> Option<PayRule>
+fn judge_pay(progress: &Progress) -> Option<PayRule>
     ensures { result ≡ pay_judgement progress.now }
 {
     rules! { PayRule
@@ -32,7 +32,7 @@ fn pay_rule(progress: &Progress) -> Option<PayRule>
 }
 
 /// Returns the rule that a WITHHOLD breaks; `None` if it breaks none.
-fn withhold_rule(progress: &Progress) -> Option<PayRule>
+fn judge_withhold(progress: &Progress) -> Option<PayRule>
     ensures { result ≡ withhold_judgement progress.now }
 {
     rules! { PayRule
@@ -60,7 +60,7 @@ impl CompanyTurn {
         ensures order { OnOk result (GoesOn self.old self.new) }
     {
         let by = self.by;
-        let broken = withhold_rule(&self.progress).map(Refusal::Pay);
+        let broken = judge_withhold(&self.progress).map(Refusal::Pay);
         if record(&mut self.history, by.president, line, order, broken)? {
             withhold(&mut self.history, by.company, self.progress.runs.revenue)?;
             self.progress.pass_pay();
@@ -103,7 +103,7 @@ fn rule_pay(
         ≡ after_pay by (turn_state history.old progress.old) (line_with line order.now) order.now) }
     ensures sound { OnOk result (IsSound history.new) }
 {
-    let broken = pay_rule(progress).map(Refusal::Pay);
+    let broken = judge_pay(progress).map(Refusal::Pay);
     if record(history, by.president, line, order, broken)? {
         pay_out(history, by.company, progress.runs.revenue)?;
         progress.pass_pay();

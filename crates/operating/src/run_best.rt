@@ -40,7 +40,7 @@ const TRAINS_MOST: usize = 4;
 type CompanyTrains = SmallVec<Kind, TRAINS_MOST>;
 
 /// Returns the first rule that a RUN BEST breaks; `None` if it breaks none.
-fn best_rule(history: &History, company: Company, progress: &Progress) -> Option<RunRule>
+fn judge_best(history: &History, company: Company, progress: &Progress) -> Option<RunRule>
     ensures { result ≡ best_judgement (turn_state history.now progress.now) company }
 {
     rules! { RunRule
@@ -75,7 +75,7 @@ impl CompanyTurn {
         ensures order { OnOk result (GoesOn self.old self.new) }
         ensures refuses { IfErr result (λ fault. fault ≡ runner_refuses → R.may_refuse ≡ true) }
     {
-        if let Some(rule) = best_rule(&self.history, self.by.company, &self.progress) {
+        if let Some(rule) = judge_best(&self.history, self.by.company, &self.progress) {
             self.refuse_best(line, rule)?;
             return Ok(());
         }

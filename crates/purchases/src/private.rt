@@ -26,11 +26,11 @@ pub fn judge_private(
 ) -> Option<PrivateRule>
     ensures { result ≡ private_judgement_by consents history.now company private price }
 {
-    broken_by(&history.now(), company, private, price, consents)
+    judge_terms(&history.now(), company, private, price, consents)
 }
 
 /// Returns the first rule that the purchase of a private breaks.
-fn broken_by(
+fn judge_terms(
     view: &GameView,
     company: Company,
     private: Private,

@@ -84,11 +84,11 @@ pub fn judge_purchase(
     requires { IsSmallPurchase purchase }
     ensures { result ≡ train_judgement_by consents history.now company purchase }
 {
-    broken_by(&history.now(), company, purchase, consents)
+    judge_terms(&history.now(), company, purchase, consents)
 }
 
 /// Returns the first rule that a purchase breaks.
-fn broken_by(
+fn judge_terms(
     view: &GameView,
     company: Company,
     purchase: TrainPurchase,

@@ -7,7 +7,7 @@ use Rattle.purchases.proofs.private.judge_private.Goals as goal
 pub returns : goal.returns
 returns c =
     let view = c.now.result in
-    c.broken_by.ensures
+    c.judge_terms.ensures
     ∙ ap (λ (seats : ℕ). private_judgement_by c.args.consents (record { seats = seats; events = view.events.now }) c.args.company
     c.args.private c.args.price) c.now.ensures.seats
     ∙ ap (λ (events : List Event). private_judgement_by c.args.consents (record { seats = c.args.history.now.seats; events = events })

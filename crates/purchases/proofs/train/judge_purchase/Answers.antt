@@ -7,7 +7,7 @@ use Rattle.purchases.proofs.train.judge_purchase.Goals as goal
 pub returns : goal.returns
 returns c =
     let view = c.now.result in
-    c.broken_by.ensures
+    c.judge_terms.ensures
     ∙ ap (λ (seats : ℕ). train_judgement_by c.args.consents (record { seats = seats; events = view.events.now }) c.args.company
     c.args.purchase) c.now.ensures.seats
     ∙ ap (λ (events : List Event). train_judgement_by c.args.consents (record { seats = c.args.history.now.seats; events = events })
