@@ -13,6 +13,7 @@ pub mod Map
 pub mod Market
 pub mod Money
 pub mod OperatingRound
+pub mod OwnRules
 pub mod OwnedPrivates
 pub mod Phases
 pub mod Priority
