@@ -1,10 +1,12 @@
 //! Track by the map alone: over which sides it may not lead, and between which hexes it may.
 ghost use Rattle.std.specs.Prelude.{◌≡◌, ◌||◌, find};
 ghost use Rattle.std.specs.List.{list_any};
+ghost use Rattle.std.specs.Option.{option_map_or};
 ghost use Rattle.desk_base.specs.Objections.{bad_side, is_bad_of};
 ghost use Rattle.legal_runs.specs.Named.{is_hex, side_towards};
 ghost use Rattle.map_tables.specs.Border.{neighbour_of};
-ghost use Rattle.map_tables.specs.Fit.{has_print_at, is_shut, is_shut_to, is_side};
+ghost use Rattle.map_tables.specs.Fit.{has_print_at, is_shut, is_side};
+ghost use Rattle.map_tables.specs.Side.{facing_of};
 
 use board_state::is_open;
 use map_tables::{Hex, Lay, Link, Side, TrackEnd, hex_kind, laid_links, neighbour, printed_links};
@@ -44,7 +46,7 @@ fn have_side(links: &[Link], side: Side) -> bool
 
 /// Returns whether no track may lead over a side to the neighbour there, if there is one.
 fn is_shut_to(neighbour: Option<Hex>, side: Side) -> bool
-    ensures { result ≡ is_shut_to neighbour side }
+    ensures { result ≡ option_map_or (λ other. is_shut other (facing_of side)) neighbour true }
 {
     match neighbour {
         Some(other) => is_shut(other, side.facing()),
