@@ -113,7 +113,9 @@ module _ (P : Stop → Type 0) (test : Stop → Bool) (exact : (stop : Stop) →
 
   pub none_passes : (steps : List WalkStep) → PassesOnly (λ s. ¬ P s) steps → passes test steps ≡ false
   none_passes [] h = refl
-  none_passes (step ∷ before) h = grind (arith, none_passes before h.1)
+  none_passes (step ∷ before) h =
+      both_fail (passes test before) (goes_through test before step)
+      (none_passes before h.1) ((by_none before step).1 h.0)
 
   first_of_or : (a b : Bool) → (a || b) ≡ true → (a ≡ true) ⊎ (b ≡ true)
   first_of_or true b h = inl refl
