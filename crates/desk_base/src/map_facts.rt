@@ -1,5 +1,5 @@
 //! Track by the map alone: over which sides it may not lead, and between which hexes it may.
-ghost use Rattle.std.specs.Prelude.{◌≡◌, ◌||◌, find};
+ghost use Rattle.std.specs.Prelude.{◌≡◌, ◌||◌, find, true};
 ghost use Rattle.std.specs.List.{list_any};
 ghost use Rattle.std.specs.Option.{option_map_or};
 ghost use Rattle.desk_base.specs.Objections.{bad_side, is_bad_of};
