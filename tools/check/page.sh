@@ -73,6 +73,16 @@ play_lays() {
   judge "$name" $? 0 "$1" none
 }
 
+# The games whose pages of all rounds are read: of one round, and of several with dividends.
+all_games=(first-round first-dividend)
+
+# read_all GAME: each button of the page of all its rounds shows what the page of that round shows.
+read_all() {
+  local why=
+  DESK=$desk bench/page-all "games/$1.orders" > "$scratch/wrong" 2>&1 || why="it is not the page of the round: $(head -n 3 "$scratch/wrong")"
+  count "all rounds of $1" "$why"
+}
+
 # read_tiles: the sheet of all tiles shows those of the map's table.
 read_tiles() {
   local why=
@@ -95,6 +105,7 @@ check_page() {
   side_by_side read_game "${games[@]}"
   side_by_side play_lays games/page/*.lays
   side_by_side read_lays "${lays_games[@]}"
+  side_by_side read_all "${all_games[@]}"
   read_tiles
   compare_picture docs/page-map.svg
 }
@@ -122,6 +133,8 @@ page_must_fail() {
   desk=$2
   desk=$(desk_but 's,</svg>LAY ,&1,')
   sees 'a lay of another tile' 1 read_lays first-stock-round
+  desk=$(desk_but 's/class="f1 t1"/class="f1"/')
+  sees 'an element that is shown too long' 1 read_all first-dividend
   desk=$2
   told_of presidents-run-their-best "$scratch/right" || return
   sees 'a right page' 0 read_page 'what is right' "$scratch/right"

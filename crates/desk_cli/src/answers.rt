@@ -8,7 +8,7 @@ use desk_base::{DeskFault, Moment, Reason, all_reasons_text, explain, list_text,
 use desk_check::{Extent, check};
 use desk_moves::{LayForm, MayForm, MovesFault, Progress, Question, answer, trial};
 use desk_round::{round, round_with_rules, runs};
-use page::{bulletin, page, page_to_hexes, tile_sheet};
+use page::{bulletin, page, page_of_all, page_to_hexes, tile_sheet};
 use page_lays::{Progress as LaysProgress, STYLE, Wanted, end_page};
 use report::refusal_text;
 use std::alloc::{AllocError, Global};
@@ -88,6 +88,7 @@ pub(crate) fn answer_to<'a, P: Progress + LaysProgress>(
         before: task.before,
         due: task.due,
         json: task.json,
+        all: task.all,
     };
     answer_with(alloc, task.round.is_some(), told_of(alloc, file, asked))
 }
@@ -117,6 +118,7 @@ struct Asking<'a> {
     before: bool,
     due: &'a str,
     json: bool,
+    all: bool,
 }
 
 /// Returns the text of one of the program's words about the game of a file.
@@ -132,6 +134,7 @@ fn told_of(alloc: Global, file: &[u8], asked: Asking) -> Result<Vec<u8>, DeskFau
         }
         Job::Runs => runs(alloc, file, asked.round),
         Job::Bulletin => bulletin(alloc, file, asked.round, asked.due),
+        Job::Page if asked.all => page_of_all(alloc, file, asked.round),
         Job::Page => page(alloc, file, asked.round),
         _ => told_of_round(alloc, file, asked),
     }

@@ -130,6 +130,8 @@ enum Operand {
     Best,
     /// `--drafted`.
     Drafted,
+    /// `--all`, of rounds.
+    Rounds,
     /// `--tiles`.
     Tiles,
     /// `--lays`, with companies or none.
@@ -243,7 +245,7 @@ static WORDS: [Word; 12] = [
         about: "Writes the game as one page of HTML: map, routes, chart, history, tables, tiles",
         example: "Example: desk page < our-game.orders > our-game.html",
         job: Job::Page,
-        operands: &[Operand::Round, Operand::Tiles, Operand::Lays],
+        operands: &[Operand::Round, Operand::Rounds, Operand::Tiles, Operand::Lays],
     },
 ];
 
@@ -325,6 +327,7 @@ fn argument_of<'a>(alloc: Global, operand: Operand) -> Arg<'a> {
                 "Start after the orders in the player's own sheet, or in the president's",
             )
         }
+        Operand::Rounds => flag(alloc, "all").help("Show all rounds, with a button for each"),
         Operand::Tiles => {
             flag(alloc, "tiles").help("Write all tiles in their six rotations, without a game")
         }
@@ -457,7 +460,7 @@ fn take_operand<'a>(
         Operand::Why => task.why = given.get_flag("why"),
         Operand::Before => task.before = given.get_flag("before"),
         Operand::Json => task.json = given.get_flag("json"),
-        Operand::All => task.all = given.get_flag("all"),
+        Operand::All | Operand::Rounds => task.all = given.get_flag("all"),
         Operand::Lines => task.lines = given.get_flag("lines"),
         Operand::Best => task.best = given.get_flag("best"),
         Operand::Drafted => task.drafted = given.get_flag("drafted"),

@@ -1,2 +1,4 @@
+pub mod PartLemmas
 pub mod ReadLemmas
 pub mod TextLemmas
+pub mod WrittenLemmas

@@ -6,7 +6,7 @@ use Rattle.markup.specs.Reading.{Read, read_at, reading, step, between, naming, 
 use Rattle.markup.specs.Tags.{name_of_tag}
 use Rattle.markup.specs.Written.{open_names, read_by, is_plain, is_apart}
 use Rattle.markup.specs.declared.tag.Tag.{Tag}
-use Rattle.markup.specs.declared.tag.Tag.TheVariants.{Html, Head, Title, Style, Script, Body, Header, H1, H2, H3, Paragraph, Nav, Anchor, Button, TextArea, Main, Listing, Item, Small, Bold, Section, Svg, Desc, Defs, Path, Circle, Group, Text, TextSpan, Use, Polyline, Table, Caption, TableHead, TableBody, Row, Heading, Cell, Division, Span, Preformatted}
+use Rattle.markup.specs.declared.tag.Tag.TheVariants.{Html, Head, Title, Style, Script, Body, Header, H1, H2, H3, Paragraph, Nav, Anchor, Button, TextArea, Main, Listing, Item, Small, Bold, Section, Svg, Desc, Defs, Path, Circle, Group, Text, TextSpan, Use, Polyline, Table, Caption, TableHead, TableBody, Row, Heading, Cell, Division, Span, Preformatted, Input, InputLabel}
 use Rattle.markup.specs.declared.writer.WriterPlace.{WriterPlace}
 use Rattle.markup.specs.declared.writer.WriterPlace.TheVariants.{Between, Naming, Valued}
 
@@ -58,6 +58,8 @@ named_by Cell names = refl
 named_by Division names = refl
 named_by Span names = refl
 named_by Preformatted names = refl
+named_by Input names = refl
+named_by InputLabel names = refl
 
 -- behind the name in a start tag
 pub begun : (text : List ℕ) (names : List (List ℕ)) (tag : Tag) → reading text ≡ read_at names between →
@@ -111,6 +113,8 @@ closing_by Cell names = refl
 closing_by Division names = refl
 closing_by Span names = refl
 closing_by Preformatted names = refl
+closing_by Input names = refl
+closing_by InputLabel names = refl
 
 -- behind an end tag
 pub closed_text : (text : List ℕ) (names : List (List ℕ)) (tag : Tag) → reading text ≡ read_at (name_of_tag tag ∷ names) between →

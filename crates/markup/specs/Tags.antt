@@ -2,8 +2,8 @@
 use Rattle.std.specs.Prelude.{ℕ, Bool, List, ◌||◌, bytes_eq, codes}
 use Rattle.markup.specs.declared.tag.Tag.{Tag}
 use Rattle.markup.specs.declared.tag.Attr.{Attr}
-use Rattle.markup.specs.declared.tag.Tag.TheVariants.{Html, Head, Title, Style, Script, Body, Header, H1, H2, H3, Paragraph, Nav, Anchor, Button, TextArea, Main, Listing, Item, Small, Bold, Section, Svg, Desc, Defs, Path, Circle, Group, Text, TextSpan, Use, Polyline, Table, Caption, TableHead, TableBody, Row, Heading, Cell, Division, Span, Preformatted}
-use Rattle.markup.specs.declared.tag.Attr.TheVariants.{Class, Id, Href, X, Y, D, R, Fill, Stroke, StrokeWidth, Dash, Points, Transform, ViewBox, Role, Scope, Hidden, Width, Height, Xmlns, TabIndex, Label}
+use Rattle.markup.specs.declared.tag.Tag.TheVariants.{Html, Head, Title, Style, Script, Body, Header, H1, H2, H3, Paragraph, Nav, Anchor, Button, TextArea, Main, Listing, Item, Small, Bold, Section, Svg, Desc, Defs, Path, Circle, Group, Text, TextSpan, Use, Polyline, Table, Caption, TableHead, TableBody, Row, Heading, Cell, Division, Span, Preformatted, Input, InputLabel}
+use Rattle.markup.specs.declared.tag.Attr.TheVariants.{Class, Id, Href, X, Y, D, R, Fill, Stroke, StrokeWidth, Dash, Points, Transform, ViewBox, Role, Scope, Hidden, Width, Height, Xmlns, TabIndex, Label, Kind, Name, For, Checked}
 
 -- the name of an element
 abbrev pub name_of_tag : Tag → List ℕ
@@ -48,6 +48,8 @@ name_of_tag Cell = codes "td"
 name_of_tag Division = codes "div"
 name_of_tag Span = codes "span"
 name_of_tag Preformatted = codes "pre"
+name_of_tag Input = codes "input"
+name_of_tag InputLabel = codes "label"
 
 -- whether an element of this name has a start tag alone: two of those at the head of a page
 abbrev pub is_void : List ℕ → Bool
@@ -77,3 +79,7 @@ opening_of Height = codes " height=\""
 opening_of Xmlns = codes " xmlns=\""
 opening_of TabIndex = codes " tabindex=\""
 opening_of Label = codes " aria-label=\""
+opening_of Kind = codes " type=\""
+opening_of Name = codes " name=\""
+opening_of For = codes " for=\""
+opening_of Checked = codes " checked=\""

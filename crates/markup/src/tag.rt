@@ -46,6 +46,8 @@ pub enum Tag {
     Division,
     Span,
     Preformatted,
+    Input,
+    InputLabel,
 }
 
 /// An attribute of a start tag.
@@ -73,6 +75,10 @@ pub enum Attr {
     Xmlns,
     TabIndex,
     Label,
+    Kind,
+    Name,
+    For,
+    Checked,
 }
 
 impl Tag {
@@ -122,13 +128,17 @@ impl Tag {
             Tag::Division => "div",
             Tag::Span => "span",
             Tag::Preformatted => "pre",
+            Tag::Input => "input",
+            Tag::InputLabel => "label",
         }
     }
 
-    /// Returns whether its start tag may also end it, as for an element of a picture without
-    /// children.
+    /// Returns whether its start tag may also end it, as for an element without children.
     pub(crate) fn is_sole(self) -> bool {
-        matches!(self, Tag::Path | Tag::Circle | Tag::Use | Tag::Polyline)
+        matches!(
+            self,
+            Tag::Path | Tag::Circle | Tag::Use | Tag::Polyline | Tag::Input
+        )
     }
 }
 
@@ -160,6 +170,10 @@ impl Attr {
             Attr::Xmlns => " xmlns=\"",
             Attr::TabIndex => " tabindex=\"",
             Attr::Label => " aria-label=\"",
+            Attr::Kind => " type=\"",
+            Attr::Name => " name=\"",
+            Attr::For => " for=\"",
+            Attr::Checked => " checked=\"",
         }
     }
 }

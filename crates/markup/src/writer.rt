@@ -6,6 +6,7 @@ ghost use Rattle.markup.specs.Reading.{IsWellFormed};
 ghost use Rattle.markup.specs.Written.{IsRead, closing_of, is_apart, is_plain, plain_of};
 ghost use Rattle.markup.specs.declared.writer.WriterPlace.TheVariants.{Between};
 
+use crate::part::Part;
 use crate::piece::{PagePiece, put_bytes, put_piece, put_text};
 use crate::script::POLICY;
 use crate::tag::{Attr, Tag};
@@ -26,15 +27,21 @@ pub enum WriterPlace {
     Valued(Tag),
 }
 
-/// A writer of a page. It keeps the open elements, so that each is ended, the innermost first. Once
-/// an allocation has failed it writes nothing more, and `finish` returns the error.
+/// A writer of a page, or of parts of one. It keeps the open elements, so that each is ended, the
+/// innermost first. Once an allocation has failed it writes nothing more, and `finish` returns the
+/// error.
 #[derive(Drop)]
 pub struct Writer {
+    alloc: Global,
     text: Vec<u8>,
     /// The open elements whose start tags have ended.
     stack: Vec<Tag>,
     spot: WriterPlace,
     fault: Option<AllocError>,
+    /// Whether each element within no other is a part.
+    is_parted: bool,
+    /// The parts so far.
+    parts: Vec<Part>,
     ghost read: { IsRead text.items stack.items spot fault },
 }
 
@@ -48,10 +55,26 @@ impl Writer {
         keep(&mut stack, &mut fault, Tag::Html);
         keep(&mut stack, &mut fault, Tag::Head);
         Writer {
+            alloc,
             text,
             stack,
             spot: WriterPlace::Between,
             fault,
+            is_parted: false,
+            parts: Vec::new(alloc),
+        }
+    }
+
+    /// Returns a writer of parts: each element that is within no other becomes one.
+    pub fn of_parts(alloc: Global) -> Writer {
+        Writer {
+            alloc,
+            text: Vec::new(alloc),
+            stack: Vec::new(alloc),
+            spot: WriterPlace::Between,
+            fault: None,
+            is_parted: true,
+            parts: Vec::new(alloc),
         }
     }
 
@@ -65,10 +88,13 @@ impl Writer {
         keep(&mut stack, &mut fault, Tag::Html);
         keep(&mut stack, &mut fault, Tag::Head);
         Writer {
+            alloc,
             text,
             stack,
             spot: WriterPlace::Between,
             fault,
+            is_parted: false,
+            parts: Vec::new(alloc),
         }
     }
 
@@ -150,6 +176,12 @@ impl Writer {
         put_text(self, text);
     }
 
+    /// Adds a part to the children of the innermost open element.
+    pub fn put_part(&mut self, part: &Part) {
+        self.within();
+        add_bytes(&mut self.text, &mut self.fault, part.bytes());
+    }
+
     /// Adds a byte where the writer is, unless it is one that has a meaning in tags.
     pub(crate) fn put_byte(&mut self, byte: u8)
         ensures spot { is_apart self.new.spot ≡ true }
@@ -194,6 +226,25 @@ impl Writer {
 
     /// Ends the innermost open element.
     pub fn end(&mut self) {
+        self.end_innermost();
+        if self.is_parted && self.stack.is_empty() {
+            cut(self.alloc, &mut self.text, &mut self.fault, &mut self.parts);
+        }
+    }
+
+    /// Makes a part of what a writer of parts has written since the last one, if no element is open:
+    /// a text without an element becomes a part too.
+    pub fn end_part(&mut self) {
+        self.within();
+        if self.is_parted && self.stack.is_empty() {
+            cut(self.alloc, &mut self.text, &mut self.fault, &mut self.parts);
+        }
+    }
+
+    /// Ends the innermost open element, if there is one.
+    fn end_innermost(&mut self)
+        ensures { self.new.spot ≡ Between }
+    {
         match self.spot {
             WriterPlace::Naming(tag) if tag.is_sole() => {
                 add(&mut self.text, &mut self.fault, "/>");
@@ -239,6 +290,38 @@ impl Writer {
             Some(error) => Err(error),
         }
     }
+
+    /// Returns the parts, or the error if an allocation has failed. An element that is open is in
+    /// none of them.
+    pub fn finish_parts(self) -> Result<Vec<Part>, AllocError> {
+        let Writer { fault, parts, .. } = self;
+        match fault {
+            None => Ok(parts),
+            Some(error) => Err(error),
+        }
+    }
+}
+
+/// Makes a part of a text, which becomes empty, unless an allocation has failed before.
+fn cut(alloc: Global, text: &mut Vec<u8>, fault: &mut Option<AllocError>, parts: &mut Vec<Part>)
+    requires { fault.old ≡ None → IsWellFormed text.old.items }
+    ensures before { fault.new ≡ None → fault.old ≡ None }
+    ensures cut { fault.new ≡ None → text.new.items ≡ [] }
+{
+    if fault.is_none() {
+        if let Err(error) = add_part(alloc, parts, text.as_slice()) {
+            *fault = Some(error);
+        }
+        text.clear();
+    }
+}
+
+/// Adds a part with a text.
+fn add_part(alloc: Global, parts: &mut Vec<Part>, text: &[u8]) -> Result<(), AllocError>
+    requires { IsWellFormed text.now }
+{
+    parts.push(Part::new(alloc, text)?)?;
+    Ok(())
 }
 
 /// Adds words to a text, unless an allocation has failed already.
@@ -246,8 +329,16 @@ fn add(text: &mut Vec<u8>, fault: &mut Option<AllocError>, words: &str)
     ensures before { fault.new ≡ None → fault.old ≡ None }
     ensures added { fault.new ≡ None → text.new.items ≡ text.old.items ++ words.now }
 {
+    add_bytes(text, fault, words.as_bytes());
+}
+
+/// Adds bytes to a text, unless an allocation has failed before.
+fn add_bytes(text: &mut Vec<u8>, fault: &mut Option<AllocError>, bytes: &[u8])
+    ensures before { fault.new ≡ None → fault.old ≡ None }
+    ensures added { fault.new ≡ None → text.new.items ≡ text.old.items ++ bytes.now }
+{
     if fault.is_none() {
-        if let Err(error) = text.extend_from_slice(words.as_bytes()) {
+        if let Err(error) = text.extend_from_slice(bytes) {
             *fault = Some(error);
         }
     }

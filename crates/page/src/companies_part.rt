@@ -13,7 +13,7 @@ use markup::{
 use page_map::Scene;
 use picture::city_name;
 use privates::price_of;
-use tables::{Company, Kind, Money, Private, Seat, face, price, revenue, rusts, train};
+use tables::{Company, Kind, Money, Private, Seat, Square, face, price, revenue, rusts, train};
 
 /// Adds what each company has, in this order.
 pub(crate) fn put_companies(out: &mut Writer, scene: &Scene, order: &[Company]) {
@@ -44,8 +44,29 @@ pub(crate) fn put_companies(out: &mut Writer, scene: &Scene, order: &[Company]) 
     out.end();
 }
 
+/// Begins the table of companies up to its rows, without the columns of their last runs.
+pub(crate) fn begin_companies_alone(out: &mut Writer) {
+    begin_table(out, "companies", "wide");
+    put_caption(out, "Companies", "");
+    put_head(
+        out,
+        &[
+            "Company",
+            "Name",
+            "President",
+            "Price",
+            "Square",
+            "Cash",
+            "Trains",
+            "Tokens",
+            "Left",
+            "Privates",
+        ],
+    );
+}
+
 /// Returns the name of a company.
-fn name_of(company: Company) -> &'static str {
+pub(crate) fn name_of(company: Company) -> &'static str {
     match company {
         Company::Pennsylvania => "Pennsylvania",
         Company::NewYorkCentral => "New York Central",
@@ -89,17 +110,23 @@ const FLOATS_AT: Money = 4;
 /// Adds a cell for a company that does not operate: how many more shares must be sold before it
 /// floats, or that it has not started.
 fn put_waiting(out: &mut Writer, scene: &Scene, company: Company) {
+    out.begin(Tag::Cell);
+    out.within();
+    put_waiting_words(out, scene, company);
+    out.end();
+}
+
+/// Adds how many more shares of a company must be sold before it floats, or that it has not
+/// started.
+pub(crate) fn put_waiting_words(out: &mut Writer, scene: &Scene, company: Company) {
     let offered = scene.history.shares(company, Shareholder::InitialOffering);
     if !scene.history.now().is_started(company) {
-        out.element(Tag::Cell, &[Words("not started")]);
+        out.put(&[Words("not started")]);
     } else if offered > FLOATS_AT {
         let more = Number(offered - FLOATS_AT);
-        out.element(
-            Tag::Cell,
-            &[Words("not floated, "), more, Words(" shares to go")],
-        );
+        out.put(&[Words("not floated, "), more, Words(" shares to go")]);
     } else {
-        out.element(Tag::Cell, &[Words("not floated")]);
+        out.put(&[Words("not floated")]);
     }
 }
 
@@ -111,16 +138,26 @@ fn put_square(out: &mut Writer, view: &GameView, company: Company) {
         return;
     };
     put_number(out, Money::from(price(square)));
+    out.begin(Tag::Cell);
+    out.within();
+    put_square_words(out, view, company, square);
+    out.end();
+}
+
+/// Adds the square of a company, and the place of its token there.
+pub(crate) fn put_square_words(
+    out: &mut Writer,
+    view: &GameView,
+    company: Company,
+    square: Square,
+) {
     let place = before_in_stack(view, square, company) as Money + 1;
-    out.element(
-        Tag::Cell,
-        &[
-            Letter(b'A'.saturating_add(square.row)),
-            Number(Money::from(square.column)),
-            Words(" no. "),
-            Number(place),
-        ],
-    );
+    out.put(&[
+        Letter(b'A'.saturating_add(square.row)),
+        Number(Money::from(square.column)),
+        Words(" no. "),
+        Number(place),
+    ]);
 }
 
 /// Adds a company's cash, its last revenue with the round, and its trains.
@@ -143,6 +180,12 @@ fn put_treasury(out: &mut Writer, scene: &Scene, company: Company) {
     }
     out.begin(Tag::Cell);
     out.within();
+    put_train_codes(out, scene, company);
+    out.end();
+}
+
+/// Adds the codes of a company's trains, or that it has none.
+pub(crate) fn put_train_codes(out: &mut Writer, scene: &Scene, company: Company) {
     let mut before = "";
     for &kind in &Kind::ALL {
         for _ in 0..scene.history.trains(Some(company), kind) {
@@ -153,13 +196,18 @@ fn put_treasury(out: &mut Writer, scene: &Scene, company: Company) {
     if before.is_empty() {
         out.put(&[Words("none")]);
     }
-    out.end();
 }
 
 /// Adds a cell with the places of a company's tokens; before its first token with its home.
 fn put_places(out: &mut Writer, scene: &Scene, company: Company) {
     out.begin(Tag::Cell);
     out.within();
+    put_token_places(out, scene, company);
+    out.end();
+}
+
+/// Adds the places of a company's tokens; before its first token its home.
+fn put_token_places(out: &mut Writer, scene: &Scene, company: Company) {
     let mut before = "";
     for token in scene.history.tokens() {
         if token.1 == company {
@@ -173,7 +221,6 @@ fn put_places(out: &mut Writer, scene: &Scene, company: Company) {
         out.put(&[Words("home "), Place(place)]);
         put_city(out, place.hex);
     }
-    out.end();
 }
 
 /// Adds the name of the city of a hex, if it has one.
@@ -185,6 +232,15 @@ fn put_city(out: &mut Writer, hex: Hex) {
 
 /// Adds who owns each private, with its price and the bids on it while it is unsold.
 pub(crate) fn put_owners(out: &mut Writer, scene: &Scene) {
+    begin_owners(out);
+    out.begin(Tag::TableBody);
+    put_owner_rows(out, scene);
+    out.end();
+    out.end();
+}
+
+/// Begins the table of privates up to its rows.
+pub(crate) fn begin_owners(out: &mut Writer) {
     begin_table(out, "privates", "");
     put_caption(out, "Privates", "");
     put_head(
@@ -193,12 +249,13 @@ pub(crate) fn put_owners(out: &mut Writer, scene: &Scene) {
             "Private", "#Face", "#Price", "#Revenue", "Hexes", "Owner", "Bids",
         ],
     );
-    out.begin(Tag::TableBody);
+}
+
+/// Adds the rows of the privates.
+pub(crate) fn put_owner_rows(out: &mut Writer, scene: &Scene) {
     for &private in &Private::ALL {
         put_private(out, scene, private);
     }
-    out.end();
-    out.end();
 }
 
 /// Adds the row of a private.
@@ -259,18 +316,28 @@ fn put_bids(out: &mut Writer, scene: &Scene, private: Private) {
 
 /// Adds how many trains of each kind the bank and its pool have, their price, and when they rust.
 pub(crate) fn put_trains(out: &mut Writer, scene: &Scene) {
+    begin_trains(out);
+    out.begin(Tag::TableBody);
+    put_train_rows(out, scene);
+    out.end();
+    out.end();
+}
+
+/// Begins the table of trains up to its rows.
+pub(crate) fn begin_trains(out: &mut Writer) {
     begin_table(out, "trains", "");
     put_caption(out, "Trains", "");
     put_head(
         out,
         &["Train", "#Bank", "#Pool", "#Price", "Stops", "Rusts"],
     );
-    out.begin(Tag::TableBody);
+}
+
+/// Adds the rows of the kinds of trains.
+pub(crate) fn put_train_rows(out: &mut Writer, scene: &Scene) {
     for &kind in &Kind::ALL {
         put_kind(out, scene, kind);
     }
-    out.end();
-    out.end();
 }
 
 /// Adds the row of a kind of train.

@@ -15,13 +15,10 @@ use tables::{Company, Money, Private, Seat, certificate_limit, price};
 
 /// Adds what each player has, and the shares of each company by their holders.
 pub(crate) fn put_players(out: &mut Writer, scene: &Scene) {
-    begin_table(out, "players", "wide");
-    put_caption(
-        out,
-        "Players and shares",
-        "(P presides; &#9654; has priority; free is cash less bids)",
-    );
+    begin_players(out);
     put_headings(out);
+    put_heading(out, "", &[Words("Sheet")]);
+    end_head(out);
     out.begin(Tag::TableBody);
     for number in 0..scene.seats {
         put_player(out, scene, Seat::at(number));
@@ -31,7 +28,29 @@ pub(crate) fn put_players(out: &mut Writer, scene: &Scene) {
     out.end();
 }
 
-/// Adds the headings of the table of players.
+/// Begins the table of players up to its head.
+fn begin_players(out: &mut Writer) {
+    begin_table(out, "players", "wide");
+    put_caption(
+        out,
+        "Players and shares",
+        "(P presides; &#9654; has priority; free is cash less bids)",
+    );
+}
+
+/// Begins the table of players up to its rows, without a column for their sheets.
+pub(crate) fn begin_players_alone(out: &mut Writer) {
+    begin_table(out, "players", "wide");
+    put_caption(
+        out,
+        "Players and shares",
+        "(P presides; free is cash less bids)",
+    );
+    put_headings(out);
+    end_head(out);
+}
+
+/// Begins the head of the table of players, up to the column of their privates.
 fn put_headings(out: &mut Writer) {
     begin_head(out);
     put_heading(out, "", &[Words("Player")]);
@@ -45,8 +64,6 @@ fn put_headings(out: &mut Writer) {
         out.end();
     }
     put_heading(out, "", &[Words("Privates")]);
-    put_heading(out, "", &[Words("Sheet")]);
-    end_head(out);
 }
 
 /// Adds the row of a player.
@@ -108,6 +125,15 @@ fn put_figures(out: &mut Writer, scene: &Scene, purse: &Purse) {
 pub(crate) fn put_privates(out: &mut Writer, scene: &Scene, holder: Holder) {
     out.begin(Tag::Cell);
     out.within();
+    if !put_codes(out, scene, holder) {
+        out.put(&[Words(NOTHING)]);
+    }
+    out.end();
+}
+
+/// Adds the codes of the privates that a player or a company owns, and returns whether there are
+/// any.
+pub(crate) fn put_codes(out: &mut Writer, scene: &Scene, holder: Holder) -> bool {
     let mut before = "";
     for &private in &Private::ALL {
         if scene.history.owner(private) == Some(holder) {
@@ -115,30 +141,29 @@ pub(crate) fn put_privates(out: &mut Writer, scene: &Scene, holder: Holder) {
             before = " ";
         }
     }
-    if before.is_empty() {
-        out.put(&[Words(NOTHING)]);
-    }
-    out.end();
+    !before.is_empty()
 }
 
 /// A row of the table below the players.
 #[derive(Clone, Copy)]
-enum Figure {
+pub(crate) enum Figure {
     Offering,
     Pool,
     Par,
     Price,
 }
 
+/// The rows below the players.
+pub(crate) const PLACES: [(&str, Figure); 4] = [
+    ("Initial offering", Figure::Offering),
+    ("Pool", Figure::Pool),
+    ("Par", Figure::Par),
+    ("Price", Figure::Price),
+];
+
 /// Adds the shares that the bank has, the par values and the prices.
 fn put_places(out: &mut Writer, scene: &Scene) {
-    let rows = [
-        ("Initial offering", Figure::Offering),
-        ("Pool", Figure::Pool),
-        ("Par", Figure::Par),
-        ("Price", Figure::Price),
-    ];
-    for (words, figure) in rows {
+    for &(words, figure) in &PLACES {
         begin_row(out, "sum");
         put_row_head(out, &[Words(words)]);
         for _ in 0..5 {
@@ -154,7 +179,7 @@ fn put_places(out: &mut Writer, scene: &Scene) {
 }
 
 /// Returns a figure of a company; `None` if it has none.
-fn figure_of(scene: &Scene, company: Company, figure: Figure) -> Option<Money> {
+pub(crate) fn figure_of(scene: &Scene, company: Company, figure: Figure) -> Option<Money> {
     match figure {
         Figure::Offering => Some(scene.history.shares(company, Shareholder::InitialOffering)),
         Figure::Pool => Some(scene.history.shares(company, Shareholder::BankPool)),

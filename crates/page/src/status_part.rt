@@ -40,7 +40,7 @@ pub(crate) fn put_players(out: &mut Writer, scene: &Scene) {
 }
 
 /// The sections and tables that the head links to.
-const LINKS: [(&str, &str); 13] = [
+pub(crate) const LINKS: [(&str, &str); 13] = [
     ("#bulletin", "Bulletin"),
     ("#map", "Map"),
     ("#routes", "Routes"),
@@ -65,10 +65,10 @@ pub(crate) fn put_skip(out: &mut Writer) {
     out.end();
 }
 
-/// Adds the links to the sections.
-pub(crate) fn put_links(out: &mut Writer) {
+/// Adds the links to the sections of a page.
+pub(crate) fn put_links(out: &mut Writer, links: &[(&'static str, &'static str)]) {
     out.begin(Tag::Nav);
-    for &(section, words) in &LINKS {
+    for &(section, words) in links {
         out.begin(Tag::Anchor);
         out.value(Attr::Href, &[Words(section)]);
         out.within();
@@ -107,35 +107,39 @@ pub(crate) fn put_status(out: &mut Writer, scene: &Scene, order: &[Company], sou
     put_count(out, "Bank", history.cash(Party::Bank), "");
     let certificates = certificate_limit(history.seats()) as Money;
     put_count(out, "Certificates", certificates, " at most");
+    put_source(out, source);
+    out.end();
+}
+
+/// Adds the number of lines of the order file, and its checksum.
+pub(crate) fn put_source(out: &mut Writer, source: Source) {
     let lines = [
         Count(source.lines),
         Words(" lines, CRC-32 "),
         Checksum(source.checksum),
     ];
     put_item(out, "Order file", &lines);
-    out.end();
 }
 
 /// Adds the train that the bank sells next, with its price and how many are left.
 fn put_next_train(out: &mut Writer, history: &History) {
+    begin_item(out, "Next train");
+    out.begin(Tag::Bold);
+    out.within();
+    put_train_on_sale(out, history);
+    out.end();
+    out.end();
+}
+
+/// Adds the kind of train that the bank sells next, its price and how many are left.
+pub(crate) fn put_train_on_sale(out: &mut Writer, history: &History) {
     for &kind in &Kind::ALL {
         let left = trains_left(&history.now(), kind);
         if left != Some(0) {
-            let code = Words(kind.code());
             let price = Number(Money::from(train(kind).price));
-            match left {
-                Some(left) => {
-                    let words = [
-                        code,
-                        Words(" for "),
-                        price,
-                        Words(", "),
-                        Count(left),
-                        Words(" left"),
-                    ];
-                    put_item(out, "Next train", &words);
-                }
-                None => put_item(out, "Next train", &[code, Words(" for "), price]),
+            out.put(&[Words(kind.code()), Words(" for "), price]);
+            if let Some(left) = left {
+                out.put(&[Words(", "), Count(left), Words(" left")]);
             }
             return;
         }
@@ -168,11 +172,16 @@ fn put_turns(out: &mut Writer, scene: &Scene, order: &[Company], round: Round) {
 
 /// Adds an item of the list.
 fn put_item(out: &mut Writer, words: &'static str, pieces: &[PagePiece]) {
+    begin_item(out, words);
+    out.element(Tag::Bold, pieces);
+    out.end();
+}
+
+/// Begins an item of the list with its label.
+pub(crate) fn begin_item(out: &mut Writer, words: &'static str) {
     out.begin(Tag::Item);
     out.element(Tag::Small, &[Words(words)]);
     out.put(&[Words(" ")]);
-    out.element(Tag::Bold, pieces);
-    out.end();
 }
 
 /// Adds an item of the status, with words.
@@ -191,7 +200,7 @@ fn put_count(out: &mut Writer, label: &'static str, number: Money, words: &'stat
 }
 
 /// Adds the next round and who owes a sheet for it, or how the game ended.
-fn put_next(out: &mut Writer, scene: &Scene) {
+pub(crate) fn put_next(out: &mut Writer, scene: &Scene) {
     out.begin_as(Tag::Item, "next");
     let (words, round) = match scene.end {
         End::Awaiting(round) => ("Next round", Some(round)),

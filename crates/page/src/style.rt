@@ -1,5 +1,14 @@
 //! The style of a page, for a screen, a dark screen, and paper.
 
+/// The style of the buttons of a page with all rounds.
+pub(crate) const STYLE_OF_BUTTONS: &str = ".rd{position:fixed;top:0;left:0;opacity:0}\n\
+    .rounds{display:flex;flex-wrap:wrap;gap:2px;margin:0;position:sticky;top:0;z-index:1;\
+    background:var(--paper);padding:4px 0}\
+    .rounds label{font-size:12px;padding:3px 5px;border:1px solid var(--rule);cursor:pointer}\n\
+    .rd:focus-visible~.rounds{outline:3px solid #1668b8}\n\
+    #players td{text-align:right;font-variant-numeric:tabular-nums}\n\
+    @media print{.rounds{display:none}}\n";
+
 /// The style of a page. No rule for the content of a `use` depends on an ancestor, since it has
 /// none there.
 pub(crate) const STYLE: &str = "\n\

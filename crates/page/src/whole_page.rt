@@ -33,7 +33,7 @@ use tables::{COMPANIES, Company, Round};
 
 /// Which page is made.
 #[derive(Clone, Copy)]
-enum Form {
+pub(crate) enum Form {
     /// All of it.
     Whole,
     /// With a script, up to its hexes in words, and with this style behind that of all pages.
@@ -42,11 +42,11 @@ enum Form {
 
 /// What a page shows of the order file besides its game.
 #[derive(Clone, Copy)]
-struct Told<'a> {
-    form: Form,
-    source: Source,
+pub(crate) struct Told<'a> {
+    pub(crate) form: Form,
+    pub(crate) source: Source,
     /// The bulletin of the round.
-    bulletin: &'a [u8],
+    pub(crate) bulletin: &'a [u8],
 }
 
 /// Returns the page of the game of an order file after a round, or after the last one if none is
@@ -172,7 +172,7 @@ fn page_text(
 }
 
 /// Returns the players.
-fn players_of<'a>(scene: &Scene<'a>) -> Players<'a>
+pub(crate) fn players_of<'a>(scene: &Scene<'a>) -> Players<'a>
     ensures { result.seats ≡ scene.now.seats }
 {
     Players {
@@ -182,7 +182,7 @@ fn players_of<'a>(scene: &Scene<'a>) -> Players<'a>
 }
 
 /// Returns the tokens on the stock chart, in the order of the roster.
-fn tokens_of(history: &History) -> ChartTokens {
+pub(crate) fn tokens_of(history: &History) -> ChartTokens {
     let mut tokens = [None; COMPANIES];
     for &company in &Company::ALL {
         tokens[company.index()] = token_of(history, company);
@@ -225,7 +225,7 @@ fn put_head(out: &mut Writer, scene: &Scene) {
     out.begin(Tag::Header);
     status_part::put_title(out, scene, Tag::H1);
     status_part::put_players(out, scene);
-    status_part::put_links(out);
+    status_part::put_links(out, &status_part::LINKS);
     out.end();
 }
 

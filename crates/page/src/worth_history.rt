@@ -69,7 +69,7 @@ fn ended<'a>(
 }
 
 /// Returns the entry of a game after a round.
-fn entry_of(history: &History, round: Round) -> Entry {
+pub(crate) fn entry_of(history: &History, round: Round) -> Entry {
     let view = history.now();
     let mut worths = [0; PLAYERS_MOST];
     for (number, worth) in worths.iter_mut().enumerate() {

@@ -53,6 +53,16 @@ const LEGEND: [(i32, &str); 7] = [
 
 /// Adds the stock chart with the tokens.
 pub fn put_chart(out: &mut Writer, tokens: &ChartTokens) {
+    begin_chart(out);
+    put_squares(out, tokens);
+    for token in tokens.iter().flatten() {
+        put_arrow(out, tokens, token, true);
+    }
+    end_chart(out);
+}
+
+/// Begins the stock chart, with the numbers of its columns.
+pub fn begin_chart(out: &mut Writer) {
     out.begin_as(Tag::Svg, "chart");
     out.value(Attr::ViewBox, &[Words("-27 -21 1169 639")]);
     out.value(Attr::Role, &[Words("img")]);
@@ -68,12 +78,26 @@ pub fn put_chart(out: &mut Writer, tokens: &ChartTokens) {
         let x = WIDTH * i32::from(column) - 30;
         out.label("b0", Point { x, y: -6 }, &[At(i32::from(column))]);
     }
+}
+
+/// Adds the squares of the stock chart with the tokens.
+fn put_squares(out: &mut Writer, tokens: &ChartTokens) {
     for row in 0..CHART_ROWS {
         put_row(out, tokens, row);
     }
+}
+
+/// Adds the squares of the stock chart with the tokens, and a line without a head to each token that
+/// was moved in the last round.
+pub fn put_squares_and_moves(out: &mut Writer, tokens: &ChartTokens) {
+    put_squares(out, tokens);
     for token in tokens.iter().flatten() {
-        put_arrow(out, tokens, token);
+        put_arrow(out, tokens, token, false);
     }
+}
+
+/// Ends the stock chart, with its legend.
+pub fn end_chart(out: &mut Writer) {
     out.begin_at(Point { x: 452, y: 470 });
     for &(y, words) in &LEGEND {
         out.words_at(Point { x: 0, y }, words);
@@ -181,8 +205,9 @@ fn put_stack(out: &mut Writer, tokens: &ChartTokens, square: Square) {
     }
 }
 
-/// Adds an arrow to a token that was moved in the last round, from its earlier square.
-fn put_arrow(out: &mut Writer, tokens: &ChartTokens, token: &ChartToken) {
+/// Adds an arrow to a token that was moved in the last round, from its earlier square, with or
+/// without a head.
+fn put_arrow(out: &mut Writer, tokens: &ChartTokens, token: &ChartToken, has_head: bool) {
     let Some(from) = token.from else {
         return;
     };
@@ -197,6 +222,18 @@ fn put_arrow(out: &mut Writer, tokens: &ChartTokens, token: &ChartToken) {
         y: 10 * down,
     });
     out.path("mv", &[Words("M"), To(start), Words("L"), To(tip)]);
+    if has_head {
+        put_head(out, tip, across, down);
+    }
+}
+
+/// Adds the head of an arrow at its tip, in this direction across and down.
+fn put_head(out: &mut Writer, tip: Point, across: i32, down: i32)
+    requires left { negsuc 0 ≤ℤ across }
+    requires right { across ≤ℤ pos 1 }
+    requires up { negsuc 0 ≤ℤ down }
+    requires low { down ≤ℤ pos 1 }
+{
     let back = tip.minus(Point {
         x: 9 * across,
         y: 9 * down,

@@ -10,5 +10,7 @@
 mod chart_part;
 mod history_part;
 
-pub use chart_part::{ChartToken, ChartTokens, put_chart};
+pub use chart_part::{
+    ChartToken, ChartTokens, begin_chart, end_chart, put_chart, put_squares_and_moves,
+};
 pub use history_part::{Entry, Players, put_history};

@@ -20,6 +20,14 @@ use tables::{Company, Money, Private};
 
 /// Adds what shows in a hex, in words.
 pub fn put_words(out: &mut Writer, scene: &Scene, look: &Look) {
+    put_sight(out, scene, look);
+    if is_new(scene, look) {
+        out.put(&[Words("; laid in the last round")]);
+    }
+}
+
+/// Adds what shows in a hex, in words, apart from what is new.
+fn put_sight(out: &mut Writer, scene: &Scene, look: &Look) {
     out.put(&[Named(look.hex), Words(": ")]);
     if let Some(name) = city_name(look.hex) {
         out.put(&[Words(name), Words("; ")]);
@@ -35,9 +43,6 @@ pub fn put_words(out: &mut Writer, scene: &Scene, look: &Look) {
         }
     }
     put_closed(out, look.hex);
-    if is_new(scene, look) {
-        out.put(&[Words("; laid in the last round")]);
-    }
 }
 
 /// Returns whether the tile that shows in a hex was laid in the last round.
@@ -287,18 +292,33 @@ pub fn put_hexes(out: &mut Writer, scene: &Scene) {
     out.end();
 }
 
-/// Begins the list of the hexes in words.
+/// Begins the list of the hexes in words, in a section of its own.
 pub fn begin_hexes(out: &mut Writer) {
     begin_section(out, "hexes", "Hexes in words", "");
     out.begin_as(Tag::Listing, "hexes");
     out.within();
 }
 
-/// Begins a hex of the list, with its words.
+/// Begins a hex of that list, with its words.
 pub fn begin_hex(out: &mut Writer, scene: &Scene, hex: Hex) {
+    begin_hex_item(out, hex);
+    put_words_of(out, scene, hex);
+}
+
+/// Begins the item of a hex in that list.
+pub fn begin_hex_item(out: &mut Writer, hex: Hex) {
     out.put(&[Words("\n")]);
     out.begin(Tag::Item);
     out.value(Attr::Id, &[Words("hex-"), Named(hex)]);
     out.within();
+}
+
+/// Adds what shows in a hex, in words.
+fn put_words_of(out: &mut Writer, scene: &Scene, hex: Hex) {
     put_words(out, scene, &Look::on(scene.history.lays(), hex));
+}
+
+/// Adds what shows in a hex, in words, apart from what is new.
+pub fn put_sight_of(out: &mut Writer, scene: &Scene, hex: Hex) {
+    put_sight(out, scene, &Look::on(scene.history.lays(), hex));
 }

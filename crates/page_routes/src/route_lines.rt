@@ -6,7 +6,7 @@ use crate::lanes::{Border, shift_at};
 use crate::routes::{Route, Routes, Visit, stop_point};
 use history::History;
 use map_tables::Side;
-use markup::PagePiece::{Number, Place, Point as To, Words};
+use markup::PagePiece::{Count, Number, Place, Point as To, Words};
 use markup::{Attr, Point, Tag, Writer};
 use picture::{Bend, Look, Way, bend_between, border_point, centre, put_way, towards};
 use tables::Money;
@@ -48,6 +48,42 @@ pub fn put_lines(out: &mut Writer, history: &History, shown: &Routes) {
     }
 }
 
+/// Adds the lines of the routes, each with its data once: the strokes above the first one refer to
+/// it, by the number of its round and its own.
+pub fn put_shared_lines(out: &mut Writer, history: &History, shown: &Routes, round: usize) {
+    let routes = shown.routes.as_slice();
+    for (number, route) in routes.iter().enumerate() {
+        let course = Course {
+            history,
+            routes,
+            turned: shown.turned.as_slice(),
+            number,
+        };
+        let name = [Count(round), Words("-"), Count(number)];
+        out.begin_as(Tag::Group, "ra");
+        put_short_title(out, route);
+        out.begin(Tag::Path);
+        out.attr(Attr::Id);
+        out.put(&[Words("q")]);
+        out.put(&name);
+        course.put_data(out, route);
+        out.end();
+        for class in ["rb", "rc"] {
+            out.begin_as(Tag::Use, class);
+            out.attr(Attr::Href);
+            out.put(&[Words("#q")]);
+            out.put(&name);
+            if class == "rc" {
+                out.line_colour(route.company);
+                out.line_dash(route.company);
+            }
+            out.end();
+        }
+        course.put_ticks(out, route);
+        out.end();
+    }
+}
+
 /// Adds a title with a route in words.
 fn put_title(out: &mut Writer, route: &Route) {
     out.begin(Tag::Title);
@@ -59,6 +95,16 @@ fn put_title(out: &mut Writer, route: &Route) {
     }
     out.put(&[Words(", "), Number(Money::from(route.sum))]);
     out.end();
+}
+
+/// Adds a title with the train of a route and its sum.
+fn put_short_title(out: &mut Writer, route: &Route) {
+    let (company, train) = (Words(route.company.code()), Words(route.kind.code()));
+    let sum = Number(Money::from(route.sum));
+    out.element(
+        Tag::Title,
+        &[company, Words(" "), train, Words("-train, "), sum],
+    );
 }
 
 impl Course<'_> {
