@@ -8,7 +8,8 @@ use desk_base::{DeskFault, Moment, Reason, all_reasons_text, explain, list_text,
 use desk_check::{Extent, check};
 use desk_moves::{LayForm, MayForm, MovesFault, Progress, Question, answer, trial};
 use desk_round::{round, round_with_rules, runs};
-use page::{bulletin, page, page_of_all, page_to_hexes, tile_sheet};
+use page::{bulletin, page, page_to_hexes, tile_sheet};
+use page_all::{page_of_all, page_of_all_to_hexes};
 use page_lays::{Progress as LaysProgress, STYLE, Wanted, end_page};
 use report::refusal_text;
 use std::alloc::{AllocError, Global};
@@ -105,8 +106,19 @@ fn page_with_lays<P: LaysProgress>(
         companies: task.companies.as_slice(),
         best: true,
     };
+    if task.all {
+        let page = page_of_all_to_hexes(alloc, file, task.round, STYLE)?;
+        return end_page(
+            alloc,
+            page.out,
+            file,
+            wanted,
+            page.hexes.as_slice(),
+            progress,
+        );
+    }
     let out = page_to_hexes(alloc, file, task.round, STYLE)?;
-    end_page(alloc, out, file, wanted, progress)
+    end_page(alloc, out, file, wanted, &[], progress)
 }
 
 /// What is asked about a game.

@@ -245,7 +245,12 @@ static WORDS: [Word; 12] = [
         about: "Writes the game as one page of HTML: map, routes, chart, history, tables, tiles",
         example: "Example: desk page < our-game.orders > our-game.html",
         job: Job::Page,
-        operands: &[Operand::Round, Operand::Rounds, Operand::Tiles, Operand::Lays],
+        operands: &[
+            Operand::Round,
+            Operand::Rounds,
+            Operand::Tiles,
+            Operand::Lays,
+        ],
     },
 ];
 

@@ -11,7 +11,7 @@ pub struct Livery {
     /// Whether its letter is white.
     pub is_dark: bool,
     /// The dashes of its lines: the lengths of strokes and gaps in turn. Empty for a solid line.
-    dash: &'static str,
+    pub dash: &'static str,
 }
 
 /// What the tokens and lines look like, in the order of the roster.

@@ -7,7 +7,7 @@ ghost use Rattle.sheets.specs.File.{IsAccepted};
 
 use desk::statement;
 use desk_base::{DeskFault, Stood, play_behind, stood_at_last, stood_now};
-use desk_round::{turns, turns_in_short};
+use desk_round::turns;
 use markup::PagePiece::{Round as Named, Words};
 use markup::{Tag, Writer, begin_section};
 use rounds::{Game, Play, play};
@@ -102,12 +102,7 @@ pub(crate) fn bulletin_of(alloc: Global, stood: &Stood, due: &str) -> Result<Vec
 
 /// Returns that bulletin; no text if no round has been played. Fails only if allocation fails.
 pub(crate) fn bulletin_text(alloc: Global, stood: &Stood) -> Result<Vec<u8>, AllocError> {
-    text_or_none(alloc, bulletin_of(alloc, stood, ""))
-}
-
-/// Returns a text, or no text where there is none for its round. Fails only if allocation failed.
-fn text_or_none(alloc: Global, told: Result<Vec<u8>, DeskFault>) -> Result<Vec<u8>, AllocError> {
-    match told {
+    match bulletin_of(alloc, stood, "") {
         Ok(text) => Ok(text),
         // An allocation failed: passed on.
         Err(DeskFault::Memory) => Err(AllocError),
@@ -115,39 +110,17 @@ fn text_or_none(alloc: Global, told: Result<Vec<u8>, DeskFault>) -> Result<Vec<u
     }
 }
 
-/// Returns what happened in the last round, without lines that were refused and without the stops of
-/// runs; no text if no round has been played. Fails only if allocation fails.
-pub(crate) fn turns_text(alloc: Global, stood: &Stood) -> Result<Vec<u8>, AllocError> {
-    let Some(round) = stood.history.now().round() else {
-        return Ok(Vec::new(alloc));
-    };
-    text_or_none(
-        alloc,
-        turns_in_short(alloc, stood.sheets, stood.history, round),
-    )
-}
-
 /// Adds the bulletin of a round, if there is one.
 pub(crate) fn put_bulletin(out: &mut Writer, round: Option<Round>, text: &[u8]) {
     begin_section(out, "bulletin", "What happened", "");
-    put_told_of(out, "Bulletin of ", round, text);
-    out.end();
-}
-
-/// Adds what is told of a round, if one has been played, with these words before its name.
-pub(crate) fn put_told_of(
-    out: &mut Writer,
-    words: &'static str,
-    round: Option<Round>,
-    text: &[u8],
-) {
     match round {
         Some(round) => {
-            out.element(Tag::H3, &[Words(words), Named(round)]);
+            out.element(Tag::H3, &[Words("Bulletin of "), Named(round)]);
             put_told(out, text);
         }
         None => out.element(Tag::Paragraph, &[Words("No round has been played.")]),
     }
+    out.end();
 }
 
 /// Adds a text as printed.

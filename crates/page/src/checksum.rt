@@ -5,9 +5,29 @@ ghost use Rattle.page.specs.Checksum.{after_bit, after_byte, checksum_of, line_c
 /// The polynomial of the checksum, with its bits in the order of use.
 const POLYNOMIAL: u32 = 0xedb8_8320;
 
+/// What identifies an order file.
+#[derive(Clone, Copy)]
+pub struct Source {
+    /// How many lines it has.
+    pub lines: usize,
+    /// The checksum of its bytes.
+    pub checksum: u32,
+}
+
+/// Returns what identifies an order file.
+pub fn source_of(file: &[u8]) -> Source
+    ensures lines { result.lines ≡ line_count file.now }
+    ensures checksum { result.checksum ≡ checksum_of file.now }
+{
+    Source {
+        lines: line_count(file),
+        checksum: checksum(file),
+    }
+}
+
 /// Returns the checksum of a text, 32 bits, that other programs call `crc32`: the cyclic redundancy
 /// check of gzip, PNG and Ethernet.
-pub(crate) fn checksum(text: &[u8]) -> u32
+fn checksum(text: &[u8]) -> u32
     ensures { result ≡ checksum_of text.now }
 {
     let mut rest: u32 = 0xffff_ffff;
@@ -38,7 +58,7 @@ fn after_bit(rest: u32) -> u32
 }
 
 /// Returns how many lines a text has. A last line without a line feed counts.
-pub(crate) fn line_count(text: &[u8]) -> usize
+fn line_count(text: &[u8]) -> usize
     ensures { result ≡ line_count text.now }
 {
     let mut count = 0;

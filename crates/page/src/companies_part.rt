@@ -44,29 +44,8 @@ pub(crate) fn put_companies(out: &mut Writer, scene: &Scene, order: &[Company]) 
     out.end();
 }
 
-/// Begins the table of companies up to its rows, without the columns of their last runs.
-pub(crate) fn begin_companies_alone(out: &mut Writer) {
-    begin_table(out, "companies", "wide");
-    put_caption(out, "Companies", "");
-    put_head(
-        out,
-        &[
-            "Company",
-            "Name",
-            "President",
-            "Price",
-            "Square",
-            "Cash",
-            "Trains",
-            "Tokens",
-            "Left",
-            "Privates",
-        ],
-    );
-}
-
 /// Returns the name of a company.
-pub(crate) fn name_of(company: Company) -> &'static str {
+pub fn name_of(company: Company) -> &'static str {
     match company {
         Company::Pennsylvania => "Pennsylvania",
         Company::NewYorkCentral => "New York Central",
@@ -118,7 +97,7 @@ fn put_waiting(out: &mut Writer, scene: &Scene, company: Company) {
 
 /// Adds how many more shares of a company must be sold before it floats, or that it has not
 /// started.
-pub(crate) fn put_waiting_words(out: &mut Writer, scene: &Scene, company: Company) {
+pub fn put_waiting_words(out: &mut Writer, scene: &Scene, company: Company) {
     let offered = scene.history.shares(company, Shareholder::InitialOffering);
     if !scene.history.now().is_started(company) {
         out.put(&[Words("not started")]);
@@ -144,13 +123,8 @@ fn put_square(out: &mut Writer, view: &GameView, company: Company) {
     out.end();
 }
 
-/// Adds the square of a company, and the place of its token there.
-pub(crate) fn put_square_words(
-    out: &mut Writer,
-    view: &GameView,
-    company: Company,
-    square: Square,
-) {
+/// Adds the square of a company's token, and its place there.
+pub fn put_square_words(out: &mut Writer, view: &GameView, company: Company, square: Square) {
     let place = before_in_stack(view, square, company) as Money + 1;
     out.put(&[
         Letter(b'A'.saturating_add(square.row)),
@@ -185,7 +159,7 @@ fn put_treasury(out: &mut Writer, scene: &Scene, company: Company) {
 }
 
 /// Adds the codes of a company's trains, or that it has none.
-pub(crate) fn put_train_codes(out: &mut Writer, scene: &Scene, company: Company) {
+pub fn put_train_codes(out: &mut Writer, scene: &Scene, company: Company) {
     let mut before = "";
     for &kind in &Kind::ALL {
         for _ in 0..scene.history.trains(Some(company), kind) {
@@ -202,12 +176,6 @@ pub(crate) fn put_train_codes(out: &mut Writer, scene: &Scene, company: Company)
 fn put_places(out: &mut Writer, scene: &Scene, company: Company) {
     out.begin(Tag::Cell);
     out.within();
-    put_token_places(out, scene, company);
-    out.end();
-}
-
-/// Adds the places of a company's tokens; before its first token its home.
-fn put_token_places(out: &mut Writer, scene: &Scene, company: Company) {
     let mut before = "";
     for token in scene.history.tokens() {
         if token.1 == company {
@@ -221,6 +189,7 @@ fn put_token_places(out: &mut Writer, scene: &Scene, company: Company) {
         out.put(&[Words("home "), Place(place)]);
         put_city(out, place.hex);
     }
+    out.end();
 }
 
 /// Adds the name of the city of a hex, if it has one.
@@ -234,13 +203,15 @@ fn put_city(out: &mut Writer, hex: Hex) {
 pub(crate) fn put_owners(out: &mut Writer, scene: &Scene) {
     begin_owners(out);
     out.begin(Tag::TableBody);
-    put_owner_rows(out, scene);
+    for &private in &Private::ALL {
+        put_owner(out, scene, private);
+    }
     out.end();
     out.end();
 }
 
 /// Begins the table of privates up to its rows.
-pub(crate) fn begin_owners(out: &mut Writer) {
+pub fn begin_owners(out: &mut Writer) {
     begin_table(out, "privates", "");
     put_caption(out, "Privates", "");
     put_head(
@@ -251,15 +222,8 @@ pub(crate) fn begin_owners(out: &mut Writer) {
     );
 }
 
-/// Adds the rows of the privates.
-pub(crate) fn put_owner_rows(out: &mut Writer, scene: &Scene) {
-    for &private in &Private::ALL {
-        put_private(out, scene, private);
-    }
-}
-
 /// Adds the row of a private.
-fn put_private(out: &mut Writer, scene: &Scene, private: Private) {
+pub fn put_owner(out: &mut Writer, scene: &Scene, private: Private) {
     let view = scene.history.now();
     let is_sold = view.is_sold(private);
     begin_row(out, "");
@@ -318,13 +282,15 @@ fn put_bids(out: &mut Writer, scene: &Scene, private: Private) {
 pub(crate) fn put_trains(out: &mut Writer, scene: &Scene) {
     begin_trains(out);
     out.begin(Tag::TableBody);
-    put_train_rows(out, scene);
+    for &kind in &Kind::ALL {
+        put_kind(out, scene, kind);
+    }
     out.end();
     out.end();
 }
 
 /// Begins the table of trains up to its rows.
-pub(crate) fn begin_trains(out: &mut Writer) {
+pub fn begin_trains(out: &mut Writer) {
     begin_table(out, "trains", "");
     put_caption(out, "Trains", "");
     put_head(
@@ -333,15 +299,8 @@ pub(crate) fn begin_trains(out: &mut Writer) {
     );
 }
 
-/// Adds the rows of the kinds of trains.
-pub(crate) fn put_train_rows(out: &mut Writer, scene: &Scene) {
-    for &kind in &Kind::ALL {
-        put_kind(out, scene, kind);
-    }
-}
-
 /// Adds the row of a kind of train.
-fn put_kind(out: &mut Writer, scene: &Scene, kind: Kind) {
+pub fn put_kind(out: &mut Writer, scene: &Scene, kind: Kind) {
     begin_row(out, "");
     put_row_head(out, &[Words(kind.code())]);
     match trains_left(&scene.history.now(), kind) {

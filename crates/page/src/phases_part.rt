@@ -6,7 +6,7 @@ use markup::{Tag, Writer, begin_row, begin_table, put_caption, put_head, put_row
 use tables::{Kind, Money, limit, rounds_in_set, rusts, same_kind};
 
 /// Returns the colours of the tiles that may be laid in a phase.
-pub(crate) fn colours_of(phase: Kind) -> &'static str {
+pub fn colours_of(phase: Kind) -> &'static str {
     match phase {
         Kind::Two => "yellow",
         Kind::Three | Kind::Four => "yellow, green",

@@ -15,10 +15,13 @@ use tables::{Company, Money, Private, Seat, certificate_limit, price};
 
 /// Adds what each player has, and the shares of each company by their holders.
 pub(crate) fn put_players(out: &mut Writer, scene: &Scene) {
-    begin_players(out);
+    begin_table(out, "players", "wide");
+    put_caption(
+        out,
+        "Players and shares",
+        "(P presides; &#9654; has priority; free is cash less bids)",
+    );
     put_headings(out);
-    put_heading(out, "", &[Words("Sheet")]);
-    end_head(out);
     out.begin(Tag::TableBody);
     for number in 0..scene.seats {
         put_player(out, scene, Seat::at(number));
@@ -28,29 +31,7 @@ pub(crate) fn put_players(out: &mut Writer, scene: &Scene) {
     out.end();
 }
 
-/// Begins the table of players up to its head.
-fn begin_players(out: &mut Writer) {
-    begin_table(out, "players", "wide");
-    put_caption(
-        out,
-        "Players and shares",
-        "(P presides; &#9654; has priority; free is cash less bids)",
-    );
-}
-
-/// Begins the table of players up to its rows, without a column for their sheets.
-pub(crate) fn begin_players_alone(out: &mut Writer) {
-    begin_table(out, "players", "wide");
-    put_caption(
-        out,
-        "Players and shares",
-        "(P presides; free is cash less bids)",
-    );
-    put_headings(out);
-    end_head(out);
-}
-
-/// Begins the head of the table of players, up to the column of their privates.
+/// Adds the headings of the table of players.
 fn put_headings(out: &mut Writer) {
     begin_head(out);
     put_heading(out, "", &[Words("Player")]);
@@ -64,6 +45,8 @@ fn put_headings(out: &mut Writer) {
         out.end();
     }
     put_heading(out, "", &[Words("Privates")]);
+    put_heading(out, "", &[Words("Sheet")]);
+    end_head(out);
 }
 
 /// Adds the row of a player.
@@ -131,9 +114,8 @@ pub(crate) fn put_privates(out: &mut Writer, scene: &Scene, holder: Holder) {
     out.end();
 }
 
-/// Adds the codes of the privates that a player or a company owns, and returns whether there are
-/// any.
-pub(crate) fn put_codes(out: &mut Writer, scene: &Scene, holder: Holder) -> bool {
+/// Adds the codes of the privates that a player or a company owns. Returns whether there are any.
+pub fn put_codes(out: &mut Writer, scene: &Scene, holder: Holder) -> bool {
     let mut before = "";
     for &private in &Private::ALL {
         if scene.history.owner(private) == Some(holder) {
@@ -146,15 +128,15 @@ pub(crate) fn put_codes(out: &mut Writer, scene: &Scene, holder: Holder) -> bool
 
 /// A row of the table below the players.
 #[derive(Clone, Copy)]
-pub(crate) enum Figure {
+pub enum Figure {
     Offering,
     Pool,
     Par,
     Price,
 }
 
-/// The rows below the players.
-pub(crate) const PLACES: [(&str, Figure); 4] = [
+/// The rows of the table below the players, with their headings.
+pub const FIGURES: [(&str, Figure); 4] = [
     ("Initial offering", Figure::Offering),
     ("Pool", Figure::Pool),
     ("Par", Figure::Par),
@@ -163,7 +145,7 @@ pub(crate) const PLACES: [(&str, Figure); 4] = [
 
 /// Adds the shares that the bank has, the par values and the prices.
 fn put_places(out: &mut Writer, scene: &Scene) {
-    for &(words, figure) in &PLACES {
+    for &(words, figure) in &FIGURES {
         begin_row(out, "sum");
         put_row_head(out, &[Words(words)]);
         for _ in 0..5 {
@@ -179,7 +161,7 @@ fn put_places(out: &mut Writer, scene: &Scene) {
 }
 
 /// Returns a figure of a company; `None` if it has none.
-pub(crate) fn figure_of(scene: &Scene, company: Company, figure: Figure) -> Option<Money> {
+pub fn figure_of(scene: &Scene, company: Company, figure: Figure) -> Option<Money> {
     match figure {
         Figure::Offering => Some(scene.history.shares(company, Shareholder::InitialOffering)),
         Figure::Pool => Some(scene.history.shares(company, Shareholder::BankPool)),

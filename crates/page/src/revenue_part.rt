@@ -136,11 +136,7 @@ fn earned_in(events: &[Event]) -> PerCompany<Revenue>
 
 /// Adds what each company earned, operating round by operating round. Fails only if allocation
 /// fails.
-pub(crate) fn put_revenue(
-    alloc: Global,
-    out: &mut Writer,
-    history: &History,
-) -> Result<(), AllocError> {
+pub fn put_revenue(alloc: Global, out: &mut Writer, history: &History) -> Result<(), AllocError> {
     let rows = revenue_rows(alloc, history.events())?;
     if rows.is_empty() {
         begin_table(out, "revenue", "wide");

@@ -1,5 +1,6 @@
 //! The head of a page: the players, what comes next, and a summary.
 
+use crate::checksum::Source;
 use crate::phases_part::colours_of;
 use desk::operates;
 use desk_base::trains_left;
@@ -10,15 +11,6 @@ use page_map::Scene;
 use rounds::End;
 use tables::{Company, Kind, Money, Round, Seat, certificate_limit, limit, train};
 
-/// The order file that a page is of.
-#[derive(Clone, Copy)]
-pub(crate) struct Source {
-    /// How many lines it has.
-    pub(crate) lines: usize,
-    /// The checksum of its bytes.
-    pub(crate) checksum: u32,
-}
-
 /// Adds the title of the page, in its head and above its body: the last round played.
 pub(crate) fn put_title(out: &mut Writer, scene: &Scene, tag: Tag) {
     match scene.history.now().round() {
@@ -28,7 +20,7 @@ pub(crate) fn put_title(out: &mut Writer, scene: &Scene, tag: Tag) {
 }
 
 /// Adds the players' names.
-pub(crate) fn put_players(out: &mut Writer, scene: &Scene) {
+pub fn put_names(out: &mut Writer, scene: &Scene) {
     out.begin_as(Tag::Paragraph, "who");
     out.within();
     let mut before = "";
@@ -57,7 +49,7 @@ pub(crate) const LINKS: [(&str, &str); 13] = [
 ];
 
 /// Adds a link past the head, for keyboard and screen reader users.
-pub(crate) fn put_skip(out: &mut Writer) {
+pub fn put_skip(out: &mut Writer) {
     out.begin_as(Tag::Anchor, "skip");
     out.value(Attr::Href, &[Words("#map")]);
     out.within();
@@ -65,8 +57,8 @@ pub(crate) fn put_skip(out: &mut Writer) {
     out.end();
 }
 
-/// Adds the links to the sections of a page.
-pub(crate) fn put_links(out: &mut Writer, links: &[(&'static str, &'static str)]) {
+/// Adds links to the sections of a page, each with its words.
+pub fn put_links(out: &mut Writer, links: &[(&'static str, &'static str)]) {
     out.begin(Tag::Nav);
     for &(section, words) in links {
         out.begin(Tag::Anchor);
@@ -111,8 +103,8 @@ pub(crate) fn put_status(out: &mut Writer, scene: &Scene, order: &[Company], sou
     out.end();
 }
 
-/// Adds the number of lines of the order file, and its checksum.
-pub(crate) fn put_source(out: &mut Writer, source: Source) {
+/// Adds an item with the number of lines of the order file, and its checksum.
+pub fn put_source(out: &mut Writer, source: Source) {
     let lines = [
         Count(source.lines),
         Words(" lines, CRC-32 "),
@@ -121,9 +113,11 @@ pub(crate) fn put_source(out: &mut Writer, source: Source) {
     put_item(out, "Order file", &lines);
 }
 
-/// Adds the train that the bank sells next, with its price and how many are left.
+/// Adds the train that the bank sells next.
 fn put_next_train(out: &mut Writer, history: &History) {
-    begin_item(out, "Next train");
+    out.begin(Tag::Item);
+    out.element(Tag::Small, &[Words("Next train")]);
+    out.put(&[Words(" ")]);
     out.begin(Tag::Bold);
     out.within();
     put_train_on_sale(out, history);
@@ -132,7 +126,7 @@ fn put_next_train(out: &mut Writer, history: &History) {
 }
 
 /// Adds the kind of train that the bank sells next, its price and how many are left.
-pub(crate) fn put_train_on_sale(out: &mut Writer, history: &History) {
+pub fn put_train_on_sale(out: &mut Writer, history: &History) {
     for &kind in &Kind::ALL {
         let left = trains_left(&history.now(), kind);
         if left != Some(0) {
@@ -172,16 +166,11 @@ fn put_turns(out: &mut Writer, scene: &Scene, order: &[Company], round: Round) {
 
 /// Adds an item of the list.
 fn put_item(out: &mut Writer, words: &'static str, pieces: &[PagePiece]) {
-    begin_item(out, words);
-    out.element(Tag::Bold, pieces);
-    out.end();
-}
-
-/// Begins an item of the list with its label.
-pub(crate) fn begin_item(out: &mut Writer, words: &'static str) {
     out.begin(Tag::Item);
     out.element(Tag::Small, &[Words(words)]);
     out.put(&[Words(" ")]);
+    out.element(Tag::Bold, pieces);
+    out.end();
 }
 
 /// Adds an item of the status, with words.
@@ -199,8 +188,8 @@ fn put_count(out: &mut Writer, label: &'static str, number: Money, words: &'stat
     put_item(out, label, &[Number(number), Words(words)]);
 }
 
-/// Adds the next round and who owes a sheet for it, or how the game ended.
-pub(crate) fn put_next(out: &mut Writer, scene: &Scene) {
+/// Adds items with the next round and who owes a sheet for it, or how the game ended.
+pub fn put_next(out: &mut Writer, scene: &Scene) {
     out.begin_as(Tag::Item, "next");
     let (words, round) = match scene.end {
         End::Awaiting(round) => ("Next round", Some(round)),

@@ -1,17 +1,8 @@
 //! The style of a page, for a screen, a dark screen, and paper.
 
-/// The style of the buttons of a page with all rounds.
-pub(crate) const STYLE_OF_BUTTONS: &str = ".rd{position:fixed;top:0;left:0;opacity:0}\n\
-    .rounds{display:flex;flex-wrap:wrap;gap:2px;margin:0;position:sticky;top:0;z-index:1;\
-    background:var(--paper);padding:4px 0}\
-    .rounds label{font-size:12px;padding:3px 5px;border:1px solid var(--rule);cursor:pointer}\n\
-    .rd:focus-visible~.rounds{outline:3px solid #1668b8}\n\
-    #players td{text-align:right;font-variant-numeric:tabular-nums}\n\
-    @media print{.rounds{display:none}}\n";
-
 /// The style of a page. No rule for the content of a `use` depends on an ancestor, since it has
 /// none there.
-pub(crate) const STYLE: &str = "\n\
+pub const STYLE: &str = "\n\
     :root{--P:#1f7a3d;--N:#3a3a3c;--C:#c8102e;--B:#0a57a4;--O:#5fb4dc;--E:#e6c700;\
     --H:#f0913a;--M:#7a3b8f;\n\
     --lP:#1f7a3d;--lN:#3a3a3c;--lC:#c8102e;--lB:#0a57a4;--lO:#2d7ea3;--lE:#857000;\

@@ -6,13 +6,13 @@ ghost use Rattle.page.specs.ChartToken.{chart_token};
 ghost use Rattle.sheets.specs.File.{IsAccepted};
 
 use crate::bulletin_part::{bulletin_text, put_bulletin};
-use crate::checksum::{checksum, line_count};
+use crate::checksum::{Source, source_of};
 use crate::companies_part::{put_companies, put_owners, put_trains};
 use crate::phases_part::put_phases;
 use crate::players_part::put_players;
 use crate::result_part::put_result;
 use crate::revenue_part::put_revenue;
-use crate::status_part::{self, Source};
+use crate::status_part::{self, LINKS};
 use crate::style::STYLE;
 use crate::worth_history::{play_to, thinned};
 use desk::{all_in_order, before_in_stack};
@@ -33,7 +33,7 @@ use tables::{COMPANIES, Company, Round};
 
 /// Which page is made.
 #[derive(Clone, Copy)]
-pub(crate) enum Form {
+enum Form {
     /// All of it.
     Whole,
     /// With a script, up to its hexes in words, and with this style behind that of all pages.
@@ -42,11 +42,11 @@ pub(crate) enum Form {
 
 /// What a page shows of the order file besides its game.
 #[derive(Clone, Copy)]
-pub(crate) struct Told<'a> {
-    pub(crate) form: Form,
-    pub(crate) source: Source,
+struct Told<'a> {
+    form: Form,
+    source: Source,
     /// The bulletin of the round.
-    pub(crate) bulletin: &'a [u8],
+    bulletin: &'a [u8],
 }
 
 /// Returns the page of the game of an order file after a round, or after the last one if none is
@@ -85,11 +85,7 @@ fn begun(alloc: Global, file: &[u8], asked: Option<Round>, form: Form) -> Result
     ensures fault { IfErr result (λ fault. HasNoState fault file.now) }
 {
     let sheets = collect(alloc, file)?;
-    let source = Source {
-        lines: line_count(file),
-        checksum: checksum(file),
-    };
-    page_of(alloc, &sheets, source, asked, form)
+    page_of(alloc, &sheets, source_of(file), asked, form)
 }
 
 /// Returns the page of the game of some sheets, not yet ended.
@@ -172,7 +168,7 @@ fn page_text(
 }
 
 /// Returns the players.
-pub(crate) fn players_of<'a>(scene: &Scene<'a>) -> Players<'a>
+pub fn players_of<'a>(scene: &Scene<'a>) -> Players<'a>
     ensures { result.seats ≡ scene.now.seats }
 {
     Players {
@@ -182,7 +178,7 @@ pub(crate) fn players_of<'a>(scene: &Scene<'a>) -> Players<'a>
 }
 
 /// Returns the tokens on the stock chart, in the order of the roster.
-pub(crate) fn tokens_of(history: &History) -> ChartTokens {
+pub fn tokens_of(history: &History) -> ChartTokens {
     let mut tokens = [None; COMPANIES];
     for &company in &Company::ALL {
         tokens[company.index()] = token_of(history, company);
@@ -224,8 +220,8 @@ fn begin_page(out: &mut Writer, scene: &Scene, order: &[Company], told: Told) {
 fn put_head(out: &mut Writer, scene: &Scene) {
     out.begin(Tag::Header);
     status_part::put_title(out, scene, Tag::H1);
-    status_part::put_players(out, scene);
-    status_part::put_links(out, &status_part::LINKS);
+    status_part::put_names(out, scene);
+    status_part::put_links(out, &LINKS);
     out.end();
 }
 

@@ -69,7 +69,7 @@ fn ended<'a>(
 }
 
 /// Returns the entry of a game after a round.
-pub(crate) fn entry_of(history: &History, round: Round) -> Entry {
+pub fn entry_of(history: &History, round: Round) -> Entry {
     let view = history.now();
     let mut worths = [0; PLAYERS_MOST];
     for (number, worth) in worths.iter_mut().enumerate() {
@@ -96,7 +96,7 @@ const ROUNDS_MOST: usize = 48;
 
 /// Returns the entries that the page shows: all, or every second, third and so on, and always the
 /// last.
-pub(crate) fn thinned(alloc: Global, entries: &[Entry]) -> Result<Vec<Entry>, AllocError> {
+pub fn thinned(alloc: Global, entries: &[Entry]) -> Result<Vec<Entry>, AllocError> {
     let step = entries.len() / ROUNDS_MOST + 1;
     let mut kept = Vec::new(alloc);
     for (number, entry) in entries.iter().enumerate() {

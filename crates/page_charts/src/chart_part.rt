@@ -54,10 +54,7 @@ const LEGEND: [(i32, &str); 7] = [
 /// Adds the stock chart with the tokens.
 pub fn put_chart(out: &mut Writer, tokens: &ChartTokens) {
     begin_chart(out);
-    put_squares(out, tokens);
-    for token in tokens.iter().flatten() {
-        put_arrow(out, tokens, token, true);
-    }
+    put_squares(out, tokens, true);
     end_chart(out);
 }
 
@@ -80,19 +77,14 @@ pub fn begin_chart(out: &mut Writer) {
     }
 }
 
-/// Adds the squares of the stock chart with the tokens.
-fn put_squares(out: &mut Writer, tokens: &ChartTokens) {
+/// Adds the squares of the stock chart with the tokens, and a line to each token that was moved in
+/// the last round, with the head of an arrow or without one.
+pub fn put_squares(out: &mut Writer, tokens: &ChartTokens, has_heads: bool) {
     for row in 0..CHART_ROWS {
         put_row(out, tokens, row);
     }
-}
-
-/// Adds the squares of the stock chart with the tokens, and a line without a head to each token that
-/// was moved in the last round.
-pub fn put_squares_and_moves(out: &mut Writer, tokens: &ChartTokens) {
-    put_squares(out, tokens);
     for token in tokens.iter().flatten() {
-        put_arrow(out, tokens, token, false);
+        put_arrow(out, tokens, token, has_heads);
     }
 }
 
@@ -205,8 +197,8 @@ fn put_stack(out: &mut Writer, tokens: &ChartTokens, square: Square) {
     }
 }
 
-/// Adds an arrow to a token that was moved in the last round, from its earlier square, with or
-/// without a head.
+/// Adds an arrow to a token that was moved in the last round, from its earlier square, with its head
+/// or without it.
 fn put_arrow(out: &mut Writer, tokens: &ChartTokens, token: &ChartToken, has_head: bool) {
     let Some(from) = token.from else {
         return;
@@ -222,18 +214,9 @@ fn put_arrow(out: &mut Writer, tokens: &ChartTokens, token: &ChartToken, has_hea
         y: 10 * down,
     });
     out.path("mv", &[Words("M"), To(start), Words("L"), To(tip)]);
-    if has_head {
-        put_head(out, tip, across, down);
+    if !has_head {
+        return;
     }
-}
-
-/// Adds the head of an arrow at its tip, in this direction across and down.
-fn put_head(out: &mut Writer, tip: Point, across: i32, down: i32)
-    requires left { negsuc 0 ≤ℤ across }
-    requires right { across ≤ℤ pos 1 }
-    requires up { negsuc 0 ≤ℤ down }
-    requires low { down ≤ℤ pos 1 }
-{
     let back = tip.minus(Point {
         x: 9 * across,
         y: 9 * down,

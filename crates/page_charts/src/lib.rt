@@ -10,7 +10,5 @@
 mod chart_part;
 mod history_part;
 
-pub use chart_part::{
-    ChartToken, ChartTokens, begin_chart, end_chart, put_chart, put_squares_and_moves,
-};
+pub use chart_part::{ChartToken, ChartTokens, begin_chart, end_chart, put_chart, put_squares};
 pub use history_part::{Entry, Players, put_history};

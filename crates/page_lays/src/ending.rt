@@ -3,20 +3,22 @@ ghost use Rattle.std.specs.Prelude.{IfOk};
 ghost use Rattle.markup.specs.Reading.{IsWellFormed};
 
 use crate::company_turns::Wanted;
-use crate::hexes_part::put_hexes;
+use crate::hexes_part::{put_hexes, put_words_of};
 use crate::may::may_in;
 use crate::may_part::put_may;
 use crate::progress::Progress;
 use desk_base::{DeskFault, Stood, play_behind, stood_at_last, stood_now};
+use map_tables::Hex;
 use markup::PagePiece::Words;
-use markup::{Tag, Writer, begin_section};
-use page_map::Scene;
+use markup::{Part, Tag, Writer, begin_section};
+use page_map::{Scene, begin_hex, begin_hexes};
 use rounds::{End, Play};
 use sheets::{Sheets, collect};
 use std::alloc::Global;
 
 /// Ends the page of the game of an order file: adds its hexes in words, with what companies may lay
-/// and place on each in the next round, and what each player may do.
+/// and place on each in the next round, and what each player may do. `words` has what is written of
+/// each hex; if it is empty, that is the hex as it is now.
 ///
 /// Fails with `File` if the file is refused, with `Round` if the named round was not played, and
 /// with `Memory` if allocation fails.
@@ -25,13 +27,14 @@ pub fn end_page<P: Progress>(
     out: Writer,
     file: &[u8],
     wanted: Wanted,
+    words: &[Vec<Part>],
     progress: &mut P,
 ) -> Result<Vec<u8>, DeskFault>
     ensures { IfOk result (λ page. IsWellFormed page.items) }
 {
     let mut out = out;
     let sheets = collect(alloc, file)?;
-    put_moves(alloc, &mut out, &sheets, wanted, progress)?;
+    put_moves(alloc, &mut out, &sheets, wanted, words, progress)?;
     Ok(out.finish()?)
 }
 
@@ -41,17 +44,18 @@ fn put_moves<P: Progress>(
     out: &mut Writer,
     sheets: &Sheets,
     wanted: Wanted,
+    words: &[Vec<Part>],
     progress: &mut P,
 ) -> Result<(), DeskFault> {
     match wanted.after {
         Some(round) => {
             let play = play_behind(alloc, sheets, round)?;
-            put_moves_in(alloc, out, &play, wanted, progress)
+            put_moves_in(alloc, out, &play, wanted, words, progress)
         }
         None => {
             let game = rounds::play(alloc, sheets)?;
             let stood = stood_at_last(&game);
-            put_moves_of(alloc, out, &stood, wanted, progress)
+            put_moves_of(alloc, out, &stood, wanted, words, progress)
         }
     }
 }
@@ -62,10 +66,11 @@ fn put_moves_in<P: Progress>(
     out: &mut Writer,
     play: &Play,
     wanted: Wanted,
+    words: &[Vec<Part>],
     progress: &mut P,
 ) -> Result<(), DeskFault> {
     match stood_now(play) {
-        Some(stood) => put_moves_of(alloc, out, &stood, wanted, progress),
+        Some(stood) => put_moves_of(alloc, out, &stood, wanted, words, progress),
         None => Err(DeskFault::Round),
     }
 }
@@ -76,21 +81,29 @@ fn put_moves_of<P: Progress>(
     out: &mut Writer,
     stood: &Stood,
     wanted: Wanted,
+    words: &[Vec<Part>],
     progress: &mut P,
 ) -> Result<(), DeskFault> {
     let scene = Scene::of(stood);
     let End::Awaiting(round) = stood.end else {
-        put_over(out, &scene);
+        put_over(out, &scene, words);
         return Ok(());
     };
     let may = may_in(alloc, stood.sheets, round, wanted, progress)?;
-    put_hexes(alloc, out, &scene, &may)?;
+    put_hexes(alloc, out, &scene, &may, words)?;
     Ok(put_may(alloc, out, &scene, &may, wanted)?)
 }
 
 /// Adds the hexes, and that the game is over.
-fn put_over(out: &mut Writer, scene: &Scene) {
-    page_map::put_hexes(out, scene);
+fn put_over(out: &mut Writer, scene: &Scene, words: &[Vec<Part>]) {
+    begin_hexes(out);
+    for (number, &hex) in Hex::ALL.iter().enumerate() {
+        begin_hex(out, hex);
+        put_words_of(out, scene, hex, words.get(number));
+        out.end();
+    }
+    out.end();
+    out.end();
     begin_section(out, "may", "What may be done", "");
     let words = "The game is over.";
     out.element(Tag::Paragraph, &[Words(words)]);

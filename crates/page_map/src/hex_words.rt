@@ -26,8 +26,8 @@ pub fn put_words(out: &mut Writer, scene: &Scene, look: &Look) {
     }
 }
 
-/// Adds what shows in a hex, in words, apart from what is new.
-fn put_sight(out: &mut Writer, scene: &Scene, look: &Look) {
+/// Adds what shows in a hex, in words, apart from whether its tile is new.
+pub fn put_sight(out: &mut Writer, scene: &Scene, look: &Look) {
     out.put(&[Named(look.hex), Words(": ")]);
     if let Some(name) = city_name(look.hex) {
         out.put(&[Words(name), Words("; ")]);
@@ -285,40 +285,25 @@ fn put_private(out: &mut Writer, scene: &Scene, private: Private) {
 pub fn put_hexes(out: &mut Writer, scene: &Scene) {
     begin_hexes(out);
     for &hex in &Hex::ALL {
-        begin_hex(out, scene, hex);
+        begin_hex(out, hex);
+        put_words(out, scene, &Look::on(scene.history.lays(), hex));
         out.end();
     }
     out.end();
     out.end();
 }
 
-/// Begins the list of the hexes in words, in a section of its own.
+/// Begins the list of the hexes in words.
 pub fn begin_hexes(out: &mut Writer) {
     begin_section(out, "hexes", "Hexes in words", "");
     out.begin_as(Tag::Listing, "hexes");
     out.within();
 }
 
-/// Begins a hex of that list, with its words.
-pub fn begin_hex(out: &mut Writer, scene: &Scene, hex: Hex) {
-    begin_hex_item(out, hex);
-    put_words_of(out, scene, hex);
-}
-
-/// Begins the item of a hex in that list.
-pub fn begin_hex_item(out: &mut Writer, hex: Hex) {
+/// Begins a hex of the list.
+pub fn begin_hex(out: &mut Writer, hex: Hex) {
     out.put(&[Words("\n")]);
     out.begin(Tag::Item);
     out.value(Attr::Id, &[Words("hex-"), Named(hex)]);
     out.within();
-}
-
-/// Adds what shows in a hex, in words.
-fn put_words_of(out: &mut Writer, scene: &Scene, hex: Hex) {
-    put_words(out, scene, &Look::on(scene.history.lays(), hex));
-}
-
-/// Adds what shows in a hex, in words, apart from what is new.
-pub fn put_sight_of(out: &mut Writer, scene: &Scene, hex: Hex) {
-    put_sight(out, scene, &Look::on(scene.history.lays(), hex));
 }

@@ -22,11 +22,11 @@ mod signs;
 mod tiles_part;
 mod tokens;
 
-pub use hex_words::{begin_hex, begin_hex_item, begin_hexes, put_hexes, put_sight_of};
+pub use hex_words::{begin_hex, begin_hexes, put_hexes, put_sight, put_words};
 pub use legend::put_key;
 pub use map_part::{
-    begin_at_hex, begin_link, begin_map, begin_picture, end_map, put_borders, put_ground_of,
-    put_labels, put_shade, put_stops_of, put_track_of,
+    begin_ground, begin_map, begin_picture, end_map, has_drawing, put_borders, put_labels,
+    put_rims, put_shade, put_stops,
 };
 pub use news::{
     laid_in_last_round, moved_in_last_round, placed_in_last_round, square_before_round,

@@ -19,16 +19,11 @@ use tables::{Kind, Money, Private, Round};
 /// The closed borders of the map.
 const CLOSED: &str = "M378 474L402 460M586 294L610 280M662 294L638 280M846 204L870 190";
 
-/// Adds the map up to the layer of the routes: its signs, its grounds and its track.
+/// Begins the map: its signs, its grounds and its track, up to the layer of the routes.
 pub fn begin_map(out: &mut Writer, scene: &Scene, routes_of: Option<Round>) {
     begin_picture(out, routes_of);
-    out.begin_as(Tag::Group, "ground");
     put_grounds(out, scene);
-    out.end();
-    out.begin_as(Tag::Group, "top");
     put_tracks(out, scene);
-    put_borders(out);
-    out.end();
 }
 
 /// Begins the picture of the map, with its signs.
@@ -45,11 +40,6 @@ pub fn begin_picture(out: &mut Writer, routes_of: Option<Round>) {
 /// Adds the stops and labels of all hexes, above the routes, and begins the layers above them.
 pub fn put_labels(out: &mut Writer, scene: &Scene) {
     out.begin_as(Tag::Group, "top");
-    put_stops(out, scene);
-}
-
-/// Adds the stops and labels of all hexes.
-fn put_stops(out: &mut Writer, scene: &Scene) {
     for &hex in &Hex::ALL {
         put_hex(out, scene, &Look::on(scene.history.lays(), hex));
     }
@@ -76,16 +66,19 @@ fn put_description(out: &mut Writer, routes_of: Option<Round>) {
 
 /// Adds the ground of each hex, with its title.
 fn put_grounds(out: &mut Writer, scene: &Scene) {
+    out.begin_as(Tag::Group, "ground");
     for &hex in &Hex::ALL {
         put_ground(out, scene, hex);
     }
+    out.end();
 }
 
 /// Adds the ground of a hex, with the hex in words as its title. It is a link to the same words in
 /// the list of hexes.
 fn put_ground(out: &mut Writer, scene: &Scene, hex: Hex) {
     let look = Look::on(scene.history.lays(), hex);
-    begin_link(out, hex);
+    out.begin(Tag::Anchor);
+    out.value(Attr::Href, &[Words("#hex-"), Hexed(hex)]);
     begin_ground(out, hex, look.shade);
     out.begin(Tag::Title);
     out.within();
@@ -96,24 +89,12 @@ fn put_ground(out: &mut Writer, scene: &Scene, hex: Hex) {
     out.put(&[Words("\n")]);
 }
 
-/// Begins the link of a hex to its words in the list of hexes.
-pub fn begin_link(out: &mut Writer, hex: Hex) {
-    out.begin(Tag::Anchor);
-    out.value(Attr::Href, &[Words("#hex-"), Hexed(hex)]);
-}
-
 /// Begins the ground of a hex, with its shade.
-fn begin_ground(out: &mut Writer, hex: Hex, shade: Shade) {
+pub fn begin_ground(out: &mut Writer, hex: Hex, shade: Shade) {
     out.begin(Tag::Use);
     out.value(Attr::Href, &[Words("#h")]);
     put_shade(out, shade);
     out.place_at(centre(hex));
-}
-
-/// Adds the ground of a hex, without a title.
-pub fn put_ground_of(out: &mut Writer, scene: &Scene, hex: Hex) {
-    begin_ground(out, hex, Look::on(scene.history.lays(), hex).shade);
-    out.end();
 }
 
 /// Adds the class of a ground.
@@ -140,39 +121,29 @@ pub fn put_rim(out: &mut Writer, shade: Shade) {
     }
 }
 
-/// Adds the rims and the track of each hex.
+/// Adds the rims and the track of each hex, and the closed borders.
 fn put_tracks(out: &mut Writer, scene: &Scene) {
+    out.begin_as(Tag::Group, "top");
     for &hex in &Hex::ALL {
         let look = Look::on(scene.history.lays(), hex);
         if has_drawing(&look) {
-            begin_at_hex(out, hex);
-            put_drawing(out, scene, &look);
+            out.begin_at(centre(hex));
+            put_rims(out, scene, &look);
+            draw_track(out, &look);
             out.end();
         }
     }
+    put_borders(out);
+    out.end();
 }
 
-/// Begins a group at the centre of a hex.
-pub fn begin_at_hex(out: &mut Writer, hex: Hex) {
-    out.begin_at(centre(hex));
-}
-
-/// Adds the rims and the track of a hex, if it has any, for a group at its centre.
-pub fn put_track_of(out: &mut Writer, scene: &Scene, hex: Hex) {
-    let look = Look::on(scene.history.lays(), hex);
-    if has_drawing(&look) {
-        put_drawing(out, scene, &look);
-    }
-}
-
-/// Adds the rims and the track of a hex that has some.
-fn put_drawing(out: &mut Writer, scene: &Scene, look: &Look) {
+/// Adds the rim that shows a ground without its colour, and that of a new tile.
+pub fn put_rims(out: &mut Writer, scene: &Scene, look: &Look) {
     put_rim(out, look.shade);
     if is_new(scene, look) {
         out.sign("#nw", Point::CENTRE);
         out.sign("#nh", Point::CENTRE);
     }
-    draw_track(out, look);
 }
 
 /// Adds the closed borders.
@@ -182,24 +153,19 @@ pub fn put_borders(out: &mut Writer) {
 }
 
 /// Returns whether a hex has track or a rim of its own.
-fn has_drawing(look: &Look) -> bool {
+pub fn has_drawing(look: &Look) -> bool {
     !look.links.is_empty() || !matches!(look.shade, Shade::White | Shade::Yellow)
 }
 
 /// Adds the stops of a hex with their tokens, and its labels.
 fn put_hex(out: &mut Writer, scene: &Scene, look: &Look) {
-    begin_at_hex(out, look.hex);
-    put_labels_on(out, scene, look);
+    out.begin_at(centre(look.hex));
+    put_stops(out, scene, look);
     out.end();
 }
 
-/// Adds the stops and labels of a hex, for a group at its centre.
-pub fn put_stops_of(out: &mut Writer, scene: &Scene, hex: Hex) {
-    put_labels_on(out, scene, &Look::on(scene.history.lays(), hex));
-}
-
-/// Adds the stops and labels of what shows in a hex.
-fn put_labels_on(out: &mut Writer, scene: &Scene, look: &Look) {
+/// Adds the stops of a hex with their tokens, and its labels, for a group at its centre.
+pub fn put_stops(out: &mut Writer, scene: &Scene, look: &Look) {
     draw_stops(out, look, &markers_in(scene.history, look.hex, look.slots));
     match look.stops {
         Stops::Area => put_area(out, scene, look.hex),

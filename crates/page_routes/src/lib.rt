@@ -20,7 +20,7 @@ mod routes;
 mod tags;
 
 pub use lanes::Border;
-pub use route_lines::{put_lines, put_shared_lines};
-pub use route_table::{begin_short_runs, put_short_rows, put_table};
+pub use route_lines::{put_line, put_line_ticks, put_lines};
+pub use route_table::put_table;
 pub use routes::{Route, Routes, Visit, last_routes};
 pub use tags::put_tags;

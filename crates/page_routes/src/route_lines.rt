@@ -1,12 +1,12 @@
 //! The lines of the routes on the map: each from its first stop over its borders to its last, in
 //! its own lane where runs share a border.
-ghost use Rattle.std.specs.Prelude.{◌≤◌, length};
+ghost use Rattle.std.specs.Prelude.{◌≡◌, ◌≤◌, length};
 
 use crate::lanes::{Border, shift_at};
 use crate::routes::{Route, Routes, Visit, stop_point};
 use history::History;
 use map_tables::Side;
-use markup::PagePiece::{Count, Number, Place, Point as To, Words};
+use markup::PagePiece::{Number, Place, Point as To, Words};
 use markup::{Attr, Point, Tag, Writer};
 use picture::{Bend, Look, Way, bend_between, border_point, centre, put_way, towards};
 use tables::Money;
@@ -24,14 +24,8 @@ struct Course<'a> {
 
 /// Adds the lines of the routes.
 pub fn put_lines(out: &mut Writer, history: &History, shown: &Routes) {
-    let routes = shown.routes.as_slice();
-    for (number, route) in routes.iter().enumerate() {
-        let course = Course {
-            history,
-            routes,
-            turned: shown.turned.as_slice(),
-            number,
-        };
+    for (number, route) in shown.routes.iter().enumerate() {
+        let course = course_of(history, shown, number);
         out.begin(Tag::Group);
         put_title(out, route);
         for class in ["ra", "rb", "rc"] {
@@ -48,39 +42,34 @@ pub fn put_lines(out: &mut Writer, history: &History, shown: &Routes) {
     }
 }
 
-/// Adds the lines of the routes, each with its data once: the strokes above the first one refer to
-/// it, by the number of its round and its own.
-pub fn put_shared_lines(out: &mut Writer, history: &History, shown: &Routes, round: usize) {
-    let routes = shown.routes.as_slice();
-    for (number, route) in routes.iter().enumerate() {
-        let course = Course {
-            history,
-            routes,
-            turned: shown.turned.as_slice(),
-            number,
-        };
-        let name = [Count(round), Words("-"), Count(number)];
-        out.begin_as(Tag::Group, "ra");
-        put_short_title(out, route);
+/// Returns the run with a number among the routes.
+fn course_of<'a>(history: &'a History, shown: &'a Routes, number: usize) -> Course<'a>
+    requires { number ≤ length shown.now.routes.items }
+    ensures { result.number ≡ number }
+{
+    Course {
+        history,
+        routes: shown.routes.as_slice(),
+        turned: shown.turned.as_slice(),
+        number,
+    }
+}
+
+/// Adds the line of the route with a number as a path without a class; nothing if there is no such
+/// route.
+pub fn put_line(out: &mut Writer, history: &History, shown: &Routes, number: usize) {
+    if let Some(route) = shown.routes.as_slice().get(number) {
         out.begin(Tag::Path);
-        out.attr(Attr::Id);
-        out.put(&[Words("q")]);
-        out.put(&name);
-        course.put_data(out, route);
+        course_of(history, shown, number).put_data(out, route);
         out.end();
-        for class in ["rb", "rc"] {
-            out.begin_as(Tag::Use, class);
-            out.attr(Attr::Href);
-            out.put(&[Words("#q")]);
-            out.put(&name);
-            if class == "rc" {
-                out.line_colour(route.company);
-                out.line_dash(route.company);
-            }
-            out.end();
-        }
-        course.put_ticks(out, route);
-        out.end();
+    }
+}
+
+/// Adds the ticks of the route with a number: as many at each border as trains of its company ran
+/// before it; nothing if there is no such route.
+pub fn put_line_ticks(out: &mut Writer, history: &History, shown: &Routes, number: usize) {
+    if let Some(route) = shown.routes.as_slice().get(number) {
+        course_of(history, shown, number).put_ticks(out, route);
     }
 }
 
@@ -95,16 +84,6 @@ fn put_title(out: &mut Writer, route: &Route) {
     }
     out.put(&[Words(", "), Number(Money::from(route.sum))]);
     out.end();
-}
-
-/// Adds a title with the train of a route and its sum.
-fn put_short_title(out: &mut Writer, route: &Route) {
-    let (company, train) = (Words(route.company.code()), Words(route.kind.code()));
-    let sum = Number(Money::from(route.sum));
-    out.element(
-        Tag::Title,
-        &[company, Words(" "), train, Words("-train, "), sum],
-    );
 }
 
 impl Course<'_> {

@@ -7,7 +7,7 @@ use board::Board;
 use desk_base::board_at;
 use history::History;
 use markup::PagePiece::{Number, Place, Round, Words};
-use markup::{Attr, PagePiece, Point, Tag, Writer, begin_row, begin_table, put_company, put_head};
+use markup::{Attr, Point, Tag, Writer, begin_row, begin_table, put_company, put_head};
 use reach::Network;
 use std::alloc::{AllocError, Global};
 use tables::{Amount, Money};
@@ -32,100 +32,21 @@ pub fn put_table(
         out.element(Tag::Paragraph, &words);
         return Ok(());
     }
-    begin_runs(out, &[Words("Routes of "), Round(round), Words(" ")]);
-    out.begin(Tag::TableBody);
-    put_rows(alloc, out, history, routes)?;
-    out.end();
-    out.end();
-    Ok(())
-}
-
-/// Begins the table of routes up to its rows, with these words as its caption.
-fn begin_runs(out: &mut Writer, words: &[PagePiece]) {
-    begin_runs_with(
-        out,
-        words,
-        &["Company", "Line", "Train", "Route", "#Sum", "Order"],
-    );
-}
-
-/// Begins the table of routes without samples of their lines up to its rows, with these words as
-/// its caption.
-pub fn begin_short_runs(out: &mut Writer, words: &[PagePiece]) {
-    begin_runs_with(out, words, &["Company", "Train", "Route", "#Sum", "Order"]);
-}
-
-/// Begins the table of routes up to its rows, with these words as its caption and these columns.
-fn begin_runs_with(out: &mut Writer, words: &[PagePiece], columns: &[&'static str]) {
+    let board = board_at(alloc, &history.now())?;
     begin_table(out, "runs", "wide");
     out.begin(Tag::Caption);
     out.within();
-    out.put(words);
+    out.put(&[Words("Routes of "), Round(round), Words(" ")]);
     out.element(Tag::Small, &[Words(REMARK)]);
     out.end();
-    put_head(out, columns);
-}
-
-/// Adds the rows of the routes. Fails only if allocation fails.
-fn put_rows(
-    alloc: Global,
-    out: &mut Writer,
-    history: &History,
-    routes: &Routes,
-) -> Result<(), AllocError> {
-    let board = board_at(alloc, &history.now())?;
+    put_head(out, &["Company", "Line", "Train", "Route", "#Sum", "Order"]);
+    out.begin(Tag::TableBody);
     for (number, route) in routes.routes.iter().enumerate() {
         put_row(out, &board, routes.routes.as_slice(), number, route);
     }
-    Ok(())
-}
-
-/// Adds the rows of the routes without samples of their lines, and with few elements. Fails only if
-/// allocation fails.
-pub fn put_short_rows(
-    alloc: Global,
-    out: &mut Writer,
-    history: &History,
-    routes: &Routes,
-) -> Result<(), AllocError> {
-    let board = board_at(alloc, &history.now())?;
-    for route in &routes.routes {
-        put_short_row(out, &board, route);
-    }
-    Ok(())
-}
-
-/// Adds such a row.
-fn put_short_row(out: &mut Writer, board: &Board, route: &Route) {
-    out.begin(Tag::Row);
-    out.element(Tag::Heading, &[Words(route.company.code())]);
-    out.element(Tag::Cell, &[Words(route.kind.code())]);
-    out.begin(Tag::Cell);
-    out.within();
-    for (place, visit) in route.visits.iter().enumerate() {
-        out.put(&[
-            Words(if place == 0 { "" } else { ", " }),
-            Place(visit.place),
-        ]);
-        if let (Some(value), Some(stop)) = (visit.value, visit.place.stop()) {
-            out.put(&[Words(" "), Number(Money::from(value))]);
-            put_change(out, value, board.value(stop));
-        }
-    }
     out.end();
-    out.element(Tag::Cell, &[Number(Money::from(route.sum))]);
-    out.element(
-        Tag::Cell,
-        &[Words(if route.is_best { "best" } else { "written" })],
-    );
     out.end();
-}
-
-/// Adds what a stop is worth now, if it was worth another amount when the train ran.
-fn put_change(out: &mut Writer, value: Amount, now: Amount) {
-    if now != value {
-        out.put(&[Words(" (now "), Number(Money::from(now)), Words(")")]);
-    }
+    Ok(())
 }
 
 /// What the caption of the table says about its routes.

@@ -1,1 +1,2 @@
+pub mod ClassLemmas
 pub mod ShownLemmas

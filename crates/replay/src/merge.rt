@@ -1,6 +1,7 @@
 //! The pages of a game merged.
 ghost use Rattle.std.specs.Prelude.{◌≡◌, ◌+◌, ◌<◌, ◌≤◌, ◌++◌, IfOk, IfSome, OnOk, length};
 ghost use Rattle.markup.specs.Part.{part_text};
+ghost use Rattle.replay.specs.Classes.{LeavesEach};
 ghost use Rattle.replay.specs.Shown.{AddsNew, AddsOld, AddsPage, IsBefore, IsPlace, LivesBefore};
 ghost use Rattle.replay.specs.Shown.{ShowsEach, texts};
 
@@ -9,14 +10,24 @@ use markup::Part;
 use std::alloc::{AllocError, Global};
 use std::collections::VecDeque;
 
-/// Returns the parts of a layer of some pages, each with the pages that have it: for each page,
-/// those that live in it are the parts of its layer, in order. Fails only if allocation fails.
-#[tactic(auto, using(crate::proofs::ShownLemmas::page_step))]
+/// Returns the parts of a layer of some pages, each with the pages that have it. For each page,
+/// those that live in it are the parts of its layer, in order, and its rule of style leaves them.
+/// Fails only if allocation fails.
+#[tactic(auto, using(crate::proofs::ClassLemmas::rules_leave))]
 pub fn replay_of(
     alloc: Global,
     pages: &[Layers],
     layer: usize,
 ) -> Result<VecDeque<Lasting>, AllocError>
+    ensures lives { IfOk result (λ parts. ShowsEach parts.items layer pages.now) }
+    ensures left { IfOk result (λ parts. LeavesEach parts.items layer pages.now) }
+{
+    merged(alloc, pages, layer)
+}
+
+/// Returns the parts of a layer of some pages, each with the pages that have it.
+#[tactic(auto, using(crate::proofs::ShownLemmas::page_step))]
+fn merged(alloc: Global, pages: &[Layers], layer: usize) -> Result<VecDeque<Lasting>, AllocError>
     ensures { IfOk result (λ parts. ShowsEach parts.items layer pages.now) }
 {
     let mut parts = VecDeque::new(alloc);

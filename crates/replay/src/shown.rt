@@ -1,89 +1,66 @@
 //! How a list of parts is written, and the buttons and rules of style that show a page of it.
 
+use crate::classes::{Classes, classes_of};
 use crate::lasting::Lasting;
 use markup::PagePiece::{Count, Words};
 use markup::{Attr, PagePiece, Tag, Writer};
 use std::collections::VecDeque;
 
-/// The pages that have a part, from one up to another.
-#[derive(Clone, Copy, PartialEq, Eq)]
-struct Span {
-    from: usize,
-    to: usize,
-}
-
 /// Adds a list of parts. Those that some of the pages up to the last one have not are in elements of
 /// this tag, by their pages: the class `f` and a number says which page has them first, and `t` and
 /// a number which has them last.
 pub fn put_replay(out: &mut Writer, parts: VecDeque<Lasting>, last: usize, tag: Tag) {
-    let mut open = Span { from: 0, to: last };
+    let mut open = Classes::NONE;
     for lasting in parts {
-        let span = Span {
-            from: lasting.from,
-            to: lasting.to,
-        };
-        if span != open {
-            end_span(out, open, last);
-            begin_span(out, span, last, tag);
-            open = span;
+        let classes = classes_of(lasting.from, lasting.to, last);
+        if classes != open {
+            end_group(out, open);
+            begin_group(out, classes, tag);
+            open = classes;
         }
         out.put_part(&lasting.part);
     }
-    end_span(out, open, last);
+    end_group(out, open);
 }
 
 /// Adds a list of parts, each in an element of this tag, with the classes of its pages.
 pub fn put_cells(out: &mut Writer, parts: VecDeque<Lasting>, last: usize, tag: Tag) {
     for lasting in parts {
-        let span = Span {
-            from: lasting.from,
-            to: lasting.to,
-        };
         out.begin(tag);
-        put_classes(out, span, last);
+        put_classes(out, classes_of(lasting.from, lasting.to, last));
         out.within();
         out.put_part(&lasting.part);
         out.end();
     }
 }
 
-/// Begins the element of parts that some pages have not.
-fn begin_span(out: &mut Writer, span: Span, last: usize, tag: Tag) {
-    if has_all(span, last) {
-        return;
-    }
-    out.begin(tag);
-    put_classes(out, span, last);
-    out.within();
-}
-
-/// Adds the classes of parts that some pages have not.
-fn put_classes(out: &mut Writer, span: Span, last: usize) {
-    if has_all(span, last) {
-        return;
-    }
-    out.attr(Attr::Class);
-    if span.from > 0 {
-        out.put(&[Words("f"), Count(span.from)]);
-    }
-    if span.from > 0 && span.to < last {
-        out.put(&[Words(" ")]);
-    }
-    if span.to < last {
-        out.put(&[Words("t"), Count(span.to)]);
+/// Begins the element of parts with these classes, if there are any.
+fn begin_group(out: &mut Writer, classes: Classes, tag: Tag) {
+    if classes != Classes::NONE {
+        out.begin(tag);
+        put_classes(out, classes);
+        out.within();
     }
 }
 
 /// Ends that element.
-fn end_span(out: &mut Writer, span: Span, last: usize) {
-    if !has_all(span, last) {
+fn end_group(out: &mut Writer, classes: Classes) {
+    if classes != Classes::NONE {
         out.end();
     }
 }
 
-/// Returns whether all pages up to the last one have a part.
-fn has_all(span: Span, last: usize) -> bool {
-    span.from == 0 && span.to >= last
+/// Adds the classes of parts, if there are any.
+fn put_classes(out: &mut Writer, classes: Classes) {
+    match (classes.first, classes.last) {
+        (None, None) => {}
+        (Some(first), None) => out.value(Attr::Class, &[Words("f"), Count(first)]),
+        (None, Some(last)) => out.value(Attr::Class, &[Words("t"), Count(last)]),
+        (Some(first), Some(last)) => {
+            let words = [Words("f"), Count(first), Words(" t"), Count(last)];
+            out.value(Attr::Class, &words);
+        }
+    }
 }
 
 /// Adds the button of a page, which is pressed at first if it is that of the last one.

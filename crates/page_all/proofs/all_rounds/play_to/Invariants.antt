@@ -1,5 +1,5 @@
 use Rattle.rounds.specs.Steps.{IsUnbroken, places_ahead}
-use Rattle.page.proofs.all_rounds.film_of.Given as goal
+use Rattle.page_all.proofs.all_rounds.play_to.Given as goal
 
 -- no fault has broken play off
 abbrev pub invariant-loop-round : goal.invariant-loop-round

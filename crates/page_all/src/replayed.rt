@@ -1,13 +1,13 @@
 //! The rounds of a game, each with what a page shows of it.
 
-use crate::bulletin_part::turns_text;
-use crate::layers::{Ran, layers_of};
-use crate::status_part::Source;
-use crate::worth_history::entry_of;
+use crate::drawings::Drawings;
+use crate::layers::{Shown, layers_of};
+use crate::turns::turns_text;
 use desk_base::{Stood, stood_now};
+use page::{Source, entry_of};
 use page_charts::Entry;
 use page_map::Scene;
-use page_routes::last_routes;
+use page_routes::{Routes, last_routes};
 use replay::Layers;
 use rounds::Play;
 use std::alloc::{AllocError, Global};
@@ -18,7 +18,7 @@ const ROUNDS_MOST: usize = 60;
 
 /// The rounds that a page shows, with what it shows of each.
 #[derive(Drop)]
-pub(crate) struct Film {
+pub(crate) struct Replayed {
     pub(crate) source: Source,
     pub(crate) rounds: Vec<Round>,
     pub(crate) pages: Vec<Layers>,
@@ -26,24 +26,28 @@ pub(crate) struct Film {
     pub(crate) before: usize,
     /// How the game stood after each round.
     pub(crate) entries: Vec<Entry>,
+    /// What is drawn once.
+    pub(crate) drawings: Drawings,
     /// The runs of the last operating round so far.
-    ran: Option<Ran>,
+    routes: Option<Routes>,
 }
 
-impl Film {
-    /// Returns a film of no round.
-    pub(crate) fn new(alloc: Global, source: Source) -> Film {
-        Film {
+impl Replayed {
+    /// Returns no rounds.
+    pub(crate) fn new(alloc: Global, source: Source) -> Replayed {
+        Replayed {
             source,
             rounds: Vec::new(alloc),
             pages: Vec::new(alloc),
             before: 0,
             entries: Vec::new(alloc),
-            ran: None,
+            drawings: Drawings::new(alloc),
+            routes: None,
         }
     }
 
-    /// Adds a round that has been played. Of more than `ROUNDS_MOST` the first is left out.
+    /// Adds a round that has been played. Of more than `ROUNDS_MOST` the first is left out. Fails
+    /// only if allocation fails.
     pub(crate) fn add(
         &mut self,
         alloc: Global,
@@ -61,13 +65,13 @@ impl Film {
         }
         self.rounds.push(round)?;
         if matches!(round, Round::Operating { .. }) {
-            self.ran = None;
+            self.routes = None;
         }
         self.add_page(alloc, &stood)
     }
 
     /// Overwrites the last page once play has stopped, since the game may have ended. If no round
-    /// was played, that page is the first.
+    /// was played, that page is the first. Fails only if allocation fails.
     pub(crate) fn end(&mut self, alloc: Global, play: &Play) -> Result<(), AllocError> {
         let _ = self.pages.pop();
         match stood_now(play) {
@@ -78,17 +82,19 @@ impl Film {
 
     /// Adds the page of a game at a moment.
     fn add_page(&mut self, alloc: Global, stood: &Stood) -> Result<(), AllocError> {
-        let ran = match self.ran.take() {
-            Some(ran) => ran,
-            None => Ran {
-                routes: last_routes(alloc, stood.history)?,
-                number: self.entries.len(),
-            },
+        let routes = match self.routes.take() {
+            Some(routes) => routes,
+            None => last_routes(alloc, stood.history)?,
         };
-        let bulletin = turns_text(alloc, stood)?;
-        let page = layers_of(alloc, &Scene::of(stood), &ran, bulletin.as_slice())?;
+        let turns = turns_text(alloc, stood)?;
+        let shown = Shown {
+            routes: &routes,
+            turns: turns.as_slice(),
+            number: self.entries.len().max(1),
+        };
+        let page = layers_of(alloc, &Scene::of(stood), shown, &mut self.drawings)?;
         self.pages.push(page)?;
-        self.ran = Some(ran);
+        self.routes = Some(routes);
         Ok(())
     }
 

@@ -1,22 +1,23 @@
 //! What the page of a round shows in a page with all rounds, layer by layer, each in parts.
 ghost use Rattle.std.specs.Prelude.{◌<◌};
 
-use crate::bulletin_part::put_told_of;
 use crate::cells::{
-    COMPANY_CELLS, STATUS, put_company_cells, put_place_cells, put_player_cells, put_status_cells,
+    COMPANY_CELLS, STATUS, put_company_cells, put_figure_cells, put_player_cells, put_status_cells,
 };
-use crate::companies_part::{put_owner_rows, put_train_rows};
-use crate::players_part::PLACES;
-use crate::result_part::put_result;
-use crate::whole_page::tokens_of;
+use crate::drawings::{Drawings, put_use};
+use crate::lines::put_lines;
+use crate::route_rows::put_route_rows;
+use crate::turns::put_turns;
 use map_tables::{HEXES, Hex};
-use markup::{Part, Writer};
-use page_charts::put_squares_and_moves;
-use page_map::{Scene, put_ground_of, put_sight_of, put_stops_of, put_track_of};
-use page_routes::{Routes, put_shared_lines, put_short_rows, put_tags};
+use markup::{Part, Tag, Writer};
+use page::{FIGURES, put_kind, put_owner, put_result, tokens_of};
+use page_charts::put_squares;
+use page_map::{Scene, begin_ground, has_drawing, put_rims, put_sight, put_stops};
+use page_routes::{Routes, put_tags};
+use picture::{Look, draw_track};
 use replay::Layers;
 use std::alloc::{AllocError, Global};
-use tables::{COMPANIES, Company, Seat};
+use tables::{COMPANIES, Company, Kind, Private, Seat};
 
 /// A layer of a page.
 #[derive(Clone, Copy)]
@@ -30,7 +31,7 @@ pub(crate) enum Layer {
     /// The rows of the routes.
     Runs,
     /// What happened.
-    Bulletin,
+    Turns,
     /// The squares and tokens of the stock chart.
     Chart,
     /// The rows of the privates.
@@ -45,7 +46,7 @@ const LAYERS: [Layer; 8] = [
     Layer::Lines,
     Layer::Sums,
     Layer::Runs,
-    Layer::Bulletin,
+    Layer::Turns,
     Layer::Chart,
     Layer::Privates,
     Layer::Trains,
@@ -59,7 +60,7 @@ impl Layer {
             Layer::Lines => 1,
             Layer::Sums => 2,
             Layer::Runs => 3,
-            Layer::Bulletin => 4,
+            Layer::Turns => 4,
             Layer::Chart => 5,
             Layer::Privates => 6,
             Layer::Trains => 7,
@@ -105,19 +106,22 @@ pub(crate) fn hex_layer(hex: usize, layer: HexLayer) -> usize
 pub(crate) const STATUS_CELLS: usize = LAYERS.len() + HEX_LAYERS.len() * HEXES;
 
 /// The number of the layer of the first cell of the rows below the players.
-pub(crate) const FIRST_PLACE: usize = STATUS_CELLS + STATUS.len();
+pub(crate) const FIRST_FIGURE: usize = STATUS_CELLS + STATUS.len();
 
 /// The number of the layer of the first cell of the first company.
-pub(crate) const FIRST_COMPANY: usize = FIRST_PLACE + PLACES.len() * COMPANIES;
+pub(crate) const FIRST_COMPANY: usize = FIRST_FIGURE + FIGURES.len() * COMPANIES;
 
 /// The number of the layer of the first cell of the first player.
 pub(crate) const FIRST_PLAYER: usize = FIRST_COMPANY + COMPANY_CELLS * COMPANIES;
 
-/// The runs of the last operating round so far.
-#[derive(Drop)]
-pub(crate) struct Ran {
-    pub(crate) routes: Routes,
-    /// The number of that round among all rounds.
+/// What a page shows of a round besides the game.
+#[derive(Clone, Copy)]
+pub(crate) struct Shown<'a> {
+    /// The runs of the last operating round.
+    pub(crate) routes: &'a Routes,
+    /// What happened in the round.
+    pub(crate) turns: &'a [u8],
+    /// The number of the round among all rounds.
     pub(crate) number: usize,
 }
 
@@ -126,16 +130,16 @@ pub(crate) struct Ran {
 pub(crate) fn layers_of(
     alloc: Global,
     scene: &Scene,
-    ran: &Ran,
-    bulletin: &[u8],
+    shown: Shown,
+    drawings: &mut Drawings,
 ) -> Result<Layers, AllocError> {
     let mut layers = Vec::new(alloc);
     for &layer in &LAYERS {
-        layers.push(parts_of(alloc, layer, scene, ran, bulletin)?)?;
+        layers.push(parts_of(alloc, layer, scene, shown, drawings)?)?;
     }
     for &hex in &Hex::ALL {
         for &layer in &HEX_LAYERS {
-            layers.push(parts_of_hex(alloc, layer, scene, hex)?)?;
+            layers.push(parts_of_hex(alloc, layer, scene, hex, shown.number, drawings)?)?;
         }
     }
     for cell in cells_of(alloc, scene)? {
@@ -151,20 +155,37 @@ fn parts_of(
     alloc: Global,
     layer: Layer,
     scene: &Scene,
-    ran: &Ran,
-    bulletin: &[u8],
+    shown: Shown,
+    drawings: &mut Drawings,
 ) -> Result<Vec<Part>, AllocError> {
     let mut out = Writer::of_parts(alloc);
     let history = scene.history;
     match layer {
         Layer::Result => put_result(&mut out, scene),
-        Layer::Lines => put_shared_lines(&mut out, history, &ran.routes, ran.number),
-        Layer::Sums => put_tags(alloc, &mut out, history, &ran.routes)?,
-        Layer::Runs => put_short_rows(alloc, &mut out, history, &ran.routes)?,
-        Layer::Bulletin => put_told_of(&mut out, "Turns of ", history.now().round(), bulletin),
-        Layer::Chart => put_squares_and_moves(&mut out, &tokens_of(history)),
-        Layer::Privates => put_owner_rows(&mut out, scene),
-        Layer::Trains => put_train_rows(&mut out, scene),
+        Layer::Lines => {
+            put_lines(
+                alloc,
+                &mut out,
+                history,
+                shown.routes,
+                drawings,
+                shown.number,
+            )?;
+        }
+        Layer::Sums => put_tags(alloc, &mut out, history, shown.routes)?,
+        Layer::Runs => put_route_rows(alloc, &mut out, history, shown.routes)?,
+        Layer::Turns => put_turns(&mut out, history.now().round(), shown.turns),
+        Layer::Chart => put_squares(&mut out, &tokens_of(history), false),
+        Layer::Privates => {
+            for &private in &Private::ALL {
+                put_owner(&mut out, scene, private);
+            }
+        }
+        Layer::Trains => {
+            for &kind in &Kind::ALL {
+                put_kind(&mut out, scene, kind);
+            }
+        }
     }
     out.finish_parts()
 }
@@ -175,18 +196,45 @@ fn parts_of_hex(
     layer: HexLayer,
     scene: &Scene,
     hex: Hex,
+    round: usize,
+    drawings: &mut Drawings,
 ) -> Result<Vec<Part>, AllocError> {
+    let look = Look::on(scene.history.lays(), hex);
     let mut out = Writer::of_parts(alloc);
     match layer {
-        HexLayer::Ground => put_ground_of(&mut out, scene, hex),
-        HexLayer::Track => put_track_of(&mut out, scene, hex),
-        HexLayer::Stops => put_stops_of(&mut out, scene, hex),
+        HexLayer::Ground => {
+            begin_ground(&mut out, hex, look.shade);
+            out.end();
+        }
+        HexLayer::Track => {
+            if has_drawing(&look) {
+                put_rims(&mut out, scene, &look);
+                if let Some(track) = track_of(alloc, &look)? {
+                    put_use(&mut out, drawings.number_of(track, round)?, "", "");
+                }
+            }
+        }
+        HexLayer::Stops => put_stops(&mut out, scene, &look),
         HexLayer::Words => {
-            put_sight_of(&mut out, scene, hex);
+            put_sight(&mut out, scene, &look);
             out.end_part();
         }
     }
     out.finish_parts()
+}
+
+/// Returns the track of a hex, if it has any.
+fn track_of(alloc: Global, look: &Look) -> Result<Option<Part>, AllocError> {
+    if look.links.is_empty() {
+        return Ok(None);
+    }
+    let mut out = Writer::of_parts(alloc);
+    out.begin(Tag::Group);
+    out.within();
+    draw_track(&mut out, look);
+    out.end();
+    let mut parts = out.finish_parts()?;
+    Ok(parts.pop())
 }
 
 /// Returns the cells of a page, each as a part: those of the status, of the rows below the players,
@@ -194,7 +242,7 @@ fn parts_of_hex(
 fn cells_of(alloc: Global, scene: &Scene) -> Result<Vec<Part>, AllocError> {
     let mut out = Writer::of_parts(alloc);
     put_status_cells(&mut out, scene);
-    put_place_cells(&mut out, scene);
+    put_figure_cells(&mut out, scene);
     for &company in &Company::ALL {
         put_company_cells(&mut out, scene, company);
     }

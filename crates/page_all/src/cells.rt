@@ -2,16 +2,16 @@
 //! element, and becomes a part by itself.
 ghost use Rattle.std.specs.Prelude.{◌<◌};
 
-use crate::companies_part::{put_square_words, put_train_codes, put_waiting_words};
-use crate::phases_part::colours_of;
-use crate::players_part::{PLACES, figure_of, put_codes};
-use crate::status_part::put_train_on_sale;
 use desk::{operates, purse_of, rank_of, worths_of};
 use desk_base::tokens_left;
 use history::{Holder, Party, Shareholder};
 use map_tables::home;
 use markup::PagePiece::{Count, Name, Number, Place, Round, Words};
 use markup::Writer;
+use page::{
+    FIGURES, colours_of, figure_of, put_codes, put_square_words, put_train_codes,
+    put_train_on_sale, put_waiting_words,
+};
 use page_map::Scene;
 use rounds::End;
 use tables::{Company, Money, Seat, certificate_limit, limit, price};
@@ -32,7 +32,7 @@ pub(crate) const STATUS: [&str; 8] = [
 pub(crate) const COMPANY_CELLS: usize = 8;
 
 /// How many cells a player has.
-pub(crate) const PLAYER_CELLS: usize = 14;
+pub(crate) const PLAYER_CELLS: usize = 13;
 
 /// Adds the cells of `STATUS`.
 pub(crate) fn put_status_cells(out: &mut Writer, scene: &Scene) {
@@ -72,8 +72,8 @@ fn put_number(out: &mut Writer, number: Money) {
 }
 
 /// Adds the cells of each row below the players, a cell for each company.
-pub(crate) fn put_place_cells(out: &mut Writer, scene: &Scene) {
-    for &(_, figure) in &PLACES {
+pub(crate) fn put_figure_cells(out: &mut Writer, scene: &Scene) {
+    for &(_, figure) in &FIGURES {
         for &company in &Company::ALL {
             put_number(out, figure_of(scene, company, figure).unwrap_or(0));
         }
@@ -134,7 +134,6 @@ pub(crate) fn put_player_cells(out: &mut Writer, scene: &Scene, seat: Seat)
 {
     let purse = purse_of(scene.history, seat);
     put_number(out, purse.cash);
-    put_number(out, purse.free);
     let most = certificate_limit(scene.history.seats());
     let certificates = Number(Money::from(purse.certificates));
     out.put(&[certificates, Words(" of "), Count(most)]);

@@ -1,6 +1,6 @@
 use Rattle.std.proofs.Common.{◌≡◌, ℕ, ◌<◌}
 use Rattle.replay.specs.Shown.{IsBefore, page_at, shown}
-use Rattle.replay.proofs.merge.replay_of.Given as goal
+use Rattle.replay.proofs.merge.merged.Given as goal
 
 -- the pages so far are shown
 abbrev pub invariant-loop-number : goal.invariant-loop-number

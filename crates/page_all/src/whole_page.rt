@@ -1,0 +1,303 @@
+//! How the page of all rounds is written: what changes from round to round stands in it once, with
+//! the rounds that have it.
+ghost use Rattle.std.specs.Prelude.{◌<◌, IfOk};
+ghost use Rattle.replay.specs.Classes.{LeavesEach};
+
+use crate::cells::STATUS;
+use crate::layers::{HexLayer, Layer, STATUS_CELLS, hex_layer};
+use crate::replayed::Replayed;
+use crate::route_rows::begin_routes;
+use crate::style::{STYLE_OF_BUTTONS, put_lines_style, put_moves_style};
+use map_tables::Hex;
+use markup::PagePiece::{Count, Hex as Hexed, Round as Named, Words};
+use markup::{Attr, Part, Tag, Writer, begin_plain_section, begin_section};
+use page::{STYLE, players_of, put_links, put_names, put_next, put_skip, put_source, thinned};
+use page_charts::{begin_chart, end_chart, put_history};
+use page_map::{Scene, begin_hex, begin_hexes, begin_picture, end_map, put_borders, put_key};
+use picture::{centre, city_name};
+use replay::{Lasting, put_button, put_button_words, put_replay, put_rules, replay_of};
+use std::alloc::{AllocError, Global};
+use std::collections::VecDeque;
+
+/// Returns the page of some rounds up to its hexes in words, given the game at their end. With a
+/// style it is a page for a script, and the style follows that of all pages.
+pub(crate) fn page_to_hexes(
+    alloc: Global,
+    scene: &Scene,
+    replayed: &Replayed,
+    style: Option<&'static str>,
+) -> Result<Writer, AllocError> {
+    let entries = thinned(alloc, replayed.entries.as_slice())?;
+    let mut out = match style {
+        None => Writer::page(alloc),
+        Some(_) => Writer::scripted_page(alloc),
+    };
+    begin_page(&mut out, scene, replayed, style);
+    replayed.put_status(alloc, &mut out, scene)?;
+    replayed.put_layer(alloc, &mut out, Layer::Result, Tag::Division)?;
+    replayed.put_map(alloc, &mut out)?;
+    replayed.put_routes(alloc, &mut out)?;
+    replayed.put_turns(alloc, &mut out)?;
+    replayed.put_chart(alloc, &mut out)?;
+    put_history(&mut out, &players_of(scene), entries.as_slice());
+    replayed.put_tables(alloc, &mut out, scene)?;
+    Ok(out)
+}
+
+/// The sections and tables that the head links to.
+const LINKS: [(&str, &str); 11] = [
+    ("#bulletin", "Bulletin"),
+    ("#map", "Map"),
+    ("#routes", "Routes"),
+    ("#chart", "Chart"),
+    ("#history", "History"),
+    ("#players", "Players"),
+    ("#companies", "Companies"),
+    ("#revenue", "Revenue"),
+    ("#privates", "Privates"),
+    ("#trains", "Trains"),
+    ("#hexes", "Hexes"),
+];
+
+/// Adds what stands before the sections: the title, the buttons and the head.
+fn begin_page(out: &mut Writer, scene: &Scene, replayed: &Replayed, style: Option<&'static str>) {
+    put_title(out, replayed, Tag::Title);
+    out.element(Tag::Style, &[Words(STYLE)]);
+    out.begin(Tag::Style);
+    out.within();
+    out.put(&[Words(STYLE_OF_BUTTONS)]);
+    put_lines_style(out);
+    put_rules(out, replayed.last());
+    if style.is_some() {
+        put_moves_style(out, replayed.last());
+    }
+    out.end();
+    if let Some(style) = style {
+        out.element(Tag::Style, &[Words(style)]);
+    }
+    out.end();
+    out.begin(Tag::Body);
+    out.within();
+    for (number, round) in replayed.rounds.iter().enumerate() {
+        put_button(
+            out,
+            number,
+            replayed.last(),
+            &[Words("After "), Named(*round)],
+        );
+        out.put(&[Words("\n")]);
+    }
+    put_skip(out);
+    out.begin(Tag::Header);
+    put_title(out, replayed, Tag::H1);
+    put_names(out, scene);
+    put_links(out, &LINKS);
+    out.end();
+    out.begin_as(Tag::Nav, "rounds");
+    out.within();
+    for (number, round) in replayed.rounds.iter().enumerate() {
+        put_button_words(out, number, &[Named(*round)]);
+    }
+    out.end();
+    out.begin(Tag::Main);
+}
+
+/// Adds the title of the page: how many rounds it shows, and of how many if there are more.
+fn put_title(out: &mut Writer, replayed: &Replayed, tag: Tag) {
+    let shown = replayed.rounds.len();
+    if shown == 0 {
+        out.element(tag, &[Words("1830: before PR1")]);
+        return;
+    }
+    let words = if shown == 1 { " round" } else { " rounds" };
+    if replayed.before == 0 {
+        out.element(tag, &[Words("1830: "), Count(shown), Words(words)]);
+    } else {
+        let all = Count(shown.saturating_add(replayed.before));
+        let words = [Words("1830: the last "), Count(shown), Words(" of "), all];
+        out.begin(tag);
+        out.within();
+        out.put(&words);
+        out.put(&[Words(" rounds")]);
+        out.end();
+    }
+}
+
+impl Replayed {
+    /// Returns the layer of a number of all pages: the rule of style of each page leaves the parts of
+    /// that page, in order. Fails only if allocation fails.
+    pub(crate) fn lasting(
+        &self,
+        alloc: Global,
+        number: usize,
+    ) -> Result<VecDeque<Lasting>, AllocError>
+        ensures { IfOk result (λ parts. LeavesEach parts.items number self.now.pages.items) }
+    {
+        replay_of(alloc, self.pages.as_slice(), number)
+    }
+
+    /// Adds a layer of all pages; a tag is for parts that some of them have not.
+    pub(crate) fn put_layer(
+        &self,
+        alloc: Global,
+        out: &mut Writer,
+        layer: Layer,
+        tag: Tag,
+    ) -> Result<(), AllocError> {
+        self.put_numbered(alloc, out, layer.number(), tag)
+    }
+
+    /// Adds the layer of a number of all pages.
+    pub(crate) fn put_numbered(
+        &self,
+        alloc: Global,
+        out: &mut Writer,
+        number: usize,
+        tag: Tag,
+    ) -> Result<(), AllocError> {
+        put_replay(out, self.lasting(alloc, number)?, self.last(), tag);
+        Ok(())
+    }
+
+    /// Adds how the game stands in short: what stays as it is at the end of the file, and what
+    /// changes.
+    fn put_status(&self, alloc: Global, out: &mut Writer, scene: &Scene) -> Result<(), AllocError> {
+        out.begin_as(Tag::Listing, "status");
+        for (number, words) in STATUS.iter().enumerate() {
+            out.begin(Tag::Item);
+            out.element(Tag::Small, &[Words(words)]);
+            out.put(&[Words(" ")]);
+            out.begin(Tag::Bold);
+            self.put_numbered(alloc, out, STATUS_CELLS + number, Tag::Span)?;
+            out.end();
+            out.end();
+        }
+        put_next(out, scene);
+        put_source(out, self.source);
+        out.end();
+        Ok(())
+    }
+
+    /// Adds the map and the routes on it.
+    fn put_map(&self, alloc: Global, out: &mut Writer) -> Result<(), AllocError> {
+        let words = "Map and the routes of the last operating round";
+        begin_section(out, "map", words, "");
+        begin_picture(out, None);
+        self.drawings.put(out, self.before.saturating_add(1));
+        out.begin_as(Tag::Group, "ground");
+        for (number, hex) in Hex::ALL.iter().enumerate() {
+            out.begin(Tag::Anchor);
+            out.value(Attr::Href, &[Words("#hex-"), Hexed(*hex)]);
+            put_hex_title(out, *hex);
+            self.put_hex_layer(alloc, out, number, HexLayer::Ground)?;
+            out.end();
+        }
+        out.end();
+        out.begin_as(Tag::Group, "top");
+        self.put_on_hexes(alloc, out, HexLayer::Track)?;
+        put_borders(out);
+        out.end();
+        self.put_layer(alloc, out, Layer::Lines, Tag::Group)?;
+        out.begin_as(Tag::Group, "top");
+        self.put_on_hexes(alloc, out, HexLayer::Stops)?;
+        self.put_layer(alloc, out, Layer::Sums, Tag::Group)?;
+        end_map(out);
+        put_key(out);
+        out.end();
+        Ok(())
+    }
+
+    /// Adds a layer of each hex, in a group at its centre.
+    fn put_on_hexes(
+        &self,
+        alloc: Global,
+        out: &mut Writer,
+        layer: HexLayer,
+    ) -> Result<(), AllocError> {
+        for (number, hex) in Hex::ALL.iter().enumerate() {
+            out.begin_at(centre(*hex));
+            self.put_hex_layer(alloc, out, number, layer)?;
+            out.end();
+        }
+        Ok(())
+    }
+
+    /// Adds a layer of the hex with a number.
+    fn put_hex_layer(
+        &self,
+        alloc: Global,
+        out: &mut Writer,
+        number: usize,
+        layer: HexLayer,
+    ) -> Result<(), AllocError>
+        requires { number < 93 }
+    {
+        self.put_numbered(alloc, out, hex_layer(number, layer), Tag::Group)
+    }
+
+    /// Adds the table of the routes.
+    fn put_routes(&self, alloc: Global, out: &mut Writer) -> Result<(), AllocError> {
+        begin_plain_section(out, "routes", "Routes");
+        begin_routes(out);
+        self.put_layer(alloc, out, Layer::Runs, Tag::TableBody)?;
+        out.end();
+        out.end();
+        Ok(())
+    }
+
+    /// Adds what happened in each round.
+    fn put_turns(&self, alloc: Global, out: &mut Writer) -> Result<(), AllocError> {
+        begin_section(out, "bulletin", "What happened", "");
+        self.put_layer(alloc, out, Layer::Turns, Tag::Division)?;
+        out.end();
+        Ok(())
+    }
+
+    /// Adds the stock chart.
+    fn put_chart(&self, alloc: Global, out: &mut Writer) -> Result<(), AllocError> {
+        begin_section(out, "chart", "Stock chart", "");
+        begin_chart(out);
+        self.put_layer(alloc, out, Layer::Chart, Tag::Group)?;
+        end_chart(out);
+        out.end();
+        Ok(())
+    }
+
+    /// Returns what is written of each hex in words, in the order of the hexes.
+    pub(crate) fn hex_words(&self, alloc: Global) -> Result<Vec<Vec<Part>>, AllocError> {
+        let mut words = Vec::new(alloc);
+        for number in 0..Hex::ALL.len() {
+            let layer = hex_layer(number, HexLayer::Words);
+            let mut out = Writer::of_parts(alloc);
+            self.put_numbered(alloc, &mut out, layer, Tag::Span)?;
+            out.end_part();
+            words.push(out.finish_parts()?)?;
+        }
+        Ok(words)
+    }
+}
+
+/// Adds the hexes in words, given what is written of each.
+pub(crate) fn put_hexes(out: &mut Writer, words: &[Vec<Part>]) {
+    begin_hexes(out);
+    for (hex, parts) in Hex::ALL.iter().zip(words) {
+        begin_hex(out, *hex);
+        for part in parts {
+            out.put_part(part);
+        }
+        out.end();
+    }
+    out.end();
+    out.end();
+}
+
+/// Adds the title of a hex on the map: its name, and that of its city.
+fn put_hex_title(out: &mut Writer, hex: Hex) {
+    out.begin(Tag::Title);
+    out.within();
+    out.put(&[Hexed(hex)]);
+    if let Some(name) = city_name(hex) {
+        out.put(&[Words(" "), Words(name)]);
+    }
+    out.end();
+}
