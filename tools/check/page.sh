@@ -83,6 +83,14 @@ read_all() {
   count "all rounds of $1" "$why"
 }
 
+# read_all_lays GAME: the same with what may be done, which is what `lays` and `may` list.
+read_all_lays() {
+  local why=
+  DESK=$desk bench/page-all --lays "games/$1.orders" > "$scratch/wrong" 2>&1 \
+    && DESK=$desk bench/page-lays --all "games/$1.orders" > "$scratch/wrong" 2>&1 || why="it is another page: $(head -n 3 "$scratch/wrong")"
+  count "all rounds of $1, with what may be done" "$why"
+}
+
 # read_tiles: the sheet of all tiles shows those of the map's table.
 read_tiles() {
   local why=
@@ -106,6 +114,7 @@ check_page() {
   side_by_side play_lays games/page/*.lays
   side_by_side read_lays "${lays_games[@]}"
   side_by_side read_all "${all_games[@]}"
+  read_all_lays first-stock-round
   read_tiles
   compare_picture docs/page-map.svg
 }

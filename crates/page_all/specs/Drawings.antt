@@ -1,10 +1,8 @@
 -- The drawings of a page, by their numbers.
-use Rattle.std.specs.Prelude.{◌≡◌, ℕ, List, Some, option_map, slice_get}
+use Rattle.std.specs.Prelude.{◌≡◌, ℕ, List, Some, map, slice_get}
 use Rattle.markup.specs.Part.{part_text}
 use Rattle.markup.specs.declared.part.Part.{Part}
-use Rattle.page_all.specs.declared.drawings.Drawing.{Drawing}
 
--- the drawing with this number is that of a part
-abbrev pub IsNumberOf : List Drawing → Part → ℕ → Type 0
-IsNumberOf drawings part number =
-    option_map (λ (drawing : Drawing). part_text drawing.part) (slice_get drawings number) ≡ Some (part_text part)
+-- the drawing with this number has the text of a part
+abbrev pub IsNumberOf : List Part → Part → ℕ → Type 0
+IsNumberOf drawings part number = slice_get (map part_text drawings) number ≡ Some (part_text part)

@@ -1,82 +1,73 @@
 //! Drawings that a page has once: each is defined in the picture of the map, and used by its number.
-ghost use Rattle.std.specs.Prelude.{IfOk};
+ghost use Rattle.std.specs.Prelude.{IfOk, IfSome};
 ghost use Rattle.page_all.specs.Drawings.{IsNumberOf};
 
 use markup::PagePiece::{Count, Words};
 use markup::{Attr, Part, Tag, Writer};
-use std::alloc::AllocError;
+use std::alloc::{AllocError, Global};
 
-/// A drawing.
-#[derive(Drop)]
-pub(crate) struct Drawing {
-    part: Part,
-    /// The number of the last round that has it.
-    round: usize,
-}
-
-/// The drawings of a page; each has its place as its number.
+/// The drawings of a page; the number of each is its place.
 #[derive(Drop)]
 pub(crate) struct Drawings {
-    drawings: Vec<Drawing>,
+    parts: Vec<Part>,
 }
 
 impl Drawings {
     /// Returns no drawings.
-    pub(crate) fn new(alloc: std::alloc::Global) -> Drawings {
+    pub(crate) fn new(alloc: Global) -> Drawings {
         Drawings {
-            drawings: Vec::new(alloc),
+            parts: Vec::new(alloc),
         }
     }
 
-    /// Returns the number of a drawing that a round has. It is added if it is not there yet. Fails
-    /// only if allocation fails.
-    pub(crate) fn number_of(&mut self, part: Part, round: usize) -> Result<usize, AllocError>
-        ensures { IfOk result (IsNumberOf self.new.drawings.items part) }
+    /// Returns the number of a drawing. It is added if it is not there yet. Fails only if allocation
+    /// fails.
+    #[tactic(auto, using(crate::proofs::DrawingLemmas::last_number))]
+    pub(crate) fn number_of(&mut self, part: Part) -> Result<usize, AllocError>
+        ensures { IfOk result (IsNumberOf self.new.parts.items part) }
     {
         match self.place_of(&part) {
-            Some(place) => {
-                self.drawings[place].round = round;
-                Ok(place)
-            }
+            Some(place) => Ok(place),
             None => {
-                let place = self.drawings.len();
-                self.drawings.push(Drawing { part, round })?;
+                let place = self.parts.len();
+                self.parts.push(part)?;
                 Ok(place)
             }
         }
     }
 
-    /// Returns the place of a drawing, if it is there.
-    fn place_of(&self, part: &Part) -> Option<usize> {
-        for (place, drawing) in self.drawings.iter().enumerate() {
-            if drawing.part.bytes() == part.bytes() {
+    /// Returns the number of a drawing, if it is there.
+    #[tactic(auto, using(crate::proofs::DrawingLemmas::found_number))]
+    fn place_of(&self, part: &Part) -> Option<usize>
+        ensures { IfSome result (IsNumberOf self.now.parts.items part.now) }
+    {
+        for (place, drawing) in self.parts.iter().enumerate() {
+            if drawing.bytes() == part.bytes() {
                 return Some(place);
             }
         }
         None
     }
 
-    /// Adds the definitions of the drawings that rounds have from this one on.
-    pub(crate) fn put(&self, out: &mut Writer, from: usize) {
+    /// Adds the definitions of the drawings.
+    pub(crate) fn put(&self, out: &mut Writer) {
         out.begin(Tag::Defs);
-        for (number, drawing) in self.drawings.iter().enumerate() {
-            if drawing.round >= from {
-                out.begin(Tag::Group);
-                out.value(Attr::Id, &[Words("k"), Count(number)]);
-                out.put_part(&drawing.part);
-                out.end();
-            }
+        for (number, drawing) in self.parts.iter().enumerate() {
+            out.begin(Tag::Group);
+            out.value(Attr::Id, &[Words("k"), Count(number)]);
+            out.put_part(drawing);
+            out.end();
         }
         out.end();
     }
 }
 
-/// Adds a use of the drawing with a number, with the start of its class, and the end of it, if there
-/// is one.
-pub(crate) fn put_use(out: &mut Writer, number: usize, class: &'static str, rest: &'static str) {
+/// Adds a use of the drawing with a number, with a class if there is one. The letters behind it end
+/// the class.
+pub(crate) fn put_use(out: &mut Writer, number: usize, class: &'static str, letters: &'static str) {
     out.begin(Tag::Use);
     if !class.is_empty() {
-        out.value(Attr::Class, &[Words(class), Words(rest)]);
+        out.value(Attr::Class, &[Words(class), Words(letters)]);
     }
     out.value(Attr::Href, &[Words("#k"), Count(number)]);
     out.end();

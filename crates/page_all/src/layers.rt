@@ -121,8 +121,6 @@ pub(crate) struct Shown<'a> {
     pub(crate) routes: &'a Routes,
     /// What happened in the round.
     pub(crate) turns: &'a [u8],
-    /// The number of the round among all rounds.
-    pub(crate) number: usize,
 }
 
 /// Returns what a page shows of a scene: its layers, those of each hex, and each cell. Fails only
@@ -139,7 +137,7 @@ pub(crate) fn layers_of(
     }
     for &hex in &Hex::ALL {
         for &layer in &HEX_LAYERS {
-            layers.push(parts_of_hex(alloc, layer, scene, hex, shown.number, drawings)?)?;
+            layers.push(parts_of_hex(alloc, layer, scene, hex, drawings)?)?;
         }
     }
     for cell in cells_of(alloc, scene)? {
@@ -163,14 +161,7 @@ fn parts_of(
     match layer {
         Layer::Result => put_result(&mut out, scene),
         Layer::Lines => {
-            put_lines(
-                alloc,
-                &mut out,
-                history,
-                shown.routes,
-                drawings,
-                shown.number,
-            )?;
+            put_lines(alloc, &mut out, history, shown.routes, drawings)?;
         }
         Layer::Sums => put_tags(alloc, &mut out, history, shown.routes)?,
         Layer::Runs => put_route_rows(alloc, &mut out, history, shown.routes)?,
@@ -196,7 +187,6 @@ fn parts_of_hex(
     layer: HexLayer,
     scene: &Scene,
     hex: Hex,
-    round: usize,
     drawings: &mut Drawings,
 ) -> Result<Vec<Part>, AllocError> {
     let look = Look::on(scene.history.lays(), hex);
@@ -210,7 +200,7 @@ fn parts_of_hex(
             if has_drawing(&look) {
                 put_rims(&mut out, scene, &look);
                 if let Some(track) = track_of(alloc, &look)? {
-                    put_use(&mut out, drawings.number_of(track, round)?, "", "");
+                    put_use(&mut out, drawings.number_of(track)?, "", "");
                 }
             }
         }

@@ -16,11 +16,10 @@ pub(crate) fn put_lines(
     history: &History,
     routes: &Routes,
     drawings: &mut Drawings,
-    round: usize,
 ) -> Result<(), AllocError> {
     for (number, route) in routes.routes.iter().enumerate() {
         if let Some(line) = line_of(alloc, history, routes, number)? {
-            let drawn = drawings.number_of(line, round)?;
+            let drawn = drawings.number_of(line)?;
             out.begin_as(Tag::Group, "ra");
             put_title(out, route);
             put_use(out, drawn, "", "");

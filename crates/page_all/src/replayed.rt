@@ -90,7 +90,6 @@ impl Replayed {
         let shown = Shown {
             routes: &routes,
             turns: turns.as_slice(),
-            number: self.entries.len().max(1),
         };
         let page = layers_of(alloc, &Scene::of(stood), shown, &mut self.drawings)?;
         self.pages.push(page)?;

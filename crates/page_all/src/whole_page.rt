@@ -183,7 +183,7 @@ impl Replayed {
         let words = "Map and the routes of the last operating round";
         begin_section(out, "map", words, "");
         begin_picture(out, None);
-        self.drawings.put(out, self.before.saturating_add(1));
+        self.drawings.put(out);
         out.begin_as(Tag::Group, "ground");
         for (number, hex) in Hex::ALL.iter().enumerate() {
             out.begin(Tag::Anchor);
