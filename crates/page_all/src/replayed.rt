@@ -1,4 +1,5 @@
 //! The rounds of a game, each with what a page shows of it.
+ghost use Rattle.std.specs.Prelude.{◌≡◌, ◌-◌, length};
 
 use crate::drawings::Drawings;
 use crate::layers::{Shown, layers_of};
@@ -98,7 +99,9 @@ impl Replayed {
     }
 
     /// Returns the number of its last page.
-    pub(crate) fn last(&self) -> usize {
+    pub(crate) fn last(&self) -> usize
+        ensures { result ≡ length self.now.pages.items - 1 }
+    {
         self.pages.len().saturating_sub(1)
     }
 }
