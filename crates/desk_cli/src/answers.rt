@@ -6,11 +6,12 @@ use crate::task::{Job, Task};
 use desk::{StateForm, round_facts, state};
 use desk_base::{DeskFault, Moment, Reason, all_reasons_text, explain, list_text, reason_text};
 use desk_check::{Extent, check};
-use desk_moves::{LayForm, MayForm, MovesFault, Progress, Question, answer, trial};
+use desk_may::Progress;
+use desk_moves::{LayForm, MayForm, MovesFault, Question, answer, trial};
 use desk_round::{round, round_with_rules, runs};
 use page::{bulletin, page, page_to_hexes, tile_sheet};
 use page_all::{page_of_all, page_of_all_to_hexes};
-use page_lays::{Progress as LaysProgress, STYLE, Wanted, end_page};
+use page_lays::{STYLE, Wanted, end_page};
 use report::refusal_text;
 use std::alloc::{AllocError, Global};
 use tables::Round;
@@ -52,7 +53,7 @@ pub(crate) struct Answer<'a> {
 }
 
 /// Returns what to write for a task and an order file.
-pub(crate) fn answer_to<'a, P: Progress + LaysProgress>(
+pub(crate) fn answer_to<'a, P: Progress>(
     alloc: Global,
     file: &[u8],
     task: &Task<'a>,
@@ -95,7 +96,7 @@ pub(crate) fn answer_to<'a, P: Progress + LaysProgress>(
 }
 
 /// Returns the page of a game with what may be done in it.
-fn page_with_lays<P: LaysProgress>(
+fn page_with_lays<P: Progress>(
     alloc: Global,
     file: &[u8],
     task: &Task,

@@ -1,6 +1,6 @@
 //! Progress on standard error while a text takes long.
 
-use desk_moves::Progress;
+use desk_may::Progress;
 use std::rt::Runtime;
 use std::time::Instant;
 
@@ -48,12 +48,6 @@ impl<'a> Waiting<'a> {
 }
 
 impl Progress for Waiting<'_> {
-    fn tell(&mut self, done: usize, of: usize) {
-        self.say(done, of);
-    }
-}
-
-impl page_lays::Progress for Waiting<'_> {
     fn tell(&mut self, done: usize, of: usize) {
         self.say(done, of);
     }

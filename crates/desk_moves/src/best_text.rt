@@ -7,12 +7,12 @@ ghost use Rattle.legal_runs.specs.Claim.{ClaimHolds};
 ghost use Rattle.legal_runs.specs.Set.{IsGreatest};
 ghost use Rattle.tables.specs.Train.{kinds, same_kind};
 
-use crate::board_now::board_now;
 use crate::fault::{MovesFault, NoAnswer};
 use best_run::best;
 use board::Board;
 use desk_base::Piece::{Number, Words};
 use desk_base::{fill, push_run, trains_of};
+use desk_may::board_now;
 use history::History;
 use legal_runs::Claim;
 use std::alloc::{AllocError, Global};

@@ -4,12 +4,11 @@ ghost use Rattle.board_state.specs.MapState.{position_of, with_lay, with_token};
 ghost use Rattle.legal_runs.specs.Set.{IsGreatestMoney};
 ghost use Rattle.operating.specs.MapState.{map_state_now};
 
-use crate::best_after::Trains;
 use crate::fault::MovesFault;
 use crate::lay_text::{has_same_track, push_rotations, push_tile, push_token};
-use crate::progress::Progress;
 use desk_base::Piece::{Column, Count, Number, Right, Words};
 use desk_base::{fill, push};
+use desk_may::{Progress, Trains};
 use map_tables::{Lay, Place};
 use moves::Priced;
 use order_grammar::{Order, print_order};

@@ -2,15 +2,12 @@
 //! of the tile and the price; on request, what the company's trains would earn after each; and a
 //! train that the company must buy.
 
-use crate::best_after::Trains;
-use crate::board_now::board_now;
 use crate::fault::MovesFault;
 use crate::lay_best::Earning;
-use crate::progress::Progress;
 use crate::questions::LayForm;
 use desk_base::Piece::{Bytes, Column, Count, Number, Right, Words};
 use desk_base::{fill, push, tiles_left, trains_of};
-use desk_may::{push_end_of_turn, push_until_then};
+use desk_may::{Progress, Trains, board_now, push_end_of_turn, push_until_then};
 use foresight::OrdersAhead;
 use history::{History, Party};
 use map_tables::{Lay, Place, laid_links};

@@ -6,17 +6,14 @@
 //! search that RUN BEST uses. Each call takes the allocator and the bytes of an order file, and
 //! returns text; no call reads or writes a stream.
 //!
-//! Reading order: `fault` (why there is no answer), `progress` (how far a long answer has got),
-//! `words` (companies, hexes and trains on a command line), `questions` (`answer`: the turn that is
-//! asked), `coming` (the game before the coming round), `board_now` (its board), `line_text` (lays
-//! and tokens as order lines), `lay_text` (the same for a reader), `best_after` and `lay_best`
-//! (with revenues), `best_text` (best runs), `may_text` (what a player may do, by `desk_may`),
-//! `hex_text` with `hex_sides`, `trials` (`trial`).
+//! Reading order: `fault` (why there is no answer), `words` (companies, hexes and trains on a
+//! command line), `questions` (`answer`: the turn that is asked), `coming` (the game before the
+//! coming round), `line_text` (lays and tokens as order lines), `lay_text` (the same for a reader),
+//! `lay_best` (with revenues), `best_text` (best runs), `may_text` (what a player may do, by
+//! `desk_may`), `hex_text` with `hex_sides`, `trials` (`trial`).
 #![tactic(auto)]
 
-mod best_after;
 mod best_text;
-mod board_now;
 mod coming;
 mod fault;
 mod hex_sides;
@@ -25,13 +22,11 @@ mod lay_best;
 mod lay_text;
 mod line_text;
 mod may_text;
-mod progress;
 mod questions;
 mod trials;
 mod words;
 
 pub use fault::{MovesFault, NoAnswer};
-pub use progress::Progress;
 pub use questions::{LayForm, MayForm, Question, answer};
 pub use trials::{TrialRound, trial};
 pub use words::{read_company, read_hex, read_kind};

@@ -4,7 +4,7 @@ ghost use Rattle.std.specs.Prelude.{◌≡◌, ◌++◌, IfOk, OnOk};
 ghost use Rattle.std.specs.List.{flat_map};
 ghost use Rattle.desk_moves.specs.Lines.{AreLines, lay_line, priced_line, token_line};
 
-use crate::board_now::board_now;
+use desk_may::board_now;
 use foresight::OrdersAhead;
 use map_tables::{Lay, Place};
 use moves::{Priced, lays, tokens};

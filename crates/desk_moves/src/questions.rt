@@ -11,7 +11,7 @@ use crate::hex_text::hex_text;
 use crate::lay_text::lay_text;
 use crate::line_text::line_text;
 use crate::may_text::may_text;
-use crate::progress::Progress;
+use desk_may::Progress;
 use foresight::{Ahead, Draft, OrdersAhead, RoundAhead};
 use map_tables::Hex;
 use sheets::{Sheets, collect};

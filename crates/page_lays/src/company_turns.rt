@@ -13,14 +13,12 @@ ghost use Rattle.sheets.specs.File.{players_of};
 ghost use Rattle.tables.specs.Roster.{same_company};
 ghost use Rattle.totals.specs.Shares.{president_of};
 
-use crate::best_after::Trains;
 use crate::coming::Coming;
 use crate::move_lines::{Line, lines_of};
 use crate::move_rows::rows_of;
-use crate::progress::Progress;
 use board_state::same_company;
 use desk_base::trains_of;
-use desk_may::push_until_then;
+use desk_may::{Progress, Trains, push_until_then};
 use forced_purchase::Operator;
 use foresight::{Draft, OrdersAhead, RoundAhead};
 use moves::{Row, private_rows, train_rows};

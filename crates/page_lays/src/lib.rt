@@ -11,13 +11,11 @@
 //! turns), `NextRound` (all of it), `Allowed` (which orders of players the page shows).
 //!
 //! Reading order: `coming` (the game before the next round), `move_rows` (lays and tokens as rows),
-//! `best_after` and `move_lines` (what the best runs would earn after each), `progress`,
-//! `company_turns` (the companies of the round), `players`, `offers` (of trains), `may` (all of
-//! it); `pictures` (of tiles), `groups` (lines on the page), `hexes_part`, `may_part`, `style`,
-//! `ending` (`end_page`).
+//! `move_lines` (what the best runs would earn after each), `company_turns` (the companies of the
+//! round), `players`, `offers` (of trains), `may` (all of it); `pictures` (of tiles), `groups`
+//! (lines on the page), `hexes_part`, `may_part`, `style`, `ending` (`end_page`).
 #![tactic(auto)]
 
-mod best_after;
 mod coming;
 mod company_turns;
 mod ending;
@@ -30,10 +28,8 @@ mod move_rows;
 mod offers;
 mod pictures;
 mod players;
-mod progress;
 mod style;
 
 pub use company_turns::Wanted;
 pub use ending::end_page;
-pub use progress::Progress;
 pub use style::STYLE;

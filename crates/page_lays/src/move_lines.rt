@@ -1,11 +1,13 @@
 //! Lays and tokens, each with what the company's best runs would earn after it.
 ghost use Rattle.std.specs.Prelude.{◌≡◌, IfOk, filter, map};
-ghost use Rattle.page_lays.specs.MoveRows.{is_on, row_of};
+ghost use Rattle.board_state.specs.MapState.{position_of};
+ghost use Rattle.legal_runs.specs.Set.{IsGreatestMoney};
+ghost use Rattle.operating.specs.MapState.{map_state_now};
+ghost use Rattle.page_lays.specs.MoveRows.{is_on, row_of, with_move};
 
-use crate::best_after::Trains;
 use crate::move_rows::Move;
-use crate::progress::Progress;
 use board_state::same_hex;
+use desk_may::{Progress, Trains};
 use map_tables::{Hex, Lay, laid_links};
 use moves::Priced;
 use std::alloc::{AllocError, Global};
@@ -53,7 +55,20 @@ fn best_of(trains: Trains, before: &[Line], what: Move) -> Result<Money, AllocEr
             return Ok(best);
         }
     }
-    trains.best_after(what)
+    best_after(trains, what)
+}
+
+/// Returns the greatest revenue of the trains after a lay or a token, in dollars. Fails only if
+/// allocation fails.
+fn best_after(trains: Trains, what: Move) -> Result<Money, AllocError>
+    ensures { let its = trains.entry in IfOk result (IsGreatestMoney
+        (position_of (with_move (map_state_now its.history.now.events) what its.company))
+        its.company its.kinds.now) }
+{
+    match what {
+        Move::Lay(lay) => trains.best_after_lay(lay),
+        Move::Token(place) => trains.best_after_token(place),
+    }
 }
 
 /// Returns whether two moves lay the same track: the same tile on the same hex, in rotations that

@@ -8,7 +8,7 @@ use std::alloc::{AllocError, Global};
 
 /// Returns the board as it is, from the tiles and tokens that the totals keep. It does not read the
 /// events again, since `lays --best` needs a board after each lay. Fails only if allocation fails.
-pub(crate) fn board_now(alloc: Global, history: &History) -> Result<Board, AllocError>
+pub fn board_now(alloc: Global, history: &History) -> Result<Board, AllocError>
     ensures { IfOk result (λ board. board ≡ map_state_now history.now.events) }
 {
     let mut board = Board::empty(alloc, history.phase());

@@ -1,32 +1,34 @@
-//! What a company's trains would earn at their best: now, and after a lay or a token.
+//! The greatest revenue of a company's trains: now, and after a lay or a token.
 ghost use Rattle.std.specs.Prelude.{IfOk};
 ghost use Rattle.board_state.specs.MapState.{position_of, with_lay, with_token};
 ghost use Rattle.legal_runs.specs.Set.{IsGreatestMoney};
 ghost use Rattle.operating.specs.MapState.{map_state_now};
 
 use crate::board_now::board_now;
-use crate::fault::MovesFault;
 use best_run::Search;
 use board::Board;
-use desk_base::DeskFault;
 use history::History;
 use legal_runs::Runner;
 use map_tables::{Lay, Place};
-use std::alloc::Global;
+use std::alloc::{AllocError, Global};
 use tables::{Company, Kind, Money, Round};
 
 /// A company with its trains, in a game, at the head of its orders or after some of them.
 #[derive(Clone, Copy)]
-pub(crate) struct Trains<'a> {
-    pub(crate) alloc: Global,
-    pub(crate) history: &'a History,
-    pub(crate) company: Company,
-    pub(crate) kinds: &'a [Kind],
+pub struct Trains<'a> {
+    /// Where the board and the search are allocated.
+    pub alloc: Global,
+    /// The game.
+    pub history: &'a History,
+    /// The company.
+    pub company: Company,
+    /// The kinds of its trains.
+    pub kinds: &'a [Kind],
 }
 
 impl Trains<'_> {
-    /// Returns the greatest revenue of the trains now, in dollars. The error is `Memory`.
-    pub(crate) fn best_now(self) -> Result<Money, MovesFault>
+    /// Returns the greatest revenue of the trains now, in dollars. Fails only if allocation fails.
+    pub fn best_now(self) -> Result<Money, AllocError>
         ensures { let its = self.entry in IfOk result (IsGreatestMoney
             (position_of (map_state_now its.history.now.events)) its.company its.kinds.now) }
     {
@@ -34,8 +36,9 @@ impl Trains<'_> {
         self.best_on(&board)
     }
 
-    /// Returns the greatest revenue of the trains after a lay, in dollars. The error is `Memory`.
-    pub(crate) fn best_after_lay(self, lay: Lay) -> Result<Money, MovesFault>
+    /// Returns the greatest revenue of the trains after a lay, in dollars. Fails only if allocation
+    /// fails.
+    pub fn best_after_lay(self, lay: Lay) -> Result<Money, AllocError>
         ensures { let its = self.entry in IfOk result (IsGreatestMoney
             (position_of (with_lay (map_state_now its.history.now.events) lay))
             its.company its.kinds.now) }
@@ -45,8 +48,9 @@ impl Trains<'_> {
         self.best_on(&board)
     }
 
-    /// Returns the greatest revenue of the trains after a token, in dollars. The error is `Memory`.
-    pub(crate) fn best_after_token(self, place: Place) -> Result<Money, MovesFault>
+    /// Returns the greatest revenue of the trains after a token, in dollars. Fails only if
+    /// allocation fails.
+    pub fn best_after_token(self, place: Place) -> Result<Money, AllocError>
         ensures { let its = self.entry in IfOk result (IsGreatestMoney
             (position_of (with_token (map_state_now its.history.now.events) place its.company))
             its.company its.kinds.now) }
@@ -56,18 +60,19 @@ impl Trains<'_> {
         self.best_on(&board)
     }
 
-    /// Returns the greatest revenue of the trains on a board, in dollars. The error is `Memory`.
-    fn best_on(self, board: &Board) -> Result<Money, MovesFault>
+    /// Returns the greatest revenue of the trains on a board, in dollars. Fails only if allocation
+    /// fails.
+    fn best_on(self, board: &Board) -> Result<Money, AllocError>
         ensures { let its = self.entry in
             IfOk result (IsGreatestMoney (position_of board.now) its.company its.kinds.now) }
     {
-        // The search does not depend on the round.
+        // A search ignores the round.
         let any_round = Round::Operating { set: 1, number: 1 };
         let mut search = Search::new(self.alloc);
         match search.earn(board, any_round, self.company, self.kinds) {
             Ok(revenue) => Ok(revenue),
             // An allocation failed: passed on.
-            Err(_) => Err(MovesFault::Desk(DeskFault::Memory)),
+            Err(_) => Err(AllocError),
         }
     }
 }
