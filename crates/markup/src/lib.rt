@@ -10,8 +10,8 @@
 //! The definitions, in `specs/`: `Tags` (the names of elements), `Reading` (the reader), `Written`
 //! (what a writer keeps), `Part`, `Escaped` (a text of any bytes, and how it reads).
 //!
-//! Reading order: `point`, `tag`, `part`, `writer`, `piece`, `elements`, `table_forms` (sections and
-//! tables), `livery` (the colours and lines of a company), `script`, `laws`.
+//! Reading order: `point`, `tag`, `part`, `writer`, `piece`, `elements`, `table_forms` (sections
+//! and tables), `livery` (the colours and lines of a company), `script`, `laws`.
 #![tactic(auto)]
 
 mod elements;

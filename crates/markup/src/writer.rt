@@ -232,8 +232,8 @@ impl Writer {
         }
     }
 
-    /// Makes a part of what a writer of parts has written since the last one, if no element is open:
-    /// a text without an element becomes a part too.
+    /// Makes a part of what a writer of parts has written since the last one, if no element is
+    /// open: a text without an element becomes a part too.
     pub fn end_part(&mut self) {
         self.within();
         if self.is_parted && self.stack.is_empty() {

@@ -1,4 +1,5 @@
-//! Drawings that a page has once: each is defined in the picture of the map, and used by its number.
+//! Drawings that a page has once: each is defined in the picture of the map, and used by its
+//! number.
 ghost use Rattle.std.specs.Prelude.{IfOk, IfSome};
 ghost use Rattle.page_all.specs.Drawings.{IsNumberOf};
 
@@ -20,8 +21,8 @@ impl Drawings {
         }
     }
 
-    /// Returns the number of a drawing. It is added if it is not there yet. Fails only if allocation
-    /// fails.
+    /// Returns the number of a drawing. It is added if it is not there yet. Fails only if
+    /// allocation fails.
     #[tactic(auto, using(crate::proofs::DrawingLemmas::last_number))]
     pub(crate) fn number_of(&mut self, part: Part) -> Result<usize, AllocError>
         ensures { IfOk result (IsNumberOf self.new.parts.items part) }

@@ -8,9 +8,11 @@
 //! that round, in order. The page is well-formed: `markup` defines that. `bench/page-all` compares
 //! what each button shows with the page of its round.
 //!
+//! The definitions, in `specs/`: `Drawings` (the numbers of what stands once).
+//!
 //! Reading order: `drawings` (what is drawn often stands once), `lines` (of routes), `route_rows`,
-//! `turns` (what happened), `cells` (of tables), `layers` (all of a round), `replayed` (all rounds),
-//! `style`, `tables_part`, `whole_page` (how it is written), `all_rounds` (`page_of_all`).
+//! `turns` (what happened), `cells` (of tables), `layers` (all of a round), `replayed` (the
+//! rounds), `style`, `tables_part`, `whole_page` (how it is written), `all_rounds` (`page_of_all`).
 #![tactic(auto)]
 
 mod all_rounds;

@@ -15,7 +15,8 @@ use std::alloc::{AllocError, Global};
 use tables::{COMPANIES, Company, Seat};
 
 impl Replayed {
-    /// Adds cells of a row of a table, as many as this, the first of which is the layer of a number.
+    /// Adds cells of a row of a table, as many as this, the first of which is the layer of a
+    /// number.
     fn put_cells_of(
         &self,
         alloc: Global,

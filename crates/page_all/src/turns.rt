@@ -7,8 +7,8 @@ use markup::{Tag, Writer};
 use std::alloc::{AllocError, Global};
 use tables::Round;
 
-/// Returns what happened in the last round, without lines that were refused and without the stops of
-/// runs; no text if no round has been played. Fails only if allocation fails.
+/// Returns what happened in the last round, without lines that were refused and without the stops
+/// of runs; no text if no round has been played. Fails only if allocation fails.
 pub(crate) fn turns_text(alloc: Global, stood: &Stood) -> Result<Vec<u8>, AllocError> {
     let Some(round) = stood.history.now().round() else {
         return Ok(Vec::new(alloc));

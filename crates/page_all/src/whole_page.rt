@@ -124,8 +124,8 @@ fn put_title(out: &mut Writer, replayed: &Replayed, tag: Tag) {
 }
 
 impl Replayed {
-    /// Returns the layer of a number of all pages: the rule of style of each page leaves the parts of
-    /// that page, in order. Fails only if allocation fails.
+    /// Returns the layer of a number of all pages: the rule of style of each page leaves the parts
+    /// of that page, in order. Fails only if allocation fails.
     pub(crate) fn lasting(
         &self,
         alloc: Global,

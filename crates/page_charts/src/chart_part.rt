@@ -197,8 +197,8 @@ fn put_stack(out: &mut Writer, tokens: &ChartTokens, square: Square) {
     }
 }
 
-/// Adds an arrow to a token that was moved in the last round, from its earlier square, with its head
-/// or without it.
+/// Adds an arrow to a token that was moved in the last round, from its earlier square, with its
+/// head or without it.
 fn put_arrow(out: &mut Writer, tokens: &ChartTokens, token: &ChartToken, has_head: bool) {
     let Some(from) = token.from else {
         return;

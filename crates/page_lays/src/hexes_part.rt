@@ -11,8 +11,8 @@ use picture::Look;
 use std::alloc::{AllocError, Global};
 
 /// Adds the hexes, each with the lines of companies there. `words` has what is written of each hex
-/// before them; if it has nothing of a hex, the hex is written as it is now. Fails only if allocation
-/// fails.
+/// before them; if it has nothing of a hex, the hex is written as it is now. Fails only if
+/// allocation fails.
 pub(crate) fn put_hexes(
     alloc: Global,
     out: &mut Writer,

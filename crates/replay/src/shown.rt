@@ -6,9 +6,9 @@ use markup::PagePiece::{Count, Words};
 use markup::{Attr, PagePiece, Tag, Writer};
 use std::collections::VecDeque;
 
-/// Adds a list of parts. Those that some of the pages up to the last one have not are in elements of
-/// this tag, by their pages: the class `f` and a number says which page has them first, and `t` and
-/// a number which has them last.
+/// Adds a list of parts. Those that some of the pages up to the last one have not are in elements
+/// of this tag, by their pages: the class `f` and a number says which page has them first, and `t`
+/// and a number which has them last.
 pub fn put_replay(out: &mut Writer, parts: VecDeque<Lasting>, last: usize, tag: Tag) {
     let mut open = Classes::NONE;
     for lasting in parts {
