@@ -21,31 +21,43 @@ pub(crate) fn turns_text(alloc: Global, stood: &Stood) -> Result<Vec<u8>, AllocE
     }
 }
 
-/// Returns a text with a tab in place of each four spaces at the start of a line. Fails only if
-/// allocation fails.
+/// How many columns a tab has at most.
+const TAB: usize = 4;
+
+/// Returns a text with tabs in place of spaces where these are more than one, such that each byte
+/// keeps its column. Fails only if allocation fails.
 fn tabbed(alloc: Global, text: &[u8]) -> Result<Vec<u8>, AllocError> {
     let mut short = Vec::new(alloc);
+    let mut column: usize = 0;
     let mut spaces: usize = 0;
-    let mut is_start = true;
     for byte in text {
-        if is_start && *byte == b' ' {
+        if *byte == b' ' {
             spaces = spaces.saturating_add(1);
         } else {
-            push_indent(&mut short, spaces)?;
+            push_gap(&mut short, column, spaces)?;
             short.push(*byte)?;
+            let next = column.saturating_add(spaces).saturating_add(1);
+            column = if *byte == b'\n' { 0 } else { next };
             spaces = 0;
-            is_start = *byte == b'\n';
         }
     }
     Ok(short)
 }
 
-/// Adds this many spaces at the start of a line, each four of them as a tab.
-fn push_indent(text: &mut Vec<u8>, spaces: usize) -> Result<(), AllocError> {
-    for _ in 0..spaces / 4 {
+/// Adds this many spaces behind a column, or tabs up to the last stop among them and spaces from
+/// there.
+fn push_gap(text: &mut Vec<u8>, column: usize, spaces: usize) -> Result<(), AllocError> {
+    let end = column.saturating_add(spaces);
+    let tabs = (end / TAB).saturating_sub(column / TAB);
+    let (tabs, rest) = if tabs > 0 && spaces > 1 {
+        (tabs, end % TAB)
+    } else {
+        (0, spaces)
+    };
+    for _ in 0..tabs {
         text.push(b'\t')?;
     }
-    for _ in 0..spaces % 4 {
+    for _ in 0..rest {
         text.push(b' ')?;
     }
     Ok(())
