@@ -9,7 +9,7 @@ use Rattle.desk_round.proofs.sheet_line.push_sheet.Goals as goal
 pub loop-init : goal.loop-init
 loop-init c =
     ap (λ (parts : Parts). map placed c.args.lines.now.items
-    ++ take lines_kept (lines_left c.args.seat line_place.Standing parts)) c.parts.ensures
+    ++ take lines_kept (lines_left c.args.seat line_place.Standing parts)) c.parts-parts.ensures
 
 pub loop-preserved : goal.loop-preserved
 loop-preserved c =

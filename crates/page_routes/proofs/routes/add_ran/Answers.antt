@@ -3,6 +3,6 @@ use Rattle.page_routes.proofs.routes.add_ran.Goals as goal
 
 pub returns-clause-added : goal.returns-clause-added
 returns-clause-added c =
-    adds_then c.args.walk.now.events.now c.go.new.self.events.now c.view.result.events.now c.go.new.self.passed
+    adds_then c.args.walk.now.events.now c.go.new.self.events.now c.view-view.result.events.now c.go.new.self.passed
     c.args.line _ _ _
-    c.go.ensures.events c.go.ensures.passed c.view.ensures.events ? c.in_ok-add_at.ensures
+    c.go.ensures.events c.go.ensures.passed c.view-view.ensures.events ? c.in_ok-add_at.ensures
