@@ -9,5 +9,6 @@ pub mod Played
 pub mod Refused
 pub mod RoundPart
 pub mod RunsRound
+pub mod SheetLines
 pub mod Track
 pub mod Why

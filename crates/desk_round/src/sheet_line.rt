@@ -1,9 +1,12 @@
 //! The lines of the sheets for a round, by number: the text of each, and where it is.
-ghost use Rattle.std.specs.Prelude.{◌≡◌, ◌==◌, find};
+ghost use Rattle.std.specs.Prelude.{◌≡◌, ◌==◌, ◌++◌, IfOk, Ok, OnOk, find, map};
+ghost use Rattle.desk_round.specs.SheetLines.{TakesNext, lines_of, lines_of_seat, place_behind, placed};
+ghost use Rattle.desk_round.specs.SheetLines.{placed_at};
 ghost use Rattle.desk_round.specs.Why.{company_at, is_line_of, line_at};
+ghost use Rattle.sheets.specs.Part.{line_unread};
 
-use order_grammar::Order;
-use sheets::{Sheets, UnreadLine};
+use order_grammar::{Order, Version};
+use sheets::{PartsLeft, Sheets, UnreadLine};
 use std::alloc::{AllocError, Global};
 use tables::{Company, Round, Seat};
 
@@ -18,6 +21,8 @@ pub struct SheetLine<'a> {
     seat: Seat,
     /// Its number in the sheet.
     number: u32,
+    /// The version of its file.
+    version: Version,
     /// Its bytes.
     pub text: &'a [u8],
     /// Where it is in the sheet.
@@ -71,7 +76,9 @@ pub fn lines_of<'a>(
     alloc: Global,
     sheets: &Sheets<'a>,
     round: Round,
-) -> Result<Vec<SheetLine<'a>>, AllocError> {
+) -> Result<Vec<SheetLine<'a>>, AllocError>
+    ensures { IfOk result (λ lines. map placed lines.items ≡ lines_of sheets.now round) }
+{
     let mut lines = Vec::new(alloc);
     for seat in 0..sheets.seats() {
         push_sheet(&mut lines, sheets, Seat::at(seat), round)?;
@@ -85,35 +92,67 @@ fn push_sheet<'a>(
     sheets: &Sheets<'a>,
     seat: Seat,
     round: Round,
-) -> Result<(), AllocError> {
+) -> Result<(), AllocError>
+    ensures { OnOk result (map placed lines.new.items
+        ≡ map placed lines.old.items ++ lines_of_seat sheets.now round seat) }
+{
     let mut parts = sheets.parts(seat, round);
     let mut place = LinePlace::Standing;
     for _ in 0..LINES_KEPT {
-        let (line, is_head) = match parts.take_line() {
-            Some(line) => (line, false),
-            None => match parts.take_head() {
-                Some(head) => {
-                    place = place_behind(head);
-                    (head, true)
-                }
-                None => return Ok(()),
-            },
-        };
-        lines.push(SheetLine {
-            seat,
-            number: line.number,
-            text: line.text,
-            place,
-            is_head,
-        })?;
+        match take_next(&mut parts, seat, place) {
+            Some(line) => {
+                place = line.place;
+                lines.push(line)?;
+            }
+            None => return Ok(()),
+        }
     }
     Ok(())
 }
 
+/// Takes the next line of a seat's sheet, and returns it; `None` if there is none. The lines before
+/// the next head are at this place.
+fn take_next<'a>(parts: &mut PartsLeft<'a>, seat: Seat, place: LinePlace) -> Option<SheetLine<'a>>
+    ensures { TakesNext seat place parts.old result parts.new }
+{
+    if let Some(line) = parts.take_line() {
+        return Some(line_here(line, seat, place, false));
+    }
+    let head = parts.take_head()?;
+    Some(line_here(head, seat, place_behind(head), true))
+}
+
+/// Returns a line of a seat's sheet, with where it is and whether it is a head.
+fn line_here(line: UnreadLine, seat: Seat, place: LinePlace, is_head: bool) -> SheetLine
+    ensures line { placed result ≡ placed_at seat place is_head (line_unread line.entry) }
+    ensures place { result.place ≡ place }
+{
+    SheetLine {
+        seat,
+        number: line.number,
+        version: line.version,
+        text: line.text,
+        place,
+        is_head,
+    }
+}
+
 /// Returns where the lines after a head are: among the orders for its company, or in a turn.
-fn place_behind(head: UnreadLine) -> LinePlace {
+fn place_behind(head: UnreadLine) -> LinePlace
+    ensures { result ≡ place_behind (line_unread head.entry).reading }
+{
     match head.read().order() {
-        Ok(Order::Company(company)) => LinePlace::Orders(*company),
+        Ok(order) => place_of(order),
+        Err(_) => LinePlace::Turn,
+    }
+}
+
+/// Returns where the lines after a head with this order are.
+fn place_of(order: &Order) -> LinePlace
+    ensures { result ≡ place_behind (Ok order.now) }
+{
+    match order {
+        Order::Company(company) => LinePlace::Orders(*company),
         _ => LinePlace::Turn,
     }
 }

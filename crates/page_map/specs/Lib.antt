@@ -1,3 +1,4 @@
 pub mod ClosedWords
 pub mod News
+pub mod SceneShown
 pub mod TokensShown

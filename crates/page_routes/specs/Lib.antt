@@ -1,2 +1,3 @@
 pub mod Lanes
+pub mod LastRuns
 pub mod ShownRuns

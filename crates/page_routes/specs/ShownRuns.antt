@@ -1,5 +1,5 @@
--- What a page shows of runs: whose each is, the kind of its train, and its places.
-use Rattle.std.specs.Prelude.{◌≡◌, List, ◌++◌, map}
+-- What a page shows of runs: whose each is, the kind of its train, whether it is from a RUN BEST, and its places.
+use Rattle.std.specs.Prelude.{◌≡◌, Bool, true, List, ◌++◌, map}
 use Rattle.events.specs.declared.event.Event.{Event}
 use Rattle.legal_runs.specs.Claim.{ClaimHolds}
 use Rattle.legal_runs.specs.Set.{IsGreatest}
@@ -18,16 +18,16 @@ abbrev pub place_of : Visit → Place
 place_of visit = visit.place
 
 -- a run as it is shown
-abbrev pub shown : Route → Company × Kind × List Place
-shown route = (route.company, route.kind, map place_of route.visits.items)
+abbrev pub shown : Route → Company × Kind × Bool × List Place
+shown route = (route.company, route.kind, route.is_best, map place_of route.visits.items)
 
 -- runs as they are shown
-abbrev pub all_shown : List Route → List (Company × Kind × List Place)
+abbrev pub all_shown : List Route → List (Company × Kind × Bool × List Place)
 all_shown routes = map shown routes
 
 -- a run of a claim of a company, as it is to be shown
-abbrev pub claimed_by : Company → ClaimedRun → Company × Kind × List Place
-claimed_by company claimed = (company, claimed.kind, claimed.run)
+abbrev pub claimed_by : Company → ClaimedRun → Company × Kind × Bool × List Place
+claimed_by company claimed = (company, claimed.kind, true, claimed.run)
 
 -- runs are added that are legal for a company's trains as the game stands, and earn the most
 abbrev pub AddsBest : List Event → Company → List Route → List Route → Type 0
