@@ -4,7 +4,7 @@ ghost use Rattle.board_state.specs.MapState.{position_of, with_lay, with_token};
 ghost use Rattle.legal_runs.specs.Set.{IsGreatestMoney};
 ghost use Rattle.operating.specs.MapState.{map_state_now};
 
-use crate::board_now::board_now;
+use crate::boards::board_now;
 use best_run::Search;
 use board::Board;
 use history::History;

@@ -12,12 +12,12 @@
 //! `may_opening`, `may_stock`, `may_operating` (the lines of each kind of round), `must_buy` (a
 //! train that a company must buy), `offerers` (who may offer a train), `raise_rows` (the outcome of
 //! a RAISE), `row_lines` (rows as lines), `may_lines` (the same as the lines of a sheet). Apart from
-//! these: `board_now` (the board of a game), `best_after` (what a company's trains would earn after
+//! these: `boards` (the board of a game), `best_after` (what a company's trains would earn after
 //! a lay or a token), and `progress` (how far a long answer has got), for the crates above.
 #![tactic(auto)]
 
 mod best_after;
-mod board_now;
+mod boards;
 mod company_told;
 mod may_line;
 mod may_lines;
@@ -37,7 +37,7 @@ mod told_rows;
 mod until_then;
 
 pub use best_after::Trains;
-pub use board_now::board_now;
+pub use boards::board_now;
 pub use may_lines::{push_lines_of_operating, push_lines_of_turn, push_standing_lines};
 pub use may_opening::push_of_opening;
 pub use may_operating::push_of_operating;

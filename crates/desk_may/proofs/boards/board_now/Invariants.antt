@@ -3,7 +3,7 @@ use Rattle.std.proofs.Common.{◌≡◌, [], take}
 use Rattle.board_state.specs.MapState.{map_state_of}
 use Rattle.totals.specs.Operating.{lays_of, tokens_of}
 use Rattle.totals.specs.Trains.{phase_of}
-use Rattle.desk_may.proofs.board_now.board_now.Given as goal
+use Rattle.desk_may.proofs.boards.board_now.Given as goal
 
 abbrev pub invariant-loop-lay : goal.invariant-loop-lay
 invariant-loop-lay l =
