@@ -99,6 +99,19 @@ read_tiles() {
   count 'the sheet of all tiles' "$why"
 }
 
+# read_history: the history of a long game shows all rounds up to 48, of more every second, every third and so on, and always the
+# last.
+read_history() {
+  local it round rounds why=
+  for it in PR47:47 PR48:48 PR49:25 PR95:48 PR96:48 PR97:33 PR144:48 PR145:37; do
+    round=${it%:*}
+    rounds=$("$desk" page "$round" < games/broken-bank.orders 2> "$scratch/err" | sed -n '/id="figures"/,/<\/table>/p' |
+      grep -o '<th scope="row">[A-Z0-9]*')
+    [ "$(wc -l <<< "$rounds") ${rounds##*>}" = "${it#*:} $round" ] || why+=" another number of rounds after $round;"
+  done
+  count 'the rounds of a history' "${why# }"
+}
+
 # compare_picture FILE: the picture of the documents is the map of a page.
 compare_picture() {
   "$desk" page < games/presidents-run-their-best.orders 2> "$scratch/err" | tools/map-picture > "$scratch/picture" 2>> "$scratch/err"
@@ -116,6 +129,7 @@ check_page() {
   side_by_side read_all "${all_games[@]}"
   read_all_lays first-stock-round
   read_tiles
+  read_history
   compare_picture docs/page-map.svg
 }
 
@@ -135,6 +149,7 @@ page_must_fail() {
   sees 'a page without what may be done' all side_by_side play_lays games/page/*.lays
   sees 'the same of another game' 1 read_lays first-dividend
   sees 'a sheet without tiles' 1 read_tiles
+  sees 'a history without rounds' 1 read_history
   sees 'another picture' 1 compare_picture docs/page-map.svg
   program=$1 desk=$2
   desk=$(desk_but 's/onclick=e/onclick=d/')

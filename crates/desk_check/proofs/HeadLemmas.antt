@@ -193,27 +193,14 @@ pub came_with_one : (heads : List Head) (head : Head)
     → map head_at (heads ++ head ∷ []) ≡ map head_at heads ++ head_at head ∷ []
 came_with_one heads head = map-append head_at heads (head ∷ [])
 
--- one more line
-pub heads_step : (players : List (List ℕ)) (passed : ℕ) (old new whole : List HeadAt) (lines : List (List ℕ))
-    (line : List ℕ) (left : List (List ℕ)) →
-    old ++ heads_in players passed lines ≡ whole → lines ≡ line ∷ left
-    → new ≡ old ++ head_here (passed + 1) (begins players line)
-    → new ++ heads_in players (passed + 1) left ≡ whole
-heads_step players passed old new whole lines line left h e f =
-    rw (f, append_assoc) (sym (ap (λ ls. old ++ heads_in players passed ls) e) ∙ h)
-
--- a line that begins no sheet
-pub heads_stay : (players : List (List ℕ)) (passed : ℕ) (heads whole : List HeadAt) (lines : List (List ℕ))
-    (line : List ℕ) (left : List (List ℕ)) →
-    heads ++ heads_in players passed lines ≡ whole → lines ≡ line ∷ left → begins players line ≡ None
-    → heads ++ heads_in players (passed + 1) left ≡ whole
-heads_stay players passed heads whole lines line left h e none =
-    sym (ap (λ (begun : Option SheetKey).
-    heads ++ (head_here (passed + 1) begun ++ heads_in players (passed + 1) left)) none)
-    ∙ sym (ap (λ ls. heads ++ heads_in players passed ls) e) ∙ h
+-- the next line that is taken, which may begin a sheet
+pub heads_step : (old new head left rest whole : List HeadAt) → old ++ left ≡ whole → left ≡ head ++ rest
+    → new ≡ old ++ head → new ++ rest ≡ whole
+heads_step old new head left rest whole h e f =
+    rw (f, append_assoc) (sym (ap (λ (heads : List HeadAt). old ++ heads) e) ∙ h)
 
 -- no line is left
-pub heads_end : (players : List (List ℕ)) (passed : ℕ) (heads whole : List HeadAt) (lines : List (List ℕ)) →
-    heads ++ heads_in players passed lines ≡ whole → lines ≡ [] → heads ≡ whole
-heads_end players passed heads whole lines h e =
-    sym (append-nil heads) ∙ sym (ap (λ ls. heads ++ heads_in players passed ls) e) ∙ h
+pub heads_end : (heads left rest whole : List HeadAt) → heads ++ left ≡ whole → left ≡ [] ++ rest → rest ≡ []
+    → heads ≡ whole
+heads_end heads left rest whole h e none =
+    sym (append-nil heads) ∙ sym (ap (λ (more : List HeadAt). heads ++ more) (e ∙ none)) ∙ h

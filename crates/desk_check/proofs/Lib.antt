@@ -3,6 +3,7 @@ pub mod SaidLemmas
 pub mod FileLemmas
 pub mod HeadLemmas
 pub mod NumberedLemmas
+pub mod PlainLemmas
 pub mod RefusedLemmas
 pub mod RoundLemmas
 pub mod SentLemmas

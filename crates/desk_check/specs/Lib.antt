@@ -6,6 +6,7 @@ pub mod Looked
 pub mod Mail
 pub mod Numbered
 pub mod OrderSteps
+pub mod PlainLines
 pub mod Refusals
 pub mod Refused
 pub mod Replaced

@@ -39,6 +39,20 @@ impl<'a> Iterator for FileLines<'a> {
     ghost remaining = { λ lines. at_most (length lines.rest.now) };
 
     fn next(&mut self) -> Option<FileLine<'a>> {
+        self.take_line()
+    }
+}
+
+impl<'a> FileLines<'a> {
+    ghost use Rattle.std.specs.Prelude.{◌<◌, IfSome};
+    ghost use Rattle.desk_check.specs.FileLines.{TakesFileLine};
+
+    /// Takes the next line and returns it; `None` if none is left.
+    pub(crate) fn take_line(&mut self) -> Option<FileLine<'a>>
+        ensures taken { TakesFileLine self.old result self.new }
+        ensures shorter { IfSome result (λ _.
+            length self.new.rest.now < length self.old.rest.now) }
+    {
         let from = self.rest;
         let piece = first_line(from)?;
         self.passed += 1;

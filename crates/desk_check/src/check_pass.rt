@@ -1,8 +1,8 @@
 //! One pass over the lines of a file: its SHEET lines, lines outside sheets, and lines that look
 //! like mail.
-ghost use Rattle.std.specs.Prelude.{◌≡◌, ℕ, ◌≤◌, ◌++◌, IfOk, List, None, OnOk, length};
-ghost use Rattle.std.specs.Bool.{OnTrue};
+ghost use Rattle.std.specs.Prelude.{◌≡◌, ℕ, ◌<◌, ◌≤◌, ◌++◌, [], IfNone, IfOk, IfSome, List, OnOk, length};
 ghost use Rattle.desk_check.specs.Heads.{AreKept, came};
+ghost use Rattle.desk_check.specs.PlainLines.{head_on, heads_left};
 ghost use Rattle.desk_check.specs.SheetLines.{head_here, heads_in};
 ghost use Rattle.sheets.specs.File.{begins, players_of};
 ghost use Rattle.sheets.specs.Limits.{file_most};
@@ -14,7 +14,8 @@ use crate::check_mail::is_mail;
 use crate::check_names::likeness_of;
 use crate::check_said::names_of;
 use crate::check_sheets::{Beginning, Head, Heads, Sent, begun_by};
-use crate::sheet_like::{closes, is_like_sheet};
+use crate::plain_lines::pass_plain;
+use crate::sheet_like::is_like_sheet;
 use hints::{Faulty, line_meant};
 use order_grammar::Fault;
 use report::name;
@@ -55,7 +56,7 @@ struct Closing<'a> {
 
 /// Reads the lines of a file once, for its good SHEET lines and what there is to report of other
 /// lines.
-#[tactic(auto, using(crate::proofs::HeadLemmas::heads_step, crate::proofs::HeadLemmas::heads_stay, crate::proofs::HeadLemmas::heads_end))]
+#[tactic(auto, using(crate::proofs::HeadLemmas::heads_end))]
 pub(crate) fn pass_over<'a>(
     alloc: Global,
     sheets: &Sheets,
@@ -76,14 +77,11 @@ pub(crate) fn pass_over<'a>(
         closing: None,
         meant: Vec::new(alloc),
     };
-    let lines = FileLines {
+    let mut lines = FileLines {
         passed: 0,
         rest: file,
     };
-    for line in lines {
-        if pass.open.is_some() && is_plain(line.text) {
-            continue;
-        }
+    while let Some(line) = pass.next_line(&mut lines) {
         pass.take(sheets, line)?;
     }
     pass.end_closing()?;
@@ -91,6 +89,22 @@ pub(crate) fn pass_over<'a>(
 }
 
 impl<'a> Pass<'a> {
+    /// Returns the next line that is to be taken, and passes over those before it: in a sheet all
+    /// that show by their first bytes that there is nothing to say about them. Returns `None` if no
+    /// line is left.
+    fn next_line(&self, lines: &mut FileLines<'a>) -> Option<FileLine<'a>>
+        ensures heads { (players : List (List ℕ)) → heads_left players lines.old
+            ≡ head_on players result ++ heads_left players lines.new }
+        ensures all { IfNone result (lines.new.rest.now ≡ []) }
+        ensures shorter { IfSome result (λ _.
+            length lines.new.rest.now < length lines.old.rest.now) }
+    {
+        if self.open.is_some() {
+            pass_plain(lines);
+        }
+        lines.take_line()
+    }
+
     /// Takes the next line.
     fn take(&mut self, sheets: &Sheets, line: FileLine<'a>) -> Result<(), AllocError>
         requires { AreKept self.old.heads }
@@ -191,16 +205,6 @@ impl<'a> Pass<'a> {
         let fault = unread_fault(sheets.version(), line.text);
         self.found.add_line(line, Matter::Unread(fault))
     }
-}
-
-/// Returns whether there is nothing to say about a line of a sheet: it is no SHEET line, was not
-/// meant as one, and does not look like mail. (It is asked before a line is taken, since most lines
-/// are such.)
-#[tactic(auto, unfolding(sheets::specs::File::begins))]
-fn is_plain(line: &[u8]) -> bool
-    ensures { OnTrue result ((players : List (List ℕ)) → begins players line.now ≡ None) }
-{
-    !closes(line) && !is_mail(line)
 }
 
 /// Returns the sheet that a line with a fault was meant to begin; `None` if that is not known.

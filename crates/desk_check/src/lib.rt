@@ -8,7 +8,8 @@
 //!
 //! Reading order: `check_lines` (the lines of a file), `check_mail`, `check_names`, `check_found`
 //! (what is found), `check_sheets` (the SHEET lines), `sheet_like` (lines that were meant as SHEET
-//! lines), `check_pass` (one pass over a file), `meant` (lines below a SHEET line with a fault),
+//! lines), `plain_lines` (lines about which there is nothing to say), `check_pass` (one pass over a
+//! file), `meant` (lines below a SHEET line with a fault),
 //! `check_changed` and `check_late` (sheets that replace others), `check_early` (sheets for rounds
 //! to come), `check_refused` (refused files); then the trials: `refusals` (the lines that they
 //! refuse), `outcome` (what the last round refused), `numbered` (where those lines are in the
@@ -39,6 +40,7 @@ mod meant;
 mod numbered;
 mod outcome;
 mod owed;
+mod plain_lines;
 mod refusals;
 mod sheet_like;
 mod taken;

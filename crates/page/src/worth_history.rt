@@ -97,7 +97,7 @@ const ROUNDS_MOST: usize = 48;
 /// Returns the entries that the page shows: all, or every second, third and so on, and always the
 /// last.
 pub fn thinned(alloc: Global, entries: &[Entry]) -> Result<Vec<Entry>, AllocError> {
-    let step = entries.len() / ROUNDS_MOST + 1;
+    let step = entries.len().saturating_sub(1) / ROUNDS_MOST + 1;
     let mut kept = Vec::new(alloc);
     for (number, entry) in entries.iter().enumerate() {
         if (entries.len() - number) % step == 1 % step {

@@ -10,7 +10,8 @@
 //! (the tokens of a stop).
 //!
 //! Reading order: `scene` (what a page shows), `tokens` (the contents of slots), `news`,
-//! `hex_words` (a hex in words), `signs`, `legend`, `map_part`, `tiles_part`.
+//! `hex_words` (a hex in words), `signs`, `legend`, `map_part`, `tiles_shown` (how many tiles are
+//! left), `tiles_part`.
 #![tactic(auto)]
 
 mod hex_words;
@@ -20,6 +21,7 @@ mod news;
 mod scene;
 mod signs;
 mod tiles_part;
+mod tiles_shown;
 mod tokens;
 
 pub use hex_words::{begin_hex, begin_hexes, put_hexes, put_sight, put_words};

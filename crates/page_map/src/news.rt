@@ -1,5 +1,6 @@
 //! What the last round laid, placed and moved.
-ghost use Rattle.std.specs.Prelude.{◌≡◌};
+ghost use Rattle.std.specs.Prelude.{◌≡◌, Bool};
+ghost use Rattle.events.specs.declared.event.Event.{Event as AnEvent};
 ghost use Rattle.page_map.specs.News.{in_last_round, is_lay_on, is_move_of, is_token_at, names_stop, square_before_round, square_then};
 
 use board_state::{same_company, same_hex, same_stop};
@@ -7,8 +8,31 @@ use history::Event;
 use map_tables::{Hex, Stop};
 use tables::{Company, Square};
 
+/// Returns the events of the last round without the one that begins it; all events if no round has
+/// begun. (Most events are of earlier rounds, and are not looked at.)
+fn of_last_round(events: &[Event]) -> &[Event]
+    ensures { (is_it : AnEvent → Bool) →
+        in_last_round is_it result.now ≡ in_last_round is_it events.now }
+{
+    let mut from = events.len();
+    while from > 0 {
+        if events[from - 1].round().is_some() {
+            return &events[from..];
+        }
+        from -= 1;
+    }
+    events
+}
+
 /// Returns whether a tile was laid on a hex in the last round.
 pub fn laid_in_last_round(events: &[Event], hex: Hex) -> bool
+    ensures { result ≡ in_last_round (is_lay_on hex) events.now }
+{
+    is_laid_in(of_last_round(events), hex)
+}
+
+/// Returns whether a tile was laid on a hex in the last round of some events.
+fn is_laid_in(events: &[Event], hex: Hex) -> bool
     ensures { result ≡ in_last_round (is_lay_on hex) events.now }
 {
     let mut is_new = false;
@@ -30,6 +54,13 @@ fn is_lay_on(hex: Hex, event: &Event) -> bool
 
 /// Returns whether a company placed a token at a stop in the last round.
 pub fn placed_in_last_round(events: &[Event], stop: Stop, company: Company) -> bool
+    ensures { result ≡ in_last_round (is_token_at stop company) events.now }
+{
+    is_placed_in(of_last_round(events), stop, company)
+}
+
+/// Returns whether a company placed a token at a stop in the last round of some events.
+fn is_placed_in(events: &[Event], stop: Stop, company: Company) -> bool
     ensures { result ≡ in_last_round (is_token_at stop company) events.now }
 {
     let mut is_new = false;
@@ -61,6 +92,14 @@ fn names_stop(stop: Stop, other: Option<Stop>) -> bool
 
 /// Returns whether the token of a company was moved or put on the stock chart in the last round.
 pub fn moved_in_last_round(events: &[Event], company: Company) -> bool
+    ensures { result ≡ in_last_round (is_move_of company) events.now }
+{
+    is_moved_in(of_last_round(events), company)
+}
+
+/// Returns whether the token of a company was moved or put on the stock chart in the last round of
+/// some events.
+fn is_moved_in(events: &[Event], company: Company) -> bool
     ensures { result ≡ in_last_round (is_move_of company) events.now }
 {
     let mut is_new = false;

@@ -1,6 +1,7 @@
 //! The tiles: those that are left, and those on the map.
 use crate::map_part::{put_rim, put_shade, put_value};
-use desk_base::{tile_on, tiles_left};
+use crate::tiles_shown::{left_beside, tiles_on_map};
+use desk_base::tile_on;
 use history::History;
 use map_tables::{Colour, Hex, Lay, Rotation, Side, TileNo, TrackEnd, tile};
 use markup::PagePiece::{Count, Hex as Named, Number, Words};
@@ -82,10 +83,11 @@ pub fn put_tiles_left(out: &mut Writer, history: &History) {
         "(rotation 0 with the numbers of the sides; a rotation r adds r)",
     );
     out.begin_as(Tag::Listing, "tiles");
+    let shown = tiles_on_map(history.lays());
     for &(colour, _) in &TILE_COLOURS {
         for &number in &TileNo::ALL {
             if tile(number).colour as u8 == colour as u8 {
-                put_left(out, history, number);
+                put_left(out, number, left_beside(shown.as_slice(), number));
             }
         }
     }
@@ -94,8 +96,7 @@ pub fn put_tiles_left(out: &mut Writer, history: &History) {
 }
 
 /// Adds how many tiles of a number are left.
-fn put_left(out: &mut Writer, history: &History, number: TileNo) {
-    let left = tiles_left(history.lays(), number);
+fn put_left(out: &mut Writer, number: TileNo, left: usize) {
     out.put(&[Words("\n")]);
     out.begin(Tag::Item);
     if left == 0 {

@@ -19,6 +19,9 @@ pub(crate) fn is_kept(history: &History, stop: Stop, company: Company) -> bool {
 /// Returns the contents of the slots of a hex's stops, this many each: first the tokens on the
 /// board, in roster order, and last the reserved slots.
 pub(crate) fn markers_in(history: &History, hex: Hex, slots: u8) -> [[Marker; 2]; 2] {
+    if slots == 0 {
+        return [[Marker::Free; 2]; 2];
+    }
     [
         markers_at(
             history,

@@ -1,7 +1,7 @@
 use Rattle.std.proofs.Common.{◌≡◌, take, false}
 use Rattle.std.specs.List.{fold}
 use Rattle.page_map.specs.News.{is_move_of, new_then}
-use Rattle.page_map.proofs.news.moved_in_last_round.Given as goal
+use Rattle.page_map.proofs.news.is_moved_in.Given as goal
 
 -- whether the events so far have something new
 abbrev pub invariant-loop-event : goal.invariant-loop-event
