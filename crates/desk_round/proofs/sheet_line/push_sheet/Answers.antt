@@ -14,7 +14,7 @@ loop-init c =
 pub loop-preserved : goal.loop-preserved
 loop-preserved c =
     keeps c.loop.lines.items _ c.in-Some.line _ _ _ lines_kept c.loop.counter c.loop-test.true c.loop.invariant
-    c.in-Some.ensures c.in_ok-push.ensures.items
+    c.in-Some.ensures c.in_ok-push-in-Some.ensures.items
 
 pub returns-in-None : goal.returns-in-None
 returns-in-None c = kept_all c.loop.lines.items _ _ _ c.in-None.ensures c.loop.invariant
