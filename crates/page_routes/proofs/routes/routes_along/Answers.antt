@@ -22,8 +22,9 @@ loop-passed-preserved c =
     let before = c.loop-passed.invariant in
     record {
       lines = before.lines ++ cons_option c.ran_by-line.result [];
-      so_far = ran_step c.args.round c.args.events.now c.loop-passed.passed _ c.loop-passed.within _
-          c.loop-passed.ruled _ before.lines c.ran_by-line.result c.loop-passed-test.true refl before.so_far
+      so_far = ran_step c.args.round c.args.events.now c.loop-passed.passed c.index-events-passed.result
+          c.loop-passed.within _ c.loop-passed.ruled _ before.lines c.ran_by-line.result c.loop-passed-test.true
+          c.index-events-passed.is before.so_far
           c.ran_by-line.ensures.line c.within_then-within.ensures c.ruled_then-ruled.ensures;
       added = adds_more c.args.events.now before.lines c.ran_by-line.result _ _ _ before.added
           (adds_here c.loop-passed.walk.events.now c.args.events.now c.ran_by-line.result c.loop-passed.routes.items _
