@@ -36,6 +36,7 @@ struct Played<'a> {
 ///
 /// Fails with `File` if the file is refused, with `Round` if the round was not played, and with
 /// `Memory` if allocation fails.
+#[tactic(auto, using(desk_base::proofs::Refusals::no_state_where_it_fails, desk_base::proofs::Refusals::no_state_of_game))]
 pub fn page_of_all(alloc: Global, file: &[u8], asked: Option<Round>) -> Result<Vec<u8>, DeskFault>
     ensures accepted { OnOk result (IsAccepted file.now) }
     ensures well_formed { IfOk result (λ page. IsWellFormed page.items) }
