@@ -1,6 +1,6 @@
 //! Drawings that a page has once: each is defined in the picture of the map, and used by its
 //! number.
-ghost use Rattle.std.specs.Prelude.{IfOk, IfSome};
+ghost use Rattle.std.specs.Prelude.{◌≡◌, IfOk, IfSome, true};
 ghost use Rattle.page_all.specs.Drawings.{IsNumberOf};
 
 use markup::PagePiece::{Count, Words};
@@ -27,7 +27,7 @@ impl Drawings {
     pub(crate) fn number_of(&mut self, part: Part) -> Result<usize, AllocError>
         ensures { IfOk result (IsNumberOf self.new.parts.items part) }
     {
-        match self.place_of(&part) {
+        match place_of(self.parts.as_slice(), &part) {
             Some(place) => Ok(place),
             None => {
                 let place = self.parts.len();
@@ -35,19 +35,6 @@ impl Drawings {
                 Ok(place)
             }
         }
-    }
-
-    /// Returns the number of a drawing, if it is there.
-    #[tactic(auto, using(crate::proofs::DrawingLemmas::found_number))]
-    fn place_of(&self, part: &Part) -> Option<usize>
-        ensures { IfSome result (IsNumberOf self.now.parts.items part.now) }
-    {
-        for (place, drawing) in self.parts.iter().enumerate() {
-            if drawing.bytes() == part.bytes() {
-                return Some(place);
-            }
-        }
-        None
     }
 
     /// Adds the definitions of the drawings.
@@ -61,6 +48,25 @@ impl Drawings {
         }
         out.end();
     }
+}
+
+/// Returns the number of a drawing, if it is among those.
+fn place_of(drawings: &[Part], part: &Part) -> Option<usize>
+    ensures { IfSome result (IsNumberOf drawings.now part.now) }
+{
+    for place in 0..drawings.len() {
+        if is_same(drawings[place].bytes(), part.bytes()) {
+            return Some(place);
+        }
+    }
+    None
+}
+
+/// Returns whether two texts are the same.
+fn is_same(a: &[u8], b: &[u8]) -> bool
+    ensures { result ≡ true → a.now ≡ b.now }
+{
+    a == b
 }
 
 /// Adds a use of the drawing with a number, with a class if there is one. The letters behind it end
