@@ -14,10 +14,13 @@ use page::{
 };
 use page_map::Scene;
 use rounds::End;
-use tables::{Company, Money, Seat, certificate_limit, limit, price};
+use tables::{COMPANIES, Company, Money, Seat, certificate_limit, limit, price};
 
-/// The labels of the cells that say how the game stands in short.
-pub(crate) const STATUS: [&str; 8] = [
+/// How many cells say how the game stands in short.
+pub(crate) const STATUS_CELLS: usize = 8;
+
+/// The labels of these cells.
+pub(crate) const STATUS: [&str; STATUS_CELLS] = [
     "Last round",
     "Phase",
     "Tiles",
@@ -27,6 +30,9 @@ pub(crate) const STATUS: [&str; 8] = [
     "Priority",
     "Bank",
 ];
+
+/// How many cells the rows below the players have.
+pub(crate) const FIGURE_CELLS: usize = 4 * COMPANIES;
 
 /// How many cells a company has.
 pub(crate) const COMPANY_CELLS: usize = 8;

@@ -1,8 +1,8 @@
 //! What the page of a round shows in a page with all rounds, layer by layer, each in parts.
-ghost use Rattle.std.specs.Prelude.{◌<◌};
 
 use crate::cells::{
-    COMPANY_CELLS, STATUS, put_company_cells, put_figure_cells, put_player_cells, put_status_cells,
+    COMPANY_CELLS, FIGURE_CELLS, STATUS_CELLS, put_company_cells, put_figure_cells,
+    put_player_cells, put_status_cells,
 };
 use crate::drawings::{Drawings, put_use};
 use crate::lines::put_lines;
@@ -10,14 +10,14 @@ use crate::route_rows::put_route_rows;
 use crate::turns::put_turns;
 use map_tables::{HEXES, Hex};
 use markup::{Part, Tag, Writer};
-use page::{FIGURES, put_kind, put_owner, put_result, tokens_of};
+use page::{put_kind, put_owner, put_result, tokens_of};
 use page_charts::put_squares;
 use page_map::{Scene, begin_ground, has_drawing, put_rims, put_sight, put_stops};
 use page_routes::{Routes, put_tags};
 use picture::{Look, draw_track};
 use replay::Layers;
 use std::alloc::{AllocError, Global};
-use tables::{COMPANIES, Company, Kind, Private, Seat};
+use tables::{Company, Kind, Private, Seat};
 
 /// A layer of a page.
 #[derive(Clone, Copy)]
@@ -40,8 +40,11 @@ pub(crate) enum Layer {
     Trains,
 }
 
+/// How many layers there are, apart from those of the hexes and the cells.
+const LAYERS_COUNT: usize = 8;
+
 /// The layers, by their numbers. Those of the hexes come after them, and then the cells.
-const LAYERS: [Layer; 8] = [
+const LAYERS: [Layer; LAYERS_COUNT] = [
     Layer::Result,
     Layer::Lines,
     Layer::Sums,
@@ -81,35 +84,36 @@ pub(crate) enum HexLayer {
     Words,
 }
 
+/// How many layers a hex has.
+const HEX_LAYERS_COUNT: usize = 4;
+
 /// The layers of a hex, by their numbers.
-const HEX_LAYERS: [HexLayer; 4] = [
+const HEX_LAYERS: [HexLayer; HEX_LAYERS_COUNT] = [
     HexLayer::Ground,
     HexLayer::Track,
     HexLayer::Stops,
     HexLayer::Words,
 ];
 
-/// Returns the number of a layer of a hex, given its place in the list of hexes.
-pub(crate) fn hex_layer(hex: usize, layer: HexLayer) -> usize
-    requires { hex < HEXES }
-{
+/// Returns the number of a layer of a hex.
+pub(crate) fn hex_layer(hex: Hex, layer: HexLayer) -> usize {
     let within = match layer {
         HexLayer::Ground => 0,
         HexLayer::Track => 1,
         HexLayer::Stops => 2,
         HexLayer::Words => 3,
     };
-    LAYERS.len() + HEX_LAYERS.len() * hex + within
+    LAYERS_COUNT + HEX_LAYERS_COUNT * hex.index() + within
 }
 
 /// The number of the layer of the first cell of the status.
-pub(crate) const STATUS_CELLS: usize = LAYERS.len() + HEX_LAYERS.len() * HEXES;
+pub(crate) const FIRST_STATUS: usize = LAYERS_COUNT + HEX_LAYERS_COUNT * HEXES;
 
 /// The number of the layer of the first cell of the rows below the players.
-pub(crate) const FIRST_FIGURE: usize = STATUS_CELLS + STATUS.len();
+pub(crate) const FIRST_FIGURE: usize = FIRST_STATUS + STATUS_CELLS;
 
 /// The number of the layer of the first cell of the first company.
-pub(crate) const FIRST_COMPANY: usize = FIRST_FIGURE + FIGURES.len() * COMPANIES;
+pub(crate) const FIRST_COMPANY: usize = FIRST_FIGURE + FIGURE_CELLS;
 
 /// The number of the layer of the first cell of the first player.
 pub(crate) const FIRST_PLAYER: usize = FIRST_COMPANY + COMPANY_CELLS * COMPANIES;

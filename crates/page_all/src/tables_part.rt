@@ -74,7 +74,7 @@ impl Replayed {
             for _ in 0..4 {
                 out.element(Tag::Cell, &[]);
             }
-            let first = FIRST_FIGURE + COMPANIES * number;
+            let first = FIRST_FIGURE.saturating_add(COMPANIES.saturating_mul(number));
             self.put_cells_of(alloc, out, first, COMPANIES)?;
             out.element(Tag::Cell, &[]);
             out.end();

@@ -1,10 +1,10 @@
 //! How the page of all rounds is written: what changes from round to round stands in it once, with
 //! the rounds that have it.
-ghost use Rattle.std.specs.Prelude.{◌<◌, IfOk};
+ghost use Rattle.std.specs.Prelude.{IfOk};
 ghost use Rattle.replay.specs.Classes.{LeavesEach};
 
 use crate::cells::STATUS;
-use crate::layers::{HexLayer, Layer, STATUS_CELLS, hex_layer};
+use crate::layers::{FIRST_STATUS, HexLayer, Layer, hex_layer};
 use crate::replayed::Replayed;
 use crate::route_rows::begin_routes;
 use crate::style::{STYLE_OF_BUTTONS, put_lines_style, put_moves_style};
@@ -168,7 +168,8 @@ impl Replayed {
             out.element(Tag::Small, &[Words(words)]);
             out.put(&[Words(" ")]);
             out.begin(Tag::Bold);
-            self.put_numbered(alloc, out, STATUS_CELLS + number, Tag::Span)?;
+            let layer = FIRST_STATUS.saturating_add(number);
+            self.put_numbered(alloc, out, layer, Tag::Span)?;
             out.end();
             out.end();
         }
@@ -185,11 +186,11 @@ impl Replayed {
         begin_picture(out, None);
         self.drawings.put(out);
         out.begin_as(Tag::Group, "ground");
-        for (number, hex) in Hex::ALL.iter().enumerate() {
+        for &hex in &Hex::ALL {
             out.begin(Tag::Anchor);
-            out.value(Attr::Href, &[Words("#hex-"), Hexed(*hex)]);
-            put_hex_title(out, *hex);
-            self.put_hex_layer(alloc, out, number, HexLayer::Ground)?;
+            out.value(Attr::Href, &[Words("#hex-"), Hexed(hex)]);
+            put_hex_title(out, hex);
+            self.put_hex_layer(alloc, out, hex, HexLayer::Ground)?;
             out.end();
         }
         out.end();
@@ -214,25 +215,23 @@ impl Replayed {
         out: &mut Writer,
         layer: HexLayer,
     ) -> Result<(), AllocError> {
-        for (number, hex) in Hex::ALL.iter().enumerate() {
-            out.begin_at(centre(*hex));
-            self.put_hex_layer(alloc, out, number, layer)?;
+        for &hex in &Hex::ALL {
+            out.begin_at(centre(hex));
+            self.put_hex_layer(alloc, out, hex, layer)?;
             out.end();
         }
         Ok(())
     }
 
-    /// Adds a layer of the hex with a number.
+    /// Adds a layer of a hex.
     fn put_hex_layer(
         &self,
         alloc: Global,
         out: &mut Writer,
-        number: usize,
+        hex: Hex,
         layer: HexLayer,
-    ) -> Result<(), AllocError>
-        requires { number < 93 }
-    {
-        self.put_numbered(alloc, out, hex_layer(number, layer), Tag::Group)
+    ) -> Result<(), AllocError> {
+        self.put_numbered(alloc, out, hex_layer(hex, layer), Tag::Group)
     }
 
     /// Adds the table of the routes.
@@ -266,8 +265,8 @@ impl Replayed {
     /// Returns what is written of each hex in words, in the order of the hexes.
     pub(crate) fn hex_words(&self, alloc: Global) -> Result<Vec<Vec<Part>>, AllocError> {
         let mut words = Vec::new(alloc);
-        for number in 0..Hex::ALL.len() {
-            let layer = hex_layer(number, HexLayer::Words);
+        for &hex in &Hex::ALL {
+            let layer = hex_layer(hex, HexLayer::Words);
             let mut out = Writer::of_parts(alloc);
             self.put_numbered(alloc, &mut out, layer, Tag::Span)?;
             out.end_part();
