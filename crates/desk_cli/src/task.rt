@@ -1,5 +1,6 @@
 //! The command line: a word, and what follows it. Each word is a row of `WORDS`, and a case of
 //! `answer_to`.
+ghost use Rattle.std.specs.Prelude.{◌<◌, length};
 
 use crate::version::VERSION;
 use clap::{Arg, ArgAction, ArgMatches, Command, Error};
@@ -295,75 +296,66 @@ fn command_of<'a>(alloc: Global, word: &'static Word) -> Result<Command<'a>, All
         .about(word.about)
         .after_help(word.example);
     for operand in word.operands {
-        command = command.arg(argument_of(alloc, *operand))?;
+        command = command.arg(argument_of(alloc, *operand).help(help_of(*operand)))?;
     }
     Ok(command)
 }
 
-/// Returns what may follow a word, with its help.
+/// Returns what may follow a word, without its help.
 fn argument_of<'a>(alloc: Global, operand: Operand) -> Arg<'a> {
     match operand {
-        Operand::Round => {
-            Arg::new(alloc, "ROUND").help("The round, such as OR2.1; the last one if none is named")
-        }
-        Operand::Why => flag(alloc, "why").help("Show below each refused line which rule it broke"),
-        Operand::Before => flag(alloc, "before").help("The state before that round"),
-        Operand::Json => flag(alloc, "json").help("Write facts for other programs, as JSON"),
-        Operand::All => flag(alloc, "all").help("Show everything"),
-        Operand::From => Arg::new(alloc, "from")
-            .long("from")
-            .value_name("LINE")
-            .help("Show only findings from this line of the file on"),
-        Operand::Due => Arg::new(alloc, "due")
-            .long("due")
-            .value_name("TEXT")
-            .help("When the next sheets are due, in your own words"),
-        Operand::Codes => Arg::new(alloc, "CODE").num_args(0..).help(
-            "The codes, such as G3; a list of them all if none is named",
-        ),
-        Operand::Lines => {
-            flag(alloc, "lines").help("Write only order lines, each with its price or outcome")
-        }
-        Operand::Best => {
-            flag(alloc, "best").help("Show what the company's best runs would earn after each")
-        }
-        Operand::Drafted => {
-            flag(alloc, "drafted").help(
-                "Start after the orders in the player's own sheet, or in the president's",
-            )
-        }
-        Operand::Rounds => flag(alloc, "all").help("Show all rounds, with a button for each"),
-        Operand::Tiles => {
-            flag(alloc, "tiles").help("Write all tiles in their six rotations, without a game")
-        }
+        Operand::Round => Arg::new(alloc, "ROUND"),
+        Operand::Why => flag(alloc, "why"),
+        Operand::Before => flag(alloc, "before"),
+        Operand::Json => flag(alloc, "json"),
+        Operand::All | Operand::Rounds => flag(alloc, "all"),
+        Operand::From => Arg::new(alloc, "from").long("from").value_name("LINE"),
+        Operand::Due => Arg::new(alloc, "due").long("due").value_name("TEXT"),
+        Operand::Codes => Arg::new(alloc, "CODE").num_args(0..),
+        Operand::Lines => flag(alloc, "lines"),
+        Operand::Best => flag(alloc, "best"),
+        Operand::Drafted => flag(alloc, "drafted"),
+        Operand::Tiles => flag(alloc, "tiles"),
         Operand::Lays => Arg::new(alloc, "lays")
             .long("lays")
             .value_name("COMPANY")
-            .num_args(0..)
-            .help("Add what these companies may lay, or all, and what players may do next"),
-        Operand::After => Arg::new(alloc, "after")
-            .long("after")
-            .value_name("ROUND")
-            .help("Answer for the round after this one, such as OR2.1"),
-        Operand::Company => {
-            Arg::new(alloc, "COMPANY")
-                .required(true)
-                .help("The company, such as PRR")
+            .num_args(0..),
+        Operand::After => Arg::new(alloc, "after").long("after").value_name("ROUND"),
+        Operand::Company => Arg::new(alloc, "COMPANY").required(true),
+        Operand::Hex => Arg::new(alloc, "HEX").required(true),
+        Operand::Trains => Arg::new(alloc, "TRAIN").num_args(0..),
+        Operand::Player => Arg::new(alloc, "PLAYER").required(true),
+        Operand::Players => Arg::new(alloc, "PLAYER").num_args(0..),
+    }
+}
+
+/// Returns the help for what may follow a word. It is never empty.
+fn help_of(operand: Operand) -> &'static str
+    ensures { 0 < length result.now }
+{
+    match operand {
+        Operand::Round => "The round, such as OR2.1; the last one if none is named",
+        Operand::Why => "Show below each refused line which rule it broke",
+        Operand::Before => "The state before that round",
+        Operand::Json => "Write facts for other programs, as JSON",
+        Operand::All => "Show everything",
+        Operand::From => "Show only findings from this line of the file on",
+        Operand::Due => "When the next sheets are due, in your own words",
+        Operand::Codes => "The codes, such as G3; a list of them all if none is named",
+        Operand::Lines => "Write only order lines, each with its price or outcome",
+        Operand::Best => "Show what the company's best runs would earn after each",
+        Operand::Drafted => {
+            "Start after the orders in the player's own sheet, or in the president's"
         }
-        Operand::Hex => Arg::new(alloc, "HEX")
-            .required(true)
-            .help("The hex, such as H10"),
-        Operand::Trains => Arg::new(alloc, "TRAIN").num_args(0..).help(
-            "The trains, such as 4 4 D; those that it has if none is named",
-        ),
-        Operand::Player => {
-            Arg::new(alloc, "PLAYER")
-                .required(true)
-                .help("The player's name")
-        }
-        Operand::Players => Arg::new(alloc, "PLAYER").num_args(0..).help(
-            "Those who owe a sheet; the trial fails if somebody else does too",
-        ),
+        Operand::Rounds => "Show all rounds, with a button for each",
+        Operand::Tiles => "Write all tiles in their six rotations, without a game",
+        Operand::Lays => "Add what these companies may lay, or all, and what players may do next",
+        Operand::After => "Answer for the round after this one, such as OR2.1",
+        Operand::Company => "The company, such as PRR",
+        Operand::Hex => "The hex, such as H10",
+        Operand::Trains => "The trains, such as 4 4 D; those that it has if none is named",
+        Operand::Player => "The player's name",
+        Operand::Players => "Those who owe a sheet; the trial fails if somebody else does too",
     }
 }
 
@@ -371,7 +363,6 @@ fn argument_of<'a>(alloc: Global, operand: Operand) -> Arg<'a> {
 fn flag<'a>(alloc: Global, name: &'static str) -> Arg<'a> {
     Arg::new(alloc, name).long(name).action(ArgAction::SetTrue)
 }
-
 /// Returns the row of a word; `None` if there is no such word.
 fn word_named(name: &str) -> Option<&'static Word> {
     for word in &WORDS {
