@@ -11,9 +11,10 @@
 //! said about them); `may_line` (a line), `until_then` (what happens before the turn),
 //! `may_opening`, `may_stock`, `may_operating` (the lines of each kind of round), `must_buy` (a
 //! train that a company must buy), `offerers` (who may offer a train), `raise_rows` (the outcome of
-//! a RAISE), `row_lines` (rows as lines), `may_lines` (the same as the lines of a sheet). Apart from
-//! these: `boards` (the board of a game), `best_after` (what a company's trains would earn after
-//! a lay or a token), and `progress` (how far a long answer has got), for the crates above.
+//! a RAISE), `row_lines` (rows as lines), `may_lines` (the same as the lines of a sheet).
+//!
+//! For the crates above: `boards` (the board of a game), `best_after` (what a company's trains would
+//! earn after a lay or a token), and `progress` (how far a long answer has got).
 #![tactic(auto)]
 
 mod best_after;
