@@ -13,8 +13,8 @@
 //! train that a company must buy), `offerers` (who may offer a train), `raise_rows` (the outcome of
 //! a RAISE), `row_lines` (rows as lines), `may_lines` (the same as the lines of a sheet).
 //!
-//! For the crates above: `boards` (the board of a game), `best_after` (what a company's trains would
-//! earn after a lay or a token), and `progress` (how far a long answer has got).
+//! For the crates above: `boards` (the board of a game), `best_after` (what a company's trains
+//! would earn after a lay or a token), and `progress` (how far a long answer has got).
 #![tactic(auto)]
 
 mod best_after;
