@@ -1,5 +1,7 @@
 -- What the desk says of moves.
+pub mod Answers
 pub mod BestTrains
+pub mod Coming
 pub mod Fault
 pub mod HexFacts
 pub mod Lines

@@ -1,7 +1,11 @@
 //! A game that has stopped before the coming round, or at its end.
-ghost use Rattle.std.specs.Prelude.{◌≡◌, IfOk, length};
+ghost use Rattle.std.specs.Prelude.{◌≡◌, IfOk, Some, length};
+ghost use Rattle.desk_moves.specs.Answers.{drafter_for};
+ghost use Rattle.desk_moves.specs.Coming.{IsAfter, IsAtLast, IsComing};
 ghost use Rattle.history.specs.Sound.{IsSound};
+ghost use Rattle.rounds.specs.declared.game.End.TheVariants.{Awaiting};
 ghost use Rattle.sheets.specs.File.{players_of};
+ghost use Rattle.totals.specs.Shares.{president_of};
 
 use crate::fault::{MovesFault, NoAnswer};
 use desk_base::{DeskFault, owes, play_behind, stood_now};
@@ -32,6 +36,7 @@ pub(crate) fn coming_in<'a>(
     ensures sound { IfOk result (λ coming. IsSound coming.history) }
     ensures seats { IfOk result (λ coming.
         coming.history.seats ≡ length (players_of coming.sheets.now)) }
+    ensures coming { IfOk result (IsComing sheets.now after) }
 {
     match after {
         Some(round) => coming_after(alloc, sheets, round),
@@ -44,6 +49,7 @@ fn coming_at_last<'a>(alloc: Global, sheets: &'a Sheets<'a>) -> Result<Coming<'a
     ensures sound { IfOk result (λ coming. IsSound coming.history) }
     ensures seats { IfOk result (λ coming.
         coming.history.seats ≡ length (players_of coming.sheets.now)) }
+    ensures coming { IfOk result (IsAtLast sheets.now) }
 {
     let game = play(alloc, sheets)?;
     let end = game.outcome();
@@ -63,6 +69,7 @@ fn coming_after<'a>(
     ensures sound { IfOk result (λ coming. IsSound coming.history) }
     ensures seats { IfOk result (λ coming.
         coming.history.seats ≡ length (players_of coming.sheets.now)) }
+    ensures coming { IfOk result (IsAfter sheets.now after) }
 {
     let play = play_behind(alloc, sheets, after)?;
     let end = match (play.history(), stood_now(&play)) {
@@ -78,7 +85,9 @@ fn coming_after<'a>(
 
 impl Coming<'_> {
     /// Returns the coming round. Fails with `GameOver` if there is none.
-    pub(crate) fn round(&self) -> Result<Round, MovesFault> {
+    pub(crate) fn round(&self) -> Result<Round, MovesFault>
+        ensures { IfOk result (λ round. self.now.end ≡ Awaiting round) }
+    {
         match self.end {
             End::Awaiting(round) => Ok(round),
             End::Bank | End::Bankrupt => Err(MovesFault::Asked(NoAnswer::GameOver)),
@@ -87,7 +96,10 @@ impl Coming<'_> {
 
     /// Returns the president of a company, who gives its orders. Fails with `NotStarted` or
     /// `NoPresident` if it has none.
-    pub(crate) fn president(&self, company: Company) -> Result<Seat, MovesFault> {
+    pub(crate) fn president(&self, company: Company) -> Result<Seat, MovesFault>
+        ensures { IfOk result (λ seat.
+            president_of self.now.history.events company ≡ Some seat) }
+    {
         let view = self.history.now();
         if !view.is_started(company) {
             return Err(MovesFault::Asked(NoAnswer::NotStarted));
@@ -100,10 +112,24 @@ impl Coming<'_> {
 
     /// Returns a seat whose own sheet for the round is to be looked at. Fails with `NoDraft` if it
     /// has none, and with `GameOver` if no round follows.
-    pub(crate) fn drafter(&self, seat: Seat) -> Result<Seat, MovesFault> {
+    pub(crate) fn drafter(&self, seat: Seat) -> Result<Seat, MovesFault>
+        ensures { IfOk result (λ drafter. drafter ≡ seat) }
+    {
         if owes(self.sheets, seat, &self.round()?) {
             return Err(MovesFault::Asked(NoAnswer::NoDraft));
         }
         Ok(seat)
+    }
+
+    /// Returns a seat whose own sheet is to be looked at, if one is: the seat, if its draft is asked
+    /// for. The errors are those of `drafter`.
+    pub(crate) fn drafter_if(&self, drafted: bool, seat: Seat) -> Result<Option<Seat>, MovesFault>
+        ensures { IfOk result (λ drafter. drafter ≡ drafter_for drafted (Some seat)) }
+    {
+        if drafted {
+            Ok(Some(self.drafter(seat)?))
+        } else {
+            Ok(None)
+        }
     }
 }

@@ -1,5 +1,7 @@
 //! What a player may do in the coming round.
-ghost use Rattle.std.specs.Prelude.{◌≡◌, ◌<◌, length};
+ghost use Rattle.std.specs.Prelude.{◌≡◌, ◌<◌, IfOk, OnOk, length, true};
+ghost use Rattle.desk_may.specs.OperatingLines.{AddsOperatingLines};
+ghost use Rattle.desk_moves.specs.Answers.{AddsLinesIn, AddsTurnLines, AreLinesOf, IsTurnIn};
 ghost use Rattle.history.specs.Sound.{IsSound};
 ghost use Rattle.sheets.specs.File.{players_of};
 
@@ -32,26 +34,43 @@ pub(crate) fn may_text(
 ) -> Result<Vec<u8>, MovesFault>
     requires sound { IsSound coming.history }
     requires seats { coming.history.seats ≡ length (players_of coming.sheets.now) }
+    ensures { form.lines ≡ true →
+        IfOk result (λ text. AreLinesOf coming.entry player.now form.drafted text.items) }
 {
     let Some(seat) = seat_named(coming.sheets, player) else {
         return Err(MovesFault::Asked(NoAnswer::NoSuchPlayer));
     };
-    let drafter = if form.drafted {
-        Some(coming.drafter(seat)?)
-    } else {
-        None
-    };
+    let drafter = coming.drafter_if(form.drafted, seat)?;
     let round = coming.round()?;
     let mut text = Vec::new(alloc);
+    push_round(alloc, &mut text, coming, round, seat, drafter, form.lines)?;
+    Ok(text)
+}
+
+/// Adds what a player may do in a round.
+fn push_round(
+    alloc: Global,
+    out: &mut Vec<u8>,
+    coming: Coming,
+    round: Round,
+    seat: Seat,
+    drafter: Option<Seat>,
+    lines: bool,
+) -> Result<(), MovesFault>
+    requires sound { IsSound coming.history }
+    requires seats { coming.history.seats ≡ length (players_of coming.sheets.now) }
+    requires at_table { seat.0 < coming.history.seats }
+    ensures { let before = coming.entry in lines ≡ true → OnOk result (AddsLinesIn
+        drafter before.sheets.now before.history round seat out.old.items out.new.items) }
+{
     match round {
-        Round::Operating { .. } => {
-            push_operating(alloc, &mut text, coming, round, seat, drafter, form.lines)?;
-        }
+        Round::Operating { .. } => Ok(push_operating(
+            alloc, out, coming, round, seat, drafter, lines,
+        )?),
         Round::Opening(_) | Round::Stock(_) => {
-            push_turn(alloc, &mut text, coming, round, seat, form)?;
+            push_turn(alloc, out, coming, round, seat, drafter, lines)
         }
     }
-    Ok(text)
 }
 
 /// Adds what a player may do at the head of their first turn of an opening or a stock round, or
@@ -62,11 +81,14 @@ fn push_turn(
     coming: Coming,
     round: Round,
     seat: Seat,
-    form: MayForm,
+    drafter: Option<Seat>,
+    lines: bool,
 ) -> Result<(), MovesFault>
     requires sound { IsSound coming.history }
     requires seats { coming.history.seats ≡ length (players_of coming.sheets.now) }
     requires at_table { seat.0 < coming.history.seats }
+    ensures { let before = coming.entry in lines ≡ true → OnOk result (AddsTurnLines
+        drafter before.sheets.now before.history round seat out.old.items out.new.items) }
 {
     let Coming {
         sheets,
@@ -74,11 +96,11 @@ fn push_turn(
         ..
     } = coming;
     let from = history.events().len();
-    if form.lines {
+    if lines {
         push_standing_lines(alloc, out, sheets, &history, round, seat)?;
     }
-    let turn = turn_in(history, sheets, round, seat, form.drafted)?;
-    if form.lines {
+    let turn = turn_in(history, sheets, round, seat, drafter)?;
+    if lines {
         push_lines_of_turn(alloc, out, sheets, &turn, round, seat)?;
         return Ok(());
     }
@@ -98,13 +120,14 @@ fn turn_in(
     sheets: &Sheets,
     round: Round,
     seat: Seat,
-    drafted: bool,
+    drafter: Option<Seat>,
 ) -> Result<TurnAhead, MovesFault>
     requires sound { IsSound history }
     requires seats { history.seats ≡ length (players_of sheets.now) }
     requires at_table { seat.0 < history.seats }
+    ensures { IfOk result (IsTurnIn drafter sheets.now history round seat) }
 {
-    if !drafted {
+    if drafter.is_none() {
         // For the proof only: the seats are at most six.
         let _few = sheets.seats();
         return Ok(at_head(history, round, seat)?);
@@ -130,6 +153,8 @@ fn push_operating(
 ) -> Result<(), AllocError>
     requires sound { IsSound coming.history }
     requires seats { coming.history.seats ≡ length (players_of coming.sheets.now) }
+    ensures { let before = coming.entry in lines ≡ true → OnOk result (AddsOperatingLines
+        before.sheets.now drafter round seat before.history out.old.items out.new.items) }
 {
     let Coming {
         sheets,

@@ -1,6 +1,8 @@
 //! What is asked, and where: at the head of a turn of the coming round, after all sheets or after a
 //! named round.
-ghost use Rattle.std.specs.Prelude.{◌≡◌, length};
+ghost use Rattle.std.specs.Prelude.{◌≡◌, IfOk, length, true};
+ghost use Rattle.desk_moves.specs.Answers.{Answers, AreLaysOf, IsAnswer, are_lines};
+ghost use Rattle.desk_moves.specs.Coming.{AreOrdersIn};
 ghost use Rattle.history.specs.Sound.{IsSound};
 ghost use Rattle.sheets.specs.File.{players_of};
 
@@ -69,7 +71,9 @@ pub fn answer<P: Progress>(
     after: Option<Round>,
     question: Question,
     progress: &mut P,
-) -> Result<Vec<u8>, MovesFault> {
+) -> Result<Vec<u8>, MovesFault>
+    ensures { IfOk result (λ text. IsAnswer file.now after question.entry text.items) }
+{
     let sheets = collect(alloc, file)?;
     answer_in(alloc, &sheets, after, question, progress)
 }
@@ -81,7 +85,9 @@ fn answer_in<P: Progress>(
     after: Option<Round>,
     question: Question,
     progress: &mut P,
-) -> Result<Vec<u8>, MovesFault> {
+) -> Result<Vec<u8>, MovesFault>
+    ensures { IfOk result (λ text. IsAnswer sheets.now after question.entry text.items) }
+{
     let coming = coming_in(alloc, sheets, after)?;
     answer_by(alloc, coming, question, progress)
 }
@@ -95,6 +101,7 @@ fn answer_by<P: Progress>(
 ) -> Result<Vec<u8>, MovesFault>
     requires sound { IsSound coming.history }
     requires seats { coming.history.seats ≡ length (players_of coming.sheets.now) }
+    ensures { IfOk result (λ text. Answers coming.entry question.entry text.items) }
 {
     match question {
         Question::Lays { company, form } => answer_lays(alloc, coming, company, form, progress),
@@ -129,14 +136,12 @@ fn answer_lays<P: Progress>(
 ) -> Result<Vec<u8>, MovesFault>
     requires sound { IsSound coming.history }
     requires seats { coming.history.seats ≡ length (players_of coming.sheets.now) }
+    ensures { are_lines form ≡ true →
+        IfOk result (λ text. AreLaysOf coming.entry company form.drafted text.items) }
 {
     let from = coming.history.events().len();
     let president = coming.president(company)?;
-    let drafter = if form.drafted {
-        Some(coming.drafter(president)?)
-    } else {
-        None
-    };
+    let drafter = coming.drafter_if(form.drafted, president)?;
     let orders = orders_in(alloc, coming, company, drafter)?;
     if form.lines && !form.best {
         return Ok(line_text(alloc, &orders)?);
@@ -155,6 +160,7 @@ fn orders_in<'a>(
 ) -> Result<OrdersAhead<'a>, MovesFault>
     requires sound { IsSound coming.history }
     requires seats { coming.history.seats ≡ length (players_of coming.sheets.now) }
+    ensures { IfOk result (AreOrdersIn coming.entry company drafter) }
 {
     let round = coming.round()?;
     let Round::Operating { .. } = round else {

@@ -1,8 +1,11 @@
 //! A trial: the file with an empty sheet for each player who owes one, to be played one round
 //! further.
-ghost use Rattle.std.specs.Prelude.{◌≡◌, ◌==◌, ◌∷◌, ◌++◌, ◌<◌, [], IfOk, IfSome, OnOk, length};
+ghost use Rattle.std.specs.Prelude.{◌≡◌, ◌==◌, ◌∷◌, ◌++◌, ◌<◌, [], true, length};
+ghost use Rattle.std.specs.Prelude.{IfOk, IfSome, OnOk};
 ghost use Rattle.std.specs.List.{list_any};
+ghost use Rattle.std.specs.Str.{str_eq_ignore_ascii_case};
 ghost use Rattle.foresight.specs.TrialFile.{tried_file};
+ghost use Rattle.report.specs.Line.{name_of};
 ghost use Rattle.sheets.specs.File.{players_of};
 
 use crate::coming::coming_in;
@@ -92,7 +95,9 @@ fn push_seat(seats: &mut Vec<Seat>, seat: Seat) -> Result<(), AllocError>
 
 /// Returns the seat of the player with this name, in either case; `None` if no player has it.
 pub(crate) fn seat_named(sheets: &Sheets, player: &[u8]) -> Option<Seat>
-    ensures { IfSome result (λ seat. seat.0 < length (players_of sheets.now)) }
+    ensures at_table { IfSome result (λ seat. seat.0 < length (players_of sheets.now)) }
+    ensures named { IfSome result (λ seat.
+        str_eq_ignore_ascii_case (name_of sheets.now seat) player.now ≡ true) }
 {
     for seat in 0..sheets.seats() {
         let seat = Seat::at(seat);
