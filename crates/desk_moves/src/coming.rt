@@ -121,8 +121,8 @@ impl Coming<'_> {
         Ok(seat)
     }
 
-    /// Returns a seat whose own sheet is to be looked at, if one is: the seat, if its draft is asked
-    /// for. The errors are those of `drafter`.
+    /// Returns the seat if its own sheet is to be looked at, and `None` otherwise. The errors are
+    /// those of `drafter`.
     pub(crate) fn drafter_if(&self, drafted: bool, seat: Seat) -> Result<Option<Seat>, MovesFault>
         ensures { IfOk result (λ drafter. drafter ≡ drafter_for drafted (Some seat)) }
     {
