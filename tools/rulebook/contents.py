@@ -24,7 +24,7 @@ CLAIMS = [
         'desk: game_row', 'desk: private_row', 'desk: company_row', 'desk: share_row', 'desk: train_row', 'desk: earnings_of',
         'desk: all_in_order', 'desk_base: tokens_left', 'desk_base: trains_left', 'desk_base: tiles_left', 'desk_base: best_at',
         'desk_check: check', 'desk_check: look_at_sheet', 'desk_check: find_replaced', 'foresight: put_alone', 'foresight: put_all',
-        'desk_check: refused_of', 'desk_may: push_lines_of_turn', 'desk_moves: answer', 'desk_may: best_now',
+        'desk_check: refused_of', 'desk_may: push_lines_of_turn', 'desk_moves: line_text', 'desk_may: best_now',
         'desk_may: best_after_lay', 'desk_may: best_after_token', 'desk_moves: trial', 'page: page')),
 ]
 
