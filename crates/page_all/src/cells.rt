@@ -60,7 +60,8 @@ pub(crate) fn put_status_cells(out: &mut Writer, scene: &Scene) {
         out.put(&[Name(scene.name(seat))]);
     }
     out.end_part();
-    put_number(out, scene.history.cash(Party::Bank));
+    out.put(&[Number(scene.history.cash(Party::Bank))]);
+    out.end_part();
 }
 
 /// Adds a cell with words.
