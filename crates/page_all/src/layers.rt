@@ -17,7 +17,7 @@ use page_routes::{Routes, put_tags};
 use picture::{Look, draw_track};
 use replay::Layers;
 use std::alloc::{AllocError, Global};
-use tables::{Company, Kind, Private, Seat};
+use tables::{COMPANIES, Company, Kind, Private, Seat};
 
 /// A layer of a page.
 #[derive(Clone, Copy)]
