@@ -7,7 +7,7 @@ use crate::cells::{
 use crate::drawings::{Drawings, put_use};
 use crate::lines::put_lines;
 use crate::route_rows::put_route_rows;
-use crate::turns::put_turns;
+use crate::what_happened::put_turns;
 use map_tables::{HEXES, Hex};
 use markup::{Part, Tag, Writer};
 use page::{put_kind, put_owner, put_result, tokens_of};

@@ -11,8 +11,8 @@
 //! The definitions, in `specs/`: `Drawings` (the numbers of what stands once).
 //!
 //! Reading order: `drawings` (what is drawn often stands once), `lines` (of routes), `route_rows`,
-//! `turns` (what happened), `cells` (of tables), `layers` (all of a round), `replayed` (the
-//! rounds), `style`, `tables_part`, `whole_page` (how it is written), `all_rounds` (`page_of_all`).
+//! `what_happened`, `cells` (of tables), `layers` (all of a round), `replayed` (the rounds),
+//! `style`, `tables_part`, `whole_page` (how it is written), `all_rounds` (`page_of_all`).
 #![tactic(auto)]
 
 mod all_rounds;
@@ -24,7 +24,7 @@ mod replayed;
 mod route_rows;
 mod style;
 mod tables_part;
-mod turns;
+mod what_happened;
 mod whole_page;
 
 pub use all_rounds::{PageToHexes, page_of_all, page_of_all_to_hexes};

@@ -3,7 +3,7 @@ ghost use Rattle.std.specs.Prelude.{◌≡◌, ◌-◌, length};
 
 use crate::drawings::Drawings;
 use crate::layers::{Shown, layers_of};
-use crate::turns::turns_text;
+use crate::what_happened::turns_text;
 use desk_base::{Stood, stood_now};
 use page::{Source, entry_of};
 use page_charts::Entry;
