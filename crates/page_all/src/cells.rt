@@ -60,13 +60,18 @@ pub(crate) fn put_status_cells(out: &mut Writer, scene: &Scene) {
         out.put(&[Name(scene.name(seat))]);
     }
     out.end_part();
-    out.put(&[Number(scene.history.cash(Party::Bank))]);
-    out.end_part();
+    put_sum(out, scene.history.cash(Party::Bank));
 }
 
 /// Adds a cell with words.
 fn put_cell(out: &mut Writer, words: &'static str) {
     out.put(&[Words(words)]);
+    out.end_part();
+}
+
+/// Adds a cell with a sum of money.
+fn put_sum(out: &mut Writer, sum: Money) {
+    out.put(&[Number(sum)]);
     out.end_part();
 }
 
@@ -106,7 +111,7 @@ pub(crate) fn put_company_cells(out: &mut Writer, scene: &Scene, company: Compan
     }
     out.end_part();
     if operates(&view, company) {
-        put_number(out, scene.history.cash(Party::of_company(company)));
+        put_sum(out, scene.history.cash(Party::of_company(company)));
         put_train_codes(out, scene, company);
     } else {
         out.end_part();
