@@ -1,6 +1,6 @@
 //! Drawings that a page has once: each is defined in the picture of the map, and used by its
 //! number.
-ghost use Rattle.std.specs.Prelude.{◌≡◌, IfOk, IfSome, true};
+ghost use Rattle.std.specs.Prelude.{◌≡◌, IfOk, IfSome, length, true};
 ghost use Rattle.page_all.specs.Drawings.{IsNumberOf};
 
 use markup::PagePiece::{Count, Words};
@@ -35,6 +35,13 @@ impl Drawings {
                 Ok(place)
             }
         }
+    }
+
+    /// Returns how many drawings there are.
+    pub(crate) fn count(&self) -> usize
+        ensures { result ≡ length self.now.parts.items }
+    {
+        self.parts.len()
     }
 
     /// Adds the definitions of the drawings.

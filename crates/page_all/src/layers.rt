@@ -123,6 +123,8 @@ pub(crate) const FIRST_PLAYER: usize = FIRST_COMPANY + COMPANY_CELLS * COMPANIES
 pub(crate) struct Shown<'a> {
     /// The runs of the last operating round.
     pub(crate) routes: &'a Routes,
+    /// The number of the drawing of each; `None` for a route without a line.
+    pub(crate) lines: &'a [Option<usize>],
     /// What happened in the round.
     pub(crate) turns: &'a [u8],
 }
@@ -137,7 +139,7 @@ pub(crate) fn layers_of(
 ) -> Result<Layers, AllocError> {
     let mut layers = Vec::new(alloc);
     for &layer in &LAYERS {
-        layers.push(parts_of(alloc, layer, scene, shown, drawings)?)?;
+        layers.push(parts_of(alloc, layer, scene, shown)?)?;
     }
     for &hex in &Hex::ALL {
         for &layer in &HEX_LAYERS {
@@ -158,17 +160,14 @@ fn parts_of(
     layer: Layer,
     scene: &Scene,
     shown: Shown,
-    drawings: &mut Drawings,
 ) -> Result<Vec<Part>, AllocError> {
     let mut out = Writer::of_parts(alloc);
     let history = scene.history;
     match layer {
         Layer::Result => put_result(&mut out, scene),
-        Layer::Lines => {
-            put_lines(alloc, &mut out, history, shown.routes, drawings)?;
-        }
+        Layer::Lines => put_lines(&mut out, history, shown.routes, shown.lines),
         Layer::Sums => put_tags(alloc, &mut out, history, shown.routes)?,
-        Layer::Runs => put_route_rows(alloc, &mut out, history, shown.routes)?,
+        Layer::Runs => put_route_rows(alloc, &mut out, history, shown.routes, shown.lines)?,
         Layer::Turns => put_turns(&mut out, history.now().round(), shown.turns),
         Layer::Chart => put_squares(&mut out, &tokens_of(history), false),
         Layer::Privates => {

@@ -2,25 +2,47 @@
 
 use crate::drawings::{Drawings, put_use};
 use history::History;
-use markup::PagePiece::{Number, Words};
-use markup::{Part, Tag, Writer};
+use markup::PagePiece::{Count, Number, Words};
+use markup::{Attr, Part, Tag, Writer};
 use page_routes::{Route, Routes, put_line, put_line_ticks};
 use std::alloc::{AllocError, Global};
 use tables::Money;
 
-/// Adds the lines of the routes of a round, each as a use of its drawing. Fails only if allocation
-/// fails.
-pub(crate) fn put_lines(
+/// The class of a route's line and of its box in the table, to be followed by the number of the
+/// line's drawing.
+pub(crate) const LINE: &str = "d";
+
+/// Returns the number of the drawing of each route of a round; `None` for a route without a line.
+/// Fails only if allocation fails.
+pub(crate) fn line_numbers(
     alloc: Global,
-    out: &mut Writer,
     history: &History,
     routes: &Routes,
     drawings: &mut Drawings,
-) -> Result<(), AllocError> {
-    for (number, route) in routes.routes.iter().enumerate() {
-        if let Some(line) = line_of(alloc, history, routes, number)? {
-            let drawn = drawings.number_of(line)?;
-            out.begin_as(Tag::Group, "ra");
+) -> Result<Vec<Option<usize>>, AllocError> {
+    let mut numbers = Vec::new(alloc);
+    for number in 0..routes.routes.len() {
+        let drawn = match line_of(alloc, history, routes, number)? {
+            Some(line) => Some(drawings.number_of(line)?),
+            None => None,
+        };
+        numbers.push(drawn)?;
+    }
+    Ok(numbers)
+}
+
+/// Adds the lines of the routes of a round, each as a use of its drawing, given the numbers of
+/// these.
+pub(crate) fn put_lines(
+    out: &mut Writer,
+    history: &History,
+    routes: &Routes,
+    numbers: &[Option<usize>],
+) {
+    for (number, (route, drawn)) in routes.routes.iter().zip(numbers).enumerate() {
+        if let Some(drawn) = *drawn {
+            out.begin(Tag::Group);
+            out.value(Attr::Class, &[Words("ra "), Words(LINE), Count(drawn)]);
             put_title(out, route);
             put_use(out, drawn, "", "");
             put_use(out, drawn, "rb", "");
@@ -29,7 +51,6 @@ pub(crate) fn put_lines(
             out.end();
         }
     }
-    Ok(())
 }
 
 /// Returns the line of the route with a number.

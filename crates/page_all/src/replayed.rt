@@ -3,6 +3,7 @@ ghost use Rattle.std.specs.Prelude.{◌≡◌, ◌-◌, length};
 
 use crate::drawings::Drawings;
 use crate::layers::{Shown, layers_of};
+use crate::lines::line_numbers;
 use crate::what_happened::turns_text;
 use desk_base::{Stood, stood_now};
 use page::{Source, entry_of};
@@ -23,6 +24,8 @@ pub(crate) struct Replayed {
     pub(crate) source: Source,
     pub(crate) rounds: Vec<Round>,
     pub(crate) pages: Vec<Layers>,
+    /// For each page the numbers of the drawings of its routes' lines.
+    pub(crate) lines: Vec<Vec<Option<usize>>>,
     /// How many rounds were played before them.
     pub(crate) before: usize,
     /// How the game stood after each round.
@@ -40,6 +43,7 @@ impl Replayed {
             source,
             rounds: Vec::new(alloc),
             pages: Vec::new(alloc),
+            lines: Vec::new(alloc),
             before: 0,
             entries: Vec::new(alloc),
             drawings: Drawings::new(alloc),
@@ -59,8 +63,12 @@ impl Replayed {
             return Ok(());
         };
         self.entries.push(entry_of(stood.history, round))?;
-        if self.pages.len() >= ROUNDS_MOST && self.rounds.len() >= ROUNDS_MOST {
+        if self.pages.len() >= ROUNDS_MOST
+            && self.lines.len() >= ROUNDS_MOST
+            && self.rounds.len() >= ROUNDS_MOST
+        {
             self.pages.remove(0);
+            self.lines.remove(0);
             self.rounds.remove(0);
             self.before = self.before.saturating_add(1);
         }
@@ -75,6 +83,7 @@ impl Replayed {
     /// was played, that page is the first. Fails only if allocation fails.
     pub(crate) fn end(&mut self, alloc: Global, play: &Play) -> Result<(), AllocError> {
         let _ = self.pages.pop();
+        let _ = self.lines.pop();
         match stood_now(play) {
             Some(stood) => self.add_page(alloc, &stood),
             None => Ok(()),
@@ -88,14 +97,24 @@ impl Replayed {
             None => last_routes(alloc, stood.history)?,
         };
         let turns = turns_text(alloc, stood)?;
+        let lines = line_numbers(alloc, stood.history, &routes, &mut self.drawings)?;
         let shown = Shown {
             routes: &routes,
+            lines: lines.as_slice(),
             turns: turns.as_slice(),
         };
         let page = layers_of(alloc, &Scene::of(stood), shown, &mut self.drawings)?;
         self.pages.push(page)?;
+        self.lines.push(lines)?;
         self.routes = Some(routes);
         Ok(())
+    }
+
+    /// Returns whether a drawing is the line of a route on some page.
+    pub(crate) fn has_line(&self, number: usize) -> bool {
+        self.lines
+            .iter()
+            .any(|drawn| is_among(number, drawn.as_slice()))
     }
 
     /// Returns the number of its last page.
@@ -104,4 +123,9 @@ impl Replayed {
     {
         self.pages.len().saturating_sub(1)
     }
+}
+
+/// Returns whether a number is among those of some lines.
+fn is_among(number: usize, drawn: &[Option<usize>]) -> bool {
+    drawn.iter().any(|other| *other == Some(number))
 }

@@ -1,10 +1,11 @@
 //! The rows of the table of routes.
 
+use crate::lines::LINE;
 use board::Board;
 use desk_base::board_at;
 use history::History;
-use markup::PagePiece::{Number, Place, Words};
-use markup::{Tag, Writer, begin_table, put_head};
+use markup::PagePiece::{Count, Number, Place, Words};
+use markup::{Attr, Tag, Writer, begin_table, put_head};
 use page_routes::{Route, Routes};
 use reach::Network;
 use std::alloc::{AllocError, Global};
@@ -12,7 +13,8 @@ use tables::{Amount, Money};
 
 /// What the caption of the table says about its routes.
 const REMARK: &str = " (a stop with its value, and in brackets what it is worth now, if a tile or \
-    a phase has changed that since; a hex without a stop is passed)";
+    a phase has changed that since; a hex without a stop is passed; the routes whose boxes are \
+    ticked stand out on the map)";
 
 /// Begins the table of the routes up to its rows.
 pub(crate) fn begin_routes(out: &mut Writer) {
@@ -25,24 +27,26 @@ pub(crate) fn begin_routes(out: &mut Writer) {
     put_head(out, &["Company", "Train", "Route", "#Sum", "Order"]);
 }
 
-/// Adds the rows of the routes. Fails only if allocation fails.
+/// Adds the rows of the routes, given the numbers of the drawings of their lines. Fails only if
+/// allocation fails.
 pub(crate) fn put_route_rows(
     alloc: Global,
     out: &mut Writer,
     history: &History,
     routes: &Routes,
+    numbers: &[Option<usize>],
 ) -> Result<(), AllocError> {
     let board = board_at(alloc, &history.now())?;
-    for route in &routes.routes {
-        put_row(out, &board, route);
+    for (route, drawn) in routes.routes.iter().zip(numbers) {
+        put_row(out, &board, route, *drawn);
     }
     Ok(())
 }
 
 /// Adds the row of a route.
-fn put_row(out: &mut Writer, board: &Board, route: &Route) {
+fn put_row(out: &mut Writer, board: &Board, route: &Route, drawn: Option<usize>) {
     out.begin(Tag::Row);
-    out.element(Tag::Heading, &[Words(route.company.code())]);
+    put_box(out, route, drawn);
     out.element(Tag::Cell, &[Words(route.kind.code())]);
     out.begin(Tag::Cell);
     out.within();
@@ -58,6 +62,22 @@ fn put_row(out: &mut Writer, board: &Board, route: &Route) {
     out.element(Tag::Cell, &[Number(Money::from(route.sum))]);
     let order = if route.is_best { "best" } else { "written" };
     out.element(Tag::Cell, &[Words(order)]);
+    out.end();
+}
+
+/// Adds the company of a route, with the box that shows the route alone if it has a line.
+fn put_box(out: &mut Writer, route: &Route, drawn: Option<usize>) {
+    out.begin(Tag::Heading);
+    out.begin(Tag::InputLabel);
+    out.within();
+    if let Some(drawn) = drawn {
+        out.begin(Tag::Input);
+        out.value(Attr::Kind, &[Words("checkbox")]);
+        out.value(Attr::Class, &[Words(LINE), Count(drawn)]);
+        out.end();
+    }
+    out.put(&[Words(route.company.code())]);
+    out.end();
     out.end();
 }
 

@@ -7,7 +7,9 @@ use crate::cells::STATUS;
 use crate::layers::{FIRST_STATUS, HexLayer, Layer, hex_layer};
 use crate::replayed::Replayed;
 use crate::route_rows::begin_routes;
-use crate::style::{STYLE_OF_BUTTONS, put_lines_style, put_moves_style};
+use crate::style::{
+    STYLE_OF_BUTTONS, put_box_style, put_boxes_style, put_lines_style, put_moves_style,
+};
 use map_tables::Hex;
 use markup::PagePiece::{Count, Hex as Hexed, Round as Named, Words};
 use markup::{Attr, Part, Tag, Writer, begin_plain_section, begin_section};
@@ -68,6 +70,7 @@ fn begin_page(out: &mut Writer, scene: &Scene, replayed: &Replayed, style: Optio
     out.put(&[Words(STYLE_OF_BUTTONS)]);
     put_lines_style(out);
     put_rules(out, replayed.last());
+    put_boxes(out, replayed);
     if style.is_some() {
         put_moves_style(out, replayed.last());
     }
@@ -100,6 +103,16 @@ fn begin_page(out: &mut Writer, scene: &Scene, replayed: &Replayed, style: Optio
     }
     out.end();
     out.begin(Tag::Main);
+}
+
+/// Adds the rules by which the boxes of routes show some of them alone.
+fn put_boxes(out: &mut Writer, replayed: &Replayed) {
+    put_boxes_style(out, replayed.lines.as_slice());
+    for number in 0..replayed.drawings.count() {
+        if replayed.has_line(number) {
+            put_box_style(out, number);
+        }
+    }
 }
 
 /// Adds the title of the page: how many rounds it shows, and of how many if there are more.
