@@ -160,6 +160,9 @@ page_must_fail() {
   desk=$(desk_but 's/class="f1 t1"/class="f1"/')
   sees 'an element that is shown too long' 1 read_all first-dividend
   desk=$2
+  desk=$(desk_but 's/type="checkbox" class="d/&1/')
+  sees 'the box of another route' 1 read_all first-dividend
+  desk=$2
   told_of presidents-run-their-best "$scratch/right" || return
   sees 'a right page' 0 read_page 'what is right' "$scratch/right"
   sees 'an element that is not ended' 1 turned_page 's,</section>,,'
