@@ -4,7 +4,7 @@ ghost use Rattle.desk_base.specs.Refusal.{HasNoState, IsOfGame};
 ghost use Rattle.markup.specs.Reading.{IsWellFormed};
 ghost use Rattle.sheets.specs.File.{IsAccepted};
 
-use crate::replayed::Replayed;
+use crate::replayed::{ROUNDS_MOST, Replayed};
 use crate::whole_page::{page_to_hexes, put_hexes};
 use best_run::Search;
 use desk_base::{DeskFault, stood_now};
@@ -112,7 +112,8 @@ fn play_to<'a>(
 {
     let mut play = Play::start(alloc, sheets)?;
     let mut search = Search::new(alloc);
-    let mut replayed = Replayed::new(alloc, source);
+    let before = count_rounds(alloc, sheets, asked)?.saturating_sub(ROUNDS_MOST);
+    let mut replayed = Replayed::new(alloc, source, before);
     loop {
         match play.step(&mut search) {
             Ok(Step::Played(round)) => {
@@ -125,6 +126,29 @@ fn play_to<'a>(
                 replayed.end(alloc, &play)?;
                 return ended(play, replayed, asked);
             }
+            Err(fault) => return Err(DeskFault::from(fault.want_of_memory())),
+        }
+    }
+}
+
+/// Returns how many rounds are played up to one, or in all if none is named. Fails only if
+/// allocation fails. (The game is played twice, since a page of a round that is left out would cost
+/// as much as one that is shown.)
+fn count_rounds(alloc: Global, sheets: &Sheets, asked: Option<Round>) -> Result<usize, DeskFault>
+    ensures { IfErr result IsOfGame }
+{
+    let mut play = Play::start(alloc, sheets)?;
+    let mut search = Search::new(alloc);
+    let mut count: usize = 0;
+    loop {
+        match play.step(&mut search) {
+            Ok(Step::Played(round)) => {
+                count = count.saturating_add(1);
+                if asked == Some(round) {
+                    return Ok(count);
+                }
+            }
+            Ok(Step::Ended(_)) => return Ok(count),
             Err(fault) => return Err(DeskFault::from(fault.want_of_memory())),
         }
     }

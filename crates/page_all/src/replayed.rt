@@ -16,7 +16,7 @@ use std::alloc::{AllocError, Global};
 use tables::Round;
 
 /// The most rounds that a page shows.
-const ROUNDS_MOST: usize = 60;
+pub(crate) const ROUNDS_MOST: usize = 60;
 
 /// The rounds that a page shows, with what it shows of each.
 #[derive(Drop)]
@@ -26,8 +26,10 @@ pub(crate) struct Replayed {
     pub(crate) pages: Vec<Layers>,
     /// For each page the numbers of the drawings of its routes' lines.
     pub(crate) lines: Vec<Vec<Option<usize>>>,
-    /// How many rounds were played before them.
+    /// How many rounds before them are left out.
     pub(crate) before: usize,
+    /// How many of these have been played.
+    passed: usize,
     /// How the game stood after each round.
     pub(crate) entries: Vec<Entry>,
     /// What is drawn once.
@@ -37,22 +39,23 @@ pub(crate) struct Replayed {
 }
 
 impl Replayed {
-    /// Returns no rounds.
-    pub(crate) fn new(alloc: Global, source: Source) -> Replayed {
+    /// Returns no rounds; so many are to be left out before the first one.
+    pub(crate) fn new(alloc: Global, source: Source, before: usize) -> Replayed {
         Replayed {
             source,
             rounds: Vec::new(alloc),
             pages: Vec::new(alloc),
             lines: Vec::new(alloc),
-            before: 0,
+            before,
+            passed: 0,
             entries: Vec::new(alloc),
             drawings: Drawings::new(alloc),
             routes: None,
         }
     }
 
-    /// Adds a round that has been played. Of more than `ROUNDS_MOST` the first is left out. Fails
-    /// only if allocation fails.
+    /// Adds a round that has been played, unless it is to be left out. Fails only if allocation
+    /// fails.
     pub(crate) fn add(
         &mut self,
         alloc: Global,
@@ -63,14 +66,9 @@ impl Replayed {
             return Ok(());
         };
         self.entries.push(entry_of(stood.history, round))?;
-        if self.pages.len() >= ROUNDS_MOST
-            && self.lines.len() >= ROUNDS_MOST
-            && self.rounds.len() >= ROUNDS_MOST
-        {
-            self.pages.remove(0);
-            self.lines.remove(0);
-            self.rounds.remove(0);
-            self.before = self.before.saturating_add(1);
+        if self.passed < self.before {
+            self.passed += 1;
+            return Ok(());
         }
         self.rounds.push(round)?;
         if matches!(round, Round::Operating { .. }) {
