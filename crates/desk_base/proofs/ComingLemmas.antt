@@ -2,7 +2,7 @@
 -- follows.
 use Rattle.std.proofs.Common.{◌≡◌, ℕ, zero, suc, ◌+◌, ◌<◌, ◌≤◌, Bool, true, false, ◌&&◌, ◌||◌, not, nat_le, nat_lt}
 use Rattle.std.proofs.Common.{if◌then◌else◌, List, [], ◌∷◌, ◌++◌, length, refl, sym, ap, subst, ◌∙◌, arith, true≢false}
-use Rattle.std.proofs.lemmas.Bool.{eqb-true, le-leb, le-ltb}
+use Rattle.std.proofs.lemmas.Bool.{and_from, eqb-true, le-leb, le-ltb}
 use Rattle.std.proofs.lemmas.List.Folds.{list_any-append}
 use Rattle.std.specs.Prelude.{◌==◌, ⊤}
 use Rattle.desk_base.proofs.SetLemmas.{number_there}
@@ -132,17 +132,13 @@ within_most set count its in_set number same within few =
     ]
     refl
 
-both_hold : (a b : Bool) → a ≡ true → b ≡ true → (a && b) ≡ true
-both_hold true b first second = second
-both_hold false b first second = absurd (true≢false (sym first))
-
 comes_in : (awaited : Round) (count : ℕ) (broken : Bool) (round : Round) (in_set : ℕ)
     → InSets awaited count broken round in_set →
     IsInSet round in_set → may_come (set_of awaited) count broken round ≡ true
 comes_in awaited count broken (Opening number) in_set ahead within_set = refl
 comes_in awaited count broken (Stock set) in_set ahead within_set = in_time (set_of awaited) broken set ahead.stays
 comes_in awaited count broken (Operating set number) in_set ahead within_set =
-    both_hold (nat_le number (most_in_set (set_of awaited) count set)) (is_in_time (set_of awaited) broken set)
+    and_from (nat_le number (most_in_set (set_of awaited) count set)) (is_in_time (set_of awaited) broken set)
     (within_most (set_of awaited) count set in_set number ahead.number within_set.within within_set.few)
     (in_time (set_of awaited) broken set ahead.stays)
 
@@ -277,7 +273,7 @@ module _ (adds : RoundsOnlyAdd) (numbered : SheetsAreNumbered) (few : ThreeToSix
         let some : 0 < length (players_of file) = omega (arith, players.0) in
         let ahead = all_ahead adds numbered file some awaited last.in_set (broken_in last.game.events) rounds last there
         (first_ahead played.file stopped.plays.rounds last awaited stopped.plays.reached awaits) reached in
-        both_hold (not (is_before round awaited)) (may_come (set_of awaited) last.in_set (broken_in last.game.events)
+        and_from (not (is_before round awaited)) (may_come (set_of awaited) last.in_set (broken_in last.game.events)
         round)
         (not_before awaited round (ahead.order round comes))
         (comes_in awaited last.in_set (broken_in last.game.events) round there.in_set (ahead.sets round comes)

@@ -2,6 +2,7 @@
 pub mod BestRuns
 pub mod ComingLemmas
 pub mod Laid
+pub mod MomentLemmas
 pub mod Refusals
 pub mod SetLemmas
 mod ReasonLemmas

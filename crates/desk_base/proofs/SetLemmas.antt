@@ -2,6 +2,7 @@
 -- played.
 use Rattle.std.proofs.Common.{◌≡◌, ℕ, zero, suc, Bool, true, false, ◌||◌, if◌then◌else◌, List, [], ◌∷◌, Option}
 use Rattle.std.proofs.Common.{Some, None, is_some, refl, sym, ap, subst, ◌∙◌}
+use Rattle.std.proofs.lemmas.Bool.{or_parts}
 use Rattle.std.proofs.lemmas.List.Sums.{fold-append}
 use Rattle.std.specs.List.{fold, list_any}
 use Rattle.std.specs.Option.{option_or}
@@ -59,11 +60,6 @@ phase_after (event ∷ events) set =
     ∙ phase_begun set (phase_set event))
     ∙ sym (choices (last_said phase_set events) (phase_set event) set.phase)
 
--- neither of two
-neither : (a b : Bool) → (a || b) ≡ false → (a ≡ false) × (b ≡ false)
-neither true b none = absurd (cc)
-neither false b none = (refl, none)
-
 -- there is none
 none_there : (begun : Option Round) → is_some begun ≡ false → begun ≡ None
 none_there None none = refl
@@ -74,7 +70,7 @@ number_after : (events : List Event) (set : SetSoFar) → BeginsNoRound events
     → (fold set_then set events).rounds ≡ set.rounds
 number_after [] set none = refl
 number_after (event ∷ events) set none =
-    let parts = neither (is_some (round_begun_by event)) (list_any (λ its. is_some (round_begun_by its)) events) none in
+    let parts = or_parts (is_some (round_begun_by event)) (list_any (λ its. is_some (round_begun_by its)) events) none in
     number_after events (set_then set event) parts.1
     ∙ ap (λ begun. (at_round (in_phase set (phase_set event)) begun).rounds) (none_there (round_begun_by event) parts.0)
     ∙ number_in_phase set (phase_set event)
@@ -89,7 +85,7 @@ number_through round old new adds =
     ∙ number_after adds.more (at_round begun (Some round)) adds.no_round
 
 -- the number by the list is that of the game
-abbrev KeepsNumber : Between → Type 0
+abbrev pub KeepsNumber : Between → Type 0
 KeepsNumber there = there.in_set ≡ in_set_before there.next there.game.events (set_of there.game.events).rounds
 
 -- so it is as a round begins
@@ -101,19 +97,23 @@ number_begun (Stock set) events in_set is =
     is ∙ ap rounds_in_set_of (sym (phase_after events (record { phase = Two; rounds = rounds_in_set_of Two })))
 number_begun (Operating set number) events in_set is = is
 
+-- it goes by that number through a round that was played
+pub number_in_round : RoundsOnlyAdd → (file : List ℕ) (old new : Between) → KeepsNumber old → IsRound file old new
+    → old.in_set ≡ (set_of new.game.events).rounds
+number_in_round adds file old new keeps round =
+    let at_first : old.in_set ≡ in_set_before (next.Round round.round) old.game.events (set_of old.game.events).rounds =
+    keeps ∙ ap (λ (it : Next). in_set_before it old.game.events (set_of old.game.events).rounds) round.comes in
+    number_begun round.round old.game.events old.in_set at_first
+    ∙ sym (number_through round.round old.game new.game (adds file old new round))
+
 -- after a round that was played
 round_keeps : RoundsOnlyAdd → (file : List ℕ) (old new : Between) → KeepsNumber old → IsRound file old new
     → KeepsNumber new
 round_keeps adds file old new keeps round =
-    let at_first : old.in_set ≡ in_set_before (next.Round round.round) old.game.events (set_of old.game.events).rounds =
-    keeps ∙ ap (λ (it : Next). in_set_before it old.game.events (set_of old.game.events).rounds) round.comes in
-    let number : old.in_set ≡ (set_of new.game.events).rounds =
-    number_begun round.round old.game.events old.in_set at_first
-    ∙ sym (number_through round.round old.game new.game (adds file old new round)) in
-    round.in_set_then ∙ ap (in_set_before new.next new.game.events) number
+    round.in_set_then ∙ ap (in_set_before new.next new.game.events) (number_in_round adds file old new keeps round)
 
 -- wherever a game comes
-keeps_number : RoundsOnlyAdd → (file : List ℕ) (rounds : ℕ) (there : Between)
+pub keeps_number : RoundsOnlyAdd → (file : List ℕ) (rounds : ℕ) (there : Between)
     → AreRounds file rounds (before_play file) there → KeepsNumber there
 keeps_number adds file zero there played = subst KeepsNumber played refl
 keeps_number adds file (suc rounds) there played =
@@ -125,7 +125,7 @@ number_by_end : (bankrupt : Bool) (events : List Event)
 number_by_end true events = refl
 number_by_end false events = refl
 
-number_by_next : (upcoming : Next) (events : List Event)
+pub number_by_next : (upcoming : Next) (events : List Event)
     → number_in_set (end_of upcoming events) events ≡ in_set_before upcoming events (set_of events).rounds
 number_by_next (next.Round round) events = refl
 number_by_next next.Ended events = number_by_end (bankrupt_in events) events

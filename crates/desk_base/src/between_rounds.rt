@@ -1,10 +1,11 @@
 //! A game between two rounds: after the last that its sheets play, after a round, or before one.
-ghost use Rattle.std.specs.Prelude.{◌≡◌, IfErr, IfOk, MatchOption, None};
-ghost use Rattle.desk_base.specs.Moments.{IsBehind, IsNumbered, StandsIn, end_shown, is_last};
+ghost use Rattle.std.specs.Prelude.{◌≡◌, IfErr, IfOk, MatchOption, None, Ok, Some, true};
+ghost use Rattle.desk_base.specs.Moments.{IsBefore, IsBehind, IsFromStart, IsNumbered, ShowsBetween, StandsIn};
+ghost use Rattle.desk_base.specs.Moments.{end_shown, is_last};
 ghost use Rattle.desk_base.specs.Refusal.{IsOfGame};
 ghost use Rattle.desk_base.specs.SetNumber.{IsNumberPlayed, number_in_set};
-ghost use Rattle.rounds.specs.Steps.{game_so_far};
-ghost use Rattle.rounds.specs.Play.{IsTheGame};
+ghost use Rattle.rounds.specs.Steps.{ComesNext, game_so_far};
+ghost use Rattle.rounds.specs.Play.{Between, IsTheGame};
 
 use crate::fault::DeskFault;
 use crate::set_number::{end_after, number_after, number_in_set};
@@ -68,13 +69,22 @@ pub fn stood_now<'a>(play: &'a Play<'a>) -> Option<Stood<'a>>
 }
 
 /// Returns a game after the rounds that were played, in which this happened.
+#[tactic(auto, using(crate::proofs::MomentLemmas::shows_there))]
 fn stood_in<'a>(play: &'a Play<'a>, history: &'a History) -> Stood<'a>
+    requires { game_so_far play.now ≡ Some history.now }
     ensures file { result.sheets.now ≡ play.now.file }
     ensures game { result.history.now ≡ history.now }
     ensures end { IsNumbered play.now.last_round → result.end
         ≡ end_shown play.now.outcome play.now.last_round history.now.events }
     ensures in_set { result.in_set ≡ number_in_set result.end history.now.events }
+    ensures there { (there : Between) → play.now.there ≡ Ok there → IsFromStart play.now.file play.now
+        → ShowsBetween there result }
 {
+    // Laws, which do nothing when they run, and the number of players, at least three: a round that
+    // all of them have sent sheets for has a number that a line may have.
+    rounds::laws::rounds_only_add();
+    sheets::laws::sheets_are_numbered();
+    let _players = play.sheets().seats();
     let end = end_shown(play.outcome(), play.last_round(), history);
     Stood {
         sheets: play.sheets(),
@@ -98,6 +108,7 @@ fn end_shown(outcome: Option<End>, last: Option<Round>, history: &History) -> En
 
 /// Plays the game of some sheets up to the end of a round. Fails with `Round` if that round is not
 /// played.
+#[tactic(auto, using(crate::proofs::MomentLemmas::at_start, crate::proofs::MomentLemmas::is_behind, crate::proofs::MomentLemmas::one_step_on))]
 pub fn play_behind<'a>(
     alloc: Global,
     sheets: &'a Sheets<'a>,
@@ -106,6 +117,10 @@ pub fn play_behind<'a>(
     ensures behind { IfOk result (IsBehind sheets.now asked) }
     ensures fault { IfErr result IsOfGame }
 {
+    // Laws, which do nothing when they run, and the number of players, at least three.
+    rounds::laws::rounds_only_add();
+    sheets::laws::sheets_are_numbered();
+    let _players = sheets.seats();
     let mut play = Play::start(alloc, sheets)?;
     let mut search = Search::new(alloc);
     loop {
@@ -120,12 +135,13 @@ pub fn play_behind<'a>(
 
 /// Plays the game of some sheets up to the start of a round. Fails with `Round` if that round is
 /// not played.
+#[tactic(auto, using(crate::proofs::MomentLemmas::at_start, crate::proofs::MomentLemmas::one_step_on))]
 pub fn play_before<'a>(
     alloc: Global,
     sheets: &'a Sheets<'a>,
     asked: Round,
 ) -> Result<Play<'a>, DeskFault>
-    ensures file { IfOk result (λ play. play.file ≡ sheets.now) }
+    ensures before { IfOk result (IsBefore sheets.now asked) }
     ensures fault { IfErr result IsOfGame }
 {
     let mut play = Play::start(alloc, sheets)?;
@@ -153,7 +169,10 @@ fn is_last(last: Option<Round>, asked: Round) -> bool
 }
 
 /// Returns whether a round comes next, and each player has a sheet for it.
-fn comes_next(play: &Play, asked: Round) -> bool {
+#[tactic(auto, using(crate::proofs::MomentLemmas::it_comes_next))]
+fn comes_next(play: &Play, asked: Round) -> bool
+    ensures { result ≡ true → IsFromStart play.now.file play.now → ComesNext play.now asked }
+{
     match stood_now(play) {
         Some(
             Stood {

@@ -13,6 +13,8 @@ use Rattle.desk_check.specs.declared.check_sheets.Sent.{Sent}
 use Rattle.sheets.specs.File.{begins, sheet_key_at, same_sheet_key}
 use Rattle.sheets.specs.declared.sheet_key.SheetKey.{SheetKey}
 use Rattle.std.specs.Prelude.{◌==◌, if◌then◌else◌, nat_lt}
+use Rattle.totals.proofs.EventAtEnd.{option_or_assoc, option_or_none}
+use Rattle.desk_base.proofs.MomentLemmas.{same_round_is}
 use Rattle.tables.specs.Round.{same_round}
 use Rattle.tables.specs.declared.round.Round.{Round}
 use Rattle.tables.specs.declared.round.Round.TheVariants.{Opening, Stock, Operating}
@@ -21,39 +23,13 @@ use Rattle.tables.specs.declared.round.Round.TheVariants.{Opening, Stock, Operat
 abbrev pub line_if : SheetKey → HeadAt → Option ℕ
 line_if sheet_key head = if same_sheet_key head.sheet_key sheet_key then Some head.line else None
 
--- the first of three choices
-or_assoc : (a b c : Option ℕ) → option_or (option_or a b) c ≡ option_or a (option_or b c)
-or_assoc None b c = refl
-or_assoc (Some x) b c = refl
-
--- one choice
-or_none : (a : Option ℕ) → a ≡ option_or a None
-or_none None = refl
-or_none (Some x) = refl
-
 -- the last of some heads and one more
 pub last_with_one : (sheet_key : SheetKey) (heads : List HeadAt) (head : HeadAt) →
     last_line sheet_key (heads ++ head ∷ []) ≡ option_or (line_if sheet_key head) (last_line sheet_key heads)
-last_with_one sheet_key [] head = or_none (line_if sheet_key head)
+last_with_one sheet_key [] head = sym (option_or_none (line_if sheet_key head))
 last_with_one sheet_key (first ∷ heads) head =
     ap (λ o. option_or o (line_if sheet_key first)) (last_with_one sheet_key heads head)
-    ∙ or_assoc (line_if sheet_key head) (last_line sheet_key heads) (line_if sheet_key first)
-
--- a sheet is known by its seat and its round
-same_round_is : (a b : Round) → same_round a b ≡ true → a ≡ b
-same_round_is (Opening m) (Opening n) same = ap (λ k. Opening k) (eqb-true m n same)
-same_round_is (Opening m) (Stock n) same = absurd (true≢false (sym same))
-same_round_is (Opening m) (Operating n k) same = absurd (true≢false (sym same))
-same_round_is (Stock m) (Opening n) same = absurd (true≢false (sym same))
-same_round_is (Stock m) (Stock n) same = ap (λ k. Stock k) (eqb-true m n same)
-same_round_is (Stock m) (Operating n k) same = absurd (true≢false (sym same))
-same_round_is (Operating m j) (Opening n) same = absurd (true≢false (sym same))
-same_round_is (Operating m j) (Stock n) same = absurd (true≢false (sym same))
-same_round_is (Operating m j) (Operating n k) same =
-    let parts = and_parts (m == n) (j == k) same in
-    let set : m ≡ n = eqb-true m n parts.0 in
-    let number : j ≡ k = eqb-true j k parts.1 in
-    ap (λ s. Operating s j) set ∙ ap (λ i. Operating n i) number
+    ∙ option_or_assoc (line_if sheet_key head) (last_line sheet_key heads) (line_if sheet_key first)
 
 same_post_is : (a b : SheetKey) → same_sheet_key a b ≡ true → a ≡ b
 same_post_is a b same =
@@ -71,7 +47,7 @@ replaces_with_one before (first ∷ heads) head h e =
     (h.0, replaces_with_one (before ++ head_at first ∷ []) heads head h.1 (rw append_assoc e))
 
 -- a choice that is made by a test
-or_by_test : (test : Bool) (line : ℕ) (other : Option ℕ)
+pub or_by_test : (test : Bool) (line : ℕ) (other : Option ℕ)
     → cond test (Some line) other ≡ option_or (cond test (Some line) None) other
 or_by_test true line other = refl
 or_by_test false line other = refl
@@ -113,7 +89,7 @@ last_as_first sheet_key (first ∷ heads) =
     is_some (option_or (last_line sheet_key heads) (cond test (Some first.line) None))
     ≡ is_some (cond test (Some first.line) (first_line sheet_key heads))) [
       | true ↦ some_behind (last_line sheet_key heads) first.line
-      | false ↦ sym (ap is_some (or_none (last_line sheet_key heads))) ∙ last_as_first sheet_key heads
+      | false ↦ ap is_some (option_or_none (last_line sheet_key heads)) ∙ last_as_first sheet_key heads
     ]
 
 -- a line that is there before another

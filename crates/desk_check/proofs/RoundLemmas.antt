@@ -6,6 +6,8 @@ use Rattle.std.proofs.lemmas.List.Folds.{list_any-append}
 use Rattle.std.specs.List.{list_any}
 use Rattle.std.specs.Map.{lookup}
 use Rattle.std.specs.Option.{option_or}
+use Rattle.desk_check.proofs.HeadLemmas.{or_by_test}
+use Rattle.totals.proofs.EventAtEnd.{option_or_assoc, option_or_none}
 use Rattle.desk_check.specs.Heads.{came}
 use Rattle.desk_check.specs.RoundsPlayed.{AreRoundsOf, by_then, by_with, is_begun, ready_among}
 use Rattle.desk_check.specs.SheetLines.{HeadAt}
@@ -85,22 +87,6 @@ one_begun events event key round line old new h put kept =
     ∙ sym (ap (list_any test) (begun_with_one events event ∙ ap (λ o. rounds_begun events ++ with_round o []) h)
     ∙ list_any-append test (rounds_begun events) (key ∷ []))
 
--- the first of three choices
-or_assoc : (a b c : Option ℕ) → option_or (option_or a b) c ≡ option_or a (option_or b c)
-or_assoc None b c = refl
-or_assoc (Some x) b c = refl
-
--- one choice
-or_none : (a : Option ℕ) → a ≡ option_or a None
-or_none None = refl
-or_none (Some x) = refl
-
--- a choice that is made by a test
-or_by_test : (test : Bool) (line : ℕ) (other : Option ℕ)
-    → cond test (Some line) other ≡ option_or (cond test (Some line) None) other
-or_by_test true line other = refl
-or_by_test false line other = refl
-
 module _ (seats : ℕ) (heads : List HeadAt) where
   -- the line by which all had sheets, with one round more
   by_with_one : (by : ℕ) (rounds : List Round) (round : Round) →
@@ -113,12 +99,12 @@ module _ (seats : ℕ) (heads : List HeadAt) where
       ready_among seats heads by (rounds ++ key ∷ []) round
       ≡ option_or (cond (same_round key round) (Some (by_then seats heads by (rounds ++ key ∷ []))) None)
       (ready_among seats heads by rounds round)
-  ready_with_one by [] key round = or_none (cond (same_round key round) (Some (by_with seats heads by key)) None)
+  ready_with_one by [] key round = sym (option_or_none (cond (same_round key round) (Some (by_with seats heads by key)) None))
   ready_with_one by (first ∷ rounds) key round =
       let now = by_with seats heads by first in
       let here : Option ℕ = cond (same_round first round) (Some now) None in
       ap (λ (o : Option ℕ). option_or o here) (ready_with_one now rounds key round)
-      ∙ or_assoc (cond (same_round key round) (Some (by_then seats heads now (rounds ++ key ∷ []))) None)
+      ∙ option_or_assoc (cond (same_round key round) (Some (by_then seats heads now (rounds ++ key ∷ []))) None)
       (ready_among seats heads now rounds round) here
 
 -- an event that begins no round is applied

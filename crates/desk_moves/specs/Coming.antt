@@ -1,12 +1,11 @@
 -- A game before the round that comes: after a round of its sheets, or after the last that they play.
 use Rattle.std.specs.Prelude.{◌≡◌, List, ℕ, Option, Some, None}
-use Rattle.desk_base.specs.Moments.{IsBehind}
+use Rattle.desk_base.specs.Moments.{IsAfterRound}
 use Rattle.desk_moves.specs.declared.coming.Coming.{Coming}
 use Rattle.foresight.specs.Ahead.{OrdersState, opened_state}
 use Rattle.foresight.specs.Orders.{IsAhead}
 use Rattle.foresight.specs.declared.round_ahead.Ahead.TheVariants.{AtOrders}
-use Rattle.rounds.specs.Play.{IsTheGame, Played}
-use Rattle.rounds.specs.Steps.{Underway, game_so_far}
+use Rattle.rounds.specs.Play.{Between, IsTheGame, Played, end_of}
 use Rattle.rounds.specs.declared.game.End.TheVariants.{Awaiting}
 use Rattle.tables.specs.declared.roster.Company.{Company}
 use Rattle.tables.specs.declared.round.Round.{Round}
@@ -23,9 +22,10 @@ pub record IsAtLast (file : List ℕ) (coming : Coming) : Type 0 where
 
 -- a game of a file after a round
 pub record IsAfter (file : List ℕ) (after : Round) (coming : Coming) : Type 0 where
-  pub play : Underway
-  pub behind : IsBehind file after play
-  pub game : game_so_far play ≡ Some coming.history
+  pub there : Between
+  pub is_after : IsAfterRound file after there
+  pub game : coming.history ≡ there.game
+  pub end : coming.end ≡ end_of there.next there.game.events
   pub sheets : coming.sheets.now ≡ file
 
 -- a game of a file after a round, or after the last that it plays if none is named

@@ -61,6 +61,7 @@ fn coming_at_last<'a>(alloc: Global, sheets: &'a Sheets<'a>) -> Result<Coming<'a
 }
 
 /// Returns the game after a round.
+#[tactic(auto, using(crate::proofs::ComingLemmas::is_after))]
 fn coming_after<'a>(
     alloc: Global,
     sheets: &'a Sheets<'a>,

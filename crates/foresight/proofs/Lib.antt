@@ -1,4 +1,3 @@
-pub mod Idle
 pub mod TurnsAhead
 pub mod Ended
 pub mod Passing

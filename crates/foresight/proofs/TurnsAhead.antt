@@ -17,7 +17,7 @@ use Rattle.tables.specs.declared.seat.Seat.{Seat}
 use Rattle.foresight.specs.Orders.{HaveTurns, OthersHaveTurns, is_among}
 use Rattle.market.specs.OperatingOrder.{IsOperatingOrder, next_company, operating_order_of}
 use Rattle.operating.specs.Laws.{CompanyOperates}
-use Rattle.foresight.proofs.Idle.{fewer_idle, idle_of, next_is_idle}
+use Rattle.operating.proofs.Idle.{fewer_idle, idle_of, next_is_idle}
 use Rattle.tables.specs.Roster.{same_company}
 use Rattle.tables.specs.declared.roster.Company.{Company}
 use Rattle.totals.specs.Shares.{is_floated, president_of, square_of}

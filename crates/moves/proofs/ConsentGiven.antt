@@ -4,6 +4,7 @@ use Rattle.std.proofs.Common.{nat_lt, Option, Some, None, ℤ, pos, is_some, unw
 use Rattle.std.proofs.lemmas.Bool.Decides.{nat_tests}
 use Rattle.std.specs.Int.Signed.{lt_z}
 use Rattle.std.specs.Option.{option_flatten, option_or}
+use Rattle.std.proofs.lemmas.Bool.{eq-eqb}
 use Rattle.events.specs.Event.{obeyed_of, party_of_company, round_begun_by}
 use Rattle.events.specs.Offers.{offered_in, same_offer}
 use Rattle.events.specs.Orders.{said_by}
@@ -65,10 +66,6 @@ use Rattle.totals.specs.LookBack.{Game, cash_of, in_round, last_said, owner_of}
 use Rattle.totals.specs.Offers.{has_offered}
 use Rattle.totals.specs.Shares.{president_of}
 
--- an offer is the same as itself
-same_number : (n : ℕ) → (n == n) ≡ true
-same_number n = grind (arith, nat_tests)
-
 same_as_itself : (sale : Offer) → same_offer sale sale ≡ true
 same_as_itself (offer.Private private buyer price) = grind (arith, nat_tests)
 same_as_itself (offer.Train kind seller buyer price) = grind (arith, nat_tests)
@@ -113,7 +110,7 @@ is_offered before after giver number condition sale none =
     let says : Event → Option Offer = λ event. said_by giver (offered_in sale) (obeyed_of event) in
     let line : Event = offer_line giver number condition sale in
     let word : says line ≡ Some sale =
-    ap (λ (b : Bool). if b then offered_in sale (order.Offer sale) else None) (same_number giver.0)
+    ap (λ (b : Bool). if b then offered_in sale (order.Offer sale) else None) (eq-eqb giver.0 giver.0 refl)
     ∙ ap (λ (b : Bool). if b then Some sale else None) (same_as_itself sale) in
     let here : in_round says line ≡ Some (Some sale) = ap (option_map (λ (its : Offer). Some its)) word in
     holds_behind (in_round says) before (line ∷ after)

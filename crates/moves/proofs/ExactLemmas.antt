@@ -3,6 +3,9 @@
 use Rattle.std.proofs.Common.{◌≡◌, ℕ, zero, suc, Bool, true, false, ◌↔◌, IsTrue, inl, inr, List, [], ◌∷◌, ◌++◌}
 use Rattle.std.proofs.Common.{Option, Some, None, Result, Ok, Err, ℤ, refl, sym, ap, subst, ◌∙◌, flat_map}
 use Rattle.std.specs.Prelude.{slice_get}
+use Rattle.operating.proofs.Outcome.{same_break, same_tests}
+use Rattle.board.proofs.KeptHomes.{among_first}
+use Rattle.moves.proofs.RowRulings.{none_is_not}
 use Rattle.board.proofs.RuleTables.{earlier}
 use Rattle.board.specs.LayRules.{IsConnected, IsLayAnswer, cost_or, lay_cost_of, map_rules}
 use Rattle.board.specs.LayRules.{reach_rules as lay_reach_rules}
@@ -31,21 +34,11 @@ use Rattle.moves.specs.declared.priced.Priced.{Priced}
 use Rattle.reach.specs.Position.{IsAmong}
 use Rattle.tables.specs.Rules.{Rule, first_broken}
 
--- nothing is not something
-none_is_not : {A : Type 0} (x : A) → None ≡ Some x → ⊥
-none_is_not x wrong = cc
-
 -- what is found at a place is among a list
 among_got : {A : Type 0} (xs : List A) (i : ℕ) (x : A) → slice_get xs i ≡ Some x → IsAmong x xs
 among_got [] i x got = absurd (none_is_not x got)
 among_got (y ∷ ys) zero x got = inl (let same : Some y ≡ Some x = got in cc)
 among_got (y ∷ ys) (suc i) x got = inr (among_got ys i x got)
-
--- what is among the first of two lists, or among the second, is among both
-among_first : {A : Type 0} (xs ys : List A) (x : A) → IsAmong x xs → IsAmong x (xs ++ ys)
-among_first [] ys x impossible = absurd impossible
-among_first (y ∷ xs) ys x (inl same) = inl same
-among_first (y ∷ xs) ys x (inr later) = inr (among_first xs ys x later)
 
 among_second : {A : Type 0} (xs ys : List A) (x : A) → IsAmong x ys → IsAmong x (xs ++ ys)
 among_second [] ys x among = among
@@ -133,25 +126,6 @@ module _ {A Fault : Type 0} (rules : A → Result ℤ Fault → Type 0) where
       subst (λ (l : List (Priced A)). IsAmong (record { what = one; price = price }) l) (sym is)
       (among_second (priced_if first answer) rest (record { what = one; price = price })
       (complete one_way more rest others one price later allowed))
-
--- two tests of one fact are the same
-same_tests : {P : Type 0} (a b : Bool) → IsTrue a ↔ P → IsTrue b ↔ P → a ≡ b
-same_tests true true first second = refl
-same_tests false false first second = refl
-same_tests true false first second = let wrong : false ≡ true = second.1 (first.0 refl) in cc
-same_tests false true first second = let wrong : false ≡ true = first.1 (second.0 refl) in cc
-
--- a table that goes on by a test breaks one rule first, where the test is one once the first rules
--- are kept
-same_break : {Code : Type 0} (first : List (Rule Code)) (later : Bool → List (Rule Code)) (a b : Bool) →
-    (first_broken first ≡ None → a ≡ b) → first_broken (first ++ later a) ≡ first_broken (first ++ later b)
-same_break {Code} first later a b same =
-    elim (first_broken first) as (λ (found : Option Code). first_broken first ≡ found
-    → first_broken (first ++ later a) ≡ first_broken (first ++ later b)) [
-      | None ↦ λ is. ap (λ (test : Bool). first_broken (first ++ later test)) (same is)
-      | Some code ↦ λ is. earlier first (later a) code is ∙ sym (earlier first (later b) code is)
-    ]
-    refl
 
 -- a lay has one verdict
 pub one_lay_answer : (laid : MapState) (asker : Asker) (lay : Lay) → (a b : Result ℤ LayRule) → IsLayAnswer laid asker lay a

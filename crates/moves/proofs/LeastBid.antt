@@ -1,6 +1,7 @@
 -- The least bid is the least that is not too low.
 use Rattle.std.proofs.Common.{◌≡◌, ◌≤◌, ◌≤ℤ◌, ℕ, ℤ, ◌+◌, Bool, true, false, ◌||◌, nat_lt, List, Option, Some, None, pos}
 use Rattle.std.proofs.Common.{refl, ap, sym, ◌∙◌, arith}
+use Rattle.std.proofs.lemmas.Bool.{or_parts}
 use Rattle.std.proofs.lemmas.Bool.Decides.{nat_tests}
 use Rattle.std.specs.Int.Signed.{lt_z}
 use Rattle.events.specs.RuleCodes.{code_of_opening_rule}
@@ -19,11 +20,6 @@ use Rattle.tables.specs.Rules.{first_broken}
 use Rattle.tables.specs.declared.roster.Private.{Private}
 use Rattle.tables.specs.declared.seat.Seat.{Seat}
 use Rattle.totals.specs.Bids.{free_for, greatest_bid_of}
-
--- neither of two tests passes
-neither : (a b : Bool) → (a || b) ≡ false → (a ≡ false) × (b ≡ false)
-neither true b fails = absurd (cc)
-neither false b fails = (refl, fails)
 
 -- a bid that is high enough is no less than the least
 no_less : (face amount : ℕ) (greatest : Option ℕ) → amount ≤ 4294967295 → nat_lt amount (face + 5) ≡ false
@@ -71,7 +67,7 @@ least_is_least seats events seat private amount few none =
     let least = least_bid_of events private in
     let rules = bid_rules seats events seat false private amount in
     let kept = not_broken code_of_opening_rule rules none in
-    let high = neither (nat_lt amount (face + 5)) (is_near_some amount events private) (kept BidTooLow) in
+    let high = or_parts (nat_lt amount (face + 5)) (is_near_some amount events private) (kept BidTooLow) in
     let far : is_near amount greatest ≡ false = near_greatest private amount events ∙ high.1 in
     let no_more : least ≤ amount = no_less face amount greatest few high.0 far in
     let no_lower : is_too_low events private least ≡ false =

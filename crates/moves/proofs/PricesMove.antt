@@ -6,6 +6,8 @@ use Rattle.std.proofs.lemmas.Bool.Decides.{nat_tests}
 use Rattle.std.proofs.lemmas.Int.{ints}
 use Rattle.std.proofs.lemmas.List.{append-nil}
 use Rattle.std.specs.List.{fold}
+use Rattle.std.proofs.lemmas.Bool.{eq-eqb}
+use Rattle.totals.proofs.Privates.{private_itself}
 use Rattle.certs.specs.Purchase.{price_on, share_price_of}
 use Rattle.certs.specs.SaleAct.{sold, succeeded, with_president, with_successor}
 use Rattle.certs.specs.President.{successor_of}
@@ -93,15 +95,9 @@ use Rattle.totals.specs.Trains.{at_least_zero, trains_held}
 use Rattle.turns.specs.RoundOfTurns.{in_turn}
 use Rattle.turns.specs.Ruling.{has_place_in_turn, judged}
 
--- a seat and a company are themselves
-seat_itself : (n : ℕ) → (n == n) ≡ true
-seat_itself n = grind (arith, nat_tests)
-
+-- a company is itself
 company_itself : (company : Company) → same_company company company ≡ true
 company_itself company = grind (arith, nat_tests)
-
-private_itself : (private : Private) → same_private private private ≡ true
-private_itself private = grind (arith, nat_tests)
 
 either_way : (a b : Company) → same_company a b ≡ same_company b a
 either_way a b = grind (arith, nat_tests)
@@ -194,7 +190,7 @@ one_by_one events a b c =
 -- what a seat that buys pays
 buyer_pays : (seat : Seat) (its : Company) (shares : ℕ) (from : ShareSource) (price : ℕ)
     → paid_by (party_at seat) (payment_of (event.Bought its seat shares from price)) ≡ price
-buyer_pays seat its shares from price = ap (λ (b : Bool). if b then price else 0) (seat_itself seat.0)
+buyer_pays seat its shares from price = ap (λ (b : Bool). if b then price else 0) (eq-eqb seat.0 seat.0 refl)
 
 -- what is left of a seat's cash once an order of its turn is done
 left_by_act : (seats : ℕ) (events : List Event) (seat : Seat) (its : Order)
@@ -225,7 +221,7 @@ left_by_act seats events seat (order.Sell its shares) =
     (party_at seat)
     ∙ successor_moves_none seats paid its (president_of paid its) (party_at seat)
     ∙ broken_moves_none seats (events ++ sells ∷ []) (party_at seat)
-    ∙ gets seats events sells (party_at seat) price (ap (λ (b : Bool). if b then price else 0) (seat_itself seat.0)) refl
+    ∙ gets seats events sells (party_at seat) price (ap (λ (b : Bool). if b then price else 0) (eq-eqb seat.0 seat.0 refl)) refl
 left_by_act seats events seat order.ExchangeMohawk =
     let given : List Event = exchanged events seat in
     float_moves_none seats (with_president seats given company.NewYorkCentral) company.NewYorkCentral seat
@@ -300,7 +296,7 @@ private_paid seats events its seat price =
     ap (λ (all : List Event). cash_of seats all (party_at seat))
     (sym (append_assoc events (pay ∷ []) (gifts events its seat)))
     ∙ gifts_move_none seats events (events ++ pay ∷ []) its seat (party_at seat)
-    ∙ pays seats events pay (party_at seat) price refl (ap (λ (b : Bool). if b then price else 0) (seat_itself seat.0))
+    ∙ pays seats events pay (party_at seat) price refl (ap (λ (b : Bool). if b then price else 0) (eq-eqb seat.0 seat.0 refl))
 
 -- a ruling changes no private's price
 same_private_price : (events : List Event) (its : Private) (seat : Seat) (number : ℕ) (done : Ruling)
@@ -335,7 +331,7 @@ moves_in_opening seats events seat number done (order.Bid its amount) price cost
           unwrap_or (if b && seat.0 == seat.0 then Some (Some amount) else None) (bid_of ruled_list its seat))
           (private_itself its)
           ∙ ap (λ (b : Bool). unwrap_or (if b then Some (Some amount) else None) (bid_of ruled_list its seat))
-          (seat_itself seat.0);
+          (eq-eqb seat.0 seat.0 refl);
       pays = cash_of_before seats ruled_list bids (party_at seat) refl
           ∙ cash_of_before seats events (event.Ruled seat number done) (party_at seat) refl;
     }

@@ -3,6 +3,7 @@
 use Rattle.std.proofs.Common.{◌≡◌, ℕ, List, [], ◌∷◌, ◌++◌, ap, ◌∙◌, Option, None}
 use Rattle.std.proofs.Common.{unwrap_or, refl, sym, subst, false}
 use Rattle.std.proofs.lemmas.List.{append-nil}
+use Rattle.purchases.proofs.Complete.{phase_kept}
 use Rattle.board.proofs.FitLaws.{home_keeps_fit, lay_keeps_fit, token_keeps_fit}
 use Rattle.board.specs.Homes.{Fits}
 use Rattle.board.specs.LayRules.{map_rules}
@@ -35,13 +36,6 @@ use Rattle.totals.specs.LookBack.{Game, cash_of, with_event}
 use Rattle.totals.specs.Operating.{lays_of, tokens_of}
 use Rattle.totals.specs.Trains.{phase_of}
 
--- the phase is the same after an event that begins none
-same_phase : (events : List Event) (event : Event) → phase_set event ≡ None
-    → phase_of (events ++ event ∷ []) ≡ phase_of events
-same_phase events event none =
-    ap (λ (said : Option Kind). unwrap_or said Two)
-    (last_said_before phase_set (events ++ event ∷ []) events event refl none)
-
 -- the same lies after an event that lays no tile, places no token and begins no phase
 pub same_map_state : (events : List Event) (event : Event) → tile_laid event ≡ None → token_placed event ≡ None
     → phase_set event ≡ None → map_state_now (events ++ event ∷ []) ≡ map_state_now events
@@ -50,7 +44,7 @@ same_map_state events event no_tile no_token no_phase =
     (lays_before events event no_tile)
     ∙ ap (λ (tokens : List (Place × Company)). map_state_of (lays_of events) tokens (phase_of (events ++ event ∷ [])))
     (tokens_before events event no_token)
-    ∙ ap (map_state_of (lays_of events) (tokens_of events)) (same_phase events event no_phase)
+    ∙ ap (map_state_of (lays_of events) (tokens_of events)) (phase_kept events event no_phase)
 
 -- the map state by a list fits, as it lies now
 fits_now : (events : List Event) → LiesFit events → Fits (map_state_now events)

@@ -42,3 +42,4 @@ pub mod ForcedTrains
 pub mod NoRuns
 pub mod BestEarnings
 pub mod EachCall
+pub mod Idle

@@ -53,7 +53,7 @@ record IsOne {A : Type 0} (P : A → Type 0) : Type 0 where
   only : (other : A) → P other → other ≡ it
 
 -- two tests of one fact are the same
-same_tests : {P : Type 0} (a b : Bool) → IsTrue a ↔ P → IsTrue b ↔ P → a ≡ b
+pub same_tests : {P : Type 0} (a b : Bool) → IsTrue a ↔ P → IsTrue b ↔ P → a ≡ b
 same_tests true true first second = refl
 same_tests false false first second = refl
 same_tests true false first second = let wrong : false ≡ true = second.1 (first.0 refl) in cc
@@ -61,7 +61,7 @@ same_tests false true first second = let wrong : false ≡ true = first.1 (secon
 
 -- a table that goes on by a test breaks one rule first, where the test is one once the first rules
 -- are kept
-same_break : {Code : Type 0} (first : List (Rule Code)) (later : Bool → List (Rule Code)) (a b : Bool) →
+pub same_break : {Code : Type 0} (first : List (Rule Code)) (later : Bool → List (Rule Code)) (a b : Bool) →
     (first_broken first ≡ None → a ≡ b) → first_broken (first ++ later a) ≡ first_broken (first ++ later b)
 same_break {Code} first later a b same =
     elim (first_broken first) as (λ (found : Option Code). first_broken first ≡ found

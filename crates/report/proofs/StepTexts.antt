@@ -3,6 +3,7 @@
 use Rattle.std.proofs.Common.{◌≡◌, ℕ, zero, suc, false, List, [], ◌∷◌, ◌++◌, refl, sym, ap, subst, ◌∙◌, append_assoc}
 use Rattle.std.specs.Prelude.{Option, Some, Result, Ok, Err, IsOk}
 use Rattle.std.proofs.lemmas.List.{append-nil}
+use Rattle.rounds.proofs.StepByStep.{same_place}
 use Rattle.events.specs.declared.event.Event.TheVariants as event
 use Rattle.totals.specs.LookBack.{Game}
 use Rattle.report.specs.Laws.{IsPrefix, PartsAreAPrefix, PartsAreTheReport}
@@ -50,10 +51,6 @@ record IsTextSoFar (file : List ℕ) (play : Underway) (text : List ℕ) : Type 
   at : Between
   there : play.there ≡ Ok at
   is : text ≡ text_of file at.game
-
--- two places between rounds are the same where play is at both
-same_place : (a b : Between) (there : Result Between PlayFault) → there ≡ Ok a → there ≡ Ok b → a ≡ b
-same_place a b there at_a at_b = cc
 
 -- a step adds the text of its round
 step_written : RoundsOnlyAdd → (file : List ℕ) (old new : Underway) (before text : List ℕ) (round : _)

@@ -3,6 +3,7 @@ use Rattle.rounds.proofs.Forward.{posted_each}
 use Rattle.std.specs.List.{list_all, range_with_len}
 use Rattle.std.proofs.Common.{not, Bool, true, ◌≡◌, ℕ, ◌<◌, false, List, [], ◌∷◌, Err, take, refl}
 use Rattle.std.proofs.Common.{arith, ◌++◌}
+use Rattle.std.proofs.lemmas.Bool.{not-true}
 use Rattle.events.specs.declared.event.Event.{Event}
 use Rattle.privates.specs.Opening.{IsOpeningRound, in_play}
 use Rattle.privates.specs.Sale.{settled}
@@ -23,13 +24,9 @@ use Rattle.market.specs.OperatingOrder.{operating_order_of}
 use Rattle.rounds.specs.declared.following.Next.TheVariants as next
 use Rattle.stock_round.specs.StockRound as stock
 
--- a test that none of some numbers passes
-not_so : (b : Bool) → not b ≡ true → b ≡ false
-not_so b so = grind arith
-
 goes_on_for : (over : ℕ → Bool) (n : ℕ) → list_all (λ k. not (over k)) (range_with_len 0 n) ≡ true →
     (k : ℕ) → k < n → over k ≡ false
-goes_on_for over n none k below = not_so (over k) (posted_each (λ at. not (over at)) 0 n k none
+goes_on_for over n none k below = not-true (over k) (posted_each (λ at. not (over at)) 0 n k none
     (omega arith) (omega arith))
 
 -- the round after its turns

@@ -17,4 +17,4 @@ mod EachGame
 mod PlainGames
 pub mod GameEnds
 mod Calls
-mod StepByStep
+pub mod StepByStep

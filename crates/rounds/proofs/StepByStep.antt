@@ -41,7 +41,7 @@ pub record IsAt (file : List ℕ) (here : Between) (play : Underway) : Type 0 wh
   pub there : play.there ≡ Ok here
 
 -- it is at one
-same_place : (a b : Between) (there : Result Between PlayFault) → there ≡ Ok a → there ≡ Ok b →
+pub same_place : (a b : Between) (there : Result Between PlayFault) → there ≡ Ok a → there ≡ Ok b →
     a ≡ b
 same_place a b there at_a at_b = cc
 

@@ -4,7 +4,7 @@ use Rattle.std.proofs.Common.{nat_le, cond, List, [], ◌∷◌, ◌++◌, Resul
 use Rattle.std.proofs.Common.{append_assoc, refl, sym, ap, subst, ◌∙◌, inl, inr, arith}
 use Rattle.std.specs.Char.{to_ascii_uppercase}
 use Rattle.std.specs.List.{AllByRecursion, flat_map, list_all}
-use Rattle.std.proofs.lemmas.Bool.{and_from, and_parts, false≢true, le-leb}
+use Rattle.std.proofs.lemmas.Bool.{and_from, and_parts, false≢true, le-leb, not-true}
 use Rattle.std.proofs.lemmas.List.{append-nil, length-append, length-map}
 use Rattle.std.proofs.lemmas.List.Concat.{flat_map-cons}
 use Rattle.reach.specs.Position.{IsAmong}
@@ -40,22 +40,18 @@ all_lower p (digit ∷ digits) each lower =
 abbrev stays : ℕ → Bool
 stays byte = not (byte == 35) && not (byte == 32)
 
-denied : (b : Bool) → not b ≡ true → b ≡ false
-denied true e = absurd (false≢true e)
-denied false e = refl
-
 no_comment : (bytes : List ℕ) → list_all stays bytes ≡ true → before 35 bytes ≡ bytes
 no_comment [] all = refl
 no_comment (byte ∷ bytes) all =
     let parts = and_parts (stays byte) (list_all stays bytes) all in
-    let here = denied (byte == 35) (and_parts (not (byte == 35)) (not (byte == 32)) parts.0).0 in
+    let here = not-true (byte == 35) (and_parts (not (byte == 35)) (not (byte == 32)) parts.0).0 in
     rw (here, no_comment bytes parts.1) refl
 
 one_word : (begun bytes : List ℕ) → list_all stays bytes ≡ true → words_from begun bytes ≡ with_word (begun ++ bytes) []
 one_word begun [] all = rw (append-nil begun) refl
 one_word begun (byte ∷ bytes) all =
     let parts = and_parts (stays byte) (list_all stays bytes) all in
-    let here = denied (byte == 32) (and_parts (not (byte == 35)) (not (byte == 32)) parts.0).1 in
+    let here = not-true (byte == 32) (and_parts (not (byte == 35)) (not (byte == 32)) parts.0).1 in
     rw here (one_word (begun ++ byte ∷ []) bytes parts.1
     ∙ ap (λ word. with_word word []) (append_assoc begun (byte ∷ []) bytes))
 

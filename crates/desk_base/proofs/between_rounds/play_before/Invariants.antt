@@ -1,10 +1,11 @@
 use Rattle.std.proofs.Common.{◌≡◌}
+use Rattle.desk_base.specs.Moments.{IsFromStart}
 use Rattle.rounds.specs.Steps.{IsUnbroken, places_ahead}
 use Rattle.desk_base.proofs.between_rounds.play_before.Given as goal
 
--- no fault has broken play off, and its file is that of the sheets
+-- no fault has broken play off, its file is that of the sheets, and it has come from the start of that file
 abbrev pub invariant-loop-asked : goal.invariant-loop-asked
-invariant-loop-asked l = IsUnbroken l.play × (l.play.file ≡ l.sheets)
+invariant-loop-asked l = IsUnbroken l.play × (l.play.file ≡ l.sheets) × IsFromStart l.sheets l.play
 
 -- each round has a later place than the one before
 abbrev pub decreases-loop-asked : goal.decreases-loop-asked

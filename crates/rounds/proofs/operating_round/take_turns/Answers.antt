@@ -6,7 +6,8 @@ use Rattle.totals.specs.Shares.{is_floated, square_of}
 use Rattle.operating.proofs.Calls.{no_more, none_after, once_more, silent}
 use Rattle.operating.specs.Calls.{Makes, Unasked}
 use Rattle.rounds.proofs.Calls.{next_turn}
-use Rattle.rounds.proofs.CompanyTurns.{next_is_idle, one_more_turn, turn_leaves_fewer}
+use Rattle.operating.proofs.Idle.{next_is_idle}
+use Rattle.rounds.proofs.CompanyTurns.{one_more_turn, turn_leaves_fewer}
 use Rattle.rounds.specs.GameCalls.{AreOver, NextCalls, TurnsCall}
 use Rattle.rounds.specs.OperatingRound.{TakesTurn}
 use Rattle.rounds.specs.declared.fault.PlayFault.{PlayFault}

@@ -2,7 +2,7 @@ use Rattle.std.proofs.Common.{◌≡◌, List, Result}
 use Rattle.totals.specs.LookBack.{Game}
 use Rattle.operating.specs.Calls.{Makes}
 use Rattle.operating.specs.GameAndBoard.{IsLaidOut}
-use Rattle.rounds.proofs.CompanyTurns.{idle_of}
+use Rattle.operating.proofs.Idle.{idle_of}
 use Rattle.rounds.specs.GameCalls.{TurnsCall}
 use Rattle.rounds.specs.OperatingRound.{TakeTurns}
 use Rattle.rounds.specs.declared.fault.PlayFault.{PlayFault}

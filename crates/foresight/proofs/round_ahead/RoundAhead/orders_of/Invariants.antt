@@ -1,5 +1,5 @@
 use Rattle.foresight.specs.Orders.{OthersHaveTurns}
-use Rattle.foresight.proofs.Idle.{idle_of}
+use Rattle.operating.proofs.Idle.{idle_of}
 use Rattle.foresight.proofs.round_ahead.RoundAhead.orders_of.Given as goal
 
 -- other companies have had their turns so far

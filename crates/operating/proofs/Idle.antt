@@ -1,6 +1,8 @@
--- Each turn of a company leaves one fewer that has not operated in the round, and a company that comes next operates.
+-- Companies that have not operated in the round: each turn leaves one fewer, the next company is one of them, and where none
+-- comes next all that operate have.
 use Rattle.std.proofs.Common.{◌≡◌, ℕ, ◌+◌, ◌<◌, ◌≤◌, Bool, true, false, ◌||◌, not, if◌then◌else◌}
-use Rattle.std.proofs.Common.{List, [], ◌∷◌, Option, Some, None, refl, ap, ◌∙◌, arith}
+use Rattle.std.proofs.Common.{List, [], ◌∷◌, length, Option, Some, None, refl, ap, ◌∙◌, arith}
+use Rattle.std.proofs.lemmas.Bool.{not-false, not-true}
 use Rattle.std.proofs.lemmas.Bool.Decides.{nat_tests}
 use Rattle.std.specs.Prelude.{find}
 use Rattle.events.specs.declared.event.Event.{Event}
@@ -12,7 +14,7 @@ use Rattle.tables.specs.Roster.{companies, same_company}
 use Rattle.tables.specs.declared.roster.Company.{Company}
 
 -- a company is itself, and two are the same either way
-pub same_self : (company : Company) → same_company company company ≡ true
+same_self : (company : Company) → same_company company company ≡ true
 same_self company = grind (arith, nat_tests)
 
 same_either_way : (a b : Company) → same_company a b ≡ same_company b a
@@ -67,6 +69,16 @@ fewer_idle company old new too idle =
           idle companies,
     )
 
+-- no more are idle than there are
+idle_in_few : (operated : Company → Bool) (them : List Company) → idle_in operated them ≤ length them
+idle_in_few operated [] = omega arith
+idle_in_few operated (company ∷ others) = grind (arith, idle_in_few operated others)
+
+-- there are eight
+pub idle_few : (events : List Event) → idle_of events ≤ 8
+unfolding idle_of
+idle_few events = idle_in_few (has_operated events) companies
+
 -- what is found passes the test, and is in the list
 found_passes : (test : Company → Bool) (them : List Company) (company : Company) → find test them ≡ Some company
     → (test company ≡ true) × (1 ≤ times company them)
@@ -74,9 +86,12 @@ found_passes test [] company found = absurd (cc)
 found_passes test (first ∷ others) company found =
     grind (arith, found_passes test others company, same_self first)
 
--- a test that is passed by what is not so
-not_so : (b : Bool) → not b ≡ true → b ≡ false
-not_so b passes = grind arith
+-- where nothing is found, all in the list fail
+none_passes : (test : Company → Bool) (them : List Company) (company : Company) → find test them ≡ None
+    → 1 ≤ times company them → test company ≡ false
+none_passes test [] company none is_among = absurd (omega arith)
+none_passes test (first ∷ others) company none is_among =
+    grind (arith, none_passes test others company, same_company_is first company)
 
 -- there are some only of what operates
 some_operate : (b : Bool) → 1 ≤ (if b then 1 else 0) → b ≡ true
@@ -86,6 +101,11 @@ some_operate b some = grind arith
 next_is_first : (bankrupt : Bool) (first : Option Company) (company : Company)
     → (if bankrupt then None else first) ≡ Some company → first ≡ Some company
 next_is_first bankrupt first company found = grind arith
+
+-- where there is no next and nobody is bankrupt, none is idle
+none_is_first : (bankrupt : Bool) (first : Option Company) → bankrupt ≡ false
+    → (if bankrupt then None else first) ≡ None → first ≡ None
+none_is_first bankrupt first solvent none = grind arith
 
 -- the next company operates, and has not done so in the round
 pub next_is_idle : ((events : List Event) → IsOperatingOrder events (operating_order_of events))
@@ -97,6 +117,17 @@ next_is_idle ordered events company found =
     let there = found_passes (λ company. not (has_operated events company)) (operating_order_of events) company first in
     let count = (ordered events).each_once company in (
       some_operate (operates events company) (omega (arith, there.1, count)),
-      not_so (has_operated events company)
+      not-true (has_operated events company)
           there.0,
     )
+
+-- where there is no next and nobody is bankrupt, each company that operates has done so
+pub all_have_operated : ((events : List Event) → IsOperatingOrder events (operating_order_of events))
+    → (events : List Event) (company : Company) → bankrupt_in events ≡ false → next_company events ≡ None
+    → operates events company ≡ true → has_operated events company ≡ true
+all_have_operated ordered events company solvent none operating =
+    let idle : first_idle events ≡ None = none_is_first (bankrupt_in events) (first_idle events) solvent none in
+    let count : times company (operating_order_of events) ≡ 1 =
+    (ordered events).each_once company ∙ ap (λ (b : Bool). if b then 1 else 0) operating in
+    not-false (has_operated events company) (none_passes (λ company. not (has_operated events company))
+    (operating_order_of events) company idle (omega (arith, count)))
