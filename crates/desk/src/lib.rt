@@ -5,6 +5,13 @@
 //! `earnings`, `stack` or `standing`, whose contracts define it. The games of `games/desk/` test
 //! the layout.
 //!
+//! The second operating round of the first set, as a word names it:
+//!
+//! ```
+//! let round = read_round(b"or1.2");
+//! assert_eq!(rt; round, Some(Round::Operating { set: 1, number: 2 }));
+//! ```
+//!
 //! Reading order: `round_name` (the round that is asked for). Then the figures that the readers of
 //! a game do not have (`player_figures`, `earnings`, `stack`, `standing`, `state_rows`), and their
 //! layout: `lines`, `state_round`, `state_players`, `state_companies`, `state_stock`,

@@ -6,6 +6,14 @@
 //! a line, the file of a trial, and the lines that its game refuses. The games of `games/desk/`
 //! test the layout.
 //!
+//! A file without a header is refused:
+//!
+//! ```
+//! let extent = Extent { all: true, from: 1 };
+//! let findings = check(rt.alloc(), b"PLAYERS ANN BOB CYD\n", extent)?;
+//! assert!(rt; findings.refused.is_some());
+//! ```
+//!
 //! Reading order: `check_lines` (the lines of a file), `check_mail`, `check_names`, `check_found`
 //! (what is found), `check_sheets` (the SHEET lines), `sheet_like` (lines that were meant as SHEET
 //! lines), `plain_lines` (lines about which there is nothing to say), `check_pass` (one pass over a

@@ -6,6 +6,14 @@
 //! search that RUN BEST uses. Each call takes the allocator and the bytes of an order file, and
 //! returns text; no call reads or writes a stream.
 //!
+//! Words of a command line, in either case:
+//!
+//! ```
+//! assert_eq!(rt; read_company(b"nyc"), Some(Company::NewYorkCentral));
+//! assert_eq!(rt; read_hex(b"h12"), Some(Hex::H12));
+//! assert_eq!(rt; read_kind(b"d"), Some(Kind::Diesel));
+//! ```
+//!
 //! Reading order: `fault` (why there is no answer), `words` (companies, hexes and trains on a
 //! command line), `questions` (`answer`: the turn that is asked), `coming` (the game before the
 //! coming round), `line_text` (lays and tokens as order lines), `lay_text` (the same for a reader),

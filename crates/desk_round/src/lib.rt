@@ -2,6 +2,15 @@
 //! ran, and its turns as their players read them. The calls that write a text of a round take the
 //! allocator and the bytes of an order file, and return text. No call reads or writes a stream.
 //!
+//! PR1 of an order file in memory, `FIRST`, as it stands in the report:
+//!
+//! ```
+//! let Ok(text) = round(rt.alloc(), FIRST.as_bytes(), Some(Round::Opening(1))) else {
+//!     panic!(rt; "not played")
+//! };
+//! assert!(rt; text.as_slice().starts_with(b"ROUND PR1\nANN 2 OBEYED"));
+//! ```
+//!
 //! Reading order: `played`, `refused` (which lines were refused), `round_part` (`round`),
 //! `round_texts` (the game of a file), `sheet_line` (the lines of the sheets), `why` (the rule that
 //! a line broke), `figures` (the figures that it compared), `done` (the last step of a company's

@@ -7,6 +7,13 @@
 //! rule. For other orders there is a row for each candidate: the order and its outcome. It is
 //! obeyed, it lacks a consent, or a rule refuses it.
 //!
+//! The least bid on CS before anybody has bid is 5 above its face value of 40:
+//!
+//! ```
+//! let history = History::start(rt.alloc(), 3);
+//! assert_eq!(rt; least_bid(&history, Private::ChamplainStLawrence), 45);
+//! ```
+//!
 //! Reading order: `priced` (what may be done, with its price), `lay_list`, `token_list`; `row`,
 //! `opening`, `stock`, `company`, `standing` (the rows of each); `laws`.
 #![tactic(auto)]

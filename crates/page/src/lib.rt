@@ -10,6 +10,15 @@
 //! The definitions, in `specs/`: `Checksum` (of the bytes of a file), `Revenue` (what a company
 //! earned in a round).
 //!
+//! The page of an order file in memory, `FIRST`:
+//!
+//! ```
+//! let Ok(text) = page(rt.alloc(), FIRST.as_bytes(), None) else {
+//!     panic!(rt; "no page")
+//! };
+//! assert!(rt; text.as_slice().starts_with(b"<!DOCTYPE html>\n"));
+//! ```
+//!
 //! Reading order: `worth_history` (the game round by round), `checksum`, `style`, `bulletin_part`,
 //! `phases_part`, `result_part`, `players_part`, `companies_part`, `revenue_part`, `status_part`,
 //! `whole_page` (`page`), `all_tiles` (`tile_sheet`).

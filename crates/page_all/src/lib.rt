@@ -10,6 +10,15 @@
 //!
 //! The definitions, in `specs/`: `Drawings` (the numbers of what stands once).
 //!
+//! The page of all rounds of an order file in memory, `FIRST`:
+//!
+//! ```
+//! let Ok(text) = page_of_all(rt.alloc(), FIRST.as_bytes(), None) else {
+//!     panic!(rt; "no page")
+//! };
+//! assert!(rt; text.as_slice().starts_with(b"<!DOCTYPE html>\n"));
+//! ```
+//!
 //! Reading order: `drawings` (what is drawn often stands once), `lines` (of routes), `route_rows`,
 //! `what_happened`, `cells` (of tables), `layers` (all of a round), `replayed` (the rounds),
 //! `style`, `tables_part`, `whole_page` (how it is written), `all_rounds` (`page_of_all`).
