@@ -1,11 +1,8 @@
 -- Each pass brings a seat one nearer to its turn.
-use Rattle.std.proofs.Common.{◌≡◌, ℕ, zero, suc, ◌+◌, ◌-◌, ◌<◌, ◌≤◌, if◌then◌else◌, nat_le, refl, arith}
+use Rattle.std.proofs.Common.{◌≡◌, ℕ, suc, ◌+◌, ◌-◌, ◌<◌, ◌≤◌, if◌then◌else◌, nat_le, arith}
 use Rattle.std.proofs.lemmas.Bool.Decides.{nat_tests}
-use Rattle.foresight.specs.Turn.{passed_ahead}
 use Rattle.tables.specs.Seat.{left_of}
-use Rattle.tables.specs.declared.round.Round.{Round}
 use Rattle.tables.specs.declared.seat.Seat.{Seat}
-use Rattle.totals.specs.LookBack.{Game}
 
 -- how many seats pass from one to another, to the left
 abbrev pub distance : ℕ → ℕ → ℕ → ℕ

@@ -10,9 +10,8 @@ use Rattle.std.specs.List.{range_with_len}
 use Rattle.events.specs.Event.{ownership_of}
 use Rattle.events.specs.declared.event.Event.{Event}
 use Rattle.events.specs.declared.event.Event.TheVariants as event
-use Rattle.foresight.specs.FirstTurn.{IsTheirTurn, after_passes, begun_for, seat_after}
+use Rattle.foresight.specs.FirstTurn.{after_passes, begun_for, seat_after}
 use Rattle.foresight.specs.Reached.{ComesToTurn, FirstTurnsAreReached, HeadsAreReached, IsAlone}
-use Rattle.foresight.specs.Turn.{IsAtTurn, passed_ahead}
 use Rattle.privates.specs.Closing.{all_sold}
 use Rattle.privates.specs.Turn.{opening_rules}
 use Rattle.sheets.specs.Part.{Numbered, Parts, parts_for, written_turns_of}
@@ -25,7 +24,7 @@ use Rattle.tables.specs.declared.roster.Private.{Private}
 use Rattle.tables.specs.declared.round.Round.{Round}
 use Rattle.tables.specs.declared.seat.Seat.{Seat}
 use Rattle.totals.proofs.EventAtEnd.{last_said_before}
-use Rattle.totals.specs.LookBack.{Game, first_unsold, is_sold, owner_said, priority_of, with_event}
+use Rattle.totals.specs.LookBack.{first_unsold, is_sold, owner_said, priority_of}
 use Rattle.turns.proofs.Turns.{priority_within}
 use Rattle.turns.specs.RoundOfTurns.{RoundRules, after_standing, opened, turns_of}
 
@@ -204,30 +203,19 @@ first_turns_reached rules idle ends file round seat old before few its_at alone 
           (still_on rules ends seats first begun k ∙ on) (omega (arith, less, their.few));
     }
 
--- the list at the head of a turn is that after as many passes
-head_passes : (round : Round) (old : Game) (count : ℕ)
-    → (passed_ahead round old count).events
-    ≡ after_passes old.seats (priority_of old.seats old.events) (old.events ++ event.Round round ∷ []) count
-head_passes round old zero = refl
-head_passes round old (suc count) =
-    ap (λ (events : List Event). events
-    ++ event.Passes (seat_after old.seats (priority_of old.seats old.events) count) ∷ []) (head_passes round old count)
-
 -- play comes to the head of a turn
 pub heads_reached : {TurnActions : Type 0} (rules : RoundRules TurnActions) → rules.has_acted rules.nothing ≡ false
     → PassesEndNothing rules → HeadsAreReached rules
-heads_reached rules idle ends file round seat old new few its_at alone no_lines on head =
+heads_reached rules idle ends file round seat old before few its_at alone no_lines on their =
     let first = priority_of old.seats old.events in
     let begun : old.events ++ event.Round round ∷ [] ≡ begun_for rules file round seat old.events =
     sym (no_standing rules.standing file round (old.events ++ event.Round round ∷ []) seat.0 no_lines)
     in
-    first_turns_reached rules idle ends file round seat old new.events few its_at alone on (record {
-      count = head.count;
-      few = head.few;
-      its = head.its;
-      passed =
-          ap (λ (game : Game). game.events) head.is_there ∙ head_passes round old head.count
-          ∙ ap (λ (events : List Event). after_passes old.seats first events head.count) begun;
+    first_turns_reached rules idle ends file round seat old before few its_at alone on (record {
+      count = their.count;
+      few = their.few;
+      its = their.its;
+      passed = their.passed ∙ ap (λ (events : List Event). after_passes old.seats first events their.count) begun;
     })
 
 -- what is sold is sold after a pass, and nothing else

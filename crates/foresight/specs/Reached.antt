@@ -9,7 +9,6 @@ use Rattle.forced_purchase.specs.declared.operator.Operator.{Operator}
 use Rattle.foresight.specs.Ahead.{AheadState, HasTurn}
 use Rattle.foresight.specs.Draft.{opened_ahead, orders_of}
 use Rattle.foresight.specs.FirstTurn.{IsTheirTurn, begun_for}
-use Rattle.foresight.specs.Turn.{IsAtTurn}
 use Rattle.history.specs.Record.{revenues_recorded}
 use Rattle.operating.specs.Turn.{IsCompanyTurn}
 use Rattle.purchases.specs.Discard.{is_president}
@@ -55,10 +54,11 @@ FirstTurnsAreReached rules =
 -- so it does to the head of a turn that is told without any sheet, if the seat has no standing lines either
 abbrev pub HeadsAreReached : {TurnActions : Type 0} → RoundRules TurnActions → Type 0
 HeadsAreReached rules =
-    (file : List ℕ) (round : Round) (seat : Seat) (old new : Game) → old.seats ≤ 6
+    (file : List ℕ) (round : Round) (seat : Seat) (old : Game) (before : List Event) → old.seats ≤ 6
     → seat.0 < old.seats → IsAlone file round seat → (parts_for file round seat.0).before ≡ []
     → rules.over (begun_for rules file round seat old.events) ≡ false
-    → (head : IsAtTurn round seat old new) → ComesToTurn rules file round old seat head.count new.events
+    → (their : IsTheirTurn old.seats (priority_of old.seats old.events) seat (old.events ++ event.Round round ∷ []) before)
+    → ComesToTurn rules file round old seat their.count before
 
 -- no sheet but the one that is looked at has a line for a round
 abbrev pub IsAllLookedAt : List ℕ → Round → Option Seat → Type 0

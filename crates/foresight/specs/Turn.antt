@@ -2,44 +2,28 @@
 -- has begun, and each seat before it, from the holder of priority to the left, has passed. It is what play comes to if
 -- nobody has orders. Behind its lines the standing lines of the seat's own sheet are ruled as the round begins, and the
 -- lines of its first written turn as the turn comes. It is what play comes to if nobody else has orders.
-use Rattle.std.specs.Prelude.{◌≡◌, ℕ, zero, suc, ◌<◌, Bool, true, false, ◌&&◌, ◌||◌, List, Option, Some, None, ⊤, is_none}
+use Rattle.std.specs.Prelude.{◌≡◌, ℕ, Bool, true, false, ◌&&◌, ◌||◌, List, [], ◌∷◌, ◌++◌, Option, Some, None, ⊤, is_none}
 use Rattle.events.specs.declared.event.Event.{Event}
 use Rattle.events.specs.declared.event.Event.TheVariants as event
-use Rattle.foresight.specs.FirstTurn.{IsBehindFirstTurn}
+use Rattle.foresight.specs.FirstTurn.{IsBehindFirstTurn, IsTheirTurn}
 use Rattle.foresight.specs.declared.turn_ahead.TurnAhead.{TurnAhead}
 use Rattle.privates.specs.Turn.{opening_rules}
 use Rattle.stock_round.specs.Turn.{stock_rules}
 use Rattle.stock_round.specs.declared.deals.ShareDeals.{ShareDeals}
-use Rattle.tables.specs.Seat.{left_of}
-use Rattle.tables.specs.Steps.{iterate}
 use Rattle.tables.specs.declared.roster.Company.{Company}
 use Rattle.tables.specs.declared.roster.Company.TheVariants as company
 use Rattle.tables.specs.declared.roster.Private.{Private}
 use Rattle.tables.specs.declared.roster.Private.TheVariants.{BaltimoreOhio, CamdenAmboy}
 use Rattle.tables.specs.declared.round.Round.{Round}
 use Rattle.tables.specs.declared.seat.Seat.{Seat}
-use Rattle.totals.specs.LookBack.{Game, is_sold, priority_of, with_event}
+use Rattle.totals.specs.LookBack.{Game, is_sold, priority_of}
 use Rattle.totals.specs.Shares.{square_of}
-
--- the seat whose turn it is once this many have passed
-abbrev pub seat_after : Game → ℕ → Seat
-seat_after old count = iterate (left_of old.seats) count (priority_of old.seats old.events)
-
--- the round that comes, once this many seats have passed
-abbrev pub passed_ahead : Round → Game → ℕ → Game
-passed_ahead round old zero = with_event old (event.Round round)
-passed_ahead round old (suc count) = with_event (passed_ahead round old count) (event.Passes (seat_after old count))
-
--- the game is at the head of a seat's first turn
-pub record IsAtTurn (round : Round) (seat : Seat) (old new : Game) : Type 0 where
-  pub count : ℕ
-  pub few : count < old.seats
-  pub its : seat_after old count ≡ seat
-  pub is_there : new ≡ passed_ahead round old count
 
 -- a seat is at the head of its first turn, in which it has done nothing yet
 pub record IsAtHead (round : Round) (seat : Seat) (old : Game) (turn : TurnAhead) : Type 0 where
-  pub there : IsAtTurn round seat old turn.history
+  pub seats : turn.history.seats ≡ old.seats
+  pub there : IsTheirTurn old.seats (priority_of old.seats old.events) seat (old.events ++ event.Round round ∷ [])
+      turn.history.events
   pub unused : turn.used ≡ false
   pub nothing : turn.bought ≡ None
 

@@ -1,9 +1,11 @@
 //! A coming opening or stock round, up to a seat's first turn: to its head, or past its lines.
-ghost use Rattle.std.specs.Prelude.{◌≡◌, ◌≤◌, ◌<◌, IfOk, length, true};
-ghost use Rattle.foresight.specs.Turn.{IsAtHead, IsAtTurn, IsBehindOpening, IsBehindOpeningIf, IsBehindStock};
-ghost use Rattle.foresight.specs.Turn.{may_begin, waits};
+ghost use Rattle.std.specs.Prelude.{◌≡◌, ◌++◌, ◌≤◌, ◌<◌, ◌∷◌, [], IfOk, length, true};
+ghost use Rattle.events.specs.declared.event.Event.TheVariants as event;
+ghost use Rattle.foresight.specs.FirstTurn.{IsTheirTurn};
+ghost use Rattle.foresight.specs.Turn.{IsAtHead, IsBehindOpening, IsBehindOpeningIf, IsBehindStock, may_begin, waits};
 ghost use Rattle.history.specs.Sound.{IsSound};
 ghost use Rattle.sheets.specs.File.{players_of};
+ghost use Rattle.totals.specs.LookBack.{priority_of};
 
 use crate::first_turn::play_first_turn;
 use history::{Event, History};
@@ -47,7 +49,10 @@ fn at_turn(history: History, round: Round, seat: Seat) -> Result<History, AllocE
     requires sound { IsSound history }
     requires few { history.seats ≤ 6 }
     requires at_table { seat.0 < history.seats }
-    ensures { IfOk result (λ new. IsAtTurn round seat history new) }
+    ensures seats { IfOk result (λ new. new.seats ≡ history.seats) }
+    ensures turn { IfOk result (λ new. IsTheirTurn history.seats
+        (priority_of history.seats history.events) seat
+        (history.events ++ event.Round round ∷ []) new.events) }
 {
     let mut history = history;
     let seats = history.seats();

@@ -1,5 +1,4 @@
 pub mod Arrival
-pub mod Columns
 pub mod OneReport
 pub mod Seats
 pub mod Rounds

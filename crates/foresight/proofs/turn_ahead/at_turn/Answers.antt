@@ -1,11 +1,12 @@
-use Rattle.std.proofs.Common.{◌≡◌, ◌<◌, ◌+◌, ℕ, suc, ap, sym, subst, ◌∙◌, arith}
+use Rattle.std.proofs.Common.{◌≡◌, ◌<◌, ◌+◌, ◌++◌, ◌∷◌, [], ℕ, List, suc, ap, sym, subst, ◌∙◌, arith}
 use Rattle.std.proofs.lemmas.Bool.Decides.{nat_tests}
 use Rattle.foresight.proofs.Passing.{distance, distance_few, left_within, nearer}
-use Rattle.foresight.specs.Turn.{passed_ahead}
+use Rattle.foresight.specs.FirstTurn.{after_passes}
+use Rattle.events.specs.declared.event.Event.{Event}
 use Rattle.events.specs.declared.event.Event.TheVariants as event
 use Rattle.tables.specs.Seat.{left_of}
 use Rattle.tables.specs.declared.seat.Seat.{Seat}
-use Rattle.totals.specs.LookBack.{Game, priority_of, with_event}
+use Rattle.totals.specs.LookBack.{Game, priority_of}
 use Rattle.turns.proofs.Turns.{priority_within}
 use Rattle.foresight.proofs.turn_ahead.at_turn.Goals as goal
 
@@ -24,8 +25,9 @@ loop-seat-init c =
       count = 0;
       its = sym first;
       few = let few = distance_few old.seats c.priority-next.result.0 c.args.seat.0 within its in omega (arith, few);
-      there = c.in_ok-record_event.ensures.ok;
+      passed = ap (λ (game : Game). game.events) c.in_ok-record_event.ensures.ok;
       at_table = within;
+      seats = ap (λ (game : Game). game.seats) c.in_ok-record_event.ensures.ok;
       sound = c.in_ok-record_event.ensures.sound;
     }
 
@@ -56,11 +58,12 @@ loop-seat-preserved c =
       its = ap (left_of old.seats) before.its ∙ sym left;
       few = subst (λ (seat : Seat). suc before.count + distance old.seats seat.0 c.args.seat.0 < old.seats) (sym left)
           (omega (arith, near, few));
-      there = c.in_ok-record_event-2.ensures.ok
-          ∙ ap (λ (game : Game). with_event game (event.Passes c.loop-seat.next)) before.there
-          ∙ ap (λ (seat : Seat). with_event (passed_ahead c.args.round old before.count) (event.Passes seat))
-          (sym before.its);
+      passed = ap (λ (game : Game). game.events) c.in_ok-record_event-2.ensures.ok
+          ∙ ap (λ (events : List Event). events ++ event.Passes c.loop-seat.next ∷ []) before.passed
+          ∙ ap (λ (seat : Seat). after_passes old.seats (priority_of old.seats old.events)
+          (old.events ++ event.Round c.args.round ∷ []) before.count ++ event.Passes seat ∷ []) (sym before.its);
       at_table = subst (λ (seat : Seat). seat.0 < old.seats) (sym left)
           (left_within old.seats c.loop-seat.next c.requires.few before.at_table);
+      seats = ap (λ (game : Game). game.seats) c.in_ok-record_event-2.ensures.ok ∙ before.seats;
       sound = c.in_ok-record_event-2.ensures.sound;
     }

@@ -1,7 +1,7 @@
 use Rattle.std.proofs.Common.{◌≡◌, ℕ, suc, ap, sym, refl, subst, ◌∙◌, arith}
-use Rattle.foresight.specs.Turn.{passed_ahead, seat_after}
+use Rattle.foresight.specs.FirstTurn.{seat_after}
 use Rattle.events.specs.declared.event.Event.TheVariants as event
-use Rattle.page_lays.specs.Players.{IsPlayerAt}
+use Rattle.page_lays.specs.Players.{IsPlayerAt, passed_ahead}
 use Rattle.tables.specs.Seat.{left_of}
 use Rattle.tables.specs.declared.seat.Seat.{Seat}
 use Rattle.totals.specs.LookBack.{Game, priority_of, with_event}
@@ -30,8 +30,8 @@ loop-preserved c =
     let left : c.left-seat.result ≡ left_of old.seats c.loop.seat =
     c.left-seat.ensures ∙ ap (λ (count : ℕ). left_of count c.loop.seat) c.seats-seats.ensures in
     let there : c.loop.history ≡ passed_ahead c.args.round old before.count = before.there in
-    let at : IsPlayerAt c.args.round (passed_ahead c.args.round old before.count) (seat_after old before.count)
-    c.in_ok-player.player =
+    let at : IsPlayerAt c.args.round (passed_ahead c.args.round old before.count)
+    (seat_after old.seats (priority_of old.seats old.events) before.count) c.in_ok-player.player =
     subst (λ (seat : Seat). IsPlayerAt c.args.round (passed_ahead c.args.round old before.count) seat
     c.in_ok-player.player) (sym before.its)
     (subst (λ (game : Game). IsPlayerAt c.args.round game c.loop.seat c.in_ok-player.player) there
