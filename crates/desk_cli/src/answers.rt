@@ -3,12 +3,12 @@ ghost use Rattle.std.specs.Prelude.{◌≡◌};
 
 use crate::streams::StreamFault;
 use crate::task::{Job, Task};
-use desk::{StateForm, round_facts, state};
 use desk_base::{DeskFault, Moment, Reason, all_reasons_text, explain, list_text, reason_text};
 use desk_check::{Extent, check};
 use desk_may::Progress;
 use desk_moves::{LayForm, MayForm, MovesFault, Question, answer, trial};
 use desk_round::{round, round_with_rules, runs};
+use desk_state::{StateForm, round_facts, state};
 use page::{bulletin, page, page_to_hexes, tile_sheet};
 use page_all::{page_of_all, page_of_all_to_hexes};
 use page_lays::{STYLE, Wanted, end_page};

@@ -4,8 +4,8 @@ ghost use Rattle.std.specs.Prelude.{◌<◌, length};
 
 use crate::version::VERSION;
 use clap::{Arg, ArgAction, ArgMatches, Command, Error};
-use desk::read_round;
 use desk_moves::{read_company, read_hex, read_kind};
+use desk_state::read_round;
 use map_tables::Hex;
 use std::alloc::{AllocError, Global};
 use tables::{Company, Kind, Round};

@@ -1,7 +1,7 @@
 -- The token of a company on the stock chart of a page: its square, its place among those that lie
 -- there, and whether the last round moved it, and from where.
 use Rattle.std.specs.Prelude.{List, Option, Some, None}
-use Rattle.desk.specs.Stack.{before_in_stack}
+use Rattle.desk_state.specs.Stack.{before_in_stack}
 use Rattle.events.specs.declared.event.Event.{Event}
 use Rattle.page_charts.specs.declared.chart_part.ChartToken.{ChartToken}
 use Rattle.page_map.specs.News.{in_last_round, is_move_of, square_before_round}

@@ -5,9 +5,9 @@ ghost use Rattle.desk_base.specs.Refusal.{HasNoState, IsOfGame};
 ghost use Rattle.rounds.specs.Play.{IsTheGame};
 ghost use Rattle.sheets.specs.File.{IsAccepted};
 
-use desk::statement;
 use desk_base::{DeskFault, Stood, play_behind, stood_at_last, stood_now};
 use desk_round::turns;
+use desk_state::statement;
 use markup::PagePiece::{Round as Named, Words};
 use markup::{Tag, Writer, begin_section};
 use rounds::{Game, Play, play};

@@ -1,8 +1,8 @@
 //! The tables of companies, privates and trains.
 
 use crate::players_part::put_privates;
-use desk::{before_in_stack, earnings_of, operates};
 use desk_base::{tokens_left, trains_left};
+use desk_state::{before_in_stack, earnings_of, operates};
 use history::{GameView, Holder, Party, Shareholder};
 use map_tables::{Hex, home, private_hexes};
 use markup::PagePiece::{Count, Hex as Hexed, Letter, Name, Number, Place, Round, Words};

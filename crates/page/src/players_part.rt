@@ -2,7 +2,7 @@
 
 ghost use Rattle.std.specs.Prelude.{◌<◌};
 
-use desk::{Purse, purse_of, rank_of, worths_of};
+use desk_state::{Purse, purse_of, rank_of, worths_of};
 use history::{Holder, Shareholder};
 use markup::PagePiece::{Count, Name, Number, Words};
 use markup::{

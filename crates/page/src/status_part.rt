@@ -2,8 +2,8 @@
 
 use crate::checksum::Source;
 use crate::phases_part::colours_of;
-use desk::operates;
 use desk_base::trains_left;
+use desk_state::operates;
 use history::{History, Party};
 use markup::PagePiece::{Checksum, Count, Name, Number, Round as Named, Words};
 use markup::{Attr, PagePiece, Tag, Writer};

@@ -2,8 +2,8 @@
 //! element, and becomes a part by itself.
 ghost use Rattle.std.specs.Prelude.{◌<◌};
 
-use desk::{operates, purse_of, rank_of, worths_of};
 use desk_base::tokens_left;
+use desk_state::{operates, purse_of, rank_of, worths_of};
 use history::{Holder, Party, Shareholder};
 use map_tables::home;
 use markup::PagePiece::{Count, Name, Number, Place, Round, Words};

@@ -1,11 +1,11 @@
 //! The examples at the roots of the desk's crates, word for word: `./check docs` compares them.
 
 use crate::support::FIRST;
-use desk::read_round;
 use desk_base::{play_behind, stood_now};
 use desk_check::{Extent, check};
 use desk_moves::{read_company, read_hex, read_kind};
 use desk_round::round;
+use desk_state::read_round;
 use history::History;
 use map_tables::Hex;
 use moves::least_bid;
@@ -45,7 +45,7 @@ fn desk_round_writes_a_round(rt: HostRuntime) {
 }
 
 #[test]
-fn desk_reads_the_name_of_a_round(rt: HostRuntime) {
+fn desk_state_reads_the_name_of_a_round(rt: HostRuntime) {
     let round = read_round(b"or1.2");
     assert_eq!(rt; round, Some(Round::Operating { set: 1, number: 2 }));
 }
