@@ -6,6 +6,7 @@ pub mod Coming
 pub mod Fault
 pub mod Laid
 pub mod Moments
+pub mod NextRound
 pub mod Objections
 pub mod Reason
 pub mod Refusal

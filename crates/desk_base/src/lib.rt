@@ -19,10 +19,10 @@
 //!
 //! Reading order: `text` (`Piece`, `push`, `fill`), `wrapped` (lines of 80 columns), `reason`
 //! (`Reason`), `advice`, `explaining` (`explain`), `set_number` (`number_in_set`, `end_after`),
-//! `between_rounds` (`Stood`), `stock_left`, `coming` (`can_come`), `objection` (`Objection`),
-//! `beyond` (what lies at a side), `map_facts`, `by_tables` (what the map and the tables show),
-//! `belongings` (what somebody has), `cause` (which of several causes it was), `map_state`,
-//! `run_line`.
+//! `between_rounds` (`Stood`), `next_round` (`Coming`), `stock_left`, `coming` (`can_come`),
+//! `objection` (`Objection`), `beyond` (what lies at a side), `map_facts`, `by_tables` (what the map
+//! and the tables show), `belongings` (what somebody has), `cause` (which of several causes it was),
+//! `map_state`, `run_line`.
 #![tactic(auto)]
 
 mod advice;
@@ -36,6 +36,7 @@ mod explaining;
 mod fault;
 mod map_facts;
 mod map_state;
+mod next_round;
 mod objection;
 mod owed;
 mod reason;
@@ -56,6 +57,7 @@ pub use explaining::{all_reasons_text, explain, list_text, reason_text};
 pub use fault::DeskFault;
 pub use map_facts::{bad_side, side_towards};
 pub use map_state::{best_at, board_at, trains_of, view_behind};
+pub use next_round::{Coming, coming_in};
 pub use objection::{Objection, push_objection, who};
 pub use owed::owes;
 pub use reason::Reason;

@@ -4,9 +4,10 @@ use Rattle.std.specs.Prelude.{◌≡◌, ℕ, Bool, true, not, ◌&&◌, if◌th
 use Rattle.std.specs.Str.{str_eq_ignore_ascii_case}
 use Rattle.desk_may.specs.OperatingLines.{AddsOperatingLines}
 use Rattle.desk_may.specs.SheetLines.{standing_lines, turn_lines}
-use Rattle.desk_moves.specs.Coming.{AreOrdersIn, IsComing}
+use Rattle.desk_base.specs.NextRound.{IsComing}
+use Rattle.desk_moves.specs.Coming.{AreOrdersIn}
 use Rattle.desk_moves.specs.Lines.{AreLines}
-use Rattle.desk_moves.specs.declared.coming.Coming.{Coming}
+use Rattle.desk_base.specs.declared.next_round.Coming.{Coming}
 use Rattle.desk_moves.specs.declared.questions.LayForm.{LayForm}
 use Rattle.desk_moves.specs.declared.questions.Question.{Question}
 use Rattle.desk_moves.specs.declared.questions.Question.TheVariants.{Lays, May}

@@ -4,12 +4,11 @@ ghost use Rattle.desk_moves.specs.HexFacts.{closed_by, colour_of, ground_of, is_
 ghost use Rattle.history.specs.Sound.{IsSound};
 ghost use Rattle.sheets.specs.File.{players_of};
 
-use crate::coming::Coming;
 use crate::hex_sides::push_sides;
 use board::Board;
 use board_state::{OnMap, same_hex, slots};
 use desk_base::Piece::{Bytes, Column, Count, Number, Right, Words};
-use desk_base::{fill, push};
+use desk_base::{Coming, fill, push};
 use desk_may::board_now;
 use forced_purchase::Operator;
 use foresight::{Draft, RoundAhead};

@@ -5,13 +5,13 @@ ghost use Rattle.desk_moves.specs.Answers.{AddsLinesIn, AddsTurnLines, AreLinesO
 ghost use Rattle.history.specs.Sound.{IsSound};
 ghost use Rattle.sheets.specs.File.{players_of};
 
-use crate::coming::Coming;
+use crate::coming::{coming_round, drafter_if};
 use crate::fault::{MovesFault, NoAnswer};
 use crate::questions::MayForm;
 use crate::trials::seat_named;
 use certs::Holdings;
 use desk_base::Piece::{Bytes, Count, Number};
-use desk_base::{Piece, fill};
+use desk_base::{Coming, Piece, fill};
 use desk_may::{
     push_lines_of_operating, push_lines_of_turn, push_of_opening, push_of_operating, push_of_stock,
     push_standing_lines, push_until_then,
@@ -40,8 +40,8 @@ pub(crate) fn may_text(
     let Some(seat) = seat_named(coming.sheets, player) else {
         return Err(MovesFault::Asked(NoAnswer::NoSuchPlayer));
     };
-    let drafter = coming.drafter_if(form.drafted, seat)?;
-    let round = coming.round()?;
+    let drafter = drafter_if(&coming, form.drafted, seat)?;
+    let round = coming_round(&coming)?;
     let mut text = Vec::new(alloc);
     push_round(alloc, &mut text, coming, round, seat, drafter, form.lines)?;
     Ok(text)

@@ -7,12 +7,13 @@ ghost use Rattle.history.specs.Sound.{IsSound};
 ghost use Rattle.sheets.specs.File.{players_of};
 
 use crate::best_text::best_text;
-use crate::coming::{Coming, coming_in};
+use crate::coming::{coming_round, drafter_if, president_in};
 use crate::fault::{MovesFault, NoAnswer};
 use crate::hex_text::hex_text;
 use crate::lay_text::lay_text;
 use crate::line_text::line_text;
 use crate::may_text::may_text;
+use desk_base::{Coming, coming_in};
 use desk_may::Progress;
 use foresight::{Ahead, Draft, OrdersAhead, RoundAhead};
 use map_tables::Hex;
@@ -121,7 +122,7 @@ fn answer_best(
     requires sound { IsSound coming.history }
     requires seats { coming.history.seats ≡ length (players_of coming.sheets.now) }
 {
-    coming.president(company)?;
+    president_in(&coming, company)?;
     let orders = orders_in(alloc, coming, company, None)?;
     best_text(alloc, orders.history(), company, trains)
 }
@@ -140,8 +141,8 @@ fn answer_lays<P: Progress>(
         IfOk result (λ text. AreLaysOf coming.entry company form.drafted text.items) }
 {
     let from = coming.history.events().len();
-    let president = coming.president(company)?;
-    let drafter = coming.drafter_if(form.drafted, president)?;
+    let president = president_in(&coming, company)?;
+    let drafter = drafter_if(&coming, form.drafted, president)?;
     let orders = orders_in(alloc, coming, company, drafter)?;
     if form.lines && !form.best {
         return Ok(line_text(alloc, &orders)?);
@@ -162,7 +163,7 @@ fn orders_in<'a>(
     requires seats { coming.history.seats ≡ length (players_of coming.sheets.now) }
     ensures { IfOk result (AreOrdersIn coming.entry company drafter) }
 {
-    let round = coming.round()?;
+    let round = coming_round(&coming)?;
     let Round::Operating { .. } = round else {
         return Err(MovesFault::Asked(NoAnswer::NoOperatingRound));
     };

@@ -8,10 +8,10 @@ ghost use Rattle.foresight.specs.TrialFile.{tried_file};
 ghost use Rattle.report.specs.Line.{name_of};
 ghost use Rattle.sheets.specs.File.{players_of};
 
-use crate::coming::coming_in;
+use crate::coming::coming_round;
 use crate::fault::{MovesFault, NoAnswer};
 use desk_base::Piece::{Bytes, Words};
-use desk_base::{owes, push};
+use desk_base::{coming_in, owes, push};
 use foresight::TrialFile;
 use report::name;
 use sheets::{Sheets, collect};
@@ -52,7 +52,7 @@ fn awaited(alloc: Global, sheets: &Sheets, players: &[&str]) -> Result<Round, Mo
 /// Returns the coming round. Fails if the game is over.
 fn round_to_come(alloc: Global, sheets: &Sheets) -> Result<Round, MovesFault> {
     let coming = coming_in(alloc, sheets, None)?;
-    coming.round()
+    coming_round(&coming)
 }
 
 /// Fails unless each name is a player's and, if any are given, all who owe a sheet for the round

@@ -1,2 +1,3 @@
--- Lemmas on turns.
+-- Lemmas on turns, and on the round that comes.
+pub mod NextRoundLemmas
 pub mod TurnLemmas

@@ -1,6 +1,8 @@
 -- What may be done in a round that comes: before an operating round the standing lines of the players and the turns of the
 -- companies, before another what each player may do in their first turn.
-use Rattle.std.specs.Prelude.{◌≡◌, ℕ, Bool, List, [], None}
+use Rattle.std.specs.Prelude.{◌≡◌, ℕ, Bool, List, [], Option, None}
+use Rattle.desk_base.specs.NextRound.{IsComing}
+use Rattle.desk_base.specs.declared.next_round.Coming.{Coming}
 use Rattle.desk_may.specs.Offerers.{presidents_of}
 use Rattle.foresight.specs.Ahead.{opened_state}
 use Rattle.page_lays.specs.Players.{ArePlayersIn, AreStandingIn}
@@ -28,3 +30,9 @@ pub record IsMayIn (companies : List Company) (round : Round) (file : List ℕ) 
   pub its : may.round ≡ round
   pub presidents : may.presidents.items ≡ presidents_of game.events
   pub told : AreToldIn (is_wanted companies) round file game may.players.items may.turns.items
+
+-- what may be done in a round, in the game of a file after another round, or after the last that it plays
+pub record IsMayNext (file : List ℕ) (after : Option Round) (companies : List Company) (round : Round) (may : May) : Type 0 where
+  pub coming : Coming
+  pub is_coming : IsComing file after coming
+  pub is_may : IsMayIn companies round file coming.history may

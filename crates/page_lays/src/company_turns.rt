@@ -13,11 +13,10 @@ ghost use Rattle.sheets.specs.File.{players_of};
 ghost use Rattle.tables.specs.Roster.{same_company};
 ghost use Rattle.totals.specs.Shares.{president_of};
 
-use crate::coming::Coming;
 use crate::move_lines::{Line, lines_of};
 use crate::move_rows::rows_of;
 use board_state::same_company;
-use desk_base::trains_of;
+use desk_base::{Coming, trains_of};
 use desk_may::{Progress, Trains, push_until_then};
 use forced_purchase::Operator;
 use foresight::{Draft, OrdersAhead, RoundAhead};
@@ -100,7 +99,11 @@ pub(crate) fn turns_of<P: Progress>(
         IfOk result (λ turns. AreTurnsIn (is_wanted companies)
         (opened_state before.sheets.now None round before.history) turns.items) }
 {
-    let Coming { sheets, history } = coming;
+    let Coming {
+        sheets,
+        history,
+        ..
+    } = coming;
     let from = history.events().len();
     let draft = Draft {
         sheets,

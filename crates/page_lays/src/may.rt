@@ -1,15 +1,14 @@
 //! What may be done in the next round.
 ghost use Rattle.std.specs.Prelude.{◌≡◌, IfOk, length};
 ghost use Rattle.history.specs.Sound.{IsSound};
-ghost use Rattle.page_lays.specs.NextRound.{IsMayIn};
+ghost use Rattle.page_lays.specs.NextRound.{IsMayIn, IsMayNext};
 ghost use Rattle.sheets.specs.File.{players_of};
 
-use crate::coming::{Coming, coming_in};
 use crate::company_turns::{Turn, Wanted, turns_of};
 use crate::groups::Of;
 use crate::offers::presidents;
 use crate::players::{Player, players_in_operating, players_in_turns};
-use desk_base::DeskFault;
+use desk_base::{Coming, DeskFault, coming_in};
 use desk_may::Progress;
 use page_map::Scene;
 use sheets::Sheets;
@@ -45,13 +44,17 @@ impl May {
 
 /// Returns what may be done in the next round. The error is `Round` if the round before it was not
 /// played, or `Memory`.
+#[tactic(auto, using(crate::proofs::NextRoundLemmas::is_may_next))]
 pub(crate) fn may_in<P: Progress>(
     alloc: Global,
     sheets: &Sheets,
     round: Round,
     wanted: Wanted,
     progress: &mut P,
-) -> Result<May, DeskFault> {
+) -> Result<May, DeskFault>
+    ensures { let wanted = wanted.entry in
+        IfOk result (IsMayNext sheets.now wanted.after wanted.companies.now round) }
+{
     let coming = coming_in(alloc, sheets, wanted.after)?;
     Ok(may_before(alloc, coming, round, wanted, progress)?)
 }

@@ -1,26 +1,32 @@
-//! A game before the next round.
+//! A game before the round that comes: after a round, or after the last that its sheets play.
 ghost use Rattle.std.specs.Prelude.{◌≡◌, IfOk, length};
+ghost use Rattle.desk_base.specs.NextRound.{IsAfter, IsAtLast, IsComing};
 ghost use Rattle.history.specs.Sound.{IsSound};
 ghost use Rattle.sheets.specs.File.{players_of};
 
-use desk_base::{DeskFault, play_behind};
+use crate::between_rounds::{play_behind, stood_now};
+use crate::fault::DeskFault;
 use history::History;
-use rounds::play;
+use rounds::{End, play};
 use sheets::Sheets;
 use std::alloc::Global;
 use tables::Round;
 
-/// A game before the next round.
+/// A game before the coming round, or at its end.
 #[derive(Drop)]
-pub(crate) struct Coming<'a> {
-    pub(crate) sheets: &'a Sheets<'a>,
-    /// All that has happened.
-    pub(crate) history: History,
+pub struct Coming<'a> {
+    /// Its sheets.
+    pub sheets: &'a Sheets<'a>,
+    /// The events so far.
+    pub history: History,
+    /// The coming round, or how the game ended.
+    pub end: End,
 }
 
-/// Returns the game of some sheets after a round, or after the last round played if none is named.
-/// The error is `Round` if that round was not played, or `Memory`.
-pub(crate) fn coming_in<'a>(
+/// Returns the game of some sheets before the round that follows this one, or if none is named the
+/// last one played. Fails with `Round` if the named round was not played, and with `Memory` if
+/// allocation fails.
+pub fn coming_in<'a>(
     alloc: Global,
     sheets: &'a Sheets<'a>,
     after: Option<Round>,
@@ -28,6 +34,7 @@ pub(crate) fn coming_in<'a>(
     ensures sound { IfOk result (λ coming. IsSound coming.history) }
     ensures seats { IfOk result (λ coming.
         coming.history.seats ≡ length (players_of coming.sheets.now)) }
+    ensures coming { IfOk result (IsComing sheets.now after) }
 {
     match after {
         Some(round) => coming_after(alloc, sheets, round),
@@ -35,20 +42,24 @@ pub(crate) fn coming_in<'a>(
     }
 }
 
-/// Returns the game after the last round played.
+/// Returns the game after the last round that the sheets play.
 fn coming_at_last<'a>(alloc: Global, sheets: &'a Sheets<'a>) -> Result<Coming<'a>, DeskFault>
     ensures sound { IfOk result (λ coming. IsSound coming.history) }
     ensures seats { IfOk result (λ coming.
         coming.history.seats ≡ length (players_of coming.sheets.now)) }
+    ensures coming { IfOk result (IsAtLast sheets.now) }
 {
     let game = play(alloc, sheets)?;
+    let end = game.outcome();
     Ok(Coming {
         sheets,
         history: game.into_history(),
+        end,
     })
 }
 
 /// Returns the game after a round.
+#[tactic(auto, using(crate::proofs::MomentLemmas::is_coming_after))]
 fn coming_after<'a>(
     alloc: Global,
     sheets: &'a Sheets<'a>,
@@ -57,14 +68,16 @@ fn coming_after<'a>(
     ensures sound { IfOk result (λ coming. IsSound coming.history) }
     ensures seats { IfOk result (λ coming.
         coming.history.seats ≡ length (players_of coming.sheets.now)) }
+    ensures coming { IfOk result (IsAfter sheets.now after) }
 {
     let play = play_behind(alloc, sheets, after)?;
-    match play.history() {
-        Some(_) => {}
-        None => return Err(DeskFault::Round),
-    }
+    let end = match (play.history(), stood_now(&play)) {
+        (Some(_), Some(stood)) => stood.end,
+        _ => return Err(DeskFault::Round),
+    };
     Ok(Coming {
         sheets: play.sheets(),
         history: play.into_history(),
+        end,
     })
 }
