@@ -12,24 +12,49 @@ use sheets::Sheets;
 use std::alloc::AllocError;
 use tables::{PLAYERS_MOST, Round, Seat};
 
-/// Adds the code of a line's fault, what is wrong, and what to write instead if that is known.
-pub(crate) fn push_fault(
+/// The last line with a fault, and what was written of it.
+#[derive(Drop)]
+pub(crate) struct LastFault<'a> {
+    /// The line.
+    pub(crate) line: &'a [u8],
+    /// Its fault; `None` before the first such line.
+    pub(crate) fault: Option<Fault>,
+    /// What was written of it.
+    pub(crate) words: Vec<u8>,
+    /// Whether an equal line before it had the same words, so that they do not depend on the number
+    /// of the line.
+    pub(crate) is_repeated: bool,
+}
+
+/// Adds the code of a line's fault, what is wrong, and what to write instead if that is known. A
+/// line that repeats the last one gets the same words, without another search for a hint.
+pub(crate) fn push_fault<'a>(
     out: &mut Vec<u8>,
     sheets: &Sheets,
-    finding: &Finding,
+    finding: &Finding<'a>,
     fault: Fault,
+    last_fault: &mut LastFault<'a>,
 ) -> Result<(), AllocError> {
-    let (code, rule) = (Words(fault.code()), Words(sentence_of(finding.text, fault)));
-    fill(out, "%: %", &[code, rule])?;
-    let names = names_of(sheets);
-    let faulty = Faulty {
-        version: sheets.version(),
-        line: finding.text,
-        above: finding.line.saturating_sub(1),
-        fault,
-        players: names.get(..sheets.seats()).unwrap_or(&names),
-    };
-    push_hint(out, faulty)
+    let is_equal = last_fault.fault == Some(fault) && last_fault.line == finding.text;
+    if !is_equal || !last_fault.is_repeated {
+        let mut words = Vec::new(*out.allocator());
+        let (code, rule) = (Words(fault.code()), Words(sentence_of(finding.text, fault)));
+        fill(&mut words, "%: %", &[code, rule])?;
+        let names = names_of(sheets);
+        let faulty = Faulty {
+            version: sheets.version(),
+            line: finding.text,
+            above: finding.line.saturating_sub(1),
+            fault,
+            players: names.get(..sheets.seats()).unwrap_or(&names),
+        };
+        push_hint(&mut words, faulty)?;
+        last_fault.is_repeated = is_equal && last_fault.words.as_slice() == words.as_slice();
+        last_fault.line = finding.text;
+        last_fault.fault = Some(fault);
+        last_fault.words = words;
+    }
+    out.extend_from_slice(last_fault.words.as_slice())
 }
 
 /// Returns the names of the players, and empty names after them.
@@ -43,16 +68,17 @@ pub(crate) fn names_of<'a>(sheets: &'a Sheets) -> [&'a [u8]; 6] {
 
 /// Adds what there is to say of a line that was meant to begin a sheet: its fault, and what becomes
 /// of the lines below it.
-pub(crate) fn push_closing(
+pub(crate) fn push_closing<'a>(
     out: &mut Vec<u8>,
     sheets: &Sheets,
-    finding: &Finding,
+    finding: &Finding<'a>,
     fault: Fault,
     sent: Option<Sent>,
     below: Option<(usize, usize)>,
+    last_fault: &mut LastFault<'a>,
 ) -> Result<(), AllocError> {
     fill(out, "it begins no sheet. ", &[])?;
-    push_fault(out, sheets, finding, fault)?;
+    push_fault(out, sheets, finding, fault, last_fault)?;
     let Some((first, last)) = below else {
         return Ok(());
     };
@@ -70,15 +96,16 @@ pub(crate) fn push_closing(
 }
 
 /// Adds what there is to say of a line of a sheet.
-pub(crate) fn push_said(
+pub(crate) fn push_said<'a>(
     out: &mut Vec<u8>,
     sheets: &Sheets,
-    finding: &Finding,
+    finding: &Finding<'a>,
     round: Round,
     said: Said,
+    last_fault: &mut LastFault<'a>,
 ) -> Result<(), AllocError> {
     match said {
-        Said::Faulty(fault) => push_fault(out, sheets, finding, fault),
+        Said::Faulty(fault) => push_fault(out, sheets, finding, fault, last_fault),
         Said::Unopened => {
             push_rule(out, Fault::OutOfPlace.code())?;
             let head = match round {

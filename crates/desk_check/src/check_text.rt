@@ -3,7 +3,7 @@
 
 use crate::check_found::{Change, Finding, Found, Lateness, Matter, Standing};
 use crate::check_refused::{Cause, Refusal};
-use crate::check_said::{push_closing, push_fault, push_said};
+use crate::check_said::{LastFault, push_closing, push_fault, push_said};
 use desk_base::Piece::{Bytes, Count, Cut, Words};
 use desk_base::{Piece, explain, push};
 use report::name;
@@ -28,9 +28,15 @@ pub(crate) fn push_found(
     found: &mut Found,
 ) -> Result<(), AllocError> {
     found.sort()?;
+    let mut last_fault = LastFault {
+        line: b"",
+        fault: None,
+        words: Vec::new(*out.allocator()),
+        is_repeated: false,
+    };
     for finding in &found.findings {
         if finding.line >= found.from {
-            push_finding(out, sheets, finding, found.told.as_slice())?;
+            push_finding(out, sheets, finding, found.told.as_slice(), &mut last_fault)?;
         }
     }
     push_unlisted(out, found.unlisted)
@@ -61,11 +67,12 @@ pub(crate) fn push_heading(out: &mut Vec<u8>) -> Result<(), AllocError> {
 }
 
 /// Adds a finding, given the texts of the trials.
-fn push_finding(
+fn push_finding<'a>(
     out: &mut Vec<u8>,
     sheets: &Sheets,
-    finding: &Finding,
+    finding: &Finding<'a>,
     told: &[u8],
+    last_fault: &mut LastFault<'a>,
 ) -> Result<(), AllocError> {
     push(out, &[Count(finding.line), PARTED])?;
     if let Matter::Line(sent, _) | Matter::Tried { sent, .. } = finding.matter {
@@ -73,24 +80,25 @@ fn push_finding(
         push(out, &[name, Words(" "), Piece::Round(sent.round), PARTED])?;
     }
     push(out, &[Cut(finding.text, COLUMNS), PARTED])?;
-    push_matter(out, sheets, finding, told)?;
+    push_matter(out, sheets, finding, told, last_fault)?;
     push(out, &[Words("\n")])
 }
 
 /// Adds what there is to say of a line, given the texts of the trials.
-fn push_matter(
+fn push_matter<'a>(
     out: &mut Vec<u8>,
     sheets: &Sheets,
-    finding: &Finding,
+    finding: &Finding<'a>,
     told: &[u8],
+    last_fault: &mut LastFault<'a>,
 ) -> Result<(), AllocError> {
     match finding.matter {
         Matter::Unread(fault) => {
             push(out, &[Words("it belongs to no sheet and is skipped. ")])?;
-            push_fault(out, sheets, finding, fault)
+            push_fault(out, sheets, finding, fault, last_fault)
         }
         Matter::Closes { fault, sent, below } => push_closing(
-            out, sheets, finding, fault, sent, below,
+            out, sheets, finding, fault, sent, below, last_fault,
         ),
         Matter::Mail(sheet) => {
             let words = "it looks like mail, and counts as a line of the sheet of line ";
@@ -112,7 +120,7 @@ fn push_matter(
                 Words(", which operates and whose president this is"),
             ],
         ),
-        Matter::Line(sent, said) => push_said(out, sheets, finding, sent.round, said),
+        Matter::Line(sent, said) => push_said(out, sheets, finding, sent.round, said, last_fault),
         Matter::Tried { from, to, .. } => push(out, &[Bytes(told.get(from..to).unwrap_or(&[]))]),
         Matter::Name { seat, likeness } => {
             let name = name(sheets, seat);

@@ -40,15 +40,8 @@ fn newline(text: &[u8]) -> Option<usize>
 fn is_plain_start(byte: u8) -> bool
     ensures { result ≡ is_plain_start byte }
 {
-    byte != b' '
-        && byte.to_ascii_uppercase() != b'S'
-        && byte != b'F'
-        && byte != b'T'
-        && byte != b'C'
-        && byte != b'D'
-        && byte != b'M'
-        && byte != b'O'
-        && byte != b'>'
-        && byte != b'|'
-        && byte != b'-'
+    !matches!(
+        byte,
+        b' ' | b'S' | b's' | b'F' | b'T' | b'C' | b'D' | b'M' | b'O' | b'>' | b'|' | b'-'
+    )
 }
