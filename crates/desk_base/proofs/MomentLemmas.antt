@@ -1,8 +1,8 @@
 -- Where a play stands that has come from the start of its file: after the round that it played last, before what follows it.
-use Rattle.std.proofs.Common.{◌≡◌, ℕ, zero, suc, ◌<◌, ◌≤◌, Bool, true, false, if◌then◌else◌, ⊥, List, Result, Ok, Option, Some, None, refl, sym, ap, subst}
+use Rattle.std.proofs.Common.{◌≡◌, ℕ, zero, suc, ◌<◌, ◌≤◌, Bool, true, false, if◌then◌else◌, List, Result, Ok, Option, Some, None, refl, sym, ap, subst}
 use Rattle.std.proofs.Common.{◌∙◌, length, arith, true≢false}
 use Rattle.std.proofs.lemmas.Bool.{and_parts, eqb-true}
-use Rattle.std.specs.Prelude.{◌==◌, tt}
+use Rattle.std.specs.Prelude.{◌==◌}
 use Rattle.desk_base.proofs.SetLemmas.{keeps_number, number_by_next, number_in_round}
 use Rattle.desk_base.specs.Moments.{IsAfterRound, IsBehind, IsFromStart, IsNumbered, ShowsBetween, StandsIn, end_shown}
 use Rattle.desk_base.specs.Moments.{is_last}

@@ -81,10 +81,6 @@ words_of_lay lay = text_of_tile lay.tile ∷ text_of_hex lay.hex ∷ text_of_rot
 abbrev pub lay_line : Company → Lay → ℕ → List ℕ
 lay_line company lay cost = line_of (codes "LAID") (code_of_company company ∷ words_of_lay lay ++ decimal cost ∷ [])
 
--- the line of a seat's exchange of MH for a share of NYC
-abbrev pub exchange_line : List ℕ → Seat → ShareSource → List ℕ
-exchange_line file seat from = line_of (codes "EXCHANGED") (codes "MH" ∷ name_of file seat ∷ text_of_source from ∷ [])
-
 -- the word for where a company buys a train: the code of a company that sells it
 abbrev pub text_of_seller : TrainSeller → List ℕ
 text_of_seller seller.Bank = codes "BANK"
@@ -95,11 +91,6 @@ text_of_seller (seller.Company company) = code_of_company company
 abbrev pub text_of_train_owner : Option Company → List ℕ
 text_of_train_owner None = codes "POOL"
 text_of_train_owner (Some company) = code_of_company company
-
--- the line of a train that a company buys
-abbrev pub train_line : Company → Kind → TrainSeller → ℕ → List ℕ
-train_line company kind from price =
-    line_of (codes "TRAIN") (code_of_company company ∷ code_of_kind kind ∷ text_of_seller from ∷ decimal price ∷ [])
 
 -- an event as its line
 abbrev pub event_line : List ℕ → Event → List ℕ
@@ -121,7 +112,8 @@ event_line file (Bought company seat shares from price) =
     ∷ decimal price ∷ [])
 event_line file (Sells company seat shares price) =
     line_of (codes "SELLS") (code_of_company company ∷ name_of file seat ∷ decimal shares ∷ decimal price ∷ [])
-event_line file (Exchanged seat from) = exchange_line file seat from
+event_line file (Exchanged seat from) =
+    line_of (codes "EXCHANGED") (codes "MH" ∷ name_of file seat ∷ text_of_source from ∷ [])
 event_line file (Floats company amount) = line_of (codes "FLOATS") (code_of_company company ∷ decimal amount ∷ [])
 event_line file (Moves company square) =
     line_of (codes "MOVES") (code_of_company company ∷ decimal (price_of square) ∷ text_of_square square ∷ [])
@@ -134,7 +126,8 @@ event_line file (Runs company revenue) = line_of (codes "RUNS") (code_of_company
 event_line file (Dividend company holder amount) =
     line_of (codes "DIVIDEND") (code_of_company company ∷ holder_text file holder ∷ decimal amount ∷ [])
 event_line file (Traded company kind) = line_of (codes "TRADED") (code_of_company company ∷ code_of_kind kind ∷ [])
-event_line file (Train company kind from price) = train_line company kind from price
+event_line file (Train company kind from price) =
+    line_of (codes "TRAIN") (code_of_company company ∷ code_of_kind kind ∷ text_of_seller from ∷ decimal price ∷ [])
 event_line file (Phase kind) = line_of (codes "PHASE") (code_of_kind kind ∷ [])
 event_line file (Rusted owner kind) = line_of (codes "RUSTED") (text_of_train_owner owner ∷ code_of_kind kind ∷ [])
 event_line file (Discarded company kind) = line_of (codes "DISCARDED")

@@ -1,7 +1,7 @@
 //! The events of a game, each as a line of the report.
 ghost use Rattle.std.specs.Prelude.{◌≡◌, ◌∷◌, [], List, OnOk, codes, decimal, ℕ};
 ghost use Rattle.report.specs.Column.{Adds};
-ghost use Rattle.report.specs.Line.{event_line, holder_text, lay_line, name_of, ruled_line, ruling_words};
+ghost use Rattle.report.specs.Line.{event_line, holder_text, lay_line, line_of, name_of, ruled_line, ruling_words};
 ghost use Rattle.report.specs.Line.{text_of_seller, text_of_square, text_of_train_owner};
 ghost use Rattle.order_grammar.specs.Print.{spaced, text_of_round};
 ghost use Rattle.tables.specs.Roster.{code_of_company};
@@ -50,6 +50,14 @@ impl Word for u8 {
     }
 }
 
+impl Word for usize {
+    ghost text = { decimal };
+
+    fn push_to(self, out: &mut Vec<u8>) -> Result<(), AllocError> {
+        print_number(out, self)
+    }
+}
+
 impl Word for Amount {
     ghost text = { decimal };
 
@@ -81,11 +89,21 @@ impl Word for Square {
 
 /// Adds a line: its first word, each other word after a space, and its LF.
 macro_rules! push_line {
-    ($out:ident, $first:expr $(, $word:expr)*) => {{
-        $out.extend_from_slice($first)?;
-        $(push_word($out, $word)?;)*
-        push_end($out)
-    }};
+    ($out:ident, $word:expr, $one:expr) => {
+        push_one($out, $word, $one)
+    };
+    ($out:ident, $word:expr, $one:expr, $two:expr) => {
+        push_two($out, $word, $one, $two)
+    };
+    ($out:ident, $word:expr, $one:expr, $two:expr, $three:expr) => {
+        push_three($out, $word, $one, $two, $three)
+    };
+    ($out:ident, $word:expr, $one:expr, $two:expr, $three:expr, $four:expr) => {
+        push_four($out, $word, $one, $two, $three, $four)
+    };
+    ($out:ident, $word:expr, $one:expr, $two:expr, $three:expr, $four:expr, $five:expr) => {
+        push_five($out, $word, $one, $two, $three, $four, $five)
+    };
 }
 
 /// Adds the line of an event. Each row has a kind of event and the words of its line. After the
@@ -157,6 +175,92 @@ pub fn push_event(out: &mut Vec<u8>, sheets: &Sheets, event: &Event) -> Result<(
     }
 }
 
+/// Adds the line of a word and one more.
+fn push_one<A: Word>(out: &mut Vec<u8>, word: &[u8], one: A) -> Result<(), AllocError>
+    ensures { OnOk result (Adds out.old out.new
+        (line_of word.now (A.text one ∷ []))) }
+{
+    out.extend_from_slice(word)?;
+    push_word(out, one)?;
+    push_end(out)
+}
+
+/// Adds the line of a word and two more.
+fn push_two<A: Word, B: Word>(
+    out: &mut Vec<u8>,
+    word: &[u8],
+    one: A,
+    two: B,
+) -> Result<(), AllocError>
+    ensures { OnOk result (Adds out.old out.new
+        (line_of word.now (A.text one ∷ B.text two ∷ []))) }
+{
+    out.extend_from_slice(word)?;
+    push_word(out, one)?;
+    push_word(out, two)?;
+    push_end(out)
+}
+
+/// Adds the line of a word and three more.
+fn push_three<A: Word, B: Word, C: Word>(
+    out: &mut Vec<u8>,
+    word: &[u8],
+    one: A,
+    two: B,
+    three: C,
+) -> Result<(), AllocError>
+    ensures { OnOk result (Adds out.old out.new
+        (line_of word.now (A.text one ∷ B.text two ∷ C.text three ∷ []))) }
+{
+    out.extend_from_slice(word)?;
+    push_word(out, one)?;
+    push_word(out, two)?;
+    push_word(out, three)?;
+    push_end(out)
+}
+
+/// Adds the line of a word and four more.
+fn push_four<A: Word, B: Word, C: Word, D: Word>(
+    out: &mut Vec<u8>,
+    word: &[u8],
+    one: A,
+    two: B,
+    three: C,
+    four: D,
+) -> Result<(), AllocError>
+    ensures { OnOk result (Adds out.old out.new
+        (line_of word.now (A.text one ∷ B.text two ∷ C.text three ∷ D.text four ∷ []))) }
+{
+    out.extend_from_slice(word)?;
+    push_word(out, one)?;
+    push_word(out, two)?;
+    push_word(out, three)?;
+    push_word(out, four)?;
+    push_end(out)
+}
+
+/// Adds the line of a word and five more.
+fn push_five<A: Word, B: Word, C: Word, D: Word, E: Word>(
+    out: &mut Vec<u8>,
+    word: &[u8],
+    one: A,
+    two: B,
+    three: C,
+    four: D,
+    five: E,
+) -> Result<(), AllocError>
+    ensures { OnOk result (Adds out.old out.new
+        (line_of word.now (A.text one ∷ B.text two ∷ C.text three ∷ D.text four ∷ E.text five ∷ []))) }
+{
+    out.extend_from_slice(word)?;
+    push_word(out, one)?;
+    push_word(out, two)?;
+    push_word(out, three)?;
+    push_word(out, four)?;
+    push_word(out, five)?;
+    push_end(out)
+}
+
 /// Adds the line of what became of a line of a seat's sheet.
 fn push_ruled(
     out: &mut Vec<u8>,
@@ -204,30 +308,18 @@ fn push_refused(out: &mut Vec<u8>, code: &str) -> Result<(), AllocError>
 fn push_laid(out: &mut Vec<u8>, company: Company, lay: Lay, cost: Amount) -> Result<(), AllocError>
     ensures { OnOk result (Adds out.old out.new (lay_line company lay cost)) }
 {
-    let (tile, turns) = (lay.tile.number(), lay.rot.turns() as u8);
-    let hex = lay.hex.text();
+    out.extend_from_slice(b"LAID")?;
+    push_word(out, company.code())?;
+    push_word(out, lay.tile.number())?;
+    push_word(out, lay.hex.text().as_slice())?;
+    push_word(out, lay.rot.turns())?;
     if lay.swap {
-        push_line!(
-            out,
-            b"LAID",
-            company.code(),
-            tile,
-            hex.as_slice(),
-            turns,
-            "SWAP",
-            cost
-        )
-    } else {
-        push_line!(
-            out,
-            b"LAID",
-            company.code(),
-            tile,
-            hex.as_slice(),
-            turns,
-            cost
-        )
+        push_word(out, "SWAP")?;
+        push_word(out, cost)?;
+        return push_end(out);
     }
+    push_word(out, cost)?;
+    push_end(out)
 }
 
 /// Adds a word after a space.
