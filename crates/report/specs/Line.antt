@@ -19,13 +19,11 @@ use Rattle.map_tables.specs.Text.{text_of_hex, text_of_place, text_of_rotation, 
 use Rattle.map_tables.specs.declared.lay.Lay.{Lay}
 use Rattle.order_grammar.specs.Fault.{code_of}
 use Rattle.order_grammar.specs.Order.{text_of_source}
-use Rattle.order_grammar.specs.declared.order.ShareSource.{ShareSource}
 use Rattle.order_grammar.specs.Print.{conditional_spelling, spaced, text_of_round}
 use Rattle.sheets.specs.File.{players_of}
 use Rattle.tables.specs.Chart.{price_of}
 use Rattle.tables.specs.Roster.{code_of_company, code_of_private}
 use Rattle.tables.specs.Train.{code_of_kind}
-use Rattle.tables.specs.declared.rolling_stock.Kind.{Kind}
 use Rattle.tables.specs.declared.roster.Company.{Company}
 use Rattle.tables.specs.declared.roster.Private.{Private}
 use Rattle.tables.specs.declared.seat.Seat.{Seat}
