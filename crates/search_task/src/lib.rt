@@ -29,6 +29,7 @@ mod crossing;
 mod legs;
 mod mirror;
 mod outgoing_segment;
+mod ready_task;
 mod segments;
 mod spots;
 mod steps;
@@ -36,6 +37,7 @@ mod task;
 
 pub use bit_set::{BitPlace, BitSet, Borders, Spots, mixed_with};
 pub use crossing::Crossing;
+pub use ready_task::ReadyTask;
 pub use segments::Segments;
 pub use steps::Steps;
 pub use task::{Departures, Leg, Node, Segment, Task};
