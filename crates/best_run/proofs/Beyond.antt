@@ -8,14 +8,13 @@ use Rattle.best_run.specs.declared.value_ahead.Worth.{Worth}
 use Rattle.best_run.specs.Ahead.{HasPassed, HasRanked, IsLeast, IsWorth, beyond, ends_by, goes_back, goes_on, if_ending}
 use Rattle.best_run.specs.Ahead.{if_passed, most_ahead, one_end, two_ends}
 use Rattle.search_task.specs.Fit.{IsFit}
-use Rattle.search_task.specs.Spots.{ends_in, value_in}
-use Rattle.search_task.proofs.Places.{node_is}
+use Rattle.search_task.specs.Spots.{ends_in, node_at, value_in}
 use Rattle.search_task.proofs.Booleans.{not_both}
 
 -- a spot is worth at most 80 dollars
-pub worth_low : (task : Task) → IsFit task → (spot : ℕ) (node : Node) → spot < 744
-    → node ≡ get_or task.spots.items spot node → node.value ≤ 80
-worth_low task fit spot node low is = (fit.nodes spot node (node_is task fit spot node low is)).value
+pub worth_low : (task : Task) → IsFit task → (spot : ℕ) (node : Node)
+    → node_at task spot ≡ Some node → node.value ≤ 80
+worth_low task fit spot node at = (fit.nodes spot node at).value
 
 -- what a stop adds
 abbrev passes : ℕ → Node → ℕ

@@ -3,8 +3,6 @@ use Rattle.std.specs.Prelude.{◌≡◌, ℕ, ◌+◌, ◌<◌, true, List, leng
 use Rattle.search_task.specs.declared.task.Task.{Task}
 use Rattle.best_run.specs.declared.state.Assigned.{Assigned}
 use Rattle.best_run.specs.declared.state.PartialRun.{PartialRun}
-use Rattle.search_task.specs.Fit.{IsFit}
-use Rattle.search_task.specs.Legs.{AreReady}
 use Rattle.search_task.specs.Spots.{node_at, stop_in}
 use Rattle.best_run.specs.Room.{HasRoom, credit}
 use Rattle.best_run.specs.Suffix.{AreBounds}
@@ -12,8 +10,6 @@ use Rattle.best_run.specs.Suffix.{AreBounds}
 -- a train is left, whose run has begun at a stop and has reached one, and what it may still earn is
 -- within the limit
 pub record MayExtend (task : Task) (solved : List ℕ) (assigned : Assigned) (run : PartialRun) : Type 0 where
-  pub fit : IsFit task
-  pub ready : AreReady task
   pub bounds : AreBounds task solved
   pub next : assigned.next < length task.trains.items
   pub head : run.head < 744

@@ -5,11 +5,10 @@ ghost use Rattle.best_run.specs.Ahead.{IsWorth, LiesAhead};
 ghost use Rattle.best_run.specs.Canonical.{AreCapped, AreOpen, Holds, IsCanonical, IsInReach, IsNear, IsShut};
 ghost use Rattle.best_run.specs.Canonical.{IsShutOff, Opens, ReachesToken};
 ghost use Rattle.best_run.specs.Canonical.{ReachesAt, WidensTo, anywhere, sets_out};
-ghost use Rattle.search_task.specs.Fit.{IsFit};
 ghost use Rattle.best_run.specs.Moves.{EarnsAtMost};
 ghost use Rattle.search_task.specs.Spots.{ends_in, node_at, stop_in};
 ghost use Rattle.best_run.specs.Suffix.{AreBounds};
-ghost use Rattle.search_task.specs.Legs.{AreReady, IsStop};
+ghost use Rattle.search_task.specs.Legs.{IsStop};
 
 use crate::end_stops::count;
 use crate::lookahead::{Outlook, look_along, nothing_ahead};
@@ -17,7 +16,7 @@ use crate::search::are_pruned_by_cap;
 use crate::search_state::SearchState;
 use crate::state::{Assigned, PartialRun};
 use reach::SPOTS;
-use search_task::{Borders, Spots, Task};
+use search_task::{Borders, ReadyTask, Spots};
 use tables::Amount;
 
 /// What is in reach of the trains that are left.
@@ -48,17 +47,16 @@ fn anywhere() -> PartialRun
 }
 
 /// Adds what a run may reach from a token to what is in reach of the trains that are left.
-fn reach_from(task: &Task, assigned: &Assigned, stop: usize, reach: &mut Outlook)
-    requires fit { IsFit task.now }
-    requires ready { AreReady task.now }
+fn reach_from(task: &ReadyTask, assigned: &Assigned, stop: usize, reach: &mut Outlook)
     requires spot { stop < 744 }
     requires stops { stop_in (node_at task.now stop) ≡ true }
     requires known { IsWorth task.now.spots.items reach.old.ahead reach.old.worth }
     ensures reaches { WidensTo task.now assigned.now stop reach.old.ahead reach.new.ahead }
     ensures known { IsWorth task.now.spots.items reach.new.ahead reach.new.worth }
 {
+    task.is_ready();
     let run = anywhere();
-    let from = &task.departures[stop];
+    let from = task.departures(stop);
     for index in 0..from.legs.len() {
         let leg = &from.legs[index];
         look_along(task, assigned, &run, &leg.segment, reach);
@@ -66,8 +64,7 @@ fn reach_from(task: &Task, assigned: &Assigned, stop: usize, reach: &mut Outlook
 }
 
 /// Puts a stop in reach.
-fn hold(task: &Task, assigned: &Assigned, stop: usize, reach: &mut Outlook)
-    requires fit { IsFit task.now }
+fn hold(task: &ReadyTask, assigned: &Assigned, stop: usize, reach: &mut Outlook)
     requires spot { stop < 744 }
     requires known { IsWorth task.now.spots.items reach.old.ahead reach.old.worth }
     ensures holds { Holds stop reach.old.ahead reach.new.ahead }
@@ -82,9 +79,7 @@ fn hold(task: &Task, assigned: &Assigned, stop: usize, reach: &mut Outlook)
 /// Returns what is in reach of a run that sets out from a stop: the stop, and those to which it may
 /// come. Their worth is known for a run that may visit this many stops.
 #[inline(always)]
-fn reach_of(task: &Task, assigned: &Assigned, stop: usize, left: usize) -> Outlook
-    requires fit { IsFit task.now }
-    requires ready { AreReady task.now }
+fn reach_of(task: &ReadyTask, assigned: &Assigned, stop: usize, left: usize) -> Outlook
     requires spot { stop < 744 }
     requires stops { stop_in (node_at task.now stop) ≡ true }
     ensures near { IsNear task.now assigned.now.used stop result.ahead }
@@ -98,25 +93,23 @@ fn reach_of(task: &Task, assigned: &Assigned, stop: usize, left: usize) -> Outlo
 
 /// Returns whether a stop lies in reach and may be passed: all that is in reach of it is in reach
 /// already.
-fn is_passed(task: &Task, stop: usize, ahead: &Spots) -> bool
-    requires fit { IsFit task.now }
+fn is_passed(task: &ReadyTask, stop: usize, ahead: &Spots) -> bool
     requires spot { stop < 744 }
     ensures lies { IsTrue result → LiesAhead ahead.now stop }
     ensures passes { IsTrue result → ends_in (node_at task.now stop) ≡ false }
 {
-    let node = &task.spots[stop];
+    let node = task.node(stop);
     !node.ends && ahead.has(stop)
 }
 
 /// Adds what is in reach of a token, unless it is in reach already.
-fn reach_token(task: &Task, assigned: &Assigned, stop: usize, reach: &mut InReach)
-    requires fit { IsFit task.now }
-    requires ready { AreReady task.now }
+fn reach_token(task: &ReadyTask, assigned: &Assigned, stop: usize, reach: &mut InReach)
     requires spot { stop < 744 }
     requires stops { stop_in (node_at task.now stop) ≡ true }
     requires left { reach.old.left ≤ 744 }
     ensures { ReachesToken task.now assigned.now.used stop reach.old reach.new }
 {
+    task.is_ready();
     if is_passed(task, stop, &reach.ahead) {
         return;
     }
@@ -138,22 +131,21 @@ fn left_to(most: usize) -> usize
 /// Returns the stops that a run of the trains that are left may visit: where it may begin, and to
 /// which it may come. A run of the next train earns no more than is in reach of the token where it
 /// begins.
-pub(crate) fn reach(task: &Task, assigned: &Assigned) -> InReach
-    requires fit { IsFit task.now }
-    requires ready { AreReady task.now }
+pub(crate) fn reach(task: &ReadyTask, assigned: &Assigned) -> InReach
     requires next { assigned.now.next < length task.now.trains.items }
     ensures reaches { IsInReach task.now assigned.now.used result.ahead }
     ensures capped { AreCapped task.now assigned.now.used result }
 {
-    let most = task.trains[assigned.next];
+    task.is_ready();
+    let most = task.most_stops(assigned.next);
     let mut reach = InReach {
         left: left_to(most),
         ahead: Spots::none(),
         cap: 0,
     };
-    for place in 0..task.stops.len() {
-        let stop = task.stops[place];
-        if task.spots[stop].own {
+    for place in 0..task.stop_count() {
+        let stop = task.stop(place);
+        if task.node(stop).own {
             reach_token(task, assigned, stop, &mut reach);
         }
     }
@@ -164,19 +156,18 @@ pub(crate) fn reach(task: &Task, assigned: &Assigned) -> InReach
 /// in reach. Each of the next trains of one kind earns no more than that allows, and the others no
 /// more than they earn by themselves. It may be false even if that holds.
 pub(crate) fn is_pruned_by_reach(
-    task: &Task,
+    task: &ReadyTask,
     assigned: &Assigned,
     reach: &InReach,
     bounds: &[Amount],
     best: Amount,
 ) -> bool
-    requires fit { IsFit task.now }
-    requires ready { AreReady task.now }
     requires bounds { AreBounds task.now bounds.now }
     requires next { assigned.now.next < length task.now.trains.items }
     requires capped { AreCapped task.now assigned.now.used reach.now }
     ensures { IsTrue result → EarnsAtMost task.now assigned.now best }
 {
+    task.is_ready();
     assigned.marks_all_borders();
     let total = assigned.total;
     are_pruned_by_cap(
@@ -191,15 +182,14 @@ pub(crate) fn is_pruned_by_reach(
 }
 
 /// Opens the legs from a stop that cross no used border.
-fn open_from(task: &Task, assigned: &Assigned, stop: usize, shut: &mut Borders)
-    requires fit { IsFit task.now }
-    requires ready { AreReady task.now }
+fn open_from(task: &ReadyTask, assigned: &Assigned, stop: usize, shut: &mut Borders)
     requires spot { stop < 744 }
     requires stops { stop_in (node_at task.now stop) ≡ true }
     ensures opens { Opens assigned.now.used shut.old shut.new }
     ensures open { AreOpen task.now assigned.now.used stop shut.new }
 {
-    let from = &task.departures[stop];
+    task.is_ready();
+    let from = task.departures(stop);
     for index in 0..from.legs.len() {
         let leg = &from.legs[index];
         if leg.segment.borders.misses(&assigned.used) {
@@ -210,25 +200,23 @@ fn open_from(task: &Task, assigned: &Assigned, stop: usize, shut: &mut Borders)
 
 /// Returns whether a run may set out from a stop: the company has a token there, or it lies in
 /// reach and may be passed.
-fn sets_out(task: &Task, stop: usize, reach: &Spots) -> bool
-    requires fit { IsFit task.now }
+fn sets_out(task: &ReadyTask, stop: usize, reach: &Spots) -> bool
     requires spot { stop < 744 }
     ensures { result ≡ sets_out task.now reach.now stop }
 {
-    let node = &task.spots[stop];
+    let node = task.node(stop);
     node.stop && (node.own || (reach.has(stop) && !node.ends))
 }
 
 /// Returns all borders except those that a run of the trains that are left may cross.
-fn shut(task: &Task, assigned: &Assigned, reach: &Spots) -> Borders
-    requires fit { IsFit task.now }
-    requires ready { AreReady task.now }
+fn shut(task: &ReadyTask, assigned: &Assigned, reach: &Spots) -> Borders
     ensures { IsShut task.now assigned.now.used reach.now result }
 {
+    task.is_ready();
     assigned.marks_all_borders();
     let mut shut = Borders::all();
-    for place in 0..task.stops.len() {
-        let stop = task.stops[place];
+    for place in 0..task.stop_count() {
+        let stop = task.stop(place);
         if sets_out(task, stop, reach) {
             open_from(task, assigned, stop, &mut shut);
         }
@@ -238,9 +226,7 @@ fn shut(task: &Task, assigned: &Assigned, reach: &Spots) -> Borders
 
 /// Returns a state with the same trains assigned. In it all borders are used except those that a
 /// run of the trains that are left may cross, which sets out from a stop in reach.
-fn shut_off(task: &Task, assigned: &Assigned, reach: &Spots) -> Assigned
-    requires fit { IsFit task.now }
-    requires ready { AreReady task.now }
+fn shut_off(task: &ReadyTask, assigned: &Assigned, reach: &Spots) -> Assigned
     ensures { IsShutOff task.now assigned.now reach.now result }
 {
     Assigned {
@@ -254,9 +240,7 @@ fn shut_off(task: &Task, assigned: &Assigned, reach: &Spots) -> Assigned
 
 /// Returns a state that is equivalent to one between runs, in which all borders are used that no
 /// later run can cross.
-pub(crate) fn canonical(task: &Task, assigned: &Assigned, reach: &Spots) -> SearchState
-    requires fit { IsFit task.now }
-    requires ready { AreReady task.now }
+pub(crate) fn canonical(task: &ReadyTask, assigned: &Assigned, reach: &Spots) -> SearchState
     requires reaches { IsInReach task.now assigned.now.used reach.now }
     ensures { IsCanonical task.now assigned.now None result }
 {
@@ -267,9 +251,7 @@ pub(crate) fn canonical(task: &Task, assigned: &Assigned, reach: &Spots) -> Sear
 }
 
 /// Adds a stop, and what a run may reach from there, to what is in reach.
-fn reach_at(task: &Task, assigned: &Assigned, stop: usize, ahead: &mut Spots)
-    requires fit { IsFit task.now }
-    requires ready { AreReady task.now }
+fn reach_at(task: &ReadyTask, assigned: &Assigned, stop: usize, ahead: &mut Spots)
     requires spot { stop < 744 }
     requires stops { stop_in (node_at task.now stop) ≡ true }
     ensures { ReachesAt task.now assigned.now.used stop ahead.old ahead.new }
@@ -284,9 +266,11 @@ fn reach_at(task: &Task, assigned: &Assigned, stop: usize, ahead: &mut Spots)
 /// Returns a state that is equivalent to one with a run begun. In it all borders are used that
 /// neither that run nor a later one can cross, and all stops that they cannot reach count as
 /// visited.
-pub(crate) fn canonical_begun(task: &Task, assigned: &Assigned, run: &PartialRun) -> SearchState
-    requires fit { IsFit task.now }
-    requires ready { AreReady task.now }
+pub(crate) fn canonical_begun(
+    task: &ReadyTask,
+    assigned: &Assigned,
+    run: &PartialRun,
+) -> SearchState
     requires next { assigned.now.next < length task.now.trains.items }
     requires at_stop { IsStop task.now run.now.head }
     requires begun { IsStop task.now run.now.home }

@@ -2,23 +2,21 @@
 //! border by which it comes.
 ghost use Rattle.std.specs.Prelude.{◌≡◌, ℕ, ◌<◌, ◌≤◌, IsTrue, Some, false, get_or, length, set, true};
 ghost use Rattle.best_run.specs.Ahead.{IsWorth};
-ghost use Rattle.search_task.specs.Fit.{IsFit};
 ghost use Rattle.best_run.specs.EndStops.{CountsAsPassed, CrossIt, HasWorth, IsLast};
 ghost use Rattle.search_task.specs.Spots.{ends_in, node_at};
-ghost use Rattle.search_task.specs.Legs.{AreReady, legs_at};
+ghost use Rattle.search_task.specs.Legs.{legs_at};
 
 use crate::lookahead::Outlook;
 use crate::state::{Assigned, PartialRun};
-use search_task::Task;
+use search_task::ReadyTask;
 
 /// Returns a border that is crossed by the first two of a stop's legs that cross no used border, or
 /// by the only such leg. Returns `None` if these two share none, or there is no such leg.
-fn exit(task: &Task, assigned: &Assigned, spot: usize) -> Option<usize>
-    requires ready { AreReady task.now }
+fn exit(task: &ReadyTask, assigned: &Assigned, spot: usize) -> Option<usize>
     requires spot { spot < 744 }
     ensures { (border : ℕ) → result ≡ Some border → border < 279 }
 {
-    let from = &task.departures[spot];
+    let from = task.departures(spot);
     let mut first = None;
     for index in 0..from.legs.len() {
         let borders = &from.legs[index].segment.borders;
@@ -36,13 +34,12 @@ fn exit(task: &Task, assigned: &Assigned, spot: usize) -> Option<usize>
 }
 
 /// Returns whether all legs from a stop that cross no used border cross this border.
-fn cross_it(task: &Task, assigned: &Assigned, spot: usize, border: usize) -> bool
-    requires ready { AreReady task.now }
+fn cross_it(task: &ReadyTask, assigned: &Assigned, spot: usize, border: usize) -> bool
     requires spot { spot < 744 }
     requires border { border < 279 }
     ensures { IsTrue result → CrossIt task.now assigned.now.used spot border }
 {
-    let from = &task.departures[spot];
+    let from = task.departures(spot);
     for index in 0..from.legs.len() {
         let borders = &from.legs[index].segment.borders;
         if !borders.crosses(border) && borders.misses(&assigned.used) {
@@ -55,12 +52,12 @@ fn cross_it(task: &Task, assigned: &Assigned, spot: usize, border: usize) -> boo
 /// Returns whether a run that reaches a stop ahead ends there, since all its legs that cross no
 /// used border cross the one by which it comes. It may be false even if that holds, and it is false
 /// for a run that visits no stops.
-fn is_last(task: &Task, assigned: &Assigned, run: &PartialRun, spot: usize) -> bool
-    requires ready { AreReady task.now }
+fn is_last(task: &ReadyTask, assigned: &Assigned, run: &PartialRun, spot: usize) -> bool
     requires spot { spot < 744 }
     ensures { IsTrue result → (0 < run.now.most) × IsLast task.now assigned.now.used spot }
 {
-    if !task.mirrored || run.most == 0 {
+    task.is_ready();
+    if !task.mirrored() || run.most == 0 {
         return false;
     }
     match exit(task, assigned, spot) {
@@ -71,13 +68,12 @@ fn is_last(task: &Task, assigned: &Assigned, run: &PartialRun, spot: usize) -> b
 
 /// Counts one more stop ahead, which the run may pass, or at which all runs end.
 pub(crate) fn count(
-    task: &Task,
+    task: &ReadyTask,
     assigned: &Assigned,
     run: &PartialRun,
     spot: usize,
     outlook: &mut Outlook,
 )
-    requires fit { IsFit task.now }
     requires spot { spot < 744 }
     requires free { get_or outlook.old.ahead spot false ≡ false }
     requires known { HasWorth task.now assigned.now run.now outlook.old.ahead outlook.old.worth }
@@ -86,7 +82,8 @@ pub(crate) fn count(
     ensures passed { ends_in (node_at task.now spot) ≡ false
         → CountsAsPassed task.now assigned.now run.now spot outlook.new.ahead outlook.new.worth }
 {
-    let node = &task.spots[spot];
+    task.is_ready();
+    let node = task.node(spot);
     outlook.ahead.is_whole();
     outlook.ahead.mark(spot);
     outlook.stops = outlook.stops.wrapping_add(1);
@@ -101,14 +98,12 @@ pub(crate) fn count(
 /// that may be passed. It is kept out of line, so that its caller stays short.
 #[inline(never)]
 pub(crate) fn end_at(
-    task: &Task,
+    task: &ReadyTask,
     assigned: &Assigned,
     run: &PartialRun,
     spot: usize,
     outlook: &mut Outlook,
 )
-    requires fit { IsFit task.now }
-    requires ready { AreReady task.now }
     requires spot { spot < 744 }
     requires lies { get_or outlook.old.ahead spot false ≡ true }
     requires passed { CountsAsPassed task.now assigned.now run.now spot outlook.old.ahead
@@ -116,7 +111,8 @@ pub(crate) fn end_at(
     ensures same { outlook.new.ahead ≡ outlook.old.ahead }
     ensures known { HasWorth task.now assigned.now run.now outlook.new.ahead outlook.new.worth }
 {
-    let node = &task.spots[spot];
+    task.is_ready();
+    let node = task.node(spot);
     if is_last(task, assigned, run, spot) {
         outlook.worth.take_back(node.value);
         outlook.worth.end(node.value);

@@ -3,15 +3,13 @@
 ghost use Rattle.std.specs.Prelude.{◌≡◌, ◌<◌, ◌≤◌, List, true, false, get_or, replicate};
 ghost use Rattle.search_task.specs.declared.task.Node.{Node};
 ghost use Rattle.best_run.specs.Ahead.{IsWorth, WidensAt, WidensBack, WidensBy, WidensFrom, leads_on};
-ghost use Rattle.search_task.specs.Fit.{IsFit};
 ghost use Rattle.best_run.specs.EndStops.{HasWorth};
 ghost use Rattle.search_task.specs.Spots.{node_at, stop_in};
-ghost use Rattle.search_task.specs.Legs.{AreReady};
 
 use crate::end_stops::{count, end_at};
 use crate::state::{Assigned, PartialRun};
 use crate::value_ahead::{LEVELS, Worth};
-use search_task::{Segment, Spots, Task};
+use search_task::{ReadyTask, Segment, Spots};
 
 /// What lies ahead of a run.
 #[derive(Drop)]
@@ -53,22 +51,21 @@ impl Outlook {
 
 /// Returns an outlook in which nothing lies ahead of a run that may visit this many more stops. If
 /// it may visit all, it earns least by the first level.
-pub(crate) fn nothing_ahead(task: &Task, left: usize) -> Outlook
+pub(crate) fn nothing_ahead(task: &ReadyTask, left: usize) -> Outlook
     ensures ahead { result.ahead ≡ replicate 744 false }
     ensures known { (nodes : List Node) → IsWorth nodes (replicate 744 false) result.worth }
 {
-    Outlook::nothing(if left >= task.stops.len() { 1 } else { LEVELS })
+    Outlook::nothing(if left >= task.stop_count() { 1 } else { LEVELS })
 }
 
 /// Returns whether a segment takes a run to a stop that is not among those ahead yet.
 pub(crate) fn leads_on(
-    task: &Task,
+    task: &ReadyTask,
     assigned: &Assigned,
     run: &PartialRun,
     segment: &Segment,
     ahead: &Spots,
 ) -> bool
-    requires fit { IsFit task.now }
     requires to { segment.now.to < 744 }
     requires stop { stop_in (node_at task.now segment.now.to) ≡ true }
     ensures { result ≡ leads_on task.now assigned.now run.now ahead.now segment.now }
@@ -82,14 +79,12 @@ pub(crate) fn leads_on(
 /// anything.
 #[cycle(look)]
 fn look_from(
-    task: &Task,
+    task: &ReadyTask,
     assigned: &Assigned,
     run: &PartialRun,
     spot: usize,
     outlook: &mut Outlook,
 ) -> bool
-    requires fit { IsFit task.now }
-    requires ready { AreReady task.now }
     requires spot { spot < 744 }
     requires stop { stop_in (node_at task.now spot) ≡ true }
     requires known { HasWorth task.now assigned.now run.now outlook.old.ahead outlook.old.worth }
@@ -98,10 +93,11 @@ fn look_from(
     ensures known { HasWorth task.now assigned.now run.now outlook.new.ahead outlook.new.worth }
     ensures same { result ≡ false → outlook.new ≡ outlook.old }
 {
-    if task.spots[spot].ends {
+    task.is_ready();
+    if task.node(spot).ends {
         return false;
     }
-    let from = &task.departures[spot];
+    let from = task.departures(spot);
     let legs = from.legs.as_slice();
     let mut leads = false;
     for index in 0..legs.len() {
@@ -119,14 +115,12 @@ fn look_from(
 #[cycle(look)]
 #[inline(always)]
 pub(crate) fn look_at(
-    task: &Task,
+    task: &ReadyTask,
     assigned: &Assigned,
     run: &PartialRun,
     spot: usize,
     outlook: &mut Outlook,
 )
-    requires fit { IsFit task.now }
-    requires ready { AreReady task.now }
     requires spot { spot < 744 }
     requires stop { stop_in (node_at task.now spot) ≡ true }
     requires free { get_or outlook.old.ahead spot false ≡ false }
@@ -135,9 +129,10 @@ pub(crate) fn look_at(
         outlook.new.ahead }
     ensures known { HasWorth task.now assigned.now run.now outlook.new.ahead outlook.new.worth }
 {
+    task.is_ready();
     outlook.ahead.is_whole();
     count(task, assigned, run, spot, outlook);
-    if task.spots[spot].ends {
+    if task.node(spot).ends {
         return;
     }
     if !look_from(task, assigned, run, spot, outlook) {
@@ -148,14 +143,12 @@ pub(crate) fn look_at(
 /// Adds what a run may reach by a segment to what lies ahead of it.
 #[inline(always)]
 pub(crate) fn look_along(
-    task: &Task,
+    task: &ReadyTask,
     assigned: &Assigned,
     run: &PartialRun,
     segment: &Segment,
     outlook: &mut Outlook,
 )
-    requires fit { IsFit task.now }
-    requires ready { AreReady task.now }
     requires to { segment.now.to < 744 }
     requires stop { stop_in (node_at task.now segment.now.to) ≡ true }
     requires known { HasWorth task.now assigned.now run.now outlook.old.ahead outlook.old.worth }
@@ -170,9 +163,12 @@ pub(crate) fn look_along(
 
 /// Adds what a run may reach from where it began, once it turns back, to what lies ahead of it. It
 /// may not take a leg before the one by which it began.
-pub(crate) fn look_back(task: &Task, assigned: &Assigned, run: &PartialRun, outlook: &mut Outlook)
-    requires fit { IsFit task.now }
-    requires ready { AreReady task.now }
+pub(crate) fn look_back(
+    task: &ReadyTask,
+    assigned: &Assigned,
+    run: &PartialRun,
+    outlook: &mut Outlook,
+)
     requires home { run.now.home < 744 }
     requires begun { stop_in (node_at task.now run.now.home) ≡ true }
     requires known { HasWorth task.now assigned.now run.now outlook.old.ahead outlook.old.worth }
@@ -180,10 +176,11 @@ pub(crate) fn look_back(task: &Task, assigned: &Assigned, run: &PartialRun, outl
         outlook.new.ahead }
     ensures known { HasWorth task.now assigned.now run.now outlook.new.ahead outlook.new.worth }
 {
-    if task.spots[run.home].ends {
+    task.is_ready();
+    if task.node(run.home).ends {
         return;
     }
-    let from = &task.departures[run.home];
+    let from = task.departures(run.home);
     let legs = from.legs.as_slice();
     for index in 0..legs.len() {
         let leg = &legs[index];

@@ -3,10 +3,8 @@
 //! after others.
 ghost use Rattle.std.specs.Prelude.{◌≡◌, ◌-◌, ◌<◌, ◌≤◌, IfOk, length};
 ghost use Rattle.best_run.specs.Revenue.{IsBest};
-ghost use Rattle.search_task.specs.Fit.{IsFit};
 ghost use Rattle.best_run.specs.Memo.{IsNothing};
 ghost use Rattle.best_run.specs.Moves.{Explores, between};
-ghost use Rattle.search_task.specs.Legs.{AreReady};
 ghost use Rattle.best_run.specs.Suffix.{AreBounds, IsSolved, IsTop, nothing_before};
 ghost use Rattle.certificate.specs.Filled.{IsAcceptedFilled};
 ghost use Rattle.certificate.specs.Holding.{IsAccepted};
@@ -21,21 +19,19 @@ use crate::state::Assigned;
 use crate::trains::greatest_first;
 use certificate::{Claim, write_marks};
 use reach::Network;
-use search_task::{Borders, Task};
+use search_task::{Borders, ReadyTask};
 use std::alloc::{AllocError, Global};
 use tables::{Amount, Company, Kind};
 
 /// Tries all ways for this many of the last trains, by themselves.
-fn assign_last(task: &Task, count: usize, bounds: &[Amount], best: &mut Found)
-    requires fit { IsFit task.now }
-    requires ready { AreReady task.now }
+fn assign_last(task: &ReadyTask, count: usize, bounds: &[Amount], best: &mut Found)
     requires bounds { AreBounds task.now bounds.now }
     requires count { count ≤ length task.now.trains.items }
     ensures { let next = length task.now.trains.items - count in
         Explores task.now (between (nothing_before next)) best.old best.new }
 {
     let nothing = Assigned {
-        next: task.trains.len() - count,
+        next: task.train_count() - count,
         total: 0,
         kind: 0,
         cap: 0,
@@ -47,15 +43,17 @@ fn assign_last(task: &Task, count: usize, bounds: &[Amount], best: &mut Found)
 /// Solves for no train, for the last one, for the last two, and so on, up to all but the first.
 /// What is found bounds what these trains earn after others. With one more train, what has been
 /// found is earned as well if that train passes. Fails only if allocation fails.
-fn assign_suffixes(task: &Task, alloc: Global, best: &mut Found) -> Result<Vec<Amount>, AllocError>
-    requires fit { IsFit task.now }
-    requires ready { AreReady task.now }
+fn assign_suffixes(
+    task: &ReadyTask,
+    alloc: Global,
+    best: &mut Found,
+) -> Result<Vec<Amount>, AllocError>
     requires nothing { IsNothing best.old }
     ensures { let all = length task.now.trains.items in
         IfOk result (λ bounds. IsSolved task.now all bounds.items best.new) }
 {
-    let mut bounds = Vec::with_capacity(alloc, task.trains.len())?;
-    for count in 0..task.trains.len() {
+    let mut bounds = Vec::with_capacity(alloc, task.train_count())?;
+    for count in 0..task.train_count() {
         assign_last(task, count, &bounds, best);
         bounds.push(best.amount)?;
         best.move_path.write(Mark::Pass);
@@ -65,14 +63,12 @@ fn assign_suffixes(task: &Task, alloc: Global, best: &mut Found) -> Result<Vec<A
 
 /// Returns the greatest total of all ways from nothing assigned to the end, with the moves that
 /// earn it. Fails only if allocation fails.
-fn greatest(task: &Task, alloc: Global) -> Result<Found, AllocError>
-    requires fit { IsFit task.now }
-    requires ready { AreReady task.now }
+fn greatest(task: &ReadyTask, alloc: Global) -> Result<Found, AllocError>
     ensures { IfOk result (IsTop task.now) }
 {
     let mut best = Found::nothing(alloc);
     let bounds = assign_suffixes(task, alloc, &mut best)?;
-    assign_last(task, task.trains.len(), &bounds, &mut best);
+    assign_last(task, task.train_count(), &bounds, &mut best);
     let found = best.unless_refused()?;
     Ok(found)
 }
@@ -90,7 +86,7 @@ fn find<N: Network>(
         IfOk result (IsBest position company kinds.now) }
 {
     network.keeps_laws();
-    let task = Task::of(alloc, network, company, kinds)?;
+    let task = ReadyTask::of(alloc, network, company, kinds)?;
     let found = greatest(&task, alloc)?;
     Ok(found)
 }

@@ -4,9 +4,8 @@ ghost use Rattle.std.specs.Prelude.{◌≡◌, ◌+◌, ◌<◌, ◌≤◌, true
 ghost use Rattle.best_run.specs.Ahead.{IsInVain};
 ghost use Rattle.best_run.specs.Extend.{MayExtend};
 ghost use Rattle.best_run.specs.Room.{HasRoom};
-ghost use Rattle.search_task.specs.Fit.{IsFit, SegmentFits};
+ghost use Rattle.search_task.specs.Fit.{SegmentFits};
 ghost use Rattle.best_run.specs.Suffix.{AreBounds, ArePrunedByCap, AreEqual, ArePrunedBySuffix};
-ghost use Rattle.search_task.specs.Legs.{AreReady};
 ghost use Rattle.best_run.specs.Moves.{Any, Explores, IsBegin, IsBeginAt, IsGo, IsTurn, Takes, Tries, between};
 ghost use Rattle.best_run.specs.Moves.{own_before, partial};
 ghost use Rattle.best_run.specs.WaysOn.{AreWaysOn};
@@ -17,7 +16,7 @@ use crate::memo::Found;
 use crate::move_path::Mark;
 use crate::state::{Assigned, PartialRun, along, begun, can_take, mark_own, may_finish};
 use crate::ways_on::{WaysOn, earns_too_much, ways_on};
-use search_task::{Segment, Spots, Task};
+use search_task::{ReadyTask, Segment, Spots};
 use tables::Amount;
 
 /// The fewest stops ahead of a run with which the search looks up whether the run has been tried
@@ -26,28 +25,33 @@ const MANY: usize = 8;
 
 /// Returns whether the trains that are left can earn no more than what has been found, by what they
 /// earn by themselves. It may be false even if that holds.
-fn is_pruned_by_suffix(task: &Task, assigned: &Assigned, bounds: &[Amount], best: Amount) -> bool
+fn is_pruned_by_suffix(
+    task: &ReadyTask,
+    assigned: &Assigned,
+    bounds: &[Amount],
+    best: Amount,
+) -> bool
     requires { assigned.now.next ≤ length task.now.trains.items }
     ensures short { IsTrue result → ArePrunedBySuffix task.now bounds.now assigned.now best }
     ensures whole { length assigned.now.used ≡ 279 }
 {
     assigned.marks_all_borders();
-    let left = task.trains.len() - assigned.next;
+    let left = task.train_count() - assigned.next;
     left < bounds.len() && assigned.total <= best && bounds[left] <= best - assigned.total
 }
 
 /// Returns how many trains from a place on may visit this many stops, of the first eight of them.
-fn equals(task: &Task, next: usize, most: usize) -> usize
+fn equals(task: &ReadyTask, next: usize, most: usize) -> usize
     requires { next ≤ length task.now.trains.items }
     ensures equal { AreEqual task.now next result most }
     ensures within { next + result ≤ length task.now.trains.items }
     ensures few { result ≤ 8 }
 {
     for count in 0..8 {
-        if count >= task.trains.len() - next {
+        if count >= task.train_count() - next {
             return count;
         }
-        if task.trains[next + count] != most {
+        if task.most_stops(next + count) != most {
             return count;
         }
     }
@@ -58,7 +62,7 @@ fn equals(task: &Task, next: usize, most: usize) -> usize
 /// of the kind that ran last earns no more than the cap, in dollars. It may be false even if that
 /// holds.
 pub(crate) fn are_pruned_by_cap(
-    task: &Task,
+    task: &ReadyTask,
     next: usize,
     kind: usize,
     cap: Amount,
@@ -74,7 +78,7 @@ pub(crate) fn are_pruned_by_cap(
         return false;
     }
     let equal = equals(task, next, kind);
-    let left = task.trains.len() - next - equal;
+    let left = task.train_count() - next - equal;
     let most = equal as Amount * cap;
     if left >= bounds.len() || total > best || most > best - total {
         return false;
@@ -85,15 +89,19 @@ pub(crate) fn are_pruned_by_cap(
 /// Tries all ways from a state between runs to the end. Runs come first: what they earn bounds what
 /// is tried if the next train passes.
 #[cycle(explore)]
-pub(crate) fn assign_next(task: &Task, assigned: &Assigned, bounds: &[Amount], best: &mut Found)
-    requires fit { IsFit task.now }
-    requires ready { AreReady task.now }
+pub(crate) fn assign_next(
+    task: &ReadyTask,
+    assigned: &Assigned,
+    bounds: &[Amount],
+    best: &mut Found,
+)
     requires bounds { AreBounds task.now bounds.now }
     requires next { assigned.now.next ≤ length task.now.trains.items }
     requires room { HasRoom assigned.now.used assigned.now.total 44640 }
     ensures { Explores task.now (between assigned.now) best.old best.new }
 {
-    if assigned.next == task.trains.len() {
+    task.is_ready();
+    if assigned.next == task.train_count() {
         if best.amount < assigned.total {
             best.amount = assigned.total;
             best.move_path.clear();
@@ -132,18 +140,17 @@ pub(crate) fn assign_next(task: &Task, assigned: &Assigned, bounds: &[Amount], b
 
 /// Tries all runs of the next train, from each token of the company.
 #[cycle(explore)]
-fn begin_runs(task: &Task, assigned: &Assigned, bounds: &[Amount], best: &mut Found)
-    requires fit { IsFit task.now }
-    requires ready { AreReady task.now }
+fn begin_runs(task: &ReadyTask, assigned: &Assigned, bounds: &[Amount], best: &mut Found)
     requires bounds { AreBounds task.now bounds.now }
     requires next { assigned.now.next < length task.now.trains.items }
     requires room { HasRoom assigned.now.used assigned.now.total 44640 }
     ensures { Tries task.now (between assigned.now) (IsBegin Any) best.old best.new }
 {
+    task.is_ready();
     let mut before = Spots::none();
-    for place in 0..task.homes.len() {
-        let stop = task.homes[place];
-        let node = &task.spots[stop];
+    for place in 0..task.home_count() {
+        let stop = task.home(place);
+        let node = task.node(stop);
         if node.stop {
             begin_at(task, assigned, stop, &before, bounds, best);
         }
@@ -154,14 +161,12 @@ fn begin_runs(task: &Task, assigned: &Assigned, bounds: &[Amount], best: &mut Fo
 /// Returns whether a run of the last train that has begun at a token can earn no more than what has
 /// been found. It may be false even if that holds, and is false for an earlier train.
 fn is_in_vain(
-    task: &Task,
+    task: &ReadyTask,
     assigned: &Assigned,
     run: &PartialRun,
     bounds: &[Amount],
     best: Amount,
 ) -> bool
-    requires fit { IsFit task.now }
-    requires ready { AreReady task.now }
     requires bounds { AreBounds task.now bounds.now }
     requires next { assigned.now.next < length task.now.trains.items }
     requires head { run.now.head < 744 }
@@ -171,7 +176,7 @@ fn is_in_vain(
     requires room { assigned.now.total + run.now.value ≤ 44720 }
     ensures { IsTrue result → IsInVain task.now assigned.now run.now best }
 {
-    if assigned.next + 1 != task.trains.len() || task.spots[run.head].ends {
+    if assigned.next + 1 != task.train_count() || task.node(run.head).ends {
         return false;
     }
     ways_on(task, assigned, run, bounds, best).all_in_vain
@@ -181,15 +186,13 @@ fn is_in_vain(
 /// one are given.
 #[cycle(explore)]
 fn begin_at(
-    task: &Task,
+    task: &ReadyTask,
     assigned: &Assigned,
     stop: usize,
     before: &Spots,
     bounds: &[Amount],
     best: &mut Found,
 )
-    requires fit { IsFit task.now }
-    requires ready { AreReady task.now }
     requires bounds { AreBounds task.now bounds.now }
     requires next { assigned.now.next < length task.now.trains.items }
     requires room { HasRoom assigned.now.used assigned.now.total 44640 }
@@ -199,8 +202,9 @@ fn begin_at(
     requires before { before.now ≡ own_before task.now stop }
     ensures { Tries task.now (between assigned.now) (IsBeginAt stop Any) best.old best.new }
 {
+    task.is_ready();
     assigned.marks_all_borders();
-    let from = &task.departures[stop];
+    let from = task.departures(stop);
     let begun = begun(task, assigned, stop, 0, before);
     if is_in_vain(task, assigned, &begun, bounds, best.amount) {
         return;
@@ -219,15 +223,13 @@ fn begin_at(
 #[cycle(explore)]
 #[inline(always)]
 fn take(
-    task: &Task,
+    task: &ReadyTask,
     assigned: &Assigned,
     run: &PartialRun,
     segment: &Segment,
     bounds: &[Amount],
     best: &mut Found,
 )
-    requires fit { IsFit task.now }
-    requires ready { AreReady task.now }
     requires bounds { AreBounds task.now bounds.now }
     requires next { assigned.now.next < length task.now.trains.items }
     requires segment { SegmentFits task.now false segment.now }
@@ -237,6 +239,7 @@ fn take(
     requires room { HasRoom assigned.now.used (assigned.now.total + run.now.value) 44720 }
     ensures { Takes task.now assigned.now run.now segment.now best.old best.new }
 {
+    task.is_ready();
     if can_take(task, run, assigned, segment) {
         let next = along(task, run, segment);
         let using = assigned.using(segment);
@@ -247,7 +250,13 @@ fn take(
 /// Tries all ways to the end from a run that has begun. If it is the first one, others are left
 /// after it, and many stops lie ahead, it looks up whether they have been tried before.
 #[cycle(explore)]
-fn extend(task: &Task, assigned: &Assigned, run: &PartialRun, bounds: &[Amount], best: &mut Found)
+fn extend(
+    task: &ReadyTask,
+    assigned: &Assigned,
+    run: &PartialRun,
+    bounds: &[Amount],
+    best: &mut Found,
+)
     requires { MayExtend task.now bounds.now assigned.now run.now }
     ensures { Explores task.now (partial assigned.now run.now) best.old best.new }
 {
@@ -258,7 +267,7 @@ fn extend(task: &Task, assigned: &Assigned, run: &PartialRun, bounds: &[Amount],
     if ways.all_in_vain {
         return;
     }
-    if ways.stops < MANY || assigned.kind != 0 || assigned.next + 1 == task.trains.len() {
+    if ways.stops < MANY || assigned.kind != 0 || assigned.next + 1 == task.train_count() {
         extend_without_memo(task, assigned, run, &ways, bounds, best);
     } else {
         extend_with_memo(task, assigned, run, &ways, bounds, best);
@@ -270,7 +279,7 @@ fn extend(task: &Task, assigned: &Assigned, run: &PartialRun, bounds: &[Amount],
 #[cycle(explore)]
 #[inline(never)]
 fn extend_with_memo(
-    task: &Task,
+    task: &ReadyTask,
     assigned: &Assigned,
     run: &PartialRun,
     ways: &WaysOn,
@@ -281,6 +290,7 @@ fn extend_with_memo(
     requires ways { AreWaysOn task.now assigned.now run.now best.old.amount ways.now }
     ensures { Explores task.now (partial assigned.now run.now) best.old best.new }
 {
+    task.is_ready();
     assigned.marks_all_borders();
     let canonical = canonical_begun(task, assigned, run);
     if best.dominates(&canonical) {
@@ -295,7 +305,7 @@ fn extend_with_memo(
 #[cycle(explore)]
 #[inline(always)]
 fn extend_without_memo(
-    task: &Task,
+    task: &ReadyTask,
     assigned: &Assigned,
     run: &PartialRun,
     ways: &WaysOn,
@@ -319,7 +329,7 @@ fn extend_without_memo(
 /// Tries all ways on from where a run is, except to stops where that is in vain.
 #[cycle(explore)]
 fn go_on(
-    task: &Task,
+    task: &ReadyTask,
     assigned: &Assigned,
     run: &PartialRun,
     ways: &WaysOn,
@@ -330,12 +340,13 @@ fn go_on(
     requires ways { AreWaysOn task.now assigned.now run.now best.old.amount ways.now }
     ensures { Tries task.now (partial assigned.now run.now) (IsGo Any) best.old best.new }
 {
-    let head = &task.spots[run.head];
+    task.is_ready();
+    let head = task.node(run.head);
     if head.ends {
         return;
     }
     assigned.marks_all_borders();
-    let from = &task.departures[run.head];
+    let from = task.departures(run.head);
     for index in 0..from.legs.len() {
         let leg = &from.legs[index];
         if !ways.vain.has_at(&leg.segment.to) {
@@ -350,7 +361,7 @@ fn go_on(
 /// does not turn back in vain.
 #[cycle(explore)]
 fn turn_back(
-    task: &Task,
+    task: &ReadyTask,
     assigned: &Assigned,
     run: &PartialRun,
     ways: &WaysOn,
@@ -361,7 +372,8 @@ fn turn_back(
     requires ways { AreWaysOn task.now assigned.now run.now best.old.amount ways.now }
     ensures { Tries task.now (partial assigned.now run.now) (IsTurn Any) best.old best.new }
 {
-    if run.turned || task.spots[run.home].ends {
+    task.is_ready();
+    if run.turned || task.node(run.home).ends {
         return;
     }
     assigned.marks_all_borders();
@@ -369,7 +381,7 @@ fn turn_back(
         return;
     }
     let back = run.turned_back();
-    let from = &task.departures[run.home];
+    let from = task.departures(run.home);
     for index in 0..from.legs.len() {
         let leg = &from.legs[index];
         if run.first <= leg.first {

@@ -2,7 +2,7 @@
 //! moves that lead on from it, and can be compared with another to see whether it is at least as
 //! good.
 ghost use Rattle.std.specs.Prelude.{◌≡◌, ◌+◌, ◌-◌, ◌*◌, ◌^◌, ◌<◌, ◌≤◌, IsTrue, false, length, true};
-ghost use Rattle.search_task.specs.Fit.{BordersFit, IsFit};
+ghost use Rattle.search_task.specs.Fit.{BordersFit};
 ghost use Rattle.best_run.specs.Memo.{Dominates, DominatesRun, IsBarred, TurnsAs};
 ghost use Rattle.search_task.specs.Marks.{Freer};
 ghost use Rattle.best_run.specs.Moves.{along, begun, begun_by, can_take, left_after, may_come, may_earn, may_finish};
@@ -11,7 +11,7 @@ ghost use Rattle.search_task.specs.Crossed.{marked_all, misses};
 ghost use Rattle.search_task.specs.Spots.{node_at, stop_in};
 
 use legal_runs::BORDERS;
-use search_task::{BitPlace, Borders, Segment, Spots, Task};
+use search_task::{BitPlace, Borders, ReadyTask, Segment, Spots};
 use tables::Amount;
 
 /// The trains assigned so far.
@@ -230,7 +230,7 @@ fn left_after(stop: bool, left: usize) -> usize
 
 /// Returns whether a run may take a segment to a stop.
 pub(crate) fn can_take(
-    task: &Task,
+    task: &ReadyTask,
     run: &PartialRun,
     assigned: &Assigned,
     segment: &Segment,
@@ -243,13 +243,12 @@ pub(crate) fn can_take(
 }
 
 /// Marks a spot after those before it, if the company has a token there.
-pub(crate) fn mark_own(task: &Task, number: usize, marks: &mut Spots)
-    requires fit { IsFit task.now }
+pub(crate) fn mark_own(task: &ReadyTask, number: usize, marks: &mut Spots)
     requires number { number < 744 }
     requires before { marks.old ≡ own_before task.now number }
     ensures { marks.new ≡ own_before task.now (number + 1) }
 {
-    if task.spots[number].own {
+    if task.node(number).own {
         marks.mark(number);
     }
 }
@@ -257,13 +256,12 @@ pub(crate) fn mark_own(task: &Task, number: usize, marks: &mut Spots)
 /// Returns a run that is at the token where it begins, by the segment at a place. The tokens before
 /// that one are given.
 pub(crate) fn begun(
-    task: &Task,
+    task: &ReadyTask,
     assigned: &Assigned,
     stop: usize,
     first: usize,
     before: &Spots,
 ) -> PartialRun
-    requires fit { IsFit task.now }
     requires stop { stop < 744 }
     requires next { assigned.now.next < length task.now.trains.items }
     requires before { before.now ≡ own_before task.now stop }
@@ -276,31 +274,30 @@ pub(crate) fn begun(
         first,
         turned: false,
         head: stop,
-        most: task.trains[assigned.next],
-        left: task.trains[assigned.next].saturating_sub(1),
-        value: task.spots[stop].value,
+        most: task.most_stops(assigned.next),
+        left: task.most_stops(assigned.next).saturating_sub(1),
+        value: task.node(stop).value,
         visited,
     }
 }
 
 /// Returns whether a run may be finished.
-pub(crate) fn may_finish(task: &Task, assigned: &Assigned, run: &PartialRun) -> bool
-    requires fit { IsFit task.now }
+pub(crate) fn may_finish(task: &ReadyTask, assigned: &Assigned, run: &PartialRun) -> bool
     requires head { run.now.head < 744 }
     ensures { result ≡ may_finish task.now assigned.now run.now }
 {
-    task.spots[run.head].stop && assigned.may_earn(run)
+    task.node(run.head).stop && assigned.may_earn(run)
 }
 
 /// Returns a run after a segment.
-pub(crate) fn along(task: &Task, run: &PartialRun, segment: &Segment) -> PartialRun
-    requires fit { IsFit task.now }
+pub(crate) fn along(task: &ReadyTask, run: &PartialRun, segment: &Segment) -> PartialRun
     requires to { segment.now.to < 744 }
     requires room { run.now.value ≤ 50000 }
     ensures { result ≡ along task.now run.now segment.now }
 {
+    task.is_ready();
     let to = segment.to.number();
-    let node = &task.spots[to];
+    let node = task.node(to);
     let mut visited = run.visited.copy();
     if node.stop {
         visited.mark(to);

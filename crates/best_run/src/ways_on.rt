@@ -6,15 +6,14 @@ ghost use Rattle.best_run.specs.Ahead.{EndsAtMost, IsClosed, IsWorth, goes_back,
 ghost use Rattle.best_run.specs.EndStops.{EarnsAhead, HasWorth};
 ghost use Rattle.best_run.specs.Suffix.{AreBounds};
 ghost use Rattle.best_run.specs.WaysOn.{AreFound, AreWaysOn, IsLow, IsWayAdded, TurnsInVain};
-ghost use Rattle.search_task.specs.Fit.{IsFit};
-ghost use Rattle.search_task.specs.Legs.{AreReady, IsStop};
+ghost use Rattle.search_task.specs.Legs.{IsStop};
 ghost use Rattle.search_task.specs.Spots.{node_at, stop_in};
 
 use crate::lookahead::{Outlook, leads_on, look_at, look_back, nothing_ahead};
 use crate::search::are_pruned_by_cap;
 use crate::state::{Assigned, PartialRun, can_take};
 use reach::SPOTS;
-use search_task::{Spots, Task};
+use search_task::{ReadyTask, Spots};
 use tables::Amount;
 
 /// The ways on from a run: to the stops ahead, or back to where it began.
@@ -63,28 +62,25 @@ impl WaysOn {
 }
 
 /// Returns whether a run may go on from where it is.
-fn goes_on(task: &Task, run: &PartialRun) -> bool
-    requires fit { IsFit task.now }
+fn goes_on(task: &ReadyTask, run: &PartialRun) -> bool
     requires head { run.now.head < 744 }
     ensures { result ≡ goes_on task.now run.now }
 {
-    let node = &task.spots[run.head];
+    let node = task.node(run.head);
     !node.ends
 }
 
 /// Returns whether a run may still go on from where it began.
-fn goes_back(task: &Task, run: &PartialRun) -> bool
-    requires fit { IsFit task.now }
+fn goes_back(task: &ReadyTask, run: &PartialRun) -> bool
     requires home { run.now.home < 744 }
     ensures { result ≡ goes_back task.now run.now }
 {
-    let node = &task.spots[run.home];
+    let node = task.node(run.home);
     !run.turned && !node.ends
 }
 
 /// Returns the most that a run may still earn, in dollars, by what lies ahead.
-fn most_ahead(task: &Task, assigned: &Assigned, run: &PartialRun, outlook: &Outlook) -> Amount
-    requires fit { IsFit task.now }
+fn most_ahead(task: &ReadyTask, assigned: &Assigned, run: &PartialRun, outlook: &Outlook) -> Amount
     requires head { run.now.head < 744 }
     requires home { run.now.home < 744 }
     requires left { run.now.left ≤ 744 }
@@ -92,6 +88,7 @@ fn most_ahead(task: &Task, assigned: &Assigned, run: &PartialRun, outlook: &Outl
     ensures most { EarnsAhead task.now assigned.now run.now outlook.now.ahead result }
     ensures bound { result ≤ 119200 }
 {
+    task.is_ready();
     let on = goes_on(task, run);
     let back = goes_back(task, run);
     outlook.worth.least(run.left as Amount, on, back)
@@ -100,14 +97,13 @@ fn most_ahead(task: &Task, assigned: &Assigned, run: &PartialRun, outlook: &Outl
 /// Returns whether a run and the trains after it can earn no more than what has been found, by what
 /// lies ahead and by what those trains earn by themselves. It may be false even if that holds.
 fn earns_too_little(
-    task: &Task,
+    task: &ReadyTask,
     assigned: &Assigned,
     run: &PartialRun,
     outlook: &Outlook,
     bounds: &[Amount],
     best: Amount,
 ) -> bool
-    requires fit { IsFit task.now }
     requires head { run.now.head < 744 }
     requires home { run.now.home < 744 }
     requires bounds { AreBounds task.now bounds.now }
@@ -116,7 +112,7 @@ fn earns_too_little(
     requires room { assigned.now.total + run.now.value ≤ 44720 }
     ensures { IsTrue result → IsLow task.now assigned.now run.now outlook.now.ahead best }
 {
-    let later = task.trains.len() - assigned.next - 1;
+    let later = task.train_count() - assigned.next - 1;
     if run.left > SPOTS || later >= bounds.len() {
         return false;
     }
@@ -132,7 +128,7 @@ fn earns_too_little(
 }
 
 /// Returns whether a run earns more than it may after another one of a train of its kind.
-pub(crate) fn earns_too_much(task: &Task, assigned: &Assigned, run: &PartialRun) -> bool
+pub(crate) fn earns_too_much(task: &ReadyTask, assigned: &Assigned, run: &PartialRun) -> bool
     ensures { IsTrue result → (best : ℕ) → EndsAtMost task.now assigned.now run.now best }
 {
     if assigned.kind == 0 || assigned.kind != run.most {
@@ -142,9 +138,7 @@ pub(crate) fn earns_too_much(task: &Task, assigned: &Assigned, run: &PartialRun)
 }
 
 /// Finds what lies ahead of a run once it turns back, for which nothing has been found yet.
-fn look_home(task: &Task, assigned: &Assigned, run: &PartialRun, home: &mut Outlook)
-    requires fit { IsFit task.now }
-    requires ready { AreReady task.now }
+fn look_home(task: &ReadyTask, assigned: &Assigned, run: &PartialRun, home: &mut Outlook)
     requires home { run.now.home < 744 }
     requires begun { stop_in (node_at task.now run.now.home) ≡ true }
     requires nothing { home.old.ahead ≡ replicate 744 false }
@@ -164,15 +158,13 @@ fn look_home(task: &Task, assigned: &Assigned, run: &PartialRun, home: &mut Outl
 /// Returns whether a run that turns back can earn no more than what has been found, by what lies
 /// ahead then. It may be false even if that holds.
 fn turns_in_vain(
-    task: &Task,
+    task: &ReadyTask,
     assigned: &Assigned,
     run: &PartialRun,
     home: &Outlook,
     bounds: &[Amount],
     best: Amount,
 ) -> bool
-    requires fit { IsFit task.now }
-    requires ready { AreReady task.now }
     requires begun { IsStop task.now run.now.home }
     requires bounds { AreBounds task.now bounds.now }
     requires next { assigned.now.next < length task.now.trains.items }
@@ -183,6 +175,7 @@ fn turns_in_vain(
     requires room { assigned.now.total + run.now.value ≤ 44720 }
     ensures { IsTrue result → TurnsInVain task.now assigned.now run.now best }
 {
+    task.is_ready();
     if run.turned {
         return true;
     }
@@ -193,15 +186,13 @@ fn turns_in_vain(
 /// Returns the ways on to the stops that lie ahead once the run turns back. The others are not yet
 /// looked at.
 fn ways_home(
-    task: &Task,
+    task: &ReadyTask,
     assigned: &Assigned,
     run: &PartialRun,
     home: &Outlook,
     bounds: &[Amount],
     best: Amount,
 ) -> WaysOn
-    requires fit { IsFit task.now }
-    requires ready { AreReady task.now }
     requires at_stop { IsStop task.now run.now.head }
     requires begun { IsStop task.now run.now.home }
     requires bounds { AreBounds task.now bounds.now }
@@ -213,6 +204,7 @@ fn ways_home(
     requires room { assigned.now.total + run.now.value ≤ 44720 }
     ensures { AreFound task.now assigned.now run.now best home.now.ahead 0 result }
 {
+    task.is_ready();
     let turns_in_vain = turns_in_vain(task, assigned, run, home, bounds, best);
     let mut ways = WaysOn {
         ahead: home.ahead.copy(),
@@ -231,7 +223,7 @@ fn ways_home(
 /// Looks at the ways on by the legs from where a run is, given what lies ahead once it turns back,
 /// and the ways there.
 fn look_on(
-    task: &Task,
+    task: &ReadyTask,
     assigned: &Assigned,
     run: &PartialRun,
     home: &Outlook,
@@ -239,8 +231,6 @@ fn look_on(
     best: Amount,
     ways: &mut WaysOn,
 )
-    requires fit { IsFit task.now }
-    requires ready { AreReady task.now }
     requires at_stop { IsStop task.now run.now.head }
     requires begun { IsStop task.now run.now.home }
     requires bounds { AreBounds task.now bounds.now }
@@ -254,10 +244,11 @@ fn look_on(
     ensures ways { AreWaysOn task.now assigned.now run.now best ways.new }
     ensures most { ways.new.all_in_vain ≡ true → EndsAtMost task.now assigned.now run.now best }
 {
-    if task.spots[run.head].ends {
+    task.is_ready();
+    if task.node(run.head).ends {
         return;
     }
-    let from = &task.departures[run.head];
+    let from = task.departures(run.head);
     let legs = from.legs.as_slice();
     for index in 0..legs.len() {
         let leg = &legs[index];
@@ -274,21 +265,20 @@ fn look_on(
 /// Returns how many legs from a stop a run may take, of those that begin by a segment at this place
 /// or later, up to two. Any number would do: it decides whether the search looks ahead.
 fn count_ways(
-    task: &Task,
+    task: &ReadyTask,
     assigned: &Assigned,
     run: &PartialRun,
     stop: usize,
     first: usize,
 ) -> usize
-    requires fit { IsFit task.now }
-    requires ready { AreReady task.now }
     requires stop { IsStop task.now stop }
 {
+    task.is_ready();
     let mut count: usize = 0;
-    if task.spots[stop].ends {
+    if task.node(stop).ends {
         return count;
     }
-    let from = &task.departures[stop];
+    let from = task.departures(stop);
     for index in 0..from.legs.len() {
         let leg = &from.legs[index];
         if first <= leg.first && can_take(task, run, assigned, &leg.segment) {
@@ -302,9 +292,7 @@ fn count_ways(
 }
 
 /// Returns whether a run has one way on at most. To try that way costs less than to look ahead.
-fn has_one_way(task: &Task, assigned: &Assigned, run: &PartialRun) -> bool
-    requires fit { IsFit task.now }
-    requires ready { AreReady task.now }
+fn has_one_way(task: &ReadyTask, assigned: &Assigned, run: &PartialRun) -> bool
     requires at_stop { IsStop task.now run.now.head }
     requires begun { IsStop task.now run.now.home }
 {
@@ -318,14 +306,12 @@ fn has_one_way(task: &Task, assigned: &Assigned, run: &PartialRun) -> bool
 /// Returns the ways on from a run. Ways that are not known to be in vain may be so too. For a run
 /// with one way on nothing is known.
 pub(crate) fn ways_on(
-    task: &Task,
+    task: &ReadyTask,
     assigned: &Assigned,
     run: &PartialRun,
     bounds: &[Amount],
     best: Amount,
 ) -> WaysOn
-    requires fit { IsFit task.now }
-    requires ready { AreReady task.now }
     requires bounds { AreBounds task.now bounds.now }
     requires next { assigned.now.next < length task.now.trains.items }
     requires head { run.now.head < 744 }

@@ -10,6 +10,7 @@ use Rattle.search_task.specs.declared.task.Task.{Task}
 use Rattle.search_task.specs.declared.task.Leg.{Leg}
 use Rattle.search_task.specs.declared.legs.Path.{Path}
 use Rattle.search_task.specs.Crossed.{marked_all, misses, numbers_in}
+use Rattle.search_task.specs.Fit.{IsFit}
 use Rattle.search_task.specs.Spots.{LeadsFrom, ends_in, node_at, own_in, stop_in}
 
 -- a segment, with its place among those that lead from a spot
@@ -194,3 +195,8 @@ pub record AreReady (task : Task) : Type 0 where
   pub stops : AreStops task 744 task.stops.items
   pub homes : AreHomes task 0 744 task.homes.items
   pub mirrored : task.mirrored ≡ true → IsMirrored task
+
+-- a search may walk over the task: its numbers stay within their bounds, and its legs are known
+pub record IsReady (task : Task) : Type 0 where
+  pub fit : IsFit task
+  pub legs : AreReady task

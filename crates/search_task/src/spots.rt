@@ -5,7 +5,7 @@ ghost use Rattle.search_task.specs.Described.{AreLaid, AreNumbered, AreNumberedB
 ghost use Rattle.search_task.specs.Described.{IsSideNode, IsStopNode, LaidBefore, TakesStep, most_of, most_of_all};
 ghost use Rattle.search_task.specs.Described.{number_before, number_or_none};
 ghost use Rattle.search_task.specs.Fit.{IsFit};
-ghost use Rattle.search_task.specs.Legs.{AreHomes, AreReady};
+ghost use Rattle.search_task.specs.Legs.{AreHomes};
 ghost use Rattle.map_tables.specs.Hex.{index_of};
 ghost use Rattle.map_tables.specs.Place.{stop_index_of};
 ghost use Rattle.reach.specs.Lawful.{IsLawful};
@@ -13,6 +13,7 @@ ghost use Rattle.reach.specs.Walk.{entered_at};
 ghost use Rattle.tables.specs.Train.{stops_of};
 
 use crate::outgoing_segment::Stretch;
+use crate::ready_task::ReadyTask;
 use crate::segments::Segments;
 use crate::task::{Node, Task};
 use legal_runs::border_to;
@@ -240,19 +241,19 @@ impl Task {
         }
         Ok(homes)
     }
+}
 
+impl ReadyTask {
     /// Returns the task of a search for the trains of a company. Fails only if allocation fails.
     pub fn of<N: Network>(
         alloc: Global,
         network: &N,
         company: Company,
         kinds: &[Kind],
-    ) -> Result<Task, AllocError>
+    ) -> Result<ReadyTask, AllocError>
         requires { IsLawful (N.position network.now) }
-        ensures described { let position = N.position network.now in
+        ensures { let position = N.position network.now in
             IfOk result (Describes position company kinds.now) }
-        ensures fit { IfOk result IsFit }
-        ensures legs { IfOk result AreReady }
     {
         let spots = all_spots(alloc, network, company)?;
         let segments = all_segments(alloc, network)?;
@@ -273,6 +274,6 @@ impl Task {
         let homes = task.all_homes(alloc)?;
         task.homes = homes;
         task.mirrored = task.is_mirrored();
-        Ok(task)
+        Ok(ReadyTask { task })
     }
 }

@@ -6,20 +6,19 @@ use Rattle.search_task.specs.Crossed.{cleared_all}
 use Rattle.search_task.specs.Crossed.{misses}
 use Rattle.search_task.specs.Legs.{legs_at, legs_in}
 use Rattle.best_run.proofs.Likened.{open_all, open_more, open_same}
-use Rattle.search_task.proofs.Departing.{departs_at}
 use Rattle.best_run.proofs.canonical.open_from.Goals as goal
 use Rattle.best_run.proofs.canonical.open_from.Goals.{then-misses, else-misses}
 
 pub loop-index-preserved : goal.loop-index-preserved
 loop-index-preserved c =
     let task = c.args.task.now in
-    let from = c.index-from.result.now in
+    let from = c.departures-from.result.now in
     let legs = from.legs.items in
     let leg = c.index-leg.result.now in
     let at : slice_get legs c.loop-index.index ≡ Some leg =
     slice_get_read legs (length legs) c.loop-index.index leg refl (omega arith) c.index-leg.ensures in
     let there : legs_at task c.args.stop ≡ legs = ap legs_in
-    (departs_at task c.requires.ready c.args.stop from c.requires.spot c.index-from.ensures) in
+    (c.departures-from.ensures) in
     let here : slice_get (legs_at task c.args.stop) c.loop-index.index ≡ Some leg =
     ap (λ ws. slice_get ws c.loop-index.index) there ∙ at in
     let used = c.args.assigned.now.used in
@@ -43,8 +42,8 @@ loop-index-preserved c =
 pub returns-clause-open : goal.returns-clause-open
 returns-clause-open c =
     let task = c.args.task.now in
-    let from = c.index-from.result.now in
+    let from = c.departures-from.result.now in
     let there : legs_at task c.args.stop ≡ from.legs.items =
-    ap legs_in (departs_at task c.requires.ready c.args.stop from c.requires.spot c.index-from.ensures) in
+    ap legs_in (c.departures-from.ensures) in
     open_all task c.args.assigned.now.used c.args.stop from.legs.items c.loop-index.index c.loop-index.shut there
     (omega arith) c.loop-index.invariant.1

@@ -8,7 +8,6 @@ use Rattle.search_task.specs.Legs.{AreLegsOf, legs_at, legs_in}
 use Rattle.best_run.proofs.Ahead.{below_more}
 use Rattle.best_run.proofs.Likened.{widens_all}
 use Rattle.best_run.proofs.Along.{leg_fits}
-use Rattle.search_task.proofs.Departing.{departs_at, departs_from}
 use Rattle.search_task.proofs.Described.{among_place}
 use Rattle.best_run.proofs.Lasting.{has_plain, plain_has}
 use Rattle.best_run.proofs.canonical.reach_from.Goals as goal
@@ -16,28 +15,26 @@ use Rattle.best_run.proofs.canonical.reach_from.Goals as goal
 pub look_along-requires-clause-to : goal.look_along-requires-clause-to
 look_along-requires-clause-to c =
     let task = c.args.task.now in
-    let from = c.index-from.result.now in
+    let from = c.departures-from.result.now in
     let legs = from.legs.items in
     let leg = c.index-leg.result.now in
-    let are : AreLegsOf task c.args.stop legs = departs_from task c.requires.ready c.args.stop from c.requires.spot
-    c.index-from.ensures c.requires.stops in
+    let are : AreLegsOf task c.args.stop legs = c.is_ready.ensures.ready.each c.args.stop from c.departures-from.ensures c.requires.stops in
     let at : slice_get legs c.loop-index.index ≡ Some leg =
     slice_get_read legs (length legs) c.loop-index.index leg refl (omega arith) c.index-leg.ensures in
-    let fits = leg_fits task c.requires.fit c.args.stop legs are c.requires.stops leg
+    let fits = leg_fits task c.is_ready.ensures.fit c.args.stop legs are c.requires.stops leg
     (among_place legs c.loop-index.index leg at) in
     fits.0.to
 
 pub look_along-requires-clause-stop : goal.look_along-requires-clause-stop
 look_along-requires-clause-stop c =
     let task = c.args.task.now in
-    let from = c.index-from.result.now in
+    let from = c.departures-from.result.now in
     let legs = from.legs.items in
     let leg = c.index-leg.result.now in
-    let are : AreLegsOf task c.args.stop legs = departs_from task c.requires.ready c.args.stop from c.requires.spot
-    c.index-from.ensures c.requires.stops in
+    let are : AreLegsOf task c.args.stop legs = c.is_ready.ensures.ready.each c.args.stop from c.departures-from.ensures c.requires.stops in
     let at : slice_get legs c.loop-index.index ≡ Some leg =
     slice_get_read legs (length legs) c.loop-index.index leg refl (omega arith) c.index-leg.ensures in
-    let fits = leg_fits task c.requires.fit c.args.stop legs are c.requires.stops leg
+    let fits = leg_fits task c.is_ready.ensures.fit c.args.stop legs are c.requires.stops leg
     (among_place legs c.loop-index.index leg at) in
     fits.1
 
@@ -49,13 +46,13 @@ look_along-requires-clause-known c =
 pub loop-index-preserved : goal.loop-index-preserved
 loop-index-preserved c =
     let task = c.args.task.now in
-    let from = c.index-from.result.now in
+    let from = c.departures-from.result.now in
     let legs = from.legs.items in
     let leg = c.index-leg.result.now in
     let at : slice_get legs c.loop-index.index ≡ Some leg =
     slice_get_read legs (length legs) c.loop-index.index leg refl (omega arith) c.index-leg.ensures in
     let there : legs_at task c.args.stop ≡ legs = ap legs_in
-    (departs_at task c.requires.ready c.args.stop from c.requires.spot c.index-from.ensures) in
+    (c.departures-from.ensures) in
     let here : slice_get (legs_at task c.args.stop) c.loop-index.index ≡ Some leg =
     ap (λ ws. slice_get ws c.loop-index.index) there ∙ at in
     let by : WidensBy task c.args.assigned.now anywhere leg.segment c.loop-index.reach.ahead
@@ -71,8 +68,8 @@ loop-index-preserved c =
 pub returns-clause-reaches : goal.returns-clause-reaches
 returns-clause-reaches c =
     let task = c.args.task.now in
-    let from = c.index-from.result.now in
+    let from = c.departures-from.result.now in
     let there : legs_at task c.args.stop ≡ from.legs.items =
-    ap legs_in (departs_at task c.requires.ready c.args.stop from c.requires.spot c.index-from.ensures) in
+    ap legs_in (c.departures-from.ensures) in
     widens_all task c.args.assigned.now c.args.stop from.legs.items c.loop-index.index _ _ there (omega arith)
     c.loop-index.invariant.0

@@ -11,7 +11,7 @@ returns-then-is_passed c =
 
 pub least-most-requires-clause-room : goal.least-most-requires-clause-room
 least-most-requires-clause-room c =
-    worth_most c.args.task.now c.requires.fit c.reach_of-near.result.ahead c.reach_of-near.result.worth
+    worth_most c.args.task.now c.is_ready.ensures.fit c.reach_of-near.result.ahead c.reach_of-near.result.worth
     c.reach_of-near.ensures.known
 
 pub returns-then-most-reach : goal.returns-then-most-reach

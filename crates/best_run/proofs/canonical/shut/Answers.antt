@@ -12,19 +12,12 @@ loop-place-init c =
     rw c.all-shut.ensures (shut_none c.args.task.now c.args.assigned.now.used c.args.reach.now
     c.marks_all_borders.ensures)
 
-pub sets_out-requires-clause-spot : goal.sets_out-requires-clause-spot
-sets_out-requires-clause-spot c =
-    let stops = c.args.task.now.stops.items in
-    (c.requires.ready.stops.only c.loop-place.place c.index-stop.result.now
-    (slice_get_read stops (length stops) c.loop-place.place c.index-stop.result.now refl (omega arith)
-    c.index-stop.ensures)).0
+pub sets_out-requires : goal.sets_out-requires
+sets_out-requires c = record { spot = c.stop-stop.ensures.is.0 }
 
 pub open_from-requires-clause-stops : goal.open_from-requires-clause-stops
 open_from-requires-clause-stops c =
-    let stops = c.args.task.now.stops.items in
-    (c.requires.ready.stops.only c.loop-place.place c.index-stop.result.now
-    (slice_get_read stops (length stops) c.loop-place.place c.index-stop.result.now refl (omega arith)
-    c.index-stop.ensures)).1
+    c.stop-stop.ensures.is.1
 
 pub loop-place-preserved : goal.loop-place-preserved
 loop-place-preserved c =
@@ -32,11 +25,9 @@ loop-place-preserved c =
     let used = c.args.assigned.now.used in
     let reach = c.args.reach.now in
     let place = c.loop-place.place in
-    let stop = c.index-stop.result.now in
-    let stops = task.stops.items in
-    let at : slice_get stops place ≡ Some stop = slice_get_read stops (length stops) place stop refl (omega arith)
-    c.index-stop.ensures in
-    let is : IsStop task stop = c.requires.ready.stops.only place stop at in
+    let stop = c.stop-stop.result in
+    let at : slice_get task.stops.items place ≡ Some stop = c.stop-stop.ensures.at in
+    let is : IsStop task stop = c.stop-stop.ensures.is in
     let Shut : List Bool → Type 0 = λ s. IsShutBelow task used reach (place + 1) s in
     elim c.if-sets_out.branch [
       | then-sets_out w ↦
@@ -49,5 +40,5 @@ loop-place-preserved c =
 
 pub returns : goal.returns
 returns c =
-    shut_all c.args.task.now c.requires.ready c.args.assigned.now.used c.args.reach.now c.loop-place.place
+    shut_all c.args.task.now c.is_ready.ensures.ready c.args.assigned.now.used c.args.reach.now c.loop-place.place
     c.loop-place.shut (omega arith) c.loop-place.invariant

@@ -4,13 +4,12 @@ use Rattle.best_run.specs.EndStops.{CountsAsPassed, HasWorth}
 use Rattle.search_task.specs.Spots.{ends_in, node_at}
 use Rattle.best_run.proofs.Beyond.{worth_low}
 use Rattle.best_run.proofs.Lasting.{has_ended, has_most, has_passing}
-use Rattle.search_task.proofs.Places.{node_is}
 use Rattle.best_run.proofs.end_stops.count.Goals as goal
 use Rattle.search_task.proofs.Booleans.{not_both}
 
 pub pass-requires-clause-room : goal.pass-requires-clause-room
 pass-requires-clause-room c =
-    has_most c.args.task.now c.requires.fit c.args.assigned.now c.args.run.now c.args.outlook.now.ahead
+    has_most c.args.task.now c.is_ready.ensures.fit c.args.assigned.now c.args.run.now c.args.outlook.now.ahead
     c.args.outlook.now.worth c.requires.known
 
 pub end-requires : goal.end-requires
@@ -19,40 +18,38 @@ end-requires c = c.requires.known.known.order
 pub returns-then-node-clause-known : goal.returns-then-node-clause-known
 returns-then-node-clause-known c =
     let task = c.args.task.now in
-    let node = c.index-node.result.now in
+    let node = c.node-node.result.now in
     let at : node_at task c.args.spot ≡ Some node =
-    node_is task c.requires.fit c.args.spot node c.requires.spot c.index-node.ensures in
+    c.node-node.ensures in
     subst (λ (ms : List Bool). HasWorth task c.args.assigned.now c.args.run.now ms c.end.new.self) (sym c.mark.ensures)
     (has_ended task c.args.assigned.now c.args.run.now c.args.outlook.now.ahead c.args.spot node at
-    (omega (arith, c.requires.spot, c.requires.fit.all))
-    (worth_low task c.requires.fit c.args.spot node c.requires.spot c.index-node.ensures) c.requires.free
+    (omega (arith, c.requires.spot, c.is_ready.ensures.fit.all))
+    (worth_low task c.is_ready.ensures.fit c.args.spot node c.node-node.ensures) c.requires.free
     (omega (arith, c.is_whole.ensures, c.requires.spot)) c.args.outlook.now.worth c.end.new.self c.requires.known
     (ap ends_in at ∙ c.if-node.true) c.end.ensures)
 
 pub returns-then-node-clause-passed : goal.returns-then-node-clause-passed
 returns-then-node-clause-passed c passes =
-    let at : node_at c.args.task.now c.args.spot ≡ Some c.index-node.result.now =
-    node_is c.args.task.now c.requires.fit c.args.spot c.index-node.result.now c.requires.spot
-    c.index-node.ensures in
-    absurd (not_both c.index-node.result.now.ends c.if-node.true (sym (ap ends_in at) ∙ passes))
+    let at : node_at c.args.task.now c.args.spot ≡ Some c.node-node.result.now =
+    c.node-node.ensures in
+    absurd (not_both c.node-node.result.now.ends c.if-node.true (sym (ap ends_in at) ∙ passes))
 
 pub returns-else-node-clause-passed : goal.returns-else-node-clause-passed
 returns-else-node-clause-passed c passes =
     let task = c.args.task.now in
-    let node = c.index-node.result.now in
+    let node = c.node-node.result.now in
     let at : node_at task c.args.spot ≡ Some node =
-    node_is task c.requires.fit c.args.spot node c.requires.spot c.index-node.ensures in
+    c.node-node.ensures in
     subst (λ (ms : List Bool). CountsAsPassed task c.args.assigned.now c.args.run.now c.args.spot ms c.pass.new.self)
     (sym c.mark.ensures)
     (has_passing task c.args.assigned.now c.args.run.now c.args.outlook.now.ahead c.args.spot node at
-    (omega (arith, c.requires.spot, c.requires.fit.all))
-    (worth_low task c.requires.fit c.args.spot node c.requires.spot c.index-node.ensures) c.requires.free
+    (omega (arith, c.requires.spot, c.is_ready.ensures.fit.all))
+    (worth_low task c.is_ready.ensures.fit c.args.spot node c.node-node.ensures) c.requires.free
     (omega (arith, c.is_whole.ensures, c.requires.spot)) c.args.outlook.now.worth c.pass.new.self c.requires.known
     passes c.pass.ensures)
 
 pub returns-else-node-clause-known : goal.returns-else-node-clause-known
 returns-else-node-clause-known c =
-    let at : node_at c.args.task.now c.args.spot ≡ Some c.index-node.result.now =
-    node_is c.args.task.now c.requires.fit c.args.spot c.index-node.result.now c.requires.spot
-    c.index-node.ensures in
+    let at : node_at c.args.task.now c.args.spot ≡ Some c.node-node.result.now =
+    c.node-node.ensures in
     (returns-else-node-clause-passed c (ap ends_in at ∙ c.if-node.false)).has

@@ -3,7 +3,6 @@ use Rattle.std.proofs.Common.{◌≡◌, Some, arith}
 use Rattle.search_task.specs.Spots.{node_at}
 use Rattle.best_run.proofs.Beyond.{worth_low}
 use Rattle.best_run.proofs.Lasting.{turned_ends}
-use Rattle.search_task.proofs.Places.{node_is}
 use Rattle.best_run.proofs.end_stops.end_at.Goals as goal
 
 pub take_back-requires : goal.take_back-requires
@@ -15,12 +14,12 @@ end-requires c = omega (arith, c.requires.passed.has.known.order, c.take_back.en
 pub returns-then-is_last-clause-known : goal.returns-then-is_last-clause-known
 returns-then-is_last-clause-known c =
     let task = c.args.task.now in
-    let node = c.index-node.result.now in
+    let node = c.node-node.result.now in
     let at : node_at task c.args.spot ≡ Some node =
-    node_is task c.requires.fit c.args.spot node c.requires.spot c.index-node.ensures in
+    c.node-node.ensures in
     turned_ends task c.args.assigned.now c.args.run.now c.args.outlook.now.ahead c.args.spot node at
-    (omega (arith, c.requires.spot, c.requires.fit.all))
-    (worth_low task c.requires.fit c.args.spot node c.requires.spot c.index-node.ensures) c.requires.lies
+    (omega (arith, c.requires.spot, c.is_ready.ensures.fit.all))
+    (worth_low task c.is_ready.ensures.fit c.args.spot node c.node-node.ensures) c.requires.lies
     c.args.outlook.now.worth c.take_back.new.self c.end.new.self c.requires.passed
     (c.is_last.ensures c.if-is_last.true) c.take_back.ensures c.end.ensures
 

@@ -11,10 +11,8 @@ use Rattle.search_task.specs.Spots.{ends_in, node_at, stop_in}
 use Rattle.search_task.specs.Legs.{AreLegsOf, legs_at, legs_in}
 use Rattle.best_run.proofs.Ahead.{along_not, along_at, below_more, below_none, from_all, from_end, leads_free, at_from}
 use Rattle.best_run.proofs.Along.{leg_fits}
-use Rattle.search_task.proofs.Departing.{departs_at, departs_from}
 use Rattle.search_task.proofs.Described.{among_place}
 use Rattle.search_task.proofs.Marks.{set_fewer}
-use Rattle.search_task.proofs.Places.{node_is}
 use Rattle.best_run.proofs.lookahead.+look.Goals as goal
 use Rattle.best_run.proofs.lookahead.+look.Goals.{look_from-then-leads_on, look_from-else-leads_on}
 use Rattle.search_task.proofs.Booleans.{not_both}
@@ -26,34 +24,28 @@ look_at-look_from-requires t c =
     let fewer = set_fewer ahead c.args.spot low c.requires.free in
     let less = ap unused c.count.ensures.marked in (
       omega (arith, less),
-      (
-        c.requires.fit,
-        (
-          c.requires.ready,
-          (c.requires.spot, (c.requires.stop, c.count.ensures.known)),
-        ),
-      ),
+      (c.requires.spot, (c.requires.stop, c.count.ensures.known)),
     )
 
-pub look_at-returns-then-index-clause-widens : goal.look_at-returns-then-index-clause-widens
-look_at-returns-then-index-clause-widens t c =
+pub look_at-returns-then-node-clause-widens : goal.look_at-returns-then-node-clause-widens
+look_at-returns-then-node-clause-widens t c =
     let task = c.args.task.now in
     let assigned = c.args.assigned.now in
     let run = c.args.run.now in
     let spot = c.args.spot in
     let ahead = c.args.outlook.now.ahead in
-    let node = node_is task c.requires.fit spot c.index.result.now c.requires.spot c.index.ensures in
+    let node = c.node.ensures in
     at_from task assigned run spot ahead _ c.requires.free (omega (arith, c.is_whole.ensures, c.requires.spot))
     (subst (λ (ms : List Bool). WidensFrom task assigned run spot ms c.count.new.outlook.ahead) c.count.ensures.marked
-    (from_end task assigned run spot c.count.new.outlook.ahead (ap ends_in node ∙ c.if-index.true)))
+    (from_end task assigned run spot c.count.new.outlook.ahead (ap ends_in node ∙ c.if-node.true)))
 
 pub look_at-end_at-requires-clause-passed : goal.look_at-end_at-requires-clause-passed
 look_at-end_at-requires-clause-passed t c =
     let task = c.args.task.now in
-    let node = node_is task c.requires.fit c.args.spot c.index.result.now c.requires.spot c.index.ensures in
+    let node = c.node.ensures in
     subst (λ (o : Outlook). CountsAsPassed task c.args.assigned.now c.args.run.now c.args.spot o.ahead o.worth)
     (sym (c.look_from.ensures.same c.if-not-look_from.true))
-    (c.count.ensures.passed (ap ends_in node ∙ c.if-index.false))
+    (c.count.ensures.passed (ap ends_in node ∙ c.if-node.false))
 
 pub look_at-returns-then-not-look_from-clause-widens : goal.look_at-returns-then-not-look_from-clause-widens
 look_at-returns-then-not-look_from-clause-widens t c =
@@ -88,32 +80,30 @@ look_from-loop-index-init t c = (
 pub look_from-leads_on-requires : goal.look_from-leads_on-requires
 look_from-leads_on-requires t c =
     let task = c.args.task.now in
-    let from = c.index-from.result.now in
+    let from = c.departures-from.result.now in
     let legs = from.legs.items in
     let leg = c.index-legs-index.result in
     let whole = c.as_slice-legs.ensures.value in
     let read = c.index-legs-index.is ∙ ap (λ (ws : List Leg). get_or ws c.loop-index.index leg) whole in
-    let are : AreLegsOf task c.args.spot legs = departs_from task c.requires.ready c.args.spot from c.requires.spot
-    c.index-from.ensures c.requires.stop in
+    let are : AreLegsOf task c.args.spot legs = c.is_ready.ensures.ready.each c.args.spot from c.departures-from.ensures c.requires.stop in
     let at : slice_get legs c.loop-index.index ≡ Some leg =
     slice_get_read legs (length legs) c.loop-index.index leg refl (omega (arith, ap (λ (ws : List Leg). length ws) whole)) read in
-    let fits = leg_fits task c.requires.fit c.args.spot legs are c.requires.stop leg
+    let fits = leg_fits task c.is_ready.ensures.fit c.args.spot legs are c.requires.stop leg
     (among_place legs c.loop-index.index leg at) in
-    record { fit = c.requires.fit; to = fits.0.to; stop = fits.1 }
+    record { to = fits.0.to; stop = fits.1 }
 
 pub look_from-look_at-requires : goal.look_from-look_at-requires
 look_from-look_at-requires t c =
     let task = c.args.task.now in
-    let from = c.index-from.result.now in
+    let from = c.departures-from.result.now in
     let legs = from.legs.items in
     let leg = c.index-legs-index.result in
     let whole = c.as_slice-legs.ensures.value in
     let read = c.index-legs-index.is ∙ ap (λ (ws : List Leg). get_or ws c.loop-index.index leg) whole in
-    let are : AreLegsOf task c.args.spot legs = departs_from task c.requires.ready c.args.spot from c.requires.spot
-    c.index-from.ensures c.requires.stop in
+    let are : AreLegsOf task c.args.spot legs = c.is_ready.ensures.ready.each c.args.spot from c.departures-from.ensures c.requires.stop in
     let at : slice_get legs c.loop-index.index ≡ Some leg =
     slice_get_read legs (length legs) c.loop-index.index leg refl (omega (arith, ap (λ (ws : List Leg). length ws) whole)) read in
-    let fits = leg_fits task c.requires.fit c.args.spot legs are c.requires.stop leg
+    let fits = leg_fits task c.is_ready.ensures.fit c.args.spot legs are c.requires.stop leg
     (among_place legs c.loop-index.index leg at) in
     let fewer = c.loop-index.invariant.0.widens.fewer in
     let ahead = c.loop-index.outlook.ahead in
@@ -122,16 +112,10 @@ look_from-look_at-requires t c =
     leads_free _ _ (sym c.leads_on.ensures ∙ c.if-leads_on.true) in (
       omega arith,
       (
-        c.requires.fit,
+        subst (λ (to : ℕ). to < 744) same fits.0.to,
         (
-          c.requires.ready,
-          (
-            subst (λ (to : ℕ). to < 744) same fits.0.to,
-            (
-              subst (λ (to : ℕ). stop_in (node_at task to) ≡ true) same fits.1,
-              (subst (λ (to : ℕ). get_or ahead to false ≡ false) same free, c.loop-index.invariant.1.0),
-            ),
-          ),
+          subst (λ (to : ℕ). stop_in (node_at task to) ≡ true) same fits.1,
+          (subst (λ (to : ℕ). get_or ahead to false ≡ false) same free, c.loop-index.invariant.1.0),
         ),
       ),
     )
@@ -141,7 +125,7 @@ look_from-loop-index-preserved t c =
     let task = c.args.task.now in
     let assigned = c.args.assigned.now in
     let run = c.args.run.now in
-    let from = c.index-from.result.now in
+    let from = c.departures-from.result.now in
     let legs = from.legs.items in
     let leg = c.index-legs-index.result in
     let whole = c.as_slice-legs.ensures.value in
@@ -150,7 +134,7 @@ look_from-loop-index-preserved t c =
     let at : slice_get legs index ≡ Some leg = slice_get_read legs (length legs) index leg refl
     (omega (arith, ap (λ (ws : List Leg). length ws) whole)) read in
     let there : legs_at task c.args.spot ≡ legs = ap legs_in
-    (departs_at task c.requires.ready c.args.spot from c.requires.spot c.index-from.ensures) in
+    (c.departures-from.ensures) in
     let here = ap (λ ws. slice_get ws index) there ∙ at in
     let Looked : Outlook → Type 0 = λ o. WidensBelow task assigned run c.args.spot (index + 1) c.args.outlook.now.ahead
     o.ahead × HasWorth task assigned run o.ahead o.worth in
@@ -175,7 +159,7 @@ look_from-loop-index-preserved t c =
 pub look_from-returns-clause-widens : goal.look_from-returns-clause-widens
 look_from-returns-clause-widens t c =
     let task = c.args.task.now in
-    let from = c.index-from.result.now in
+    let from = c.departures-from.result.now in
     from_all task c.args.assigned.now c.args.run.now c.args.spot from.legs.items c.loop-index.index _ _
-    (ap legs_in (departs_at task c.requires.ready c.args.spot from c.requires.spot c.index-from.ensures))
+    (ap legs_in (c.departures-from.ensures))
     (omega (arith, ap (λ (ws : List Leg). length ws) c.as_slice-legs.ensures.value)) c.loop-index.invariant.0

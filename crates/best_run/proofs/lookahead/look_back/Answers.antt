@@ -9,9 +9,7 @@ use Rattle.search_task.specs.Spots.{ends_in}
 use Rattle.search_task.specs.Legs.{AreLegsOf, legs_at, legs_in}
 use Rattle.best_run.proofs.Ahead.{back_all, back_end, back_more, back_none, back_skip}
 use Rattle.best_run.proofs.Along.{leg_fits}
-use Rattle.search_task.proofs.Departing.{departs_at, departs_from}
 use Rattle.search_task.proofs.Described.{among_place}
-use Rattle.search_task.proofs.Places.{node_is}
 use Rattle.best_run.proofs.lookahead.look_back.Goals as goal
 use Rattle.best_run.proofs.lookahead.look_back.Goals.{then-run-leg, else-run-leg}
 
@@ -25,16 +23,15 @@ pub look_along-requires-clause-to : goal.look_along-requires-clause-to
 look_along-requires-clause-to c =
     let task = c.args.task.now in
     let home = c.args.run.now.home in
-    let from = c.index-from.result.now in
+    let from = c.departures-from.result.now in
     let legs = from.legs.items in
     let leg = c.index-legs-index.result in
     let whole = c.as_slice-legs.ensures.value in
     let read = c.index-legs-index.is ∙ ap (λ (ws : List Leg). get_or ws c.loop-index.index leg) whole in
-    let are : AreLegsOf task home legs = departs_from task c.requires.ready home from c.requires.home
-    c.index-from.ensures c.requires.begun in
+    let are : AreLegsOf task home legs = c.is_ready.ensures.ready.each home from c.departures-from.ensures c.requires.begun in
     let at : slice_get legs c.loop-index.index ≡ Some leg =
     slice_get_read legs (length legs) c.loop-index.index leg refl (omega (arith, ap (λ (ws : List Leg). length ws) whole)) read in
-    let fits = leg_fits task c.requires.fit home legs are c.requires.begun leg
+    let fits = leg_fits task c.is_ready.ensures.fit home legs are c.requires.begun leg
     (among_place legs c.loop-index.index leg at) in
     fits.0.to
 
@@ -42,16 +39,15 @@ pub look_along-requires-clause-stop : goal.look_along-requires-clause-stop
 look_along-requires-clause-stop c =
     let task = c.args.task.now in
     let home = c.args.run.now.home in
-    let from = c.index-from.result.now in
+    let from = c.departures-from.result.now in
     let legs = from.legs.items in
     let leg = c.index-legs-index.result in
     let whole = c.as_slice-legs.ensures.value in
     let read = c.index-legs-index.is ∙ ap (λ (ws : List Leg). get_or ws c.loop-index.index leg) whole in
-    let are : AreLegsOf task home legs = departs_from task c.requires.ready home from c.requires.home
-    c.index-from.ensures c.requires.begun in
+    let are : AreLegsOf task home legs = c.is_ready.ensures.ready.each home from c.departures-from.ensures c.requires.begun in
     let at : slice_get legs c.loop-index.index ≡ Some leg =
     slice_get_read legs (length legs) c.loop-index.index leg refl (omega (arith, ap (λ (ws : List Leg). length ws) whole)) read in
-    let fits = leg_fits task c.requires.fit home legs are c.requires.begun leg
+    let fits = leg_fits task c.is_ready.ensures.fit home legs are c.requires.begun leg
     (among_place legs c.loop-index.index leg at) in
     fits.1
 
@@ -60,7 +56,7 @@ loop-index-preserved c =
     let task = c.args.task.now in
     let assigned = c.args.assigned.now in
     let run = c.args.run.now in
-    let from = c.index-from.result.now in
+    let from = c.departures-from.result.now in
     let legs = from.legs.items in
     let leg = c.index-legs-index.result in
     let whole = c.as_slice-legs.ensures.value in
@@ -69,7 +65,7 @@ loop-index-preserved c =
     let at : slice_get legs index ≡ Some leg = slice_get_read legs (length legs) index leg refl
     (omega (arith, ap (λ (ws : List Leg). length ws) whole)) read in
     let there : legs_at task run.home ≡ legs = ap legs_in
-    (departs_at task c.requires.ready run.home from c.requires.home c.index-from.ensures) in
+    (c.departures-from.ensures) in
     let here = ap (λ ws. slice_get ws index) there ∙ at in
     let Looked : Outlook → Type 0 = λ o. WidensBackBelow task assigned run (index + 1) c.args.outlook.now.ahead o.ahead
     × HasWorth task assigned run o.ahead o.worth in
@@ -92,13 +88,13 @@ pub returns-clause-widens : goal.returns-clause-widens
 returns-clause-widens c =
     let task = c.args.task.now in
     let run = c.args.run.now in
-    let from = c.index-from.result.now in
+    let from = c.departures-from.result.now in
     back_all task c.args.assigned.now run from.legs.items c.loop-index.index _ _
-    (ap legs_in (departs_at task c.requires.ready run.home from c.requires.home c.index-from.ensures))
+    (ap legs_in (c.departures-from.ensures))
     (omega (arith, ap (λ (ws : List Leg). length ws) c.as_slice-legs.ensures.value)) c.loop-index.invariant.0
 
-pub returns-then-index-clause-widens : goal.returns-then-index-clause-widens
-returns-then-index-clause-widens c =
+pub returns-then-node-clause-widens : goal.returns-then-node-clause-widens
+returns-then-node-clause-widens c =
     let run = c.args.run.now in
-    let there = node_is c.args.task.now c.requires.fit run.home c.index.result.now c.requires.home c.index.ensures in
-    back_end c.args.task.now c.args.assigned.now run _ (ap ends_in there ∙ c.if-index.true)
+    let there = c.node.ensures in
+    back_end c.args.task.now c.args.assigned.now run _ (ap ends_in there ∙ c.if-node.true)

@@ -15,7 +15,7 @@ returns g c =
     let task = c.in_ok-task.task in
     let found = c.in_ok-found.found in
     let lawful = c.keeps_laws.ensures in
-    let laid : Describes position company kinds task = c.in_ok-task.ensures.described in
+    let laid : Describes position company kinds task = c.in_ok-task.ensures in
     let tells : MarksEarn position company lawful kinds task laid (marks_in found.move_path) found.amount =
     marks_earn position company lawful kinds task laid (marks_in found.move_path) found.amount
     c.in_ok-found.ensures.earns in

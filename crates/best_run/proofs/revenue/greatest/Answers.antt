@@ -17,4 +17,4 @@ returns c =
     let same : found ≡ best = (granted best found (sym c.in_ok-found.ensures)).0 in
     let none : best.move_path.refused ≡ None = (granted best found (sym c.in_ok-found.ensures)).1 in
     subst (IsTop c.args.task.now) (sym same)
-    (solved_all c.args.task.now c.len.result _ _ best (omega arith) c.in_ok-bounds.ensures c.assign_last.ensures none)
+    (solved_all c.args.task.now c.train_count.result _ _ best (omega arith) c.in_ok-bounds.ensures c.assign_last.ensures none)

@@ -18,14 +18,13 @@ use Rattle.best_run.specs.Moves.{TriesLegs}
 use Rattle.best_run.proofs.Likened.{canonical_whole, low_canonical, low_back}
 use Rattle.best_run.proofs.Along.{AnyLeg, IsLater, begin_by_legs, go_by_legs, leads_begin, leads_go, leads_turn}
 use Rattle.best_run.proofs.Along.{turn_by_legs, leg_fits, legs_more, legs_none, legs_skip, legs_vain}
-use Rattle.search_task.proofs.Departing.{departs_at, departs_from}
 use Rattle.search_task.proofs.Described.{among_place}
 use Rattle.best_run.proofs.Eased.{is_pruned_by_suffix}
 use Rattle.best_run.proofs.Equal.{explores_capped}
 use Rattle.best_run.proofs.Homes.{TriesHomes, home_before, home_first, home_last, home_more}
 use Rattle.best_run.proofs.KeptStates.{explores_dominated, explores_kept}
 use Rattle.best_run.proofs.Places.{less_by, one_at_side, one_low, one_of, room_by, take_free}
-use Rattle.search_task.proofs.Places.{node_is, value_low}
+use Rattle.search_task.proofs.Places.{value_low}
 use Rattle.best_run.proofs.Sooner.{begin_in_vain}
 use Rattle.best_run.proofs.Traced.{explores_bounded, explores_from, takes_from, traces_both}
 use Rattle.best_run.proofs.Vain.{turns_tried}
@@ -37,11 +36,10 @@ use Rattle.best_run.proofs.search.+explore.Goals.{turn_back-else-run-leg, go_on-
 
 pub begin_at-loop-index-init : goal.begin_at-loop-index-init
 begin_at-loop-index-init t c =
-    let from = c.index-from.result.now in
+    let from = c.departures-from.result.now in
     let are : AreLegsOf c.args.task.now c.args.stop from.legs.items =
-    departs_from c.args.task.now c.requires.ready c.args.stop from c.requires.stop c.index-from.ensures
-    c.requires.begins in
-    legs_none c.args.task.now c.requires.fit c.args.stop c.requires.begins from.legs.items are
+    c.is_ready.ensures.ready.each c.args.stop from c.departures-from.ensures c.requires.begins in
+    legs_none c.args.task.now c.is_ready.ensures.fit c.args.stop c.requires.begins from.legs.items are
     (between c.args.assigned.now) c.args.assigned.now
     (λ leg. begun c.args.task.now c.args.assigned.now c.args.stop leg.first) AnyLeg c.args.best.now
 
@@ -51,19 +49,18 @@ begin_at-loop-index-preserved t c =
     let assigned = c.args.assigned.now in
     let stop = c.args.stop in
     let index = c.loop-index.index in
-    let from = c.index-from.result.now in
+    let from = c.departures-from.result.now in
     let leg = c.index-leg.result.now in
     let legs = from.legs.items in
-    let are : AreLegsOf task stop legs = departs_from task c.requires.ready stop from c.requires.stop
-    c.index-from.ensures c.requires.begins in
+    let are : AreLegsOf task stop legs = c.is_ready.ensures.ready.each stop from c.departures-from.ensures c.requires.begins in
     let at : slice_get legs index ≡ Some leg = slice_get_read legs (length legs) index leg refl (omega arith)
     c.index-leg.ensures in
     let run = begun task assigned stop leg.first in
-    legs_more task c.requires.fit stop c.requires.begins legs are (between assigned) assigned
+    legs_more task c.is_ready.ensures.fit stop c.requires.begins legs are (between assigned) assigned
     (λ w. begun task assigned stop w.first) AnyLeg index leg _ _ _ at c.loop-index.invariant
     (takes_from task (between assigned) assigned run leg (go_along leg.steps.items) c.loop-index.best c.take.new.best
     c.trace_steps.new.self
-    (leads_begin task c.requires.fit assigned c.marks_all_borders.ensures stop c.requires.begins c.requires.token
+    (leads_begin task c.is_ready.ensures.fit assigned c.marks_all_borders.ensures stop c.requires.begins c.requires.token
     c.requires.next legs are index leg at)
     (subst (λ (r : PartialRun). Takes task assigned r leg.segment c.loop-index.best c.take.new.best)
     (c.by-run.ensures ∙ ap (λ (r : PartialRun). begun_by r leg.first) c.begun-begun.ensures) c.take.ensures)
@@ -71,11 +68,9 @@ begin_at-loop-index-preserved t c =
 
 pub begin_at-is_in_vain-requires : goal.begin_at-is_in_vain-requires
 begin_at-is_in_vain-requires t c =
-    let value = value_low c.args.task.now c.requires.fit c.args.stop in
+    let value = value_low c.args.task.now c.is_ready.ensures.fit c.args.stop in
     rw c.begun-begun.ensures (
     record {
-      fit = c.requires.fit;
-      ready = c.requires.ready;
       bounds = c.requires.bounds;
       next = c.requires.next;
       head = c.requires.stop;
@@ -95,34 +90,32 @@ begin_at-returns-then-is_in_vain t c =
 pub begin_at-returns : goal.begin_at-returns
 begin_at-returns t c =
     let task = c.args.task.now in
-    let from = c.index-from.result.now in
+    let from = c.departures-from.result.now in
     let are : AreLegsOf task c.args.stop from.legs.items =
-    departs_from task c.requires.ready c.args.stop from c.requires.stop c.index-from.ensures c.requires.begins in
-    begin_by_legs task c.requires.fit c.args.assigned.now c.marks_all_borders.ensures c.args.stop c.requires.begins
+    c.is_ready.ensures.ready.each c.args.stop from c.departures-from.ensures c.requires.begins in
+    begin_by_legs task c.is_ready.ensures.fit c.args.assigned.now c.marks_all_borders.ensures c.args.stop c.requires.begins
     from.legs.items are c.loop-index.index _ _ (omega arith) c.loop-index.invariant
 
 pub go_on-loop-index-init : goal.go_on-loop-index-init
 go_on-loop-index-init t c =
     let run = c.args.run.now in
-    let from = c.index-from.result.now in
+    let from = c.departures-from.result.now in
     let are : AreLegsOf c.args.task.now run.head from.legs.items =
-    departs_from c.args.task.now c.requires.may.ready run.head from c.requires.may.head c.index-from.ensures
-    c.requires.may.at_stop in
-    legs_none c.args.task.now c.requires.may.fit run.head c.requires.may.at_stop from.legs.items are
+    c.is_ready.ensures.ready.each run.head from c.departures-from.ensures c.requires.may.at_stop in
+    legs_none c.args.task.now c.is_ready.ensures.fit run.head c.requires.may.at_stop from.legs.items are
     (partial c.args.assigned.now run) c.args.assigned.now (λ leg. run) AnyLeg c.args.best.now
 
 pub go_on-has_at-requires : goal.go_on-has_at-requires
 go_on-has_at-requires t c =
     let task = c.args.task.now in
     let run = c.args.run.now in
-    let from = c.index-from.result.now in
+    let from = c.departures-from.result.now in
     let leg = c.index-leg.result.now in
     let legs = from.legs.items in
-    let are : AreLegsOf task run.head legs = departs_from task c.requires.may.ready run.head from c.requires.may.head
-    c.index-from.ensures c.requires.may.at_stop in
+    let are : AreLegsOf task run.head legs = c.is_ready.ensures.ready.each run.head from c.departures-from.ensures c.requires.may.at_stop in
     let at : slice_get legs c.loop-index.index ≡ Some leg =
     slice_get_read legs (length legs) c.loop-index.index leg refl (omega arith) c.index-leg.ensures in
-    let fits = leg_fits task c.requires.may.fit run.head legs are c.requires.may.at_stop leg
+    let fits = leg_fits task c.is_ready.ensures.fit run.head legs are c.requires.may.at_stop leg
     (among_place legs c.loop-index.index leg at) in (omega arith, fits.0.to)
 
 pub go_on-loop-index-preserved : goal.go_on-loop-index-preserved
@@ -131,15 +124,14 @@ go_on-loop-index-preserved t c =
     let assigned = c.args.assigned.now in
     let run = c.args.run.now in
     let index = c.loop-index.index in
-    let node = c.index-head.result.now in
-    let from = c.index-from.result.now in
+    let node = c.node-head.result.now in
+    let from = c.departures-from.result.now in
     let leg = c.index-leg.result.now in
     let legs = from.legs.items in
     let there : node_at task run.head ≡ Some node =
-    node_is task c.requires.may.fit run.head node c.requires.may.head c.index-head.ensures in
+    c.node-head.ensures in
     let passes = ap ends_in there ∙ c.if-head.false in
-    let are : AreLegsOf task run.head legs = departs_from task c.requires.may.ready run.head from c.requires.may.head
-    c.index-from.ensures c.requires.may.at_stop in
+    let are : AreLegsOf task run.head legs = c.is_ready.ensures.ready.each run.head from c.departures-from.ensures c.requires.may.at_stop in
     let at : slice_get legs index ≡ Some leg = slice_get_read legs (length legs) index leg refl (omega arith)
     c.index-leg.ensures in
     let Tried : Found → Type 0 = λ b. TriesLegs task (partial assigned run) assigned (λ w. run)
@@ -147,20 +139,20 @@ go_on-loop-index-preserved t c =
     elim c.if-not-has_at.branch [
       | go_on-then-not-has_at w ↦
           subst Tried (sym w.best-is)
-          (legs_more task c.requires.may.fit run.head c.requires.may.at_stop legs are (partial assigned run) assigned
+          (legs_more task c.is_ready.ensures.fit run.head c.requires.may.at_stop legs are (partial assigned run) assigned
           (λ v. run) AnyLeg index leg _ _ _ at c.loop-index.invariant
           (takes_from task (partial assigned run) assigned run leg (go_along leg.steps.items) c.loop-index.best
           w.take.new.best w.trace_steps.new.self
-          (leads_go task c.requires.may.fit assigned c.marks_all_borders.ensures run c.requires.may.at_stop passes legs
+          (leads_go task c.is_ready.ensures.fit assigned c.marks_all_borders.ensures run c.requires.may.at_stop passes legs
           are index leg at)
           w.take.ensures
           w.trace_steps.ensures))
       | go_on-else-not-has_at w ↦
           let here : slice_get (legs_at task run.head) index ≡ Some leg =
           ap (λ ws. slice_get ws index) (ap legs_in
-          (departs_at task c.requires.may.ready run.head from c.requires.may.head c.index-from.ensures)) ∙ at in
+          (c.departures-from.ensures)) ∙ at in
           subst Tried (sym w.best-is)
-          (legs_vain task c.requires.may.fit run.head c.requires.may.at_stop legs are (partial assigned run) assigned
+          (legs_vain task c.is_ready.ensures.fit run.head c.requires.may.at_stop legs are (partial assigned run) assigned
           (λ v. run) AnyLeg index leg _ _ at
           (λ taken moves completes. le_trans (c.requires.ways.go passes index leg here
           (sym c.has_at.ensures ∙ w.if-not-has_at.false) taken moves completes) c.loop-index.invariant.grows)
@@ -171,10 +163,10 @@ pub go_on-returns : goal.go_on-returns
 go_on-returns t c =
     let task = c.args.task.now in
     let run = c.args.run.now in
-    let from = c.index-from.result.now in
+    let from = c.departures-from.result.now in
     let are : AreLegsOf task run.head from.legs.items =
-    departs_from task c.requires.may.ready run.head from c.requires.may.head c.index-from.ensures c.requires.may.at_stop in
-    go_by_legs task c.requires.may.fit c.args.assigned.now c.marks_all_borders.ensures run c.requires.may.at_stop
+    c.is_ready.ensures.ready.each run.head from c.departures-from.ensures c.requires.may.at_stop in
+    go_by_legs task c.is_ready.ensures.fit c.args.assigned.now c.marks_all_borders.ensures run c.requires.may.at_stop
     from.legs.items are c.loop-index.index _ _ (omega arith) c.loop-index.invariant
 
 pub assign_next-returns-then-best-assigned : goal.assign_next-returns-then-best-assigned
@@ -207,7 +199,7 @@ assign_next-returns t c =
     let task = c.args.task.now in
     let assigned = c.args.assigned.now in
     explores_kept task (between assigned) c.canonical-canonical.result c.args.best.now c.trace.new.self c.keep.new.self
-    (low_back task c.requires.fit assigned None c.canonical-canonical.result c.is_pruned_by_suffix.ensures.whole
+    (low_back task c.is_ready.ensures.fit assigned None c.canonical-canonical.result c.is_pruned_by_suffix.ensures.whole
     c.canonical-canonical.ensures)
     (explores_between task assigned c.args.best.now c.begin_runs.new.best c.trace.new.self c.begin_runs.ensures
     (explores_from task (between assigned) (between (passed assigned)) (Pass ∷ []) c.begin_runs.new.best
@@ -220,10 +212,10 @@ assign_next-returns t c =
 
 pub assign_next-returns-then-dominates : goal.assign_next-returns-then-dominates
 assign_next-returns-then-dominates t c =
-    explores_dominated c.args.task.now c.requires.fit (between c.args.assigned.now) c.canonical-canonical.result
+    explores_dominated c.args.task.now c.is_ready.ensures.fit (between c.args.assigned.now) c.canonical-canonical.result
     c.args.best.now (canonical_whole c.args.task.now c.args.assigned.now None c.canonical-canonical.result
     c.is_pruned_by_suffix.ensures.whole c.canonical-canonical.ensures)
-    (low_canonical c.args.task.now c.requires.fit c.requires.ready c.args.assigned.now None
+    (low_canonical c.args.task.now c.is_ready.ensures.fit c.is_ready.ensures.ready c.args.assigned.now None
     c.canonical-canonical.result c.is_pruned_by_suffix.ensures.whole c.canonical-canonical.ensures)
     (c.dominates.ensures c.if-dominates.true)
 
@@ -231,10 +223,10 @@ pub extend_with_memo-returns-then-dominates : goal.extend_with_memo-returns-then
 extend_with_memo-returns-then-dominates t c =
     let assigned = c.args.assigned.now in
     let run = c.args.run.now in
-    explores_dominated c.args.task.now c.requires.may.fit (partial assigned run) c.canonical_begun-canonical.result
+    explores_dominated c.args.task.now c.is_ready.ensures.fit (partial assigned run) c.canonical_begun-canonical.result
     c.args.best.now (canonical_whole c.args.task.now assigned (Some run) c.canonical_begun-canonical.result
     c.marks_all_borders.ensures c.canonical_begun-canonical.ensures)
-    (low_canonical c.args.task.now c.requires.may.fit c.requires.may.ready assigned (Some run)
+    (low_canonical c.args.task.now c.is_ready.ensures.fit c.is_ready.ensures.ready assigned (Some run)
     c.canonical_begun-canonical.result c.marks_all_borders.ensures c.canonical_begun-canonical.ensures)
     (c.dominates.ensures c.if-dominates.true)
 
@@ -243,7 +235,7 @@ extend_with_memo-returns t c =
     let assigned = c.args.assigned.now in
     let run = c.args.run.now in
     explores_kept c.args.task.now (partial assigned run) c.canonical_begun-canonical.result c.args.best.now
-    c.extend_without_memo.new.best c.keep.new.self (low_back c.args.task.now c.requires.may.fit assigned (Some run)
+    c.extend_without_memo.new.best c.keep.new.self (low_back c.args.task.now c.is_ready.ensures.fit assigned (Some run)
     c.canonical_begun-canonical.result c.marks_all_borders.ensures c.canonical_begun-canonical.ensures)
     c.extend_without_memo.ensures c.keep.ensures.kept
 
@@ -287,15 +279,13 @@ take-extend-requires t c =
     rw (c.using-using.ensures.using, c.along-next.ensures) (
       omega arith,
       record {
-        fit = c.requires.fit;
-        ready = c.requires.ready;
         bounds = c.requires.bounds;
         next = c.requires.next;
         head = c.requires.segment.to;
         at_stop = c.requires.to;
         home = c.requires.home;
         begun = c.requires.begun;
-        room = room_by task assigned run segment c.requires.fit whole free false to refl c.requires.segment
+        room = room_by task assigned run segment c.is_ready.ensures.fit whole free false to refl c.requires.segment
             c.requires.room;
       },
     )
@@ -305,31 +295,24 @@ begin_at-take-requires t c =
     let task = c.args.task.now in
     let stop = c.args.stop in
     let index = c.loop-index.index in
-    let from = c.index-from.result.now in
+    let from = c.departures-from.result.now in
     let leg = c.index-leg.result.now in
     let legs = from.legs.items in
-    let are : AreLegsOf task stop legs = departs_from task c.requires.ready stop from c.requires.stop
-    c.index-from.ensures c.requires.begins in
+    let are : AreLegsOf task stop legs = c.is_ready.ensures.ready.each stop from c.departures-from.ensures c.requires.begins in
     let at : slice_get legs index ≡ Some leg = slice_get_read legs (length legs) index leg refl (omega arith)
     c.index-leg.ensures in
-    let fits = leg_fits task c.requires.fit stop legs are c.requires.begins leg (among_place legs index leg at) in
+    let fits = leg_fits task c.is_ready.ensures.fit stop legs are c.requires.begins leg (among_place legs index leg at) in
     let one = one_low (stop_in (node_at task stop)) in
-    let value = value_low task c.requires.fit stop in
+    let value = value_low task c.is_ready.ensures.fit stop in
     rw (c.by-run.ensures, c.begun-begun.ensures) (
       omega arith,
       (
-        c.requires.fit,
+        c.requires.bounds,
         (
-          c.requires.ready,
+          c.requires.next,
           (
-            c.requires.bounds,
-            (
-              c.requires.next,
-              (
-                fits.0,
-                (fits.1, (c.requires.stop, (c.requires.begins, omega arith))),
-              ),
-            ),
+            fits.0,
+            (fits.1, (c.requires.stop, (c.requires.begins, omega arith))),
           ),
         ),
       ),
@@ -340,29 +323,22 @@ go_on-take-requires t c =
     let task = c.args.task.now in
     let run = c.args.run.now in
     let index = c.loop-index.index in
-    let from = c.index-from.result.now in
+    let from = c.departures-from.result.now in
     let leg = c.index-leg.result.now in
     let legs = from.legs.items in
-    let are : AreLegsOf task run.head legs = departs_from task c.requires.may.ready run.head from c.requires.may.head
-    c.index-from.ensures c.requires.may.at_stop in
+    let are : AreLegsOf task run.head legs = c.is_ready.ensures.ready.each run.head from c.departures-from.ensures c.requires.may.at_stop in
     let at : slice_get legs index ≡ Some leg = slice_get_read legs (length legs) index leg refl (omega arith)
     c.index-leg.ensures in
-    let fits = leg_fits task c.requires.may.fit run.head legs are c.requires.may.at_stop leg
+    let fits = leg_fits task c.is_ready.ensures.fit run.head legs are c.requires.may.at_stop leg
     (among_place legs index leg at) in (
       omega arith,
       (
-        c.requires.may.fit,
+        c.requires.may.bounds,
         (
-          c.requires.may.ready,
+          c.requires.may.next,
           (
-            c.requires.may.bounds,
-            (
-              c.requires.may.next,
-              (
-                fits.0,
-                (fits.1, (c.requires.may.home, (c.requires.may.begun, omega arith))),
-              ),
-            ),
+            fits.0,
+            (fits.1, (c.requires.may.home, (c.requires.may.begun, omega arith))),
           ),
         ),
       ),
@@ -370,50 +346,43 @@ go_on-take-requires t c =
 
 pub begin_runs-loop-place-init : goal.begin_runs-loop-place-init
 begin_runs-loop-place-init t c = home_first c.args.task.now c.args.assigned.now c.args.task.now.homes.items
-    c.none-before.result c.args.best.now c.none-before.ensures c.requires.ready.homes
+    c.none-before.result c.args.best.now c.none-before.ensures c.is_ready.ensures.ready.homes
 
 next_home :
     (task : Task) (assigned : Assigned) (place home : ℕ) (before : List Bool) (old new : Found)
-    → place < length task.homes.items → home ≡ get_or task.homes.items place home →
+    → place < length task.homes.items → home ≡ get_or task.homes.items place 0 →
     TriesHomes task assigned (drop place task.homes.items) before old new
     → TriesHomes task assigned (home ∷ drop (place + 1) task.homes.items) before old new
 next_home task assigned place home before old new low is tries =
     subst (λ (homes : List ℕ). TriesHomes task assigned homes before old new)
-    (drop_more task.homes.items place home low ∙ ap (λ (h : ℕ). h ∷ drop (place + 1) task.homes.items) (sym is)) tries
+    (drop_more task.homes.items place 0 low ∙ ap (λ (h : ℕ). h ∷ drop (place + 1) task.homes.items) (sym is)) tries
 
-pub begin_runs-index-node-requires : goal.begin_runs-index-node-requires
-begin_runs-index-node-requires t c =
-    let next = next_home c.args.task.now c.args.assigned.now c.loop-place.place c.index-stop.result.now _ _ _
-    (omega arith) c.index-stop.ensures c.loop-place.invariant in
-    let low = next.rest.1 in
-    omega (arith, low, c.requires.fit.all)
+pub begin_runs-node-node-requires : goal.begin_runs-node-node-requires
+begin_runs-node-node-requires t c =
+    let next = next_home c.args.task.now c.args.assigned.now c.loop-place.place c.home-stop.result _ _ _
+    (omega arith) c.home-stop.ensures c.loop-place.invariant in
+    next.rest.1
 
 pub begin_runs-begin_at-requires : goal.begin_runs-begin_at-requires
 begin_runs-begin_at-requires t c =
     let task = c.args.task.now in
-    let stop = c.index-stop.result.now in
-    let next = next_home task c.args.assigned.now c.loop-place.place stop _ _ _ (omega arith) c.index-stop.ensures
+    let stop = c.home-stop.result in
+    let next = next_home task c.args.assigned.now c.loop-place.place stop _ _ _ (omega arith) c.home-stop.ensures
     c.loop-place.invariant in
-    let there : node_at task stop ≡ Some c.index-node.result.now =
-    node_is task c.requires.fit stop c.index-node.result.now next.rest.1 c.index-node.ensures in (
+    let there : node_at task stop ≡ Some c.node-node.result.now =
+    c.node-node.ensures in (
       omega arith,
       (
-        c.requires.fit,
+        c.requires.bounds,
         (
-          c.requires.ready,
+          c.requires.next,
           (
-            c.requires.bounds,
+            c.requires.room,
             (
-              c.requires.next,
+              next.rest.1,
               (
-                c.requires.room,
-                (
-                  next.rest.1,
-                  (
-                    ap stop_in there ∙ c.if-node.true,
-                    (next.rest.2, home_before task c.args.assigned.now stop _ _ _ _ next),
-                  ),
-                ),
+                ap stop_in there ∙ c.if-node.true,
+                (next.rest.2, home_before task c.args.assigned.now stop _ _ _ _ next),
               ),
             ),
           ),
@@ -424,11 +393,10 @@ begin_runs-begin_at-requires t c =
 pub begin_runs-mark_own-requires : goal.begin_runs-mark_own-requires
 begin_runs-mark_own-requires t c =
     let task = c.args.task.now in
-    let stop = c.index-stop.result.now in
-    let next = next_home task c.args.assigned.now c.loop-place.place stop _ _ _ (omega arith) c.index-stop.ensures
+    let stop = c.home-stop.result in
+    let next = next_home task c.args.assigned.now c.loop-place.place stop _ _ _ (omega arith) c.home-stop.ensures
     c.loop-place.invariant in
     record {
-      fit = c.requires.fit;
       number = next.rest.1;
       before =
           home_before task c.args.assigned.now stop _ _ _ _ next;
@@ -438,12 +406,12 @@ pub begin_runs-loop-place-preserved : goal.begin_runs-loop-place-preserved
 begin_runs-loop-place-preserved t c =
     let task = c.args.task.now in
     let assigned = c.args.assigned.now in
-    let stop = c.index-stop.result.now in
+    let stop = c.home-stop.result in
     let before = c.loop-place.before in
     let next = next_home task assigned c.loop-place.place stop before c.args.best.now c.loop-place.best (omega arith)
-    c.index-stop.ensures c.loop-place.invariant in
-    let there : node_at task stop ≡ Some c.index-node.result.now =
-    node_is task c.requires.fit stop c.index-node.result.now next.rest.1 c.index-node.ensures in
+    c.home-stop.ensures c.loop-place.invariant in
+    let there : node_at task stop ≡ Some c.node-node.result.now =
+    c.node-node.ensures in
     let homes = drop (c.loop-place.place + 1) task.homes.items in
     elim c.if-node.branch [
       | begin_runs-then-node w ↦
@@ -459,7 +427,7 @@ begin_runs-loop-place-preserved t c =
 pub begin_runs-returns : goal.begin_runs-returns
 begin_runs-returns t c =
     home_last c.args.task.now c.args.assigned.now c.loop-place.before c.args.best.now c.loop-place.best
-    (omega (arith, c.requires.fit.all))
+    (omega (arith, c.is_ready.ensures.fit.all))
     (subst (λ (homes : List ℕ). TriesHomes c.args.task.now c.args.assigned.now homes c.loop-place.before
     c.args.best.now c.loop-place.best)
     (drop_all c.loop-place.place c.args.task.now.homes.items (omega arith)) c.loop-place.invariant)
@@ -469,31 +437,24 @@ turn_back-take-requires t c =
     let task = c.args.task.now in
     let run = c.args.run.now in
     let index = c.loop-index.index in
-    let from = c.index-from.result.now in
+    let from = c.departures-from.result.now in
     let leg = c.index-leg.result.now in
     let legs = from.legs.items in
-    let are : AreLegsOf task run.home legs = departs_from task c.requires.may.ready run.home from c.requires.may.home
-    c.index-from.ensures c.requires.may.begun in
+    let are : AreLegsOf task run.home legs = c.is_ready.ensures.ready.each run.home from c.departures-from.ensures c.requires.may.begun in
     let at : slice_get legs index ≡ Some leg = slice_get_read legs (length legs) index leg refl (omega arith)
     c.index-leg.ensures in
-    let fits = leg_fits task c.requires.may.fit run.home legs are c.requires.may.begun leg (among_place legs index leg at) in
+    let fits = leg_fits task c.is_ready.ensures.fit run.home legs are c.requires.may.begun leg (among_place legs index leg at) in
     let one = one_of (stop_in (node_at task run.head)) c.requires.may.at_stop in
     let home = one_of (stop_in (node_at task run.home)) c.requires.may.begun in
     rw c.turned_back-back.ensures (
       omega arith,
       (
-        c.requires.may.fit,
+        c.requires.may.bounds,
         (
-          c.requires.may.ready,
+          c.requires.may.next,
           (
-            c.requires.may.bounds,
-            (
-              c.requires.may.next,
-              (
-                fits.0,
-                (fits.1, (c.requires.may.home, (c.requires.may.begun, omega arith))),
-              ),
-            ),
+            fits.0,
+            (fits.1, (c.requires.may.home, (c.requires.may.begun, omega arith))),
           ),
         ),
       ),
@@ -502,11 +463,10 @@ turn_back-take-requires t c =
 pub turn_back-loop-index-init : goal.turn_back-loop-index-init
 turn_back-loop-index-init t c =
     let run = c.args.run.now in
-    let from = c.index-from.result.now in
+    let from = c.departures-from.result.now in
     let are : AreLegsOf c.args.task.now run.home from.legs.items =
-    departs_from c.args.task.now c.requires.may.ready run.home from c.requires.may.home c.index-from.ensures
-    c.requires.may.begun in
-    legs_none c.args.task.now c.requires.may.fit run.home c.requires.may.begun from.legs.items are
+    c.is_ready.ensures.ready.each run.home from c.departures-from.ensures c.requires.may.begun in
+    legs_none c.args.task.now c.is_ready.ensures.fit run.home c.requires.may.begun from.legs.items are
     (partial c.args.assigned.now run) c.args.assigned.now (λ leg. turned_back run) (IsLater run) c.args.best.now
 
 pub turn_back-loop-index-preserved : goal.turn_back-loop-index-preserved
@@ -514,15 +474,14 @@ turn_back-loop-index-preserved t c =
     let task = c.args.task.now in
     let assigned = c.args.assigned.now in
     let run = c.args.run.now in
-    let node = c.index.result.now in
+    let node = c.node.result.now in
     let index = c.loop-index.index in
-    let from = c.index-from.result.now in
+    let from = c.departures-from.result.now in
     let leg = c.index-leg.result.now in
     let legs = from.legs.items in
     let there : node_at task run.home ≡ Some node =
-    node_is task c.requires.may.fit run.home node c.requires.may.home c.index.ensures in
-    let are : AreLegsOf task run.home legs = departs_from task c.requires.may.ready run.home from c.requires.may.home
-    c.index-from.ensures c.requires.may.begun in
+    c.node.ensures in
+    let are : AreLegsOf task run.home legs = c.is_ready.ensures.ready.each run.home from c.departures-from.ensures c.requires.may.begun in
     let at : slice_get legs index ≡ Some leg = slice_get_read legs (length legs) index leg refl (omega arith)
     c.index-leg.ensures in
     let Tried : Found → Type 0 = λ b. TriesLegs task (partial assigned run) assigned (λ w. turned_back run)
@@ -530,12 +489,12 @@ turn_back-loop-index-preserved t c =
     elim c.if-run-leg.branch [
       | turn_back-then-run-leg w ↦
           subst Tried (sym w.best-is)
-          (legs_more task c.requires.may.fit run.home c.requires.may.begun legs are (partial assigned run) assigned
+          (legs_more task c.is_ready.ensures.fit run.home c.requires.may.begun legs are (partial assigned run) assigned
           (λ v. turned_back run) (IsLater run) index leg _ _ _ at c.loop-index.invariant
           (takes_from task (partial assigned run) assigned (turned_back run) leg (Turn ∷ go_along leg.steps.items)
           c.loop-index.best w.take.new.best w.trace.new.self
-          (leads_turn task c.requires.may.fit assigned c.marks_all_borders.ensures run c.requires.may.begun c.if-run.false
-          c.requires.may.at_stop (ap ends_in there ∙ c.if-index.false) legs are index leg at (omega arith))
+          (leads_turn task c.is_ready.ensures.fit assigned c.marks_all_borders.ensures run c.requires.may.begun c.if-run.false
+          c.requires.may.at_stop (ap ends_in there ∙ c.if-node.false) legs are index leg at (omega arith))
           (subst (λ (r : PartialRun). Takes task assigned r leg.segment c.loop-index.best w.take.new.best)
           c.turned_back-back.ensures w.take.ensures)
           (traces_both c.loop-index.best.amount (go_along leg.steps.items) (Turn ∷ []) w.take.new.best
@@ -544,7 +503,7 @@ turn_back-loop-index-preserved t c =
           w.trace.ensures)))
       | turn_back-else-run-leg w ↦
           subst Tried (sym w.best-is)
-          (legs_skip task c.requires.may.fit run.home c.requires.may.begun legs are (partial assigned run) assigned
+          (legs_skip task c.is_ready.ensures.fit run.home c.requires.may.begun legs are (partial assigned run) assigned
           (λ v. turned_back run) (IsLater run) index leg _ _ at
           (λ later. omega (arith, w.if-run-leg.false, later)) c.loop-index.invariant)
     ]
@@ -553,18 +512,18 @@ pub turn_back-returns-then-ways : goal.turn_back-returns-then-ways
 turn_back-returns-then-ways t c =
     let task = c.args.task.now in
     let run = c.args.run.now in
-    let there : node_at task run.home ≡ Some c.index.result.now =
-    node_is task c.requires.may.fit run.home c.index.result.now c.requires.may.home c.index.ensures in
-    turns_tried task c.requires.may.fit c.requires.may.ready c.args.assigned.now run c.args.best.now
+    let there : node_at task run.home ≡ Some c.node.result.now =
+    c.node.ensures in
+    turns_tried task c.is_ready.ensures.fit c.is_ready.ensures.ready c.args.assigned.now run c.args.best.now
     (c.requires.may.home, c.requires.may.begun) c.marks_all_borders.ensures c.if-run.false
-    (ap ends_in there ∙ c.if-index.false) (c.requires.ways.turn c.if-ways.true)
+    (ap ends_in there ∙ c.if-node.false) (c.requires.ways.turn c.if-ways.true)
 
 pub turn_back-returns : goal.turn_back-returns
 turn_back-returns t c =
     let task = c.args.task.now in
     let run = c.args.run.now in
-    let from = c.index-from.result.now in
+    let from = c.departures-from.result.now in
     let are : AreLegsOf task run.home from.legs.items =
-    departs_from task c.requires.may.ready run.home from c.requires.may.home c.index-from.ensures c.requires.may.begun in
-    turn_by_legs task c.requires.may.fit c.args.assigned.now c.marks_all_borders.ensures run c.requires.may.begun
+    c.is_ready.ensures.ready.each run.home from c.departures-from.ensures c.requires.may.begun in
+    turn_by_legs task c.is_ready.ensures.fit c.args.assigned.now c.marks_all_borders.ensures run c.requires.may.begun
     from.legs.items are c.loop-index.index _ _ (omega arith) c.loop-index.invariant

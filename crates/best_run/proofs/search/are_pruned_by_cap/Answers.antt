@@ -6,7 +6,7 @@ use Rattle.best_run.proofs.search.are_pruned_by_cap.Goals as goal
 
 pub returns : goal.returns
 returns c holds =
-    let left = c.len.result - c.args.next - c.equals-equal.result in
+    let left = c.train_count.result - c.args.next - c.equals-equal.result in
     record {
       some = omega arith;
       equal = c.equals-equal.result;
@@ -14,6 +14,6 @@ returns c holds =
       are_equal = c.equals-equal.ensures.equal;
       rest = c.requires.bounds left (slice_index_or c.args.bounds.now left 0) (c.args.next + c.equals-equal.result)
           (slice_get-get_or c.args.bounds.now left 0 c.if-left-bounds.false)
-          (omega (arith, c.len.ensures, c.equals-equal.ensures.within));
+          (omega (arith, c.train_count.ensures, c.equals-equal.ensures.within));
       short = omega (arith, leb-true _ _ holds);
     }

@@ -8,12 +8,12 @@ pub returns-then-bounds-later : goal.returns-then-bounds-later
 returns-then-bounds-later c holds =
     let task = c.args.task.now in
     let assigned = c.args.assigned.now in
-    let later = c.len.result - assigned.next - 1 in
+    let later = c.train_count.result - assigned.next - 1 in
     let bound = slice_index_or c.args.bounds.now later 0 in
     let alone : EarnAtMost task (assigned.next + 1) bound =
     c.requires.bounds later bound (assigned.next + 1)
     (slice_get-get_or c.args.bounds.now later 0 c.if-later-bounds.false)
-    (omega (arith, c.len.ensures, c.requires.next)) in
+    (omega (arith, c.train_count.ensures, c.requires.next)) in
     record {
       nodes = c.most_ahead.ensures.most.nodes;
       counts = c.most_ahead.ensures.most.counts;

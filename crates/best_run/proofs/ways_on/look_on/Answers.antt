@@ -12,37 +12,34 @@ use Rattle.search_task.specs.Legs.{AreLegsOf, legs_at, legs_in}
 use Rattle.best_run.proofs.Along.{leg_fits}
 use Rattle.best_run.proofs.Vain.{found_all, found_more, found_skip}
 use Rattle.search_task.proofs.Booleans.{not_both}
-use Rattle.search_task.proofs.Departing.{departs_at, departs_from}
 use Rattle.search_task.proofs.Described.{among_place}
-use Rattle.search_task.proofs.Places.{node_is}
 use Rattle.best_run.proofs.ways_on.look_on.Goals as goal
 use Rattle.best_run.proofs.ways_on.look_on.Goals.{then-leads_on, else-leads_on}
 
-pub returns-then-index-clause-most : goal.returns-then-index-clause-most
-returns-then-index-clause-most c =
+pub returns-then-node-clause-most : goal.returns-then-node-clause-most
+returns-then-node-clause-most c =
     let task = c.args.task.now in
     let run = c.args.run.now in
-    let node = node_is task c.requires.fit run.head c.index.result.now c.requires.at_stop.0 c.index.ensures in
-    found_all task c.requires.fit c.requires.ready c.args.assigned.now run c.args.best c.requires.at_stop
+    let node = c.node.ensures in
+    found_all task c.is_ready.ensures.fit c.is_ready.ensures.ready c.args.assigned.now run c.args.best c.requires.at_stop
     c.requires.begun c.requires.borders c.requires.spots c.args.home.now.ahead c.args.ways.now 0
-    (λ passing. absurd (not_both (ends_in (node_at task run.head)) (ap ends_in node ∙ c.if-index.true) passing))
+    (λ passing. absurd (not_both (ends_in (node_at task run.head)) (ap ends_in node ∙ c.if-node.true) passing))
     c.requires.found
 
 pub leads_on-requires-clause-to : goal.leads_on-requires-clause-to
 leads_on-requires-clause-to c =
     let task = c.args.task.now in
     let run = c.args.run.now in
-    let from = c.index-from.result.now in
+    let from = c.departures-from.result.now in
     let legs = from.legs.items in
     let leg = c.index-legs-index.result in
     let whole = c.as_slice-legs.ensures.value in
     let read = c.index-legs-index.is ∙ ap (λ (ws : List Leg). get_or ws c.loop-index.index leg) whole in
-    let are : AreLegsOf task run.head legs = departs_from task c.requires.ready run.head from c.requires.at_stop.0
-    c.index-from.ensures c.requires.at_stop.1 in
+    let are : AreLegsOf task run.head legs = c.is_ready.ensures.ready.each run.head from c.departures-from.ensures c.requires.at_stop.1 in
     let at : slice_get legs c.loop-index.index ≡ Some leg =
     slice_get_read legs (length legs) c.loop-index.index leg refl
     (omega (arith, ap (λ (ws : List Leg). length ws) whole)) read in
-    let fits = leg_fits task c.requires.fit run.head legs are c.requires.at_stop.1 leg
+    let fits = leg_fits task c.is_ready.ensures.fit run.head legs are c.requires.at_stop.1 leg
     (among_place legs c.loop-index.index leg at) in
     fits.0.to
 
@@ -50,17 +47,16 @@ pub leads_on-requires-clause-stop : goal.leads_on-requires-clause-stop
 leads_on-requires-clause-stop c =
     let task = c.args.task.now in
     let run = c.args.run.now in
-    let from = c.index-from.result.now in
+    let from = c.departures-from.result.now in
     let legs = from.legs.items in
     let leg = c.index-legs-index.result in
     let whole = c.as_slice-legs.ensures.value in
     let read = c.index-legs-index.is ∙ ap (λ (ws : List Leg). get_or ws c.loop-index.index leg) whole in
-    let are : AreLegsOf task run.head legs = departs_from task c.requires.ready run.head from c.requires.at_stop.0
-    c.index-from.ensures c.requires.at_stop.1 in
+    let are : AreLegsOf task run.head legs = c.is_ready.ensures.ready.each run.head from c.departures-from.ensures c.requires.at_stop.1 in
     let at : slice_get legs c.loop-index.index ≡ Some leg =
     slice_get_read legs (length legs) c.loop-index.index leg refl
     (omega (arith, ap (λ (ws : List Leg). length ws) whole)) read in
-    let fits = leg_fits task c.requires.fit run.head legs are c.requires.at_stop.1 leg
+    let fits = leg_fits task c.is_ready.ensures.fit run.head legs are c.requires.at_stop.1 leg
     (among_place legs c.loop-index.index leg at) in
     fits.1
 
@@ -68,17 +64,16 @@ pub look_at-requires-clause-spot : goal.look_at-requires-clause-spot
 look_at-requires-clause-spot c =
     let task = c.args.task.now in
     let run = c.args.run.now in
-    let from = c.index-from.result.now in
+    let from = c.departures-from.result.now in
     let legs = from.legs.items in
     let leg = c.index-legs-index.result in
     let whole = c.as_slice-legs.ensures.value in
     let read = c.index-legs-index.is ∙ ap (λ (ws : List Leg). get_or ws c.loop-index.index leg) whole in
-    let are : AreLegsOf task run.head legs = departs_from task c.requires.ready run.head from c.requires.at_stop.0
-    c.index-from.ensures c.requires.at_stop.1 in
+    let are : AreLegsOf task run.head legs = c.is_ready.ensures.ready.each run.head from c.departures-from.ensures c.requires.at_stop.1 in
     let at : slice_get legs c.loop-index.index ≡ Some leg =
     slice_get_read legs (length legs) c.loop-index.index leg refl
     (omega (arith, ap (λ (ws : List Leg). length ws) whole)) read in
-    let fits = leg_fits task c.requires.fit run.head legs are c.requires.at_stop.1 leg
+    let fits = leg_fits task c.is_ready.ensures.fit run.head legs are c.requires.at_stop.1 leg
     (among_place legs c.loop-index.index leg at) in
     subst (λ (to : ℕ). to < 744) (sym c.number.ensures) fits.0.to
 
@@ -86,17 +81,16 @@ pub look_at-requires-clause-stop : goal.look_at-requires-clause-stop
 look_at-requires-clause-stop c =
     let task = c.args.task.now in
     let run = c.args.run.now in
-    let from = c.index-from.result.now in
+    let from = c.departures-from.result.now in
     let legs = from.legs.items in
     let leg = c.index-legs-index.result in
     let whole = c.as_slice-legs.ensures.value in
     let read = c.index-legs-index.is ∙ ap (λ (ws : List Leg). get_or ws c.loop-index.index leg) whole in
-    let are : AreLegsOf task run.head legs = departs_from task c.requires.ready run.head from c.requires.at_stop.0
-    c.index-from.ensures c.requires.at_stop.1 in
+    let are : AreLegsOf task run.head legs = c.is_ready.ensures.ready.each run.head from c.departures-from.ensures c.requires.at_stop.1 in
     let at : slice_get legs c.loop-index.index ≡ Some leg =
     slice_get_read legs (length legs) c.loop-index.index leg refl
     (omega (arith, ap (λ (ws : List Leg). length ws) whole)) read in
-    let fits = leg_fits task c.requires.fit run.head legs are c.requires.at_stop.1 leg
+    let fits = leg_fits task c.is_ready.ensures.fit run.head legs are c.requires.at_stop.1 leg
     (among_place legs c.loop-index.index leg at) in
     subst (λ (to : ℕ). stop_in (node_at task to) ≡ true) (sym c.number.ensures) fits.1
 
@@ -106,7 +100,7 @@ loop-index-preserved c =
     let assigned = c.args.assigned.now in
     let run = c.args.run.now in
     let home = c.args.home.now.ahead in
-    let from = c.index-from.result.now in
+    let from = c.departures-from.result.now in
     let legs = from.legs.items in
     let leg = c.index-legs-index.result in
     let whole = c.as_slice-legs.ensures.value in
@@ -115,13 +109,13 @@ loop-index-preserved c =
     slice_get_read legs (length legs) c.loop-index.index leg refl
     (omega (arith, ap (λ (ws : List Leg). length ws) whole)) read in
     let there : legs_at task run.head ≡ legs = ap legs_in
-    (departs_at task c.requires.ready run.head from c.requires.at_stop.0 c.index-from.ensures) in
+    (c.departures-from.ensures) in
     let here = ap (λ ws. slice_get ws c.loop-index.index) there ∙ at in
     let Found : WaysOn → Type 0 = AreFound task assigned run c.args.best home (c.loop-index.index + 1) in
     elim c.if-leads_on.branch [
       | then-leads_on w ↦
           subst Found (sym w.ways-is)
-          (found_more task c.requires.fit c.requires.ready assigned run c.args.best c.requires.at_stop c.requires.begun
+          (found_more task c.is_ready.ensures.fit c.is_ready.ensures.ready assigned run c.args.best c.requires.at_stop c.requires.begun
           c.requires.borders c.requires.spots home w.look_at.new.outlook.ahead c.loop-index.index leg
           w.earns_too_little-in_vain.result c.loop-index.ways _ c.requires.closed here
           (subst (λ (to : ℕ). WidensAt task assigned run to home w.look_at.new.outlook.ahead) w.number.ensures
@@ -130,7 +124,7 @@ loop-index-preserved c =
           w.earns_too_little-in_vain.ensures w.add.ensures c.loop-index.invariant)
       | else-leads_on w ↦
           subst Found (sym w.ways-is)
-          (found_skip task c.requires.fit c.requires.ready assigned run c.args.best c.requires.at_stop c.requires.begun
+          (found_skip task c.is_ready.ensures.fit c.is_ready.ensures.ready assigned run c.args.best c.requires.at_stop c.requires.begun
           c.requires.borders c.requires.spots home c.loop-index.index leg c.loop-index.ways here
           (sym c.leads_on.ensures ∙ w.if-leads_on.false) c.loop-index.invariant)
     ]
@@ -139,10 +133,10 @@ pub returns-clause-most : goal.returns-clause-most
 returns-clause-most c =
     let task = c.args.task.now in
     let run = c.args.run.now in
-    let from = c.index-from.result.now in
+    let from = c.departures-from.result.now in
     let there = ap legs_in
-    (departs_at task c.requires.ready run.head from c.requires.at_stop.0 c.index-from.ensures) in
-    found_all task c.requires.fit c.requires.ready c.args.assigned.now run c.args.best c.requires.at_stop
+    (c.departures-from.ensures) in
+    found_all task c.is_ready.ensures.fit c.is_ready.ensures.ready c.args.assigned.now run c.args.best c.requires.at_stop
     c.requires.begun c.requires.borders c.requires.spots c.args.home.now.ahead c.loop-index.ways c.loop-index.index
     (λ passing. omega (
       arith,

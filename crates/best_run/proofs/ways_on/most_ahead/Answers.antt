@@ -5,7 +5,7 @@ use Rattle.best_run.proofs.ways_on.most_ahead.Goals as goal
 
 pub least-requires-clause-room : goal.least-requires-clause-room
 least-requires-clause-room c =
-    has_most c.args.task.now c.requires.fit c.args.assigned.now c.args.run.now c.args.outlook.now.ahead
+    has_most c.args.task.now c.is_ready.ensures.fit c.args.assigned.now c.args.run.now c.args.outlook.now.ahead
     c.args.outlook.now.worth c.requires.known
 
 pub least-requires-clause-first : goal.least-requires-clause-first

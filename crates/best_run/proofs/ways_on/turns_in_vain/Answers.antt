@@ -16,7 +16,7 @@ earns_too_little-requires-clause-known c =
 
 pub returns : goal.returns
 returns c holds =
-    turns_by c.args.task.now c.requires.fit c.requires.ready c.args.assigned.now c.args.run.now c.args.best
+    turns_by c.args.task.now c.is_ready.ensures.fit c.is_ready.ensures.ready c.args.assigned.now c.args.run.now c.args.best
     c.requires.begun c.requires.borders c.requires.spots c.args.home.now.ahead c.requires.closed
     (subst (λ (r : PartialRun). IsLow c.args.task.now c.args.assigned.now r c.args.home.now.ahead c.args.best)
     c.turned_back-back.ensures (c.earns_too_little.ensures holds))

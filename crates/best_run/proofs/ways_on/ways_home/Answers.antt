@@ -13,11 +13,11 @@ returns-then-earns_too_little c =
     let assigned = c.args.assigned.now in
     let run = c.args.run.now in
     let low = c.earns_too_little.ensures c.if-earns_too_little.true in
-    found_none task c.requires.fit c.requires.ready assigned run c.args.best c.requires.at_stop c.requires.begun
+    found_none task c.is_ready.ensures.fit c.is_ready.ensures.ready assigned run c.args.best c.requires.at_stop c.requires.begun
     c.requires.borders c.requires.spots c.args.home.now.ahead _ c.copy.ensures
     (record {
       go = subst (λ (ms : List Bool). GoesInVain task assigned run ms c.args.best) (sym c.copy-ways.ensures)
-          (goes_by task c.requires.fit c.requires.ready assigned run c.args.best c.requires.at_stop c.requires.begun
+          (goes_by task c.is_ready.ensures.fit c.is_ready.ensures.ready assigned run c.args.best c.requires.at_stop c.requires.begun
           c.requires.borders c.requires.spots c.args.home.now.ahead c.requires.closed low);
       turn = c.turns_in_vain-turns_in_vain.ensures;
     })
@@ -25,7 +25,7 @@ returns-then-earns_too_little c =
 
 pub returns-else-earns_too_little : goal.returns-else-earns_too_little
 returns-else-earns_too_little c =
-    found_none c.args.task.now c.requires.fit c.requires.ready c.args.assigned.now c.args.run.now c.args.best
+    found_none c.args.task.now c.is_ready.ensures.fit c.is_ready.ensures.ready c.args.assigned.now c.args.run.now c.args.best
     c.requires.at_stop c.requires.begun c.requires.borders c.requires.spots c.args.home.now.ahead _ c.copy.ensures
     (record {
       go = λ passing place leg at lies taken. absurd

@@ -5,7 +5,7 @@ use Rattle.search_task.specs.declared.task.Task.{Task}
 use Rattle.search_task.proofs.Departing.{departs_same}
 use Rattle.search_task.proofs.Described.{describes_it, fits_it}
 use Rattle.search_task.proofs.Mirrored.{mirrored_same}
-use Rattle.search_task.proofs.task.Task.of.Goals as goal
+use Rattle.search_task.proofs.ready_task.ReadyTask.of.Goals as goal
 
 pub all_departures-requires : goal.all_departures-requires
 all_departures-requires g c =
@@ -25,8 +25,8 @@ pub all_stops-requires-clause-legs : goal.all_stops-requires-clause-legs
 all_stops-requires-clause-legs g c = departs_same _ _ refl refl 744 c.in_ok-departures.departures.items
     c.in_ok-departures.ensures
 
-pub returns : goal.returns
-returns g c =
+pub invariant_of-result : goal.invariant_of-result
+invariant_of-result g c =
     let position = g.N.Network.position c.args.network.now in
     let task : Task = record {
       spots = c.in_ok-spots.spots;
@@ -43,8 +43,6 @@ returns g c =
     let legs : AreDepartures task 744 c.in_ok-departures.departures.items =
     departs_same _ task refl refl 744 c.in_ok-departures.departures.items c.in_ok-departures.ensures in
     record {
-      described = describes_it position c.args.company c.requires c.args.kinds.now laid.steps laid.all task
-          c.in_ok-spots.ensures laid.segments c.in_ok-trains.ensures;
       fit = fits_it position c.args.company c.requires c.args.kinds.now laid.steps laid.all task c.in_ok-spots.ensures
           laid.segments;
       legs = record {
@@ -57,6 +55,24 @@ returns g c =
         mirrored = λ holds. mirrored_same _ task refl (c.is_mirrored.ensures holds);
       };
     }
+
+pub returns : goal.returns
+returns g c =
+    let position = g.N.Network.position c.args.network.now in
+    let task : Task = record {
+      spots = c.in_ok-spots.spots;
+      segments = c.in_ok-segments.segments;
+      departures =
+          c.in_ok-departures.departures;
+      stops = c.in_ok-stops.stops;
+      homes = c.in_ok-homes.homes;
+      trains =
+          c.in_ok-trains.trains;
+      mirrored = c.is_mirrored.result;
+    } in
+    let laid = c.in_ok-segments.ensures in
+    describes_it position c.args.company c.requires c.args.kinds.now laid.steps laid.all task c.in_ok-spots.ensures
+    laid.segments c.in_ok-trains.ensures
 
 pub all_homes-requires : goal.all_homes-requires
 all_homes-requires g c =
