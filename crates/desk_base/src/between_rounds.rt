@@ -6,6 +6,7 @@ ghost use Rattle.desk_base.specs.Refusal.{IsOfGame};
 ghost use Rattle.desk_base.specs.SetNumber.{IsNumberPlayed, number_in_set};
 ghost use Rattle.rounds.specs.Steps.{ComesNext, game_so_far};
 ghost use Rattle.rounds.specs.Play.{Between, IsTheGame};
+ghost use Rattle.tables.specs.Round.{same_round};
 
 use crate::fault::DeskFault;
 use crate::set_number::{end_after, number_after, number_in_set};
@@ -69,7 +70,6 @@ pub fn stood_now<'a>(play: &'a Play<'a>) -> Option<Stood<'a>>
 }
 
 /// Returns a game after the rounds that were played, in which this happened.
-#[tactic(auto, using(crate::proofs::MomentLemmas::shows_there))]
 fn stood_in<'a>(play: &'a Play<'a>, history: &'a History) -> Stood<'a>
     requires { game_so_far play.now ≡ Some history.now }
     ensures file { result.sheets.now ≡ play.now.file }
@@ -108,7 +108,7 @@ fn end_shown(outcome: Option<End>, last: Option<Round>, history: &History) -> En
 
 /// Plays the game of some sheets up to the end of a round. Fails with `Round` if that round is not
 /// played.
-#[tactic(auto, using(crate::proofs::MomentLemmas::at_start, crate::proofs::MomentLemmas::is_behind, crate::proofs::MomentLemmas::one_step_on))]
+#[tactic(auto, using(crate::proofs::MomentLemmas::at_start, crate::proofs::MomentLemmas::one_step_on))]
 pub fn play_behind<'a>(
     alloc: Global,
     sheets: &'a Sheets<'a>,
@@ -163,13 +163,19 @@ fn is_last(last: Option<Round>, asked: Round) -> bool
     ensures { result ≡ is_last last asked }
 {
     match last {
-        Some(round) => round == asked,
+        Some(round) => is_same(round, asked),
         None => false,
     }
 }
 
+/// Returns whether two rounds are one.
+fn is_same(one: Round, other: Round) -> bool
+    ensures { result ≡ same_round one other }
+{
+    one == other
+}
+
 /// Returns whether a round comes next, and each player has a sheet for it.
-#[tactic(auto, using(crate::proofs::MomentLemmas::it_comes_next))]
 fn comes_next(play: &Play, asked: Round) -> bool
     ensures { result ≡ true → IsFromStart play.now.file play.now → ComesNext play.now asked }
 {
@@ -179,7 +185,7 @@ fn comes_next(play: &Play, asked: Round) -> bool
                 end: End::Awaiting(round),
                 ..
             },
-        ) => round == asked && play.sheets().are_all_posted(&asked),
+        ) => is_same(round, asked) && play.sheets().are_all_posted(&asked),
         _ => false,
     }
 }

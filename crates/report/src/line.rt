@@ -3,12 +3,13 @@ ghost use Rattle.std.specs.Prelude.{◌≡◌, ◌∷◌, [], List, OnOk, codes,
 ghost use Rattle.report.specs.Column.{Adds};
 ghost use Rattle.report.specs.Line.{event_line, holder_text, lay_line, line_of, name_of, ruled_line, ruling_words};
 ghost use Rattle.report.specs.Line.{text_of_seller, text_of_square, text_of_train_owner};
+ghost use Rattle.order_grammar.specs.Order.{text_of_source};
 ghost use Rattle.order_grammar.specs.Print.{spaced, text_of_round};
 ghost use Rattle.tables.specs.Roster.{code_of_company};
 
 use history::{Event, Holder, PackedRuling, TrainSeller, Verdict};
 use map_tables::Lay;
-use order_grammar::{print_number, print_round};
+use order_grammar::{ShareSource, print_number, print_round};
 use sheets::Sheets;
 use std::alloc::AllocError;
 use tables::{Amount, Company, Round, Seat, Square, price};
@@ -144,7 +145,6 @@ pub fn push_event(out: &mut Vec<u8>, sheets: &Sheets, event: &Event) -> Result<(
             b"BOUGHT", company.code(), name(sheets, *seat), *shares, from.text(), *price;
         Event::Sells { company, seat, shares, price } =>
             b"SELLS", company.code(), name(sheets, *seat), *shares, *price;
-        Event::Exchanged { seat, from } => b"EXCHANGED", "MH", name(sheets, *seat), from.text();
         Event::Floats { company, amount } => b"FLOATS", company.code(), *amount;
         Event::Moves { company, square } => b"MOVES", company.code(), price(*square), *square;
         Event::Home { company, place } => b"HOME", company.code(), place.text().as_slice();
@@ -169,6 +169,7 @@ pub fn push_event(out: &mut Vec<u8>, sheets: &Sheets, event: &Event) -> Result<(
         Event::Bankrupt(seat) => b"BANKRUPT", name(sheets, *seat);
         else {
             Event::Ruled { seat, line, ruling } => push_ruled(out, sheets, *seat, *line, ruling),
+            Event::Exchanged { seat, from } => push_exchanged(out, sheets, *seat, *from),
             Event::Laid { company, lay, cost } => push_laid(out, *company, *lay, *cost),
             Event::Broken => out.extend_from_slice(b"BROKEN\n"),
         }
@@ -302,6 +303,19 @@ fn push_refused(out: &mut Vec<u8>, code: &str) -> Result<(), AllocError>
 {
     out.extend_from_slice(b" REFUSED")?;
     push_word(out, code)
+}
+
+/// Adds the line of a player's exchange of MH for a share of NYC.
+fn push_exchanged(
+    out: &mut Vec<u8>,
+    sheets: &Sheets,
+    seat: Seat,
+    from: ShareSource,
+) -> Result<(), AllocError>
+    ensures { OnOk result (Adds out.old out.new (line_of (codes "EXCHANGED")
+        (codes "MH" ∷ name_of sheets.now seat ∷ text_of_source from ∷ []))) }
+{
+    push_three(out, b"EXCHANGED", "MH", name(sheets, seat), from.text())
 }
 
 /// Adds the line of a tile that a company lays.
