@@ -192,20 +192,22 @@ awaited_next : (upcoming : Next) (events : List Event) (round : Round) → end_o
 awaited_next (next.Round its) events round is = cc
 awaited_next next.Ended events round is = absurd (none_awaited (bankrupt_in events) round is)
 
--- so it does where a state of the play shows that it is awaited
-pub it_comes_next : (play : Underway) (stood : Stood) (asked round : Round) → StandsIn play stood
-    → stood.end ≡ Awaiting round → same_round round asked ≡ true → all_posted play.file asked ≡ true
-    → IsFromStart play.file play → ComesNext play asked
-it_comes_next play stood asked round shows end same posted from_start =
+-- a game that awaits the same round awaits it
+pub awaits_it : (round asked : Round) → same_round round asked ≡ true → Awaiting round ≡ Awaiting asked
+awaits_it round asked same = ap (λ (its : Round). Awaiting its) (same_round_is round asked same)
+
+-- so a round comes next where a state of the play shows that it is awaited
+pub it_comes_next : (play : Underway) (stood : Stood) (asked : Round) → StandsIn play stood
+    → stood.end ≡ Awaiting asked → all_posted play.file asked ≡ true → IsFromStart play.file play → ComesNext play asked
+it_comes_next play stood asked shows end posted from_start =
     let reached = steps_reach play.file from_start.rounds play from_start.steps in
     let there = shows.there reached.here reached.at.there from_start in
-    let awaited : end_of reached.here.next reached.here.game.events ≡ Awaiting round = sym there.end ∙ end in
-    let upcoming = awaited_next reached.here.next reached.here.game.events round awaited in
+    let awaited : end_of reached.here.next reached.here.game.events ≡ Awaiting asked = sym there.end ∙ end in
     record {
       from = reached.here;
       there = reached.at.there;
       to_play = record {
-        comes = upcoming ∙ ap (λ (its : Round). next.Round its) (same_round_is round asked same);
+        comes = awaited_next reached.here.next reached.here.game.events asked awaited;
         posted = posted;
       };
     }

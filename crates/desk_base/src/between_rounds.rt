@@ -6,6 +6,7 @@ ghost use Rattle.desk_base.specs.Refusal.{IsOfGame};
 ghost use Rattle.desk_base.specs.SetNumber.{IsNumberPlayed, number_in_set};
 ghost use Rattle.rounds.specs.Steps.{ComesNext, game_so_far};
 ghost use Rattle.rounds.specs.Play.{Between, IsTheGame};
+ghost use Rattle.rounds.specs.declared.game.End.TheVariants.{Awaiting};
 ghost use Rattle.tables.specs.Round.{same_round};
 
 use crate::fault::DeskFault;
@@ -180,12 +181,18 @@ fn comes_next(play: &Play, asked: Round) -> bool
     ensures { result ≡ true → IsFromStart play.now.file play.now → ComesNext play.now asked }
 {
     match stood_now(play) {
-        Some(
-            Stood {
-                end: End::Awaiting(round),
-                ..
-            },
-        ) => is_same(round, asked) && play.sheets().are_all_posted(&asked),
-        _ => false,
+        Some(stood) => is_awaited(stood.end, asked) && play.sheets().are_all_posted(&asked),
+        None => false,
+    }
+}
+
+/// Returns whether a game awaits this round.
+#[tactic(auto, using(crate::proofs::MomentLemmas::awaits_it))]
+fn is_awaited(end: End, asked: Round) -> bool
+    ensures { result ≡ true → end ≡ Awaiting asked }
+{
+    match end {
+        End::Awaiting(round) => is_same(round, asked),
+        End::Bank | End::Bankrupt => false,
     }
 }
