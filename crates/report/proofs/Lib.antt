@@ -1,4 +1,5 @@
 pub mod Arrival
+pub mod Columns
 pub mod OneReport
 pub mod Seats
 pub mod Rounds

@@ -1,7 +1,8 @@
 //! The statement after a round: what each player, each started company and the bank hold.
-ghost use Rattle.std.specs.Prelude.{◌≡◌, ◌∷◌, [], OnOk, length};
+ghost use Rattle.std.specs.Prelude.{◌≡◌, ◌∷◌, ◌++◌, [], OnOk, length};
 ghost use Rattle.std.specs.Fmt.{signed_decimal};
 ghost use Rattle.std.specs.Option.{ForSome};
+ghost use Rattle.events.specs.declared.event.Shareholder.TheVariants.{Seat as OfSeat};
 ghost use Rattle.totals.specs.LookBack.{owner_in};
 ghost use Rattle.report.specs.Column.{Adds, at_right};
 ghost use Rattle.report.specs.Statement.{AreOwnersIn, bank_line_at, cash_column_at, code_owned, codes_owned};
@@ -112,10 +113,51 @@ fn push_player(
 fn push_holdings(out: &mut Vec<u8>, view: &GameView, seat: Seat) -> Result<(), AllocError>
     ensures { OnOk result (Adds out.old out.new (holdings view.now.events.now seat)) }
 {
-    for company in &Company::ALL {
-        push_shares(out, view, *company, Shareholder::Seat(seat))?;
-    }
-    Ok(())
+    push_four(
+        out,
+        view,
+        seat,
+        Company::Pennsylvania,
+        Company::NewYorkCentral,
+        Company::CanadianPacific,
+        Company::BaltimoreOhio,
+    )?;
+    push_four(
+        out,
+        view,
+        seat,
+        Company::ChesapeakeOhio,
+        Company::Erie,
+        Company::NewHaven,
+        Company::BostonMaine,
+    )
+}
+
+/// Adds the shares of four companies that a seat holds.
+#[tactic(auto, unfolding(crate::specs::Statement::shares_column))]
+fn push_four(
+    out: &mut Vec<u8>,
+    view: &GameView,
+    seat: Seat,
+    first: Company,
+    second: Company,
+    third: Company,
+    fourth: Company,
+) -> Result<(), AllocError>
+    ensures { OnOk result (Adds out.old out.new
+        (shares_column view.now.events.now first (OfSeat seat)
+        ++ shares_column view.now.events.now second (OfSeat seat)
+        ++ shares_column view.now.events.now third (OfSeat seat)
+        ++ shares_column view.now.events.now fourth (OfSeat seat))) }
+{
+    let place = Shareholder::Seat(seat);
+    push_counts(
+        out,
+        view.shares(first, place),
+        view.shares(second, place),
+        view.shares(third, place),
+        view.shares(fourth, place),
+    )
 }
 
 /// Adds the codes of a seat's privates, each after a space.
@@ -255,6 +297,90 @@ fn push_count(out: &mut Vec<u8>, count: ShareCount) -> Result<(), AllocError>
         Some(digit) => push_digit(out, digit),
         None => push_right(out, count, COUNT_WIDTH),
     }
+}
+
+/// Adds four numbers of shares, each in its column. Nearly all have one digit.
+fn push_counts(
+    out: &mut Vec<u8>,
+    first: ShareCount,
+    second: ShareCount,
+    third: ShareCount,
+    fourth: ShareCount,
+) -> Result<(), AllocError>
+    ensures { OnOk result (Adds out.old out.new
+        (at_right 3 (signed_decimal first) ++ at_right 3 (signed_decimal second)
+        ++ at_right 3 (signed_decimal third) ++ at_right 3 (signed_decimal fourth))) }
+{
+    let digits = (
+        digit_of(first),
+        digit_of(second),
+        digit_of(third),
+        digit_of(fourth),
+    );
+    if let (Some(first), Some(second), Some(third), Some(fourth)) = digits {
+        return push_digits(out, first, second, third, fourth);
+    }
+    push_each(out, first, second, third, fourth)
+}
+
+/// Adds four numbers of shares, of any number of digits.
+fn push_each(
+    out: &mut Vec<u8>,
+    first: ShareCount,
+    second: ShareCount,
+    third: ShareCount,
+    fourth: ShareCount,
+) -> Result<(), AllocError>
+    ensures { OnOk result (Adds out.old out.new
+        (at_right 3 (signed_decimal first) ++ at_right 3 (signed_decimal second)
+        ++ at_right 3 (signed_decimal third) ++ at_right 3 (signed_decimal fourth))) }
+{
+    push_triple(out, first, second, third)?;
+    push_count(out, fourth)?;
+    Ok(())
+}
+
+/// Adds three numbers of shares, of any number of digits.
+fn push_triple(
+    out: &mut Vec<u8>,
+    first: ShareCount,
+    second: ShareCount,
+    third: ShareCount,
+) -> Result<(), AllocError>
+    ensures { OnOk result (Adds out.old out.new
+        (at_right 3 (signed_decimal first) ++ at_right 3 (signed_decimal second)
+        ++ at_right 3 (signed_decimal third))) }
+{
+    push_pair(out, first, second)?;
+    push_count(out, third)?;
+    Ok(())
+}
+
+/// Adds two numbers of shares, of any number of digits.
+fn push_pair(out: &mut Vec<u8>, first: ShareCount, second: ShareCount) -> Result<(), AllocError>
+    ensures { OnOk result (Adds out.old out.new
+        (at_right 3 (signed_decimal first) ++ at_right 3 (signed_decimal second))) }
+{
+    push_count(out, first)?;
+    push_count(out, second)
+}
+
+/// Adds four digits, each at the right of a column of certificates or shares.
+#[tactic(auto, unfolding(crate::specs::Column::at_right))]
+fn push_digits(
+    out: &mut Vec<u8>,
+    first: u8,
+    second: u8,
+    third: u8,
+    fourth: u8,
+) -> Result<(), AllocError>
+    ensures { OnOk result (Adds out.old out.new
+        (at_right 3 (first ∷ []) ++ at_right 3 (second ∷ [])
+        ++ at_right 3 (third ∷ []) ++ at_right 3 (fourth ∷ []))) }
+{
+    out.extend_from_slice(&[
+        b' ', b' ', first, b' ', b' ', second, b' ', b' ', third, b' ', b' ', fourth,
+    ])
 }
 
 /// Returns the digit of a number of one digit; `None` for other numbers.
