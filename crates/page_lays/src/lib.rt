@@ -10,10 +10,10 @@
 //! `Turns` (of the companies of a round), `Players` (their standing lines, and the heads of their
 //! turns), `NextRound` (all of it), `Allowed` (which orders of players the page shows).
 //!
-//! Reading order: `move_rows` (lays and tokens as rows), `move_lines` (what the best runs would earn
-//! after each), `company_turns` (the companies of the round), `players`, `offers` (of trains), `may`
-//! (all of it); `pictures` (of tiles), `groups` (lines on the page), `hexes_part`, `may_part`,
-//! `style`, `ending` (`end_page`).
+//! Reading order: `move_rows` (lays and tokens as rows), `move_lines` (what the best runs would
+//! earn after each), `company_turns` (the companies of the round), `players`, `offers` (of trains),
+//! `may` (all of it); `pictures` (of tiles), `groups` (lines on the page), `hexes_part`,
+//! `may_part`, `style`, `ending` (`end_page`).
 #![tactic(auto)]
 
 mod company_turns;

@@ -4,13 +4,13 @@
 //! `games/`, which `./check` plays; the libraries below the sequence of rounds have their tests in
 //! `test_libraries`.
 //!
-//! Reading order: `examples` and `desk_examples` (those at the roots of crates), `support` (scripted
-//! readers and writers), `devices` (a call over them, each of whose calls may fail), `running`
-//! (whole runs over them), `certifying` (certificates, written and verified, over them),
+//! Reading order: `examples` and `desk_examples` (those at the roots of crates), `support`
+//! (scripted readers and writers), `devices` (a call over them, each of whose calls may fail),
+//! `running` (whole runs over them), `certifying` (certificates, written and verified, over them),
 //! `migrating` (a file that migrates to version 2, over them), `watching` (a reader or writer that
 //! remembers a failure), `texts` (reports), `sequence` (the rounds after the bank is broken),
-//! `refusing` (a runner that refuses), `stepping` (a game a round at a time), `lanes` (runs over one
-//! border, on a page).
+//! `refusing` (a runner that refuses), `stepping` (a game a round at a time), `lanes` (runs over
+//! one border, on a page).
 #![tactic(auto)]
 
 #[cfg(test)]
