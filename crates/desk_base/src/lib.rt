@@ -20,9 +20,9 @@
 //! Reading order: `text` (`Piece`, `push`, `fill`), `wrapped` (lines of 80 columns), `reason`
 //! (`Reason`), `advice`, `explaining` (`explain`), `set_number` (`number_in_set`, `end_after`),
 //! `between_rounds` (`Stood`), `next_round` (`Coming`), `stock_left`, `coming` (`can_come`),
-//! `objection` (`Objection`), `beyond` (what lies at a side), `map_facts`, `by_tables` (what the map
-//! and the tables show), `belongings` (what somebody has), `cause` (which of several causes it was),
-//! `map_state`, `run_line`.
+//! `objection` (`Objection`), `beyond` (what lies at a side), `map_facts`, `by_tables` (what the
+//! map and the tables show), `belongings` (what somebody has), `cause` (which of several causes it
+//! was), `map_state`, `run_line`.
 #![tactic(auto)]
 
 mod advice;

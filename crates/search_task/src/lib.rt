@@ -4,8 +4,8 @@
 //! A spot is an end of a hex: a stop, or a side. A segment is plain track from one spot to another,
 //! a leg is segments from one stop to the next. `Task` has the spots with what each is worth to the
 //! company, the segments, the legs, the stops that have legs, the company's tokens, and how many
-//! stops each train may visit. `ReadyTask` is a task whose numbers fit and whose legs are known: its
-//! type says so.
+//! stops each train may visit. `ReadyTask` is a task whose numbers fit and whose legs are known:
+//! its type says so.
 //!
 //! The definitions, in `specs/`:
 //!
@@ -21,8 +21,8 @@
 //! Reading order: `task` (what a search works on), `ready_task` (what a search reads of it),
 //! `bit_set` (marks of borders and spots, a bit each), `outgoing_segment` (a segment of track),
 //! `segments` (the segments from all spots), `crossing` (the borders of a leg, a set of them),
-//! `steps` (the steps of a leg), `spots` (the spots of a position, and the whole task), `legs` (from
-//! stop to stop), `mirror` (whether each leg has a reverse).
+//! `steps` (the steps of a leg), `spots` (the spots of a position, and the whole task), `legs`
+//! (from stop to stop), `mirror` (whether each leg has a reverse).
 #![tactic(auto)]
 
 mod bit_set;
