@@ -11,7 +11,6 @@ use Rattle.events.specs.declared.event.Holder.{Holder}
 use Rattle.events.specs.declared.event.Holder.TheVariants as holder
 use Rattle.events.specs.declared.event.Party.TheVariants as party
 use Rattle.events.specs.declared.event.Shareholder.TheVariants.{InitialOffering, BankPool, Seat as OfSeat}
-use Rattle.history.proofs.TrainActs.{dividend_sound}
 use Rattle.totals.specs.LookBack.{Game, with_event}
 use Rattle.history.specs.Money.{IsParty}
 use Rattle.totals.specs.Shares.{held_by, shares_of}
@@ -20,7 +19,6 @@ use Rattle.history.specs.Record.{breaks, broken_recorded}
 use Rattle.market.specs.Moves.{right_of}
 use Rattle.market.specs.Token.{with_move}
 use Rattle.history.proofs.NearlySound.{broken_quiet, quiet_sound}
-use Rattle.certs.proofs.Games.{moved_there}
 use Rattle.certs.specs.Dividend.{all_paid, paid_for, paid_out, paid_to, paid_to_seats}
 use Rattle.certs.specs.Games.{IsGame, token_moved}
 use Rattle.tables.specs.Seat.{all_seats, seat_at}
@@ -81,14 +79,6 @@ pool_most game company sound =
     let offered = sound.held company InitialOffering in
     omega (arith, ints, held_not_under game.events company (all_seats game.seats) sound.held)
 
--- a dividend keeps a list sound, with the word that the bank is broken
-pub dividend_recorded_game : (game paid new : Game) (company : Company) (to : Holder) (amount : ℕ)
-    → IsParty game.seats (party.Holder to) → paid ≡ with_event game (event.Dividend company to amount)
-    → new ≡ broken_recorded paid → IsGame game → IsGame new
-dividend_recorded_game game paid new company to amount of_game is_paid is_new before =
-    broken_game (with_event game (event.Dividend company to amount)) new (is_new ∙ ap broken_recorded is_paid)
-    (record { few = before.few; sound = dividend_sound game company to amount of_game before.sound })
-
 -- a table keeps its seats
 pub paid_seats : (game : Game) (company : Company) (to : Holder) (amount : ℕ)
     → (paid_to company to amount game).seats ≡ game.seats
@@ -119,9 +109,3 @@ all_are_paid company revenue old paid new i seats same over leads recorded =
     (sym (ap (λ (k : ℕ). paid_to_seats company revenue paid (map seat_at (range_with_len i k))) none)
     ∙ leads
     ∙ sym (ap (λ (k : ℕ). paid_to_seats company revenue old (all_seats k)) same))
-
--- what paying out brings, step by step
-pub paid_out_steps : (game paid new : Game) (company : Company) (revenue : ℕ) → paid ≡ all_paid company revenue game
-    → new.seats ≡ paid.seats → new.events ≡ with_move right_of paid.events company → new ≡ paid_out game company revenue
-paid_out_steps game paid new company revenue is_paid seats events =
-    moved_there right_of paid new company seats events ∙ ap (λ (game : Game). token_moved right_of game company) is_paid

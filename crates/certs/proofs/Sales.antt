@@ -6,6 +6,7 @@ use Rattle.std.proofs.lemmas.Bool.Decides.{nat_tests}
 use Rattle.std.proofs.lemmas.Int.{ints}
 use Rattle.std.specs.Int.Signed.{lt_z}
 use Rattle.certs.proofs.Presidents.{most_le}
+use Rattle.certs.proofs.Games.{move_game}
 use Rattle.certs.specs.Counted.{presides}
 use Rattle.certs.specs.Games.{IsGame, with_events}
 use Rattle.certs.specs.President.{others_from, seat_shares_of, successor_of}
@@ -23,7 +24,8 @@ use Rattle.totals.specs.Shares.{is_started, president_of, square_of}
 use Rattle.history.specs.Sound.{IsLed, IsSound}
 use Rattle.history.specs.Record.{breaks, with_broken}
 use Rattle.certs.proofs.Others.{another_leads}
-use Rattle.certs.specs.SaleAct.{MaySell, sold, succeeded, with_president, with_successor}
+use Rattle.certs.specs.SaleAct.{MaySell, after_sale, sold, succeeded, with_president, with_successor}
+use Rattle.market.specs.Moves.{fallen}
 use Rattle.tables.specs.Roster.{same_company}
 use Rattle.tables.specs.Seat.{seat_at}
 use Rattle.tables.specs.declared.roster.Company.{Company}
@@ -241,10 +243,9 @@ sale_led game seat sale price few within may sound =
     refl)
 
 -- so it is step by step
-pub sold_game : (game paid led : Game) (seat : Seat) (sale : Sale) → seat.0 < game.seats → MaySell game seat sale
-    → IsGame game → paid ≡ sold game seat sale.company sale.shares → led ≡ with_president paid sale.company
-    → IsGame led
-sold_game game paid led seat sale within may before is_paid is_led =
+pub sale_game : (game : Game) (seat : Seat) (sale : Sale) → seat.0 < game.seats → MaySell game seat sale
+    → IsGame game → IsGame (after_sale game seat sale.company sale.shares)
+sale_game game seat sale within may before =
     let price = sale.shares * market_price_of game.events sale.company in
-    subst IsGame (sym (is_led ∙ ap (λ (game : Game). with_president game sale.company) is_paid))
+    move_game (fallen sale.shares) (with_president (sold game seat sale.company sale.shares) sale.company) sale.company
     (record { few = before.few; sound = sale_led game seat sale price before.few within may before.sound })

@@ -1,5 +1,5 @@
 -- A presidency that passes on keeps a list sound.
-use Rattle.std.proofs.Common.{◌≡◌, ◌==◌, Bool, true, false, if◌then◌else◌, [], ◌∷◌, ◌++◌, Option, Some, None, refl, sym, subst}
+use Rattle.std.proofs.Common.{◌≡◌, ◌==◌, Bool, true, false, if◌then◌else◌, [], ◌∷◌, ◌++◌, Option, Some, None, refl}
 use Rattle.certs.proofs.Presidents.{most_le}
 use Rattle.certs.specs.Games.{IsGame, with_events}
 use Rattle.certs.specs.President.{others_from, seat_shares_of, successor_of}
@@ -37,8 +37,6 @@ president_sound game company sound =
     refl
 
 -- so a game stays one that is played
-pub president_game : (game new : Game) (company : Company) → new ≡ with_president game company → IsGame game
-    → IsGame new
-president_game game new company recorded before =
-    subst IsGame (sym recorded)
-    (record { few = before.few; sound = president_sound game company before.sound })
+pub president_game : (game : Game) (company : Company) → IsGame game → IsGame (with_president game company)
+president_game game company before =
+    record { few = before.few; sound = president_sound game company before.sound }

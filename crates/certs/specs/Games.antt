@@ -1,6 +1,6 @@
 -- A game that is played: a table of at most six seats, and a sound list. What an act leads to is a
 -- game again, of the same seats.
-use Rattle.std.specs.Prelude.{◌≤◌, List}
+use Rattle.std.specs.Prelude.{◌≤◌, List, []}
 use Rattle.events.specs.declared.event.Event.{Event}
 use Rattle.history.specs.Sound.{IsSound}
 use Rattle.market.specs.Token.{with_move}

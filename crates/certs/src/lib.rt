@@ -10,7 +10,7 @@
 //! Reading order: `holdings`, `company_tables` (what they are made of), `share_places` (the shares
 //! of one company), `president`, `counted_certificates` (the certificates that count), `share_deal`
 //! (what is bought and sold), `purchase`, `sale`, `sell` (what follows from a sale), `dividend`
-//! (what a company pays out), `laws` (what decides the presidency; the presidency and the
+//! (what a company pays out), `sound_game` (a game as one value), `laws` (what decides the presidency; the presidency and the
 //! certificates that count are the same by a game's events).
 #![tactic(auto)]
 
@@ -25,6 +25,7 @@ mod sale;
 mod sell;
 mod share_deal;
 mod share_places;
+mod sound_game;
 
 pub use counted_certificates::counted_now;
 pub use dividend::pay_out;
@@ -34,3 +35,4 @@ pub use purchase::{is_over_six, market_price, may_buy, purchase_cost, share_pric
 pub use sale::{may_sell, none_is_left};
 pub use sell::{record_president, sell_block};
 pub use share_deal::{Purchase, Sale};
+pub use sound_game::{SoundGame, kept};

@@ -1,11 +1,12 @@
 //! What follows from a sale.
 ghost use Rattle.std.specs.Prelude.{◌≡◌, ◌≤◌, ◌<◌, OnOk};
-ghost use Rattle.certs.specs.Games.{IsGame, with_events};
+ghost use Rattle.certs.specs.Games.{with_events};
 ghost use Rattle.certs.specs.SaleAct.{MaySell, after_sale, sold, succeeded, with_president};
 
 use crate::president::successor;
 use crate::purchase::market_price;
 use crate::share_deal::Sale;
+use crate::sound_game::{SoundGame, kept};
 use history::{Event, History};
 use market::move_token_down;
 use std::alloc::AllocError;
@@ -14,18 +15,28 @@ use tables::{Amount, Company, Seat};
 /// Sells shares of a company that a seat has, as one block. The bank pays the seat, the presidency
 /// passes if another seat then has more, and the token on the chart moves down. Fails only if
 /// allocation fails.
-pub fn sell_block(history: &mut History, seat: Seat, sale: Sale) -> Result<(), AllocError>
-    requires game { IsGame history.old }
-    requires at_table { seat.0 < history.old.seats }
-    requires may { MaySell history.old seat sale }
-    ensures after { OnOk result (history.new
-        ≡ after_sale history.old seat sale.company sale.shares) }
-    ensures game { OnOk result (IsGame history.new) }
+pub fn sell_block(game: &mut SoundGame, seat: Seat, sale: Sale) -> Result<(), AllocError>
+    requires at_table { seat.0 < game.old.seats }
+    requires may { MaySell game.old seat sale }
+    ensures { OnOk result (game.new ≡ after_sale game.old seat sale.company sale.shares) }
 {
-    let shares = sale.shares as u8;
-    pay_for_block(history, seat, sale.company, shares)?;
-    record_president(history, sale.company)?;
-    move_token_down(history, sale.company, shares)?;
+    let done = move_block(&mut game.history, seat, sale.company, sale.shares as u8);
+    kept(&mut game.history, game.alloc, done)
+}
+
+/// Sells shares of a company that a seat has, step by step.
+fn move_block(
+    history: &mut History,
+    seat: Seat,
+    company: Company,
+    shares: u8,
+) -> Result<(), AllocError>
+    requires { shares ≤ 10 }
+    ensures { OnOk result (history.new ≡ after_sale history.old seat company shares) }
+{
+    pay_for_block(history, seat, company, shares)?;
+    pass_presidency(history, company)?;
+    move_token_down(history, company, shares)?;
     Ok(())
 }
 
@@ -52,7 +63,15 @@ fn pay_for_block(
 
 /// Records who presides over a company, if a change of its shares has moved the presidency. Fails
 /// only if allocation fails.
-pub fn record_president(history: &mut History, company: Company) -> Result<(), AllocError>
+pub fn record_president(game: &mut SoundGame, company: Company) -> Result<(), AllocError>
+    ensures { OnOk result (game.new ≡ with_president game.old company) }
+{
+    let done = pass_presidency(&mut game.history, company);
+    kept(&mut game.history, game.alloc, done)
+}
+
+/// Records who presides over a company, in a list that need not be sound.
+fn pass_presidency(history: &mut History, company: Company) -> Result<(), AllocError>
     ensures { OnOk result (history.new ≡ with_president history.old company) }
 {
     let Some(old) = history.now().president(company) else {

@@ -15,6 +15,7 @@ use Rattle.events.specs.declared.event.Shareholder.TheVariants.{InitialOffering,
 use Rattle.events.specs.declared.ruling.StockRule.TheVariants.{NoExchange}
 use Rattle.history.proofs.Purchases.{exchange_sound as exchange_law}
 use Rattle.certs.specs.Games.{IsGame}
+use Rattle.history.specs.Sound.{IsSound}
 use Rattle.totals.specs.AtEnd.{SaysTheSame}
 use Rattle.totals.specs.LookBack.{Game, owner_of, with_event}
 use Rattle.totals.specs.Shares.{shares_of, square_of}
@@ -80,21 +81,18 @@ has_source false true there is_offered is_pooled some = grind (arith, ints, is_p
 has_source false false there is_offered is_pooled some = absurd (cc)
 
 -- the exchange of MH
-pub exchange_game : (game new : Game) (seat : Seat) (from : ShareSource) → MayExchange game seat
-    → seat.0 < game.seats → from ≡ exchange_source game.events → new ≡ with_event game (event.Exchanged seat from)
-    → IsGame game → IsGame new
-exchange_game game new seat from may within is_from recorded before =
+pub exchange_sound : (game : Game) (seat : Seat) (from : ShareSource) → MayExchange game seat
+    → seat.0 < game.seats → from ≡ exchange_source game.events → IsGame game
+    → IsSound (with_event game (event.Exchanged seat from))
+exchange_sound game seat from may within is_from before =
     let events = game.events in
     let kept = none_of (is_owner seat (owner_of events MohawkHudson)) (is_offered events || is_pooled events) _ may in
     let there : pos 1 ≤ℤ shares_of events NewYorkCentral (place_of_source (exchange_source events)) =
     has_source (is_offered events) (is_pooled events)
     (λ (from : ShareSource). shares_of events NewYorkCentral (place_of_source from)) refl refl kept.1 in
-    subst IsGame (sym recorded) (record {
-      few = before.few;
-      sound = exchange_law game seat from (owns seat (owner_of events MohawkHudson) kept.0) within
-          (subst (λ (s : ShareSource). pos 1 ≤ℤ shares_of events NewYorkCentral (place_of_source s))
-          (sym is_from) there) before.sound;
-    })
+    exchange_law game seat from (owns seat (owner_of events MohawkHudson) kept.0) within
+    (subst (λ (s : ShareSource). pos 1 ≤ℤ shares_of events NewYorkCentral (place_of_source s))
+    (sym is_from) there) before.sound
 
 -- nobody acts by an exchange
 pub in_exchange : (game : Game) (seat : Seat) → SaysWhoActed seat false game.events (after_exchange game seat).events

@@ -54,14 +54,11 @@ float_led game its ready sound =
     refl
 
 -- a company that floats
-pub float_game : (game new : Game) (its : Company) (amount : ℕ) → is_to_float game.events its ≡ true
-    → new ≡ with_event game (event.Floats its amount) → IsGame game → IsGame new
-float_game game new its amount ready recorded before =
-    subst IsGame (sym recorded) (record {
-      few = before.few;
-      sound = float_law game its amount
-          (few_left (is_floated game.events its) (shares_of game.events its InitialOffering) ready) before.sound;
-    })
+pub float_sound : (game : Game) (its : Company) (amount : ℕ) → is_to_float game.events its ≡ true → IsGame game
+    → IsSound (with_event game (event.Floats its amount))
+float_sound game its amount ready before =
+    float_law game its amount
+    (few_left (is_floated game.events its) (shares_of game.events its InitialOffering) ready) before.sound
 
 -- nobody acts where the bank breaks
 pub in_break : (seats : ℕ) (seat : Seat) (events : List Event) → SaysWhoActed seat false events (with_broken seats events)

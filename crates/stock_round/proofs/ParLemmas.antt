@@ -51,19 +51,15 @@ is_nothing None none = refl
 is_nothing (Some other) none = cc
 
 -- the start of a company
-pub start_game : (game new : Game) (seat : Seat) (company : Company) (price cost : ℕ)
-    → MayStart game seat company price → seat.0 < game.seats → cost ≡ president_shares * price
-    → new ≡ with_event (with_event (with_event game (event.Par company price))
-    (event.Bought company seat 2 InitialOffering cost)) (event.President company seat) → IsGame game → IsGame new
-start_game game new seat company price cost may within is_cost recorded before =
-    let pays : pos cost ≤ℤ free_cash_of game.seats game.events seat =
-    subst (λ (n : ℕ). pos n ≤ℤ free_cash_of game.seats game.events seat) (sym is_cost)
-    (paid game.seats game.events seat (president_shares * price) may.pays) in
-    subst IsGame (sym recorded) (record {
+pub start_game : (game : Game) (seat : Seat) (company : Company) (price : ℕ) → MayStart game seat company price
+    → seat.0 < game.seats → IsGame game → IsGame (after_start game seat company price)
+start_game game seat company price may within before =
+    record {
       few = before.few;
-      sound = start_by_purchase_sound game company seat price cost (holds (is_par_value price) may.par)
-          (is_nothing (square_of game.events company) may.fresh) within pays before.sound;
-    })
+      sound = start_by_purchase_sound game company seat price (president_shares * price)
+          (holds (is_par_value price) may.par) (is_nothing (square_of game.events company) may.fresh) within
+          (paid game.seats game.events seat (president_shares * price) may.pays) before.sound;
+    }
 
 -- the seat acts by a start, since it buys
 pub in_start : (game : Game) (seat : Seat) (company : Company) (price : ℕ)

@@ -5,12 +5,11 @@
 //!
 //! The rules are those of a purchase in `certs` (`share_purchase_rules`).
 ghost use Rattle.std.specs.Prelude.{◌≡◌, ◌<◌, OnOk};
-ghost use Rattle.certs.specs.Games.{IsGame};
 ghost use Rattle.stock_round.specs.Buy.{MayBuy, after_purchase, bought, buy_judgement};
 
 use crate::float::record_float;
 use crate::prices::share_cost;
-use certs::{Purchase, may_buy, record_president};
+use certs::{Purchase, SoundGame, may_buy, record_president};
 use history::{Event, History, StockRule};
 use order_grammar::ShareSource;
 use std::alloc::AllocError;
@@ -32,42 +31,37 @@ pub(crate) fn judge(
 
 /// Buys a share of a company for a seat.
 pub(crate) fn act(
-    history: &mut History,
+    game: &mut SoundGame,
     seat: Seat,
     company: Company,
     from: ShareSource,
 ) -> Result<(), AllocError>
-    requires game { IsGame history.old }
-    requires at_table { seat.0 < history.old.seats }
-    requires may { MayBuy history.old seat company from }
-    ensures after { OnOk result (history.new ≡ after_purchase history.old seat company from) }
-    ensures game { OnOk result (IsGame history.new) }
+    requires at_table { seat.0 < game.old.seats }
+    requires may { MayBuy game.old seat company from }
+    ensures { OnOk result (game.new ≡ after_purchase game.old seat company from) }
 {
-    pay_for_share(history, seat, company, from)?;
-    record_president(history, company)?;
-    record_float(history, company)
+    pay_for_share(game, seat, company, from)?;
+    record_president(game, company)?;
+    record_float(game, company)
 }
 
 /// Pays for a share of a company, which the seat then has.
 fn pay_for_share(
-    history: &mut History,
+    game: &mut SoundGame,
     seat: Seat,
     company: Company,
     from: ShareSource,
 ) -> Result<(), AllocError>
-    requires game { IsGame history.old }
-    requires at_table { seat.0 < history.old.seats }
-    requires may { MayBuy history.old seat company from }
-    ensures after { OnOk result (history.new ≡ bought history.old seat company from) }
-    ensures game { OnOk result (IsGame history.new) }
+    requires at_table { seat.0 < game.old.seats }
+    requires may { MayBuy game.old seat company from }
+    ensures { OnOk result (game.new ≡ bought game.old seat company from) }
 {
-    let price = share_cost(history, company, from);
-    history.append(Event::Bought {
+    let price = share_cost(&game.history, company, from);
+    game.append(Event::Bought {
         company,
         seat,
         shares: 1,
         from,
         price,
-    })?;
-    Ok(())
+    })
 }

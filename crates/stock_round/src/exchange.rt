@@ -3,14 +3,13 @@
 //! costs nothing, and counts neither as a purchase nor as a sale. The presidency of NYC passes and
 //! NYC floats as after a purchase.
 ghost use Rattle.std.specs.Prelude.{◌≡◌, ◌<◌, OnOk};
-ghost use Rattle.certs.specs.Games.{IsGame};
 ghost use Rattle.stock_round.specs.Exchange.{MayExchange, after_exchange, exchange_judgement, exchange_source};
 ghost use Rattle.stock_round.specs.Exchange.{exchanged, is_no_exchange, is_offered, is_owner, is_pooled};
 ghost use Rattle.totals.specs.LookBack.{owner_of};
 ghost use Rattle.tables.specs.declared.roster.Private.TheVariants.{MohawkHudson};
 
 use crate::float::record_float;
-use certs::{is_over_six, record_president};
+use certs::{SoundGame, is_over_six, record_president};
 use history::{Event, History, Holder, Shareholder, StockRule};
 use order_grammar::ShareSource;
 use std::alloc::AllocError;
@@ -68,30 +67,25 @@ fn is_pooled(history: &History) -> bool
 }
 
 /// Exchanges MH of a seat for a share of NYC.
-pub(crate) fn act(history: &mut History, seat: Seat) -> Result<(), AllocError>
-    requires game { IsGame history.old }
-    requires at_table { seat.0 < history.old.seats }
-    requires may { MayExchange history.old seat }
-    ensures after { OnOk result (history.new ≡ after_exchange history.old seat) }
-    ensures game { OnOk result (IsGame history.new) }
+pub(crate) fn act(game: &mut SoundGame, seat: Seat) -> Result<(), AllocError>
+    requires at_table { seat.0 < game.old.seats }
+    requires may { MayExchange game.old seat }
+    ensures { OnOk result (game.new ≡ after_exchange game.old seat) }
 {
     let company = Company::NewYorkCentral;
-    give_up_mohawk(history, seat)?;
-    record_president(history, company)?;
-    record_float(history, company)
+    give_up_mohawk(game, seat)?;
+    record_president(game, company)?;
+    record_float(game, company)
 }
 
 /// Gives a seat a share of NYC for MH, which nobody then owns.
-fn give_up_mohawk(history: &mut History, seat: Seat) -> Result<(), AllocError>
-    requires game { IsGame history.old }
-    requires at_table { seat.0 < history.old.seats }
-    requires may { MayExchange history.old seat }
-    ensures after { OnOk result (history.new ≡ exchanged history.old seat) }
-    ensures game { OnOk result (IsGame history.new) }
+fn give_up_mohawk(game: &mut SoundGame, seat: Seat) -> Result<(), AllocError>
+    requires at_table { seat.0 < game.old.seats }
+    requires may { MayExchange game.old seat }
+    ensures { OnOk result (game.new ≡ exchanged game.old seat) }
 {
-    let from = exchange_source(history);
-    history.append(Event::Exchanged { seat, from })?;
-    Ok(())
+    let from = exchange_source(&game.history);
+    game.append(Event::Exchanged { seat, from })
 }
 
 /// Returns where the share of NYC for MH comes from: the initial offering first, otherwise the bank

@@ -2,10 +2,10 @@
 //! pays its capital.
 ghost use Rattle.std.specs.Prelude.{◌≡◌, OnOk, true, unwrap_or};
 ghost use Rattle.totals.specs.Shares.{par_of};
-ghost use Rattle.certs.specs.Games.{IsGame};
 ghost use Rattle.stock_round.specs.Float.{floated_at, is_to_float, with_float};
 
 use crate::prices::par_value;
+use certs::SoundGame;
 use history::{Event, History, ShareCount, Shareholder};
 use std::alloc::AllocError;
 use tables::{Company, SHARES};
@@ -15,13 +15,11 @@ const FLOAT_MOST: ShareCount = 4;
 
 /// Floats a company, if at most four of its shares are left in the initial offering and it has not
 /// floated yet: the bank pays it ten times its par value.
-pub(crate) fn record_float(history: &mut History, company: Company) -> Result<(), AllocError>
-    requires { IsGame history.old }
-    ensures after { OnOk result (history.new ≡ with_float history.old company) }
-    ensures game { OnOk result (IsGame history.new) }
+pub(crate) fn record_float(game: &mut SoundGame, company: Company) -> Result<(), AllocError>
+    ensures { OnOk result (game.new ≡ with_float game.old company) }
 {
-    if is_to_float(history, company) {
-        float(history, company)
+    if is_to_float(&game.history, company) {
+        float(game, company)
     } else {
         Ok(())
     }
@@ -35,15 +33,12 @@ fn is_to_float(history: &History, company: Company) -> bool
 }
 
 /// Records that a company floats.
-fn float(history: &mut History, company: Company) -> Result<(), AllocError>
-    requires ready { is_to_float history.old.events company ≡ true }
-    requires game { IsGame history.old }
-    ensures after { OnOk result (history.new
-        ≡ floated_at history.old company (unwrap_or (par_of history.old.events company) 0)) }
-    ensures game { OnOk result (IsGame history.new) }
+fn float(game: &mut SoundGame, company: Company) -> Result<(), AllocError>
+    requires { is_to_float game.old.events company ≡ true }
+    ensures { OnOk result (game.new
+        ≡ floated_at game.old company (unwrap_or (par_of game.old.events company) 0)) }
 {
-    let amount = SHARES * par_value(history, company);
-    history.append(Event::Floats { company, amount })?;
-    history.record_broken()?;
-    Ok(())
+    let amount = SHARES * par_value(&game.history, company);
+    game.append(Event::Floats { company, amount })?;
+    game.record_broken()
 }

@@ -1,11 +1,11 @@
 //! The orders of a turn: which rule one breaks, and what follows if it breaks none.
 ghost use Rattle.std.specs.Prelude.{◌≡◌, ◌<◌, IfOk, OnOk};
-ghost use Rattle.certs.specs.Games.{IsGame};
 ghost use Rattle.stock_round.specs.Deals.{with_deal};
 ghost use Rattle.stock_round.specs.Orders.{MayAct, after_act, judgement_of};
 
 use crate::deals::ShareDeals;
 use crate::{buy, exchange, par, sell};
+use certs::SoundGame;
 use history::{History, StockRule};
 use order_grammar::Order;
 use std::alloc::AllocError;
@@ -33,33 +33,31 @@ pub(crate) fn judge(
 /// Carries out an order of a seat that breaks no rule. Returns what the seat has done in the turn
 /// so far; an exchange counts neither as a purchase nor as a sale.
 pub(crate) fn act(
-    history: &mut History,
+    game: &mut SoundGame,
     seat: Seat,
     order: &Order,
     deals: ShareDeals,
 ) -> Result<ShareDeals, AllocError>
-    requires game { IsGame history.old }
-    requires at_table { seat.0 < history.old.seats }
-    requires may { MayAct history.old seat order.now }
-    ensures after { OnOk result (history.new ≡ after_act history.old seat order.now) }
+    requires at_table { seat.0 < game.old.seats }
+    requires may { MayAct game.old seat order.now }
+    ensures after { OnOk result (game.new ≡ after_act game.old seat order.now) }
     ensures deals { IfOk result (λ now. now ≡ with_deal deals order.now) }
-    ensures game { OnOk result (IsGame history.new) }
 {
     match order {
         Order::Par { company, price } => {
-            par::act(history, seat, *company, *price)?;
+            par::act(game, seat, *company, *price)?;
             Ok(deals.with_purchase(*company))
         }
         Order::BuyShare { company, from } => {
-            buy::act(history, seat, *company, *from)?;
+            buy::act(game, seat, *company, *from)?;
             Ok(deals.with_purchase(*company))
         }
         Order::Sell { company, shares } => {
-            sell::act(history, seat, *company, *shares)?;
+            sell::act(game, seat, *company, *shares)?;
             Ok(deals.with_sale())
         }
         Order::ExchangeMohawk => {
-            exchange::act(history, seat)?;
+            exchange::act(game, seat)?;
             Ok(deals)
         }
         _ => Ok(deals),

@@ -2,11 +2,10 @@
 //! certificate, two shares of the initial offering, each at that value. It becomes president.
 //!
 //! The rules are those of a purchase in `certs` (`share_purchase_rules`).
-ghost use Rattle.std.specs.Prelude.{◌≡◌, ◌<◌, OnOk};
-ghost use Rattle.certs.specs.Games.{IsGame};
+ghost use Rattle.std.specs.Prelude.{◌≡◌, ◌<◌, ◌≤◌, OnOk};
 ghost use Rattle.stock_round.specs.Par.{MayStart, after_start, par_judgement};
 
-use certs::{Purchase, may_buy};
+use certs::{Purchase, SoundGame, kept, may_buy};
 use history::{Event, History, StockRule};
 use order_grammar::ShareSource;
 use std::alloc::AllocError;
@@ -28,16 +27,29 @@ pub(crate) fn judge(
 
 /// Sets the par value of a company, in dollars, and so buys its president's certificate for a seat.
 pub(crate) fn act(
+    game: &mut SoundGame,
+    seat: Seat,
+    company: Company,
+    price: Amount,
+) -> Result<(), AllocError>
+    requires at_table { seat.0 < game.old.seats }
+    requires may { MayStart game.old seat company price }
+    ensures { OnOk result (game.new ≡ after_start game.old seat company price) }
+{
+    let done = record_start(&mut game.history, seat, company, price);
+    kept(&mut game.history, game.alloc, done)
+}
+
+/// Records the par value of a company, the purchase of its president's certificate, and the
+/// president.
+fn record_start(
     history: &mut History,
     seat: Seat,
     company: Company,
     price: Amount,
 ) -> Result<(), AllocError>
-    requires game { IsGame history.old }
-    requires at_table { seat.0 < history.old.seats }
-    requires may { MayStart history.old seat company price }
-    ensures after { OnOk result (history.new ≡ after_start history.old seat company price) }
-    ensures game { OnOk result (IsGame history.new) }
+    requires { price ≤ 100000 }
+    ensures { OnOk result (history.new ≡ after_start history.old seat company price) }
 {
     history.append(Event::Par { company, price })?;
     history.append(Event::Bought {

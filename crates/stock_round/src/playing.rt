@@ -15,7 +15,10 @@ use tables::{Round, Seat};
 use turns::{TurnRules, play_round};
 
 /// The rules of a stock round. `ShareDeals` says what a seat has done in a turn.
-pub struct StockTurns;
+pub struct StockTurns {
+    /// The allocator of the game.
+    pub alloc: Global,
+}
 
 impl TurnRules for StockTurns {
     type TurnActions = ShareDeals;
@@ -51,7 +54,7 @@ impl TurnRules for StockTurns {
         order: &mut Order,
         actions: ShareDeals,
     ) -> Result<ShareDeals, AllocError> {
-        turn::rule_line(history, seat, line, order, actions)
+        turn::rule_line(history, seat, line, order, actions, self.alloc)
     }
 
     fn has_acted(&self, actions: ShareDeals) -> bool {
@@ -63,7 +66,7 @@ impl TurnRules for StockTurns {
     }
 
     fn close(&self, history: &mut History) -> Result<(), AllocError> {
-        closing::close(history)
+        closing::close(history, self.alloc)
     }
 
     ghost stays_sound = { λ game sound. sound };
@@ -81,7 +84,7 @@ impl TurnRules for StockTurns {
 /// be those of the sheets' players; a seat without a sheet passes. Fails only if allocation fails,
 /// and then drops the game. The game uses the allocator that it began with.
 pub fn play_stock(
-    _alloc: Global,
+    alloc: Global,
     history: History,
     sheets: &Sheets,
     round: Round,
@@ -91,5 +94,5 @@ pub fn play_stock(
     ensures round { IfOk result (λ new. IsStockRound sheets.now round history new) }
     ensures sound { IfOk result IsSound }
 {
-    play_round(&StockTurns, history, sheets, round)
+    play_round(&StockTurns { alloc }, history, sheets, round)
 }

@@ -4,10 +4,9 @@
 //!
 //! The rules are those of a sale in `certs` (`sale_rules`).
 ghost use Rattle.std.specs.Prelude.{◌≡◌, ◌<◌, OnOk};
-ghost use Rattle.certs.specs.Games.{IsGame};
 ghost use Rattle.stock_round.specs.Sell.{MaySell, after_sale, sale_of, sell_judgement};
 
-use certs::{Sale, may_sell, sell_block};
+use certs::{Sale, SoundGame, may_sell, sell_block};
 use history::{History, StockRule};
 use std::alloc::AllocError;
 use tables::{Amount, Company, Seat};
@@ -27,16 +26,14 @@ pub(crate) fn judge(
 
 /// Sells this many shares of a company that a seat has.
 pub(crate) fn act(
-    history: &mut History,
+    game: &mut SoundGame,
     seat: Seat,
     company: Company,
     shares: Amount,
 ) -> Result<(), AllocError>
-    requires game { IsGame history.old }
-    requires at_table { seat.0 < history.old.seats }
-    requires may { MaySell history.old seat (sale_of company shares) }
-    ensures after { OnOk result (history.new ≡ after_sale history.old seat company shares) }
-    ensures game { OnOk result (IsGame history.new) }
+    requires at_table { seat.0 < game.old.seats }
+    requires may { MaySell game.old seat (sale_of company shares) }
+    ensures { OnOk result (game.new ≡ after_sale game.old seat company shares) }
 {
-    sell_block(history, seat, Sale { company, shares })
+    sell_block(game, seat, Sale { company, shares })
 }

@@ -10,10 +10,11 @@ ghost use Rattle.turns.specs.Ruling.{has_place_in_turn};
 
 use crate::deals::ShareDeals;
 use crate::orders;
+use certs::SoundGame;
 use history::{History, Refusal};
 use order_grammar::Order;
 use sheets::{UnreadLine, is_of_file};
-use std::alloc::AllocError;
+use std::alloc::{AllocError, Global};
 use tables::{Company, Seat};
 use turns::Family;
 
@@ -48,6 +49,7 @@ pub(crate) fn rule_line(
     line: UnreadLine,
     order: &mut Order,
     deals: ShareDeals,
+    alloc: Global,
 ) -> Result<ShareDeals, AllocError>
     requires game { IsGame history.old }
     requires at_table { seat.0 < history.old.seats }
@@ -63,5 +65,8 @@ pub(crate) fn rule_line(
     if !turns::rule_line(&lines, history, seat, line, order)? {
         return Ok(deals);
     }
-    orders::act(history, seat, order, deals)
+    let mut game = SoundGame::take(history, alloc);
+    let deals = orders::act(&mut game, seat, order, deals)?;
+    *history = game.history;
+    Ok(deals)
 }

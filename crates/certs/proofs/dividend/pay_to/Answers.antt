@@ -1,7 +1,7 @@
-use Rattle.certs.proofs.Dividends.{dividend_recorded_game}
+use Rattle.history.proofs.TrainActs.{dividend_sound}
+use Rattle.certs.specs.Games.{IsGame}
 use Rattle.certs.proofs.dividend.pay_to.Goals as goal
 
-pub returns-clause-game : goal.returns-clause-game
-returns-clause-game c =
-    dividend_recorded_game c.args.history.now c.append.new.self c.record_broken.new.self c.args.company c.args.holder
-    c.args.amount c.requires.party c.in_ok-append.ensures.ok c.in_ok-record_broken.ensures.ok c.requires.game
+pub append-requires-clause-keeps : goal.append-requires-clause-keeps
+append-requires-clause-keeps c = λ before.
+    dividend_sound c.args.game.now c.args.company c.args.holder c.args.amount c.requires.party before.sound

@@ -1,35 +1,33 @@
-use Rattle.std.proofs.Common.{◌≤◌, ap, ◌∙◌, arith}
-use Rattle.market.specs.Moves.{fallen}
+use Rattle.std.proofs.Common.{◌≤◌, subst, arith}
 use Rattle.totals.specs.LookBack.{Game}
-use Rattle.certs.proofs.Games.{move_game, moved_there}
+use Rattle.certs.proofs.Games.{act_done, act_sound}
 use Rattle.certs.proofs.SaleAllowed.{block_small}
-use Rattle.certs.proofs.Sales.{sold_game}
-use Rattle.certs.specs.Games.{token_moved}
-use Rattle.certs.specs.SaleAct.{with_president}
+use Rattle.certs.proofs.Sales.{sale_game}
+use Rattle.certs.specs.Games.{IsGame}
+use Rattle.certs.specs.SaleAct.{after_sale}
 use Rattle.certs.proofs.sell.sell_block.Goals as goal
 
-pub overflow_cast-shares : goal.overflow_cast-shares
-overflow_cast-shares c =
-    let small : c.args.sale.shares ≤ 5 = block_small c.args.history.now c.args.seat c.args.sale c.requires.may
-    c.requires.game.sound in omega arith
+pub overflow_cast : goal.overflow_cast
+overflow_cast c =
+    let before : IsGame c.args.game.now = subst IsGame c.game.view_is c.game.invariant in
+    let small : c.args.sale.shares ≤ 5 = block_small c.args.game.now c.args.seat c.args.sale c.requires.may
+    before.sound in omega arith
 
-pub pay_for_block-requires : goal.pay_for_block-requires
-pay_for_block-requires c =
-    let small : c.args.sale.shares ≤ 5 = block_small c.args.history.now c.args.seat c.args.sale c.requires.may
-    c.requires.game.sound in omega arith
+pub move_block-requires : goal.move_block-requires
+move_block-requires c =
+    let before : IsGame c.args.game.now = subst IsGame c.game.view_is c.game.invariant in
+    let small : c.args.sale.shares ≤ 5 = block_small c.args.game.now c.args.seat c.args.sale c.requires.may
+    before.sound in omega arith
 
-pub returns-clause-after : goal.returns-clause-after
-returns-clause-after c =
-    moved_there (fallen c.args.sale.shares) c.record_president.new.history c.move_token_down.new.history
-    c.args.sale.company c.in_ok-move_token_down.ensures.seats c.in_ok-move_token_down.ensures.events
-    ∙ ap (λ (game : Game). token_moved (fallen c.args.sale.shares) game c.args.sale.company)
-    (c.in_ok-record_president.ensures
-    ∙ ap (λ (game : Game). with_president game c.args.sale.company) c.in_ok-pay_for_block.ensures)
+pub kept-requires : goal.kept-requires
+kept-requires c =
+    act_sound c.move_block.result c.game.inside.history c.args.game.now c.move_block.new.history
+    (λ (game : Game). after_sale game c.args.seat c.args.sale.company c.args.sale.shares) c.game.view_is
+    c.move_block.ensures (sale_game c.args.game.now c.args.seat c.args.sale c.requires.at_table c.requires.may)
+    c.game.invariant
 
-pub returns-clause-game : goal.returns-clause-game
-returns-clause-game c =
-    move_game (fallen c.args.sale.shares) c.record_president.new.history c.move_token_down.new.history
-    c.args.sale.company c.in_ok-move_token_down.ensures.seats c.in_ok-move_token_down.ensures.events
-    (sold_game c.args.history.now c.pay_for_block.new.history c.record_president.new.history c.args.seat c.args.sale
-    c.requires.at_table c.requires.may c.requires.game c.in_ok-pay_for_block.ensures
-    c.in_ok-record_president.ensures)
+pub returns : goal.returns
+returns c =
+    act_done c.move_block.result c.kept.result c.game.inside.history c.args.game.now c.move_block.new.history
+    c.kept.new.history (λ (game : Game). after_sale game c.args.seat c.args.sale.company c.args.sale.shares)
+    c.game.view_is c.kept.ensures.done c.kept.ensures.same c.move_block.ensures

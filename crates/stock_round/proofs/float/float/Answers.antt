@@ -1,13 +1,14 @@
-use Rattle.certs.proofs.Dividends.{broken_game}
-use Rattle.stock_round.proofs.FloatLemmas.{float_game, float_led}
+use Rattle.std.proofs.Common.{◌≡◌, true, sym, subst}
+use Rattle.totals.specs.LookBack.{Game}
+use Rattle.stock_round.proofs.FloatLemmas.{float_led, float_sound}
+use Rattle.stock_round.specs.Float.{is_to_float}
 use Rattle.stock_round.proofs.float.float.Goals as goal
 
 pub par_value-amount-requires : goal.par_value-amount-requires
 par_value-amount-requires c =
-    float_led c.args.history.now c.args.company c.requires.ready c.requires.game.sound
+    float_led c.game.inside.history c.args.company
+    (subst (λ (game : Game). is_to_float game.events c.args.company ≡ true) (sym c.game.view_is) c.requires)
+    c.game.invariant.sound
 
-pub returns-clause-game : goal.returns-clause-game
-returns-clause-game c =
-    broken_game c.append.new.self c.record_broken.new.self c.in_ok-record_broken.ensures.ok
-    (float_game c.args.history.now c.append.new.self c.args.company _ c.requires.ready c.in_ok-append.ensures.ok
-    c.requires.game)
+pub append-requires-clause-keeps : goal.append-requires-clause-keeps
+append-requires-clause-keeps c = float_sound c.args.game.now c.args.company _ c.requires
