@@ -7,16 +7,16 @@ use Rattle.certs.proofs.dividend.pay_out.Goals as goal
 
 pub kept-requires : goal.kept-requires
 kept-requires c =
-    act_sound c.move_token_right.result c.game.inside.history c.pay_all.new.game c.move_token_right.new.history
+    act_sound c.move_token_right-done.result c.game.inside.history c.pay_all.new.game c.move_token_right-done.new.history
     (λ (game : Game). token_moved right_of game c.args.company) c.game.view_is
-    (moved_ok c.move_token_right.result right_of c.game.inside.history c.move_token_right.new.history c.args.company
-    c.move_token_right.ensures.seats c.move_token_right.ensures.events)
+    (moved_ok c.move_token_right-done.result right_of c.game.inside.history c.move_token_right-done.new.history c.args.company
+    c.move_token_right-done.ensures.seats c.move_token_right-done.ensures.events)
     (move_game right_of c.pay_all.new.game c.args.company) c.game.invariant
 
 pub returns : goal.returns
 returns c =
-    act_done c.move_token_right.result c.kept.result c.game.inside.history _ c.move_token_right.new.history
+    act_done c.move_token_right-done.result c.kept.result c.game.inside.history _ c.move_token_right-done.new.history
     c.kept.new.history (λ (game : Game). token_moved right_of game c.args.company)
     (c.game.view_is ∙ c.in_ok-pay_all.ensures) c.kept.ensures.done c.kept.ensures.same
-    (moved_ok c.move_token_right.result right_of c.game.inside.history c.move_token_right.new.history c.args.company
-    c.move_token_right.ensures.seats c.move_token_right.ensures.events)
+    (moved_ok c.move_token_right-done.result right_of c.game.inside.history c.move_token_right-done.new.history c.args.company
+    c.move_token_right-done.ensures.seats c.move_token_right-done.ensures.events)

@@ -1,6 +1,6 @@
 use Rattle.std.proofs.Common.{◌≤◌, subst, arith}
 use Rattle.totals.specs.LookBack.{Game}
-use Rattle.certs.proofs.Games.{act_done, act_sound}
+use Rattle.certs.proofs.Games.{act_sound}
 use Rattle.certs.proofs.SaleAllowed.{block_small}
 use Rattle.certs.proofs.Sales.{sale_game}
 use Rattle.certs.specs.Games.{IsGame}
@@ -21,13 +21,7 @@ move_block-requires c =
 
 pub kept-requires : goal.kept-requires
 kept-requires c =
-    act_sound c.move_block.result c.game.inside.history c.args.game.now c.move_block.new.history
+    act_sound c.move_block-done.result c.game.inside.history c.args.game.now c.move_block-done.new.history
     (λ (game : Game). after_sale game c.args.seat c.args.sale.company c.args.sale.shares) c.game.view_is
-    c.move_block.ensures (sale_game c.args.game.now c.args.seat c.args.sale c.requires.at_table c.requires.may)
+    c.move_block-done.ensures (sale_game c.args.game.now c.args.seat c.args.sale c.requires.at_table c.requires.may)
     c.game.invariant
-
-pub returns : goal.returns
-returns c =
-    act_done c.move_block.result c.kept.result c.game.inside.history c.args.game.now c.move_block.new.history
-    c.kept.new.history (λ (game : Game). after_sale game c.args.seat c.args.sale.company c.args.sale.shares)
-    c.game.view_is c.kept.ensures.done c.kept.ensures.same c.move_block.ensures
