@@ -1,9 +1,10 @@
-use Rattle.std.proofs.Common.{subst}
+use Rattle.std.proofs.Common.{subst, sym}
 use Rattle.events.specs.declared.ruling.Refusal.TheVariants.{Stock}
 use Rattle.history.proofs.NearlySound.{ruling_quiet}
 use Rattle.sheets.specs.Part.{line_unread}
 use Rattle.stock_round.proofs.OrderLemmas.{may_act_after}
-use Rattle.stock_round.specs.Orders.{judgement_of, refusal_of}
+use Rattle.stock_round.specs.Orders.{MayAct, judgement_of, refusal_of}
+use Rattle.totals.specs.LookBack.{Game}
 use Rattle.turns.proofs.Ruled.{none_as_refusal}
 use Rattle.turns.specs.Ruling.{IsOrderToDo, IsToDo, has_place_in_turn}
 use Rattle.stock_round.proofs.turn.rule_line.Goals as goal
@@ -18,6 +19,7 @@ act-requires-clause-may c =
     subst (IsOrderToDo has_place_in_turn judgement events line order) c.if-not-branch.false
     c.in_ok-rule_line.ensures.order
     in
-    may_act_after c.args.history.now c.rule_line.new.history _ c.args.seat c.args.deals.bought order
+    subst (λ (game : Game). MayAct game c.args.seat order) (sym c.take-game.ensures)
+    (may_act_after c.args.history.now c.rule_line.new.history _ c.args.seat c.args.deals.bought order
     c.in_ok-rule_line.ensures.ruling (ruling_quiet _ _ _)
-    (none_as_refusal Stock (judgement_of c.args.history.now c.args.seat c.args.deals.bought order) to_do.kept)
+    (none_as_refusal Stock (judgement_of c.args.history.now c.args.seat c.args.deals.bought order) to_do.kept))
