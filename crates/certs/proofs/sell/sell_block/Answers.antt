@@ -7,14 +7,14 @@ use Rattle.certs.specs.Games.{IsGame}
 use Rattle.certs.specs.SaleAct.{after_sale}
 use Rattle.certs.proofs.sell.sell_block.Goals as goal
 
-pub overflow_cast : goal.overflow_cast
-overflow_cast c =
+pub overflow_cast-sale : goal.overflow_cast-sale
+overflow_cast-sale c =
     let before : IsGame c.args.game.now = subst IsGame c.game.view_is c.game.invariant in
     let small : c.args.sale.shares ≤ 5 = block_small c.args.game.now c.args.seat c.args.sale c.requires.may
     before.sound in omega arith
 
-pub move_block-requires : goal.move_block-requires
-move_block-requires c =
+pub move_block-done-requires : goal.move_block-done-requires
+move_block-done-requires c =
     let before : IsGame c.args.game.now = subst IsGame c.game.view_is c.game.invariant in
     let small : c.args.sale.shares ≤ 5 = block_small c.args.game.now c.args.seat c.args.sale c.requires.may
     before.sound in omega arith
