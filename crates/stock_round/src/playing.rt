@@ -15,6 +15,7 @@ use tables::{Round, Seat};
 use turns::{TurnRules, play_round};
 
 /// The rules of a stock round. `ShareDeals` says what a seat has done in a turn.
+#[derive(Drop)]
 pub struct StockTurns {
     /// The allocator of the game.
     pub alloc: Global,
