@@ -73,14 +73,17 @@ purchase_game game new seat company from price may within is_price recorded befo
     let pays : pos price ≤ℤ free_cash_of game.seats game.events seat =
     subst (λ (n : ℕ). pos n ≤ℤ free_cash_of game.seats game.events seat) (sym is_price)
     (paid game.seats game.events seat (share_price_of game.events company from) may.pays) in
-    subst IsGame (sym recorded) (record { few = before.few; sound =
-    elim (square_of game.events company) as (λ (found : Option Square). square_of game.events company ≡ found
-    → is_some found ≡ true → IsSound (with_event game (event.Bought company seat 1 from price))) [
-      | None ↦ λ is has. absurd (cc)
-      | Some square ↦ λ is has. purchase_law game company seat 1 from price square is within
-          (there_is game.events company from may.there) pays sound
-    ]
-    refl may.started })
+    subst IsGame (sym recorded) (record {
+      few = before.few;
+      sound =
+          elim (square_of game.events company) as (λ (found : Option Square). square_of game.events company ≡ found
+          → is_some found ≡ true → IsSound (with_event game (event.Bought company seat 1 from price))) [
+            | None ↦ λ is has. absurd (cc)
+            | Some square ↦ λ is has. purchase_law game company seat 1 from price square is within
+                (there_is game.events company from may.there) pays sound
+          ]
+          refl may.started;
+    })
 
 -- by a purchase the seat acts
 pub in_purchase : (game : Game) (seat : Seat) (company : Company) (from : ShareSource)
