@@ -7,18 +7,18 @@ use Rattle.totals.proofs.look_back.GameView.cash.Goals as goal
 
 pub returns-in-Some-clause-sum : goal.returns-in-Some-clause-sum
 returns-in-Some-clause-sum c =
-    let all : AreTotalsOf c.in-Some.totals.now c.args.self.now.events.now = c.in-Some.ensures in
-    account_kept c.start_of-start.result _ _ c.args.self.now.events.now c.from.result _ c.args.self.now.short
+    let all : AreTotalsOf c.in-Some.totals.now c.args.self.now.events = c.in-Some.ensures.totals in
+    account_kept c.start_of-start.result _ _ c.args.self.now.events c.from.result _ c.totals.ensures.short
     (omega (arith, c.start_of-start.type_inv)) c.from.ensures
     (balance_there _ _ _ _ _ _ c.entry_of_party-entry.ensures (all.cash c.args.party (omega
     (arith, c.entry_of_party-entry.ensures, c.if-entry-lt15.true))))
     ∙ ap (λ (start : ℕ). balance start (λ e. paid_to c.args.party (payment_of e))
-    (λ e. paid_by c.args.party (payment_of e)) c.args.self.now.events.now) c.start_of-start.ensures
+    (λ e. paid_by c.args.party (payment_of e)) c.args.self.now.events) c.start_of-start.ensures
 
 pub returns-in-Some-clause-within : goal.returns-in-Some-clause-within
 returns-in-Some-clause-within c =
-    let all : AreTotalsOf c.in-Some.totals.now c.args.self.now.events.now = c.in-Some.ensures in
-    account_moderate c.start_of-start.result _ _ c.args.self.now.events.now c.from.result _ c.args.self.now.short
+    let all : AreTotalsOf c.in-Some.totals.now c.args.self.now.events = c.in-Some.ensures.totals in
+    account_moderate c.start_of-start.result _ _ c.args.self.now.events c.from.result _ c.totals.ensures.short
     (omega (arith, c.start_of-start.type_inv)) c.from.ensures
     (balance_there _ _ _ _ _ _ c.entry_of_party-entry.ensures (all.cash c.args.party (omega
     (arith, c.entry_of_party-entry.ensures, c.if-entry-lt15.true))))
