@@ -22,38 +22,9 @@ impl From<TrainSeller> for Fact<'_> {
     }
 }
 
-/// Pairs a fact with its name. A name alone is that of the variable with the fact.
-macro_rules! fact {
-    ($name:ident) => {
-        (stringify!($name), Fact::from(*$name))
-    };
-    ($name:ident: $fact:expr) => {
-        (stringify!($name), Fact::from($fact))
-    };
-}
-
-/// Writes an event as an object. Each row has a kind of event, its word and its other facts. After
-/// the rows are the arms of the other kinds.
-macro_rules! write_event {
-    (
-        $out:ident, $alloc:ident, $event:ident
-        $(Event::$kind:ident $fields:tt => $word:literal $(, $name:ident $(: $fact:expr)?)*;)*
-        else { $($other:pat => $written:expr,)* }
-    ) => {
-        match $event {
-            $(Event::$kind $fields => Object {
-                alloc: $alloc,
-                facts: &[(EVENT, Fact::from($word)) $(, fact!($name $(: $fact)?))*],
-            }
-            .serialize($out),)*
-            $($other => $written,)*
-        }
-    };
-}
-
 /// An event of the game of some sheets. Its member `event` is the first word of its line in the
 /// report; for a line of a sheet it is what became of the line.
-#[derive(Drop)]
+#[derive(Clone, Copy)]
 pub(crate) struct EventFacts<'a> {
     pub(crate) alloc: Global,
     pub(crate) sheets: &'a Sheets<'a>,
@@ -64,74 +35,455 @@ impl Described for EventFacts<'_> {}
 
 impl Serialize for EventFacts<'_> {
     fn serialize<S: Serializer>(&self, out: &mut S) -> Result<(), S::Error> {
-        let (alloc, sheets, event) = (self.alloc, self.sheets, self.event);
-        let player = |seat: &Seat| name(sheets, *seat);
+        match self.event {
+            Event::Ruled { seat, line, ruling } => RuledFacts {
+                alloc: self.alloc,
+                name: name(self.sheets, *seat),
+                line: *line,
+                ruling,
+            }
+            .serialize(out),
+            Event::Sold { .. }
+            | Event::Bids { .. }
+            | Event::Price { .. }
+            | Event::Revenue { .. }
+            | Event::Exchanged { .. }
+            | Event::Closed(_)
+            | Event::PrivateBought { .. } => PrivateEvent(*self).serialize(out),
+            Event::Given { .. }
+            | Event::Par { .. }
+            | Event::President { .. }
+            | Event::Bought { .. }
+            | Event::Sells { .. }
+            | Event::Floats { .. }
+            | Event::Moves { .. } => ShareEvent(*self).serialize(out),
+            Event::Home { .. }
+            | Event::Token { .. }
+            | Event::Laid { .. }
+            | Event::Withheld { .. }
+            | Event::Runs { .. }
+            | Event::Dividend { .. } => RunEvent(*self).serialize(out),
+            Event::Traded { .. }
+            | Event::Train { .. }
+            | Event::Phase(_)
+            | Event::Rusted { .. }
+            | Event::Discarded { .. }
+            | Event::Forced(_) => TrainEvent(*self).serialize(out),
+            Event::Round(_)
+            | Event::Passes(_)
+            | Event::Left { .. }
+            | Event::Aid { .. }
+            | Event::Bankrupt(_)
+            | Event::Broken => PlayEvent(*self).serialize(out),
+        }
+    }
+}
+
+/// An event of privates.
+#[derive(Drop)]
+struct PrivateEvent<'a>(EventFacts<'a>);
+
+impl Described for PrivateEvent<'_> {}
+
+impl Serialize for PrivateEvent<'_> {
+    fn serialize<S: Serializer>(&self, out: &mut S) -> Result<(), S::Error> {
+        let alloc = self.0.alloc;
+        let sheets = self.0.sheets;
+        let player = |seat: &Seat| Fact::from(name(sheets, *seat));
         let holder = |holder: &Holder| match holder {
             Holder::Seat(seat) => Fact::from(name(sheets, *seat)),
             Holder::Company(company) => Fact::from(*company),
         };
-        write_event! { out, alloc, event
-            Event::Round(round) => "ROUND", round;
-            Event::Passes(seat) => "PASSES", player: player(seat);
-            Event::Left { seat, lines } => "LEFT", player: player(seat), lines;
-            Event::Sold { private, seat, price } =>
-                "SOLD", private, player: player(seat), amount: *price;
-            Event::Bids { private, seat, amount } => "BIDS", private, player: player(seat), amount;
-            Event::Price { price } => "PRICE", private: Private::SchuylkillValley, amount: *price;
-            Event::Revenue { private, owner, amount } =>
-                "REVENUE", private, owner: holder(owner), amount;
-            Event::Given { company, seat, shares } =>
-                "GIVEN", company, player: player(seat), shares: Amount::from(*shares);
-            Event::Par { company, price } => "PAR", company, amount: *price;
-            Event::President { company, seat } => "PRESIDENT", company, player: player(seat);
-            Event::Bought { company, seat, shares, from, price } =>
-                "BOUGHT", company, player: player(seat), shares: Amount::from(*shares),
-                from: from.text(), amount: *price;
-            Event::Sells { company, seat, shares, price } =>
-                "SELLS", company, player: player(seat), shares: Amount::from(*shares),
-                amount: *price;
-            Event::Exchanged { seat, from } =>
-                "EXCHANGED", private: Private::MohawkHudson, player: player(seat),
-                from: from.text();
-            Event::Floats { company, amount } => "FLOATS", company, amount;
-            Event::Moves { company, square } => "MOVES", company, price: price(*square), square;
-            Event::Home { company, place } => "HOME", company, place: place.text().as_slice();
-            Event::Laid { company, lay, cost } =>
-                "LAID", company, tile: Amount::from(lay.tile.number()),
-                hex: lay.hex.text().as_slice(), rotation: lay.rot.turns(), is_swapped: lay.swap,
-                amount: *cost;
-            Event::Token { company, place, cost } =>
-                "TOKEN", company, place: place.text().as_slice(), amount: *cost;
-            Event::Withheld { company, amount } => "WITHHELD", company, amount;
-            Event::Runs { company, revenue } => "RUNS", company, amount: *revenue;
-            Event::Dividend { company, holder: paid, amount } =>
-                "DIVIDEND", company, owner: holder(paid), amount;
-            Event::Traded { company, kind } => "TRADED", company, train: *kind;
-            Event::Train { company, kind, from, price } =>
-                "TRAIN", company, train: *kind, from, amount: *price;
-            Event::Phase(kind) => "PHASE", train: *kind;
-            Event::Rusted { owner: Some(company), kind } => "RUSTED", owner: *company, train: *kind;
-            Event::Rusted { owner: None, kind } => "RUSTED", owner: "POOL", train: *kind;
-            Event::Discarded { company, kind } => "DISCARDED", company, train: *kind;
-            Event::Closed(private) => "CLOSED", private;
-            Event::PrivateBought { private, company, seller, price } =>
-                "PRIVATE", private, company, player: player(seller), amount: *price;
-            Event::Forced(company) => "FORCED", company;
-            Event::Aid { seat, company, amount } => "AID", player: player(seat), company, amount;
-            Event::Bankrupt(seat) => "BANKRUPT", player: player(seat);
-            else {
-                Event::Ruled { seat, line, ruling } => RuledFacts {
-                    alloc,
-                    name: name(sheets, *seat),
-                    line: *line,
-                    ruling,
-                }
-                .serialize(out),
-                Event::Broken => {
-                    let facts = &[(EVENT, Fact::from("BROKEN"))];
-                    Object { alloc, facts }.serialize(out)
-                },
+        match self.0.event {
+            Event::Sold {
+                private,
+                seat,
+                price,
+            } => {
+                let facts = &[
+                    (EVENT, Fact::from("SOLD")),
+                    ("private", Fact::from(*private)),
+                    ("player", player(seat)),
+                    ("amount", Fact::from(*price)),
+                ];
+                Object { alloc, facts }.serialize(out)
             }
+            Event::Bids {
+                private,
+                seat,
+                amount,
+            } => {
+                let facts = &[
+                    (EVENT, Fact::from("BIDS")),
+                    ("private", Fact::from(*private)),
+                    ("player", player(seat)),
+                    ("amount", Fact::from(*amount)),
+                ];
+                Object { alloc, facts }.serialize(out)
+            }
+            Event::Price { price } => {
+                let facts = &[
+                    (EVENT, Fact::from("PRICE")),
+                    ("private", Fact::from(Private::SchuylkillValley)),
+                    ("amount", Fact::from(*price)),
+                ];
+                Object { alloc, facts }.serialize(out)
+            }
+            Event::Revenue {
+                private,
+                owner,
+                amount,
+            } => {
+                let facts = &[
+                    (EVENT, Fact::from("REVENUE")),
+                    ("private", Fact::from(*private)),
+                    ("owner", holder(owner)),
+                    ("amount", Fact::from(*amount)),
+                ];
+                Object { alloc, facts }.serialize(out)
+            }
+            Event::Exchanged { seat, from } => {
+                let facts = &[
+                    (EVENT, Fact::from("EXCHANGED")),
+                    ("private", Fact::from(Private::MohawkHudson)),
+                    ("player", player(seat)),
+                    ("from", Fact::from(from.text())),
+                ];
+                Object { alloc, facts }.serialize(out)
+            }
+            Event::Closed(private) => {
+                let facts = &[
+                    (EVENT, Fact::from("CLOSED")),
+                    ("private", Fact::from(*private)),
+                ];
+                Object { alloc, facts }.serialize(out)
+            }
+            Event::PrivateBought {
+                private,
+                company,
+                seller,
+                price,
+            } => {
+                let facts = &[
+                    (EVENT, Fact::from("PRIVATE")),
+                    ("private", Fact::from(*private)),
+                    ("company", Fact::from(*company)),
+                    ("player", player(seller)),
+                    ("amount", Fact::from(*price)),
+                ];
+                Object { alloc, facts }.serialize(out)
+            }
+            _ => out.unit(), // (of another kind)
+        }
+    }
+}
+
+/// An event of shares, and of tokens on the stock market.
+#[derive(Drop)]
+struct ShareEvent<'a>(EventFacts<'a>);
+
+impl Described for ShareEvent<'_> {}
+
+impl Serialize for ShareEvent<'_> {
+    fn serialize<S: Serializer>(&self, out: &mut S) -> Result<(), S::Error> {
+        let alloc = self.0.alloc;
+        let sheets = self.0.sheets;
+        let player = |seat: &Seat| Fact::from(name(sheets, *seat));
+        match self.0.event {
+            Event::Given {
+                company,
+                seat,
+                shares,
+            } => {
+                let facts = &[
+                    (EVENT, Fact::from("GIVEN")),
+                    ("company", Fact::from(*company)),
+                    ("player", player(seat)),
+                    ("shares", Fact::from(Amount::from(*shares))),
+                ];
+                Object { alloc, facts }.serialize(out)
+            }
+            Event::Par { company, price } => {
+                let facts = &[
+                    (EVENT, Fact::from("PAR")),
+                    ("company", Fact::from(*company)),
+                    ("amount", Fact::from(*price)),
+                ];
+                Object { alloc, facts }.serialize(out)
+            }
+            Event::President { company, seat } => {
+                let facts = &[
+                    (EVENT, Fact::from("PRESIDENT")),
+                    ("company", Fact::from(*company)),
+                    ("player", player(seat)),
+                ];
+                Object { alloc, facts }.serialize(out)
+            }
+            Event::Bought {
+                company,
+                seat,
+                shares,
+                from,
+                price,
+            } => {
+                let facts = &[
+                    (EVENT, Fact::from("BOUGHT")),
+                    ("company", Fact::from(*company)),
+                    ("player", player(seat)),
+                    ("shares", Fact::from(Amount::from(*shares))),
+                    ("from", Fact::from(from.text())),
+                    ("amount", Fact::from(*price)),
+                ];
+                Object { alloc, facts }.serialize(out)
+            }
+            Event::Sells {
+                company,
+                seat,
+                shares,
+                price,
+            } => {
+                let facts = &[
+                    (EVENT, Fact::from("SELLS")),
+                    ("company", Fact::from(*company)),
+                    ("player", player(seat)),
+                    ("shares", Fact::from(Amount::from(*shares))),
+                    ("amount", Fact::from(*price)),
+                ];
+                Object { alloc, facts }.serialize(out)
+            }
+            Event::Floats { company, amount } => {
+                let facts = &[
+                    (EVENT, Fact::from("FLOATS")),
+                    ("company", Fact::from(*company)),
+                    ("amount", Fact::from(*amount)),
+                ];
+                Object { alloc, facts }.serialize(out)
+            }
+            Event::Moves { company, square } => {
+                let facts = &[
+                    (EVENT, Fact::from("MOVES")),
+                    ("company", Fact::from(*company)),
+                    ("price", Fact::from(price(*square))),
+                    ("square", Fact::from(*square)),
+                ];
+                Object { alloc, facts }.serialize(out)
+            }
+            _ => out.unit(), // (of another kind)
+        }
+    }
+}
+
+/// An event of tiles and tokens on the map, and of what a company earns.
+#[derive(Drop)]
+struct RunEvent<'a>(EventFacts<'a>);
+
+impl Described for RunEvent<'_> {}
+
+impl Serialize for RunEvent<'_> {
+    fn serialize<S: Serializer>(&self, out: &mut S) -> Result<(), S::Error> {
+        let alloc = self.0.alloc;
+        let sheets = self.0.sheets;
+        let holder = |holder: &Holder| match holder {
+            Holder::Seat(seat) => Fact::from(name(sheets, *seat)),
+            Holder::Company(company) => Fact::from(*company),
+        };
+        match self.0.event {
+            Event::Home { company, place } => {
+                let place = place.text();
+                let facts = &[
+                    (EVENT, Fact::from("HOME")),
+                    ("company", Fact::from(*company)),
+                    ("place", Fact::from(place.as_slice())),
+                ];
+                Object { alloc, facts }.serialize(out)
+            }
+            Event::Token {
+                company,
+                place,
+                cost,
+            } => {
+                let place = place.text();
+                let facts = &[
+                    (EVENT, Fact::from("TOKEN")),
+                    ("company", Fact::from(*company)),
+                    ("place", Fact::from(place.as_slice())),
+                    ("amount", Fact::from(*cost)),
+                ];
+                Object { alloc, facts }.serialize(out)
+            }
+            Event::Laid { company, lay, cost } => {
+                let hex = lay.hex.text();
+                let facts = &[
+                    (EVENT, Fact::from("LAID")),
+                    ("company", Fact::from(*company)),
+                    ("tile", Fact::from(Amount::from(lay.tile.number()))),
+                    ("hex", Fact::from(hex.as_slice())),
+                    ("rotation", Fact::from(lay.rot.turns())),
+                    ("is_swapped", Fact::Flag(lay.swap)),
+                    ("amount", Fact::from(*cost)),
+                ];
+                Object { alloc, facts }.serialize(out)
+            }
+            Event::Withheld { company, amount } => {
+                let facts = &[
+                    (EVENT, Fact::from("WITHHELD")),
+                    ("company", Fact::from(*company)),
+                    ("amount", Fact::from(*amount)),
+                ];
+                Object { alloc, facts }.serialize(out)
+            }
+            Event::Runs { company, revenue } => {
+                let facts = &[
+                    (EVENT, Fact::from("RUNS")),
+                    ("company", Fact::from(*company)),
+                    ("amount", Fact::from(*revenue)),
+                ];
+                Object { alloc, facts }.serialize(out)
+            }
+            Event::Dividend {
+                company,
+                holder: paid,
+                amount,
+            } => {
+                let facts = &[
+                    (EVENT, Fact::from("DIVIDEND")),
+                    ("company", Fact::from(*company)),
+                    ("owner", holder(paid)),
+                    ("amount", Fact::from(*amount)),
+                ];
+                Object { alloc, facts }.serialize(out)
+            }
+            _ => out.unit(), // (of another kind)
+        }
+    }
+}
+
+/// An event of trains.
+#[derive(Drop)]
+struct TrainEvent<'a>(EventFacts<'a>);
+
+impl Described for TrainEvent<'_> {}
+
+impl Serialize for TrainEvent<'_> {
+    fn serialize<S: Serializer>(&self, out: &mut S) -> Result<(), S::Error> {
+        let alloc = self.0.alloc;
+        match self.0.event {
+            Event::Traded { company, kind } => {
+                let facts = &[
+                    (EVENT, Fact::from("TRADED")),
+                    ("company", Fact::from(*company)),
+                    ("train", Fact::from(*kind)),
+                ];
+                Object { alloc, facts }.serialize(out)
+            }
+            Event::Train {
+                company,
+                kind,
+                from,
+                price,
+            } => {
+                let facts = &[
+                    (EVENT, Fact::from("TRAIN")),
+                    ("company", Fact::from(*company)),
+                    ("train", Fact::from(*kind)),
+                    ("from", Fact::from(*from)),
+                    ("amount", Fact::from(*price)),
+                ];
+                Object { alloc, facts }.serialize(out)
+            }
+            Event::Phase(kind) => {
+                let facts = &[(EVENT, Fact::from("PHASE")), ("train", Fact::from(*kind))];
+                Object { alloc, facts }.serialize(out)
+            }
+            Event::Rusted {
+                owner: Some(company),
+                kind,
+            } => {
+                let facts = &[
+                    (EVENT, Fact::from("RUSTED")),
+                    ("owner", Fact::from(*company)),
+                    ("train", Fact::from(*kind)),
+                ];
+                Object { alloc, facts }.serialize(out)
+            }
+            Event::Rusted { owner: None, kind } => {
+                let facts = &[
+                    (EVENT, Fact::from("RUSTED")),
+                    ("owner", Fact::from("POOL")),
+                    ("train", Fact::from(*kind)),
+                ];
+                Object { alloc, facts }.serialize(out)
+            }
+            Event::Discarded { company, kind } => {
+                let facts = &[
+                    (EVENT, Fact::from("DISCARDED")),
+                    ("company", Fact::from(*company)),
+                    ("train", Fact::from(*kind)),
+                ];
+                Object { alloc, facts }.serialize(out)
+            }
+            Event::Forced(company) => {
+                let facts = &[
+                    (EVENT, Fact::from("FORCED")),
+                    ("company", Fact::from(*company)),
+                ];
+                Object { alloc, facts }.serialize(out)
+            }
+            _ => out.unit(), // (of another kind)
+        }
+    }
+}
+
+/// An event of the course of play.
+#[derive(Drop)]
+struct PlayEvent<'a>(EventFacts<'a>);
+
+impl Described for PlayEvent<'_> {}
+
+impl Serialize for PlayEvent<'_> {
+    fn serialize<S: Serializer>(&self, out: &mut S) -> Result<(), S::Error> {
+        let alloc = self.0.alloc;
+        let sheets = self.0.sheets;
+        let player = |seat: &Seat| Fact::from(name(sheets, *seat));
+        match self.0.event {
+            Event::Round(round) => {
+                let facts = &[(EVENT, Fact::from("ROUND")), ("round", Fact::from(*round))];
+                Object { alloc, facts }.serialize(out)
+            }
+            Event::Passes(seat) => {
+                let facts = &[(EVENT, Fact::from("PASSES")), ("player", player(seat))];
+                Object { alloc, facts }.serialize(out)
+            }
+            Event::Left { seat, lines } => {
+                let facts = &[
+                    (EVENT, Fact::from("LEFT")),
+                    ("player", player(seat)),
+                    ("lines", Fact::from(*lines)),
+                ];
+                Object { alloc, facts }.serialize(out)
+            }
+            Event::Aid {
+                seat,
+                company,
+                amount,
+            } => {
+                let facts = &[
+                    (EVENT, Fact::from("AID")),
+                    ("player", player(seat)),
+                    ("company", Fact::from(*company)),
+                    ("amount", Fact::from(*amount)),
+                ];
+                Object { alloc, facts }.serialize(out)
+            }
+            Event::Bankrupt(seat) => {
+                let facts = &[(EVENT, Fact::from("BANKRUPT")), ("player", player(seat))];
+                Object { alloc, facts }.serialize(out)
+            }
+            Event::Broken => {
+                let facts = &[(EVENT, Fact::from("BROKEN"))];
+                Object { alloc, facts }.serialize(out)
+            }
+            _ => out.unit(), // (of another kind)
         }
     }
 }
