@@ -1,6 +1,7 @@
 -- No sale by which money is raised for a company moves its presidency.
 use Rattle.std.proofs.Common.{◌≡◌, ℕ, ◌*◌, ◌==◌, Bool, true, false, ◌&&◌, ◌||◌, if◌then◌else◌, List, [], ◌∷◌, ◌++◌}
 use Rattle.std.proofs.Common.{Option, Some, None, ℤ, pos, ◌≤ℤ◌, ◌<ℤ◌, ◌+ℤ◌, ◌-ℤ◌, refl, sym, ap, subst, ◌∙◌, arith}
+use Rattle.std.proofs.lemmas.Bool.{or_parts}
 use Rattle.std.proofs.lemmas.Bool.Decides.{nat_tests}
 use Rattle.std.proofs.lemmas.Int.{ints}
 use Rattle.std.specs.Int.Signed.{le_z, lt_z}
@@ -32,18 +33,13 @@ use Rattle.tables.specs.declared.roster.Company.{Company}
 use Rattle.tables.specs.declared.seat.Seat.{Seat}
 use Rattle.tables.specs.declared.squares.Square.{Square}
 
--- neither of two holds
-neither : (a b : Bool) → (a || b) ≡ false → (a ≡ false) × (b ≡ false)
-neither true b none = absurd cc
-neither false b none = (refl, none)
-
 -- a seat stays first with most where none of the others has more than it
 most_stays : (events : List Event) (company : Company) (shares : Seat → ℤ) (first : Seat) (others : List Seat) →
     ((other : Seat) → shares other ≤ℤ shares_of events company (OfSeat other)) →
     one_has events company (shares first +ℤ pos 1) others ≡ false → with_most shares first others ≡ first
 most_stays events company shares first [] fewer none = refl
 most_stays events company shares first (other ∷ others) fewer none =
-    let parts = neither (le_z (shares first +ℤ pos 1) (shares_of events company (OfSeat other)))
+    let parts = or_parts (le_z (shares first +ℤ pos 1) (shares_of events company (OfSeat other)))
     (one_has events company (shares first +ℤ pos 1) others) none in
     let under : shares_of events company (OfSeat other) <ℤ (shares first +ℤ pos 1) = grind (arith, ints, parts.0) in
     let no_more : lt_z (shares first) (shares other) ≡ false =

@@ -5,12 +5,13 @@ use Rattle.std.proofs.Common.{◌++◌, Option, Some, None, pos, ◌≤ℤ◌, r
 use Rattle.std.proofs.lemmas.Bool.Decides.{Decides-eqb}
 use Rattle.std.proofs.lemmas.Int.{ints}
 use Rattle.std.proofs.lemmas.List.Sums.{sum_by_push}
+use Rattle.std.proofs.lemmas.Bool.{and_parts}
 use Rattle.events.specs.Event.{train_owner_place, train_moved}
 use Rattle.events.specs.declared.event.Event.{Event}
 use Rattle.events.specs.declared.event.TrainMove.{TrainMove}
 use Rattle.events.specs.declared.event.TrainPlace.{TrainPlace}
 use Rattle.events.specs.declared.event.TrainPlace.TheVariants as place
-use Rattle.totals.proofs.Choices.{both, same_company_is, truth}
+use Rattle.totals.proofs.Choices.{same_company_is, truth}
 use Rattle.totals.proofs.EventAtEnd.{trains_at_before, trains_at_end}
 use Rattle.totals.specs.Trains.{TrainsAreHeld, one_if, same_train_place, train_goes, trains_at, trains_held}
 use Rattle.totals.specs.Trains.{trains_sold}
@@ -66,7 +67,7 @@ still_held : (events : List Event) (event : Event) (move : TrainMove) (place : T
 still_held events event move place kind is there before =
     elim (truth (train_goes place kind (Some move))) [
       | inl goes ↦
-          let same = both (same_kind move.kind kind) (same_train_place move.from place) goes in
+          let same = and_parts (same_kind move.kind kind) (same_train_place move.from place) goes in
           let here : pos 1 ≤ℤ trains_at events place kind =
           rw (← (same_train_place_is move.from place same.1), ← (same_kind_is move.kind kind same.0)) there in
           let fact = trains_at_end events event place kind in

@@ -51,12 +51,6 @@ either_order true false n = refl
 either_order false true n = refl
 either_order false false n = refl
 
--- both of two tests
-pub both : (a b : Bool) → (a && b) ≡ true → (a ≡ true) × (b ≡ true)
-both true true hold = (refl, refl)
-both true false hold = absurd cc
-both false b hold = absurd cc
-
 -- the company at a place of the roster
 abbrev company_at : ℕ → Company
 company_at place =
