@@ -28,14 +28,11 @@ use Rattle.search_task.specs.Marks.{IsMarked}
 use Rattle.best_run.proofs.Advance.{Tells, node_left, to_side, to_stop}
 use Rattle.search_task.proofs.Marked.{free_misses}
 use Rattle.best_run.proofs.Prefix.{Holds, distinct_apart, holds_first, onto}
+use Rattle.legal_runs.proofs.Tests.{to_not}
 
 -- some moves lead from a state to the end, and earn this much
 abbrev pub CanFinish : Task → State → ℕ → Type 0
 CanFinish task state total = (moves : List Move) × Completes task state moves × (total_after task state moves ≡ total)
-
-not_marked : (b : Bool) → (b ≡ true → ⊥) → not b ≡ true
-not_marked true none = absurd (none refl)
-not_marked false none = refl
 
 -- a step from a stop is entered there
 pub next_stop : (at next : Spot) (stop : Stop) → stop_of at ≡ Some stop → AreJoined at next → stop_of next ≡ Some stop
@@ -144,7 +141,7 @@ module _ (position : Position) (company : Company) (kinds : List Kind) (task : T
             (misses assigned.used segment.borders.items)
             (ap (λ b. may_come b run segment.to) node.stops
             ∙ and_from (ltb 0 run.left) (not (get_or run.visited segment.to false)) (lt-ltb 0 run.left left)
-            (not_marked (get_or run.visited segment.to false) new)) free;
+            (to_not (get_or run.visited segment.to false) new)) free;
         tells = subst (λ o. TellsHere (left_at step) (listed o ++ stops)
             (border_at (entered_at step).hex (entered_at step).end ++ borders) (using assigned segment)
             (along task run segment)) (sym there)

@@ -32,6 +32,7 @@ use Rattle.tables.specs.Train.{limit_of, same_kind, trains_of}
 use Rattle.tables.specs.declared.rolling_stock.Kind.{Kind}
 use Rattle.tables.specs.declared.rolling_stock.Kind.TheVariants.{Two, Three, Four, Five, Six, Diesel}
 use Rattle.tables.specs.declared.roster.Company.{Company}
+use Rattle.tables.proofs.Companies.{company_itself}
 
 -- a kind is itself
 kind_itself : (kind : Kind) → same_kind kind kind ≡ true
@@ -253,10 +254,6 @@ module _ (game : Game) (company : Company) (none : has_trains game.events compan
         | inl is ↦ subst Allows (sym is) (from_there seller.Bank its.0 refl refl)
         | inr is ↦ subst Allows (sym is) (from_there seller.BankPool its.0 refl refl)
       ]
-
--- a company is itself
-pub company_itself : (company : Company) → same_company company company ≡ true
-company_itself company = grind (arith, nat_tests)
 
 -- what a company has once it was paid what it lacks
 paid_up : (cash lack : ℤ) (cost : ℕ) (same : Bool) → same ≡ true → lack ≡ (pos cost -ℤ cash)

@@ -11,7 +11,7 @@ use Rattle.events.specs.declared.event.Event.{Event}
 use Rattle.events.specs.declared.event.TrainMove.{TrainMove}
 use Rattle.events.specs.declared.event.TrainPlace.{TrainPlace}
 use Rattle.events.specs.declared.event.TrainPlace.TheVariants as place
-use Rattle.totals.proofs.Choices.{same_company_is, truth}
+use Rattle.totals.proofs.Choices.{truth}
 use Rattle.totals.proofs.EventAtEnd.{trains_at_before, trains_at_end}
 use Rattle.totals.specs.Trains.{TrainsAreHeld, one_if, same_train_place, train_goes, trains_at, trains_held}
 use Rattle.totals.specs.Trains.{trains_sold}
@@ -19,6 +19,7 @@ use Rattle.tables.specs.Train.{index_of_kind, same_kind, trains_of}
 use Rattle.tables.specs.declared.rolling_stock.Kind.{Kind}
 use Rattle.tables.specs.declared.rolling_stock.Kind.TheVariants.{Two, Three, Four, Five, Six, Diesel}
 use Rattle.tables.specs.declared.roster.Company.{Company}
+use Rattle.tables.proofs.Companies.{company_is}
 
 -- the kind at a place among the kinds
 abbrev kind_at : ℕ → Kind
@@ -40,7 +41,7 @@ same_kind_is a b same =
 pub same_train_place_is : (a b : TrainPlace) → same_train_place a b ≡ true → a ≡ b
 same_train_place_is place.Bank place.Bank same = refl
 same_train_place_is place.BankPool place.BankPool same = refl
-same_train_place_is (place.Company a) (place.Company b) same = ap place.Company (same_company_is a b same)
+same_train_place_is (place.Company a) (place.Company b) same = ap place.Company (company_is a b same)
 same_train_place_is place.OutOfPlay place.OutOfPlay same = refl
 same_train_place_is a b same = absurd cc
 

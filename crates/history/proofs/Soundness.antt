@@ -371,7 +371,7 @@ no_bids : (seat : Seat) → bids_of [] seat ≡ 0
 no_bids seat = refl
 
 -- and the seats hold nothing
-holds_none : (company : Company) (seats : List Seat) → held_by [] company seats ≡ pos 0
+pub holds_none : (company : Company) (seats : List Seat) → held_by [] company seats ≡ pos 0
 holds_none company [] = refl
 holds_none company (seat ∷ others) = omega (arith, ints, holds_none company others)
 

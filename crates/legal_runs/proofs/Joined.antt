@@ -26,7 +26,7 @@ pub fails : {P : Type 0} (test : Bool) → (test ≡ true) ↔ P → (test ≡ f
 fails true exact = (λ h. cc, λ none. absurd (none (exact.0 refl)))
 fails false exact = (λ h fact. let wrong : false ≡ true = exact.1 fact in cc, λ none. refl)
 
-both_fail : (a b : Bool) → a ≡ false → b ≡ false → (a || b) ≡ false
+pub both_fail : (a b : Bool) → a ≡ false → b ≡ false → (a || b) ≡ false
 both_fail a b first second = ap (λ x. x || b) first ∙ second
 
 -- stops with one place in the order of the map are one

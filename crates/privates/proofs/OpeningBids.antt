@@ -79,7 +79,7 @@ never_near (Some (Made private bid)) (event ∷ events) none = absurd (cc)
 never_near (Some (Ended private)) (event ∷ events) none = never_near (Some (Ended private)) events none
 
 -- a bid on a private that is or isn't ended was before, if it stands
-not_ended : (here : Bool) (before : Option ℕ) (amount : ℕ)
+pub not_ended : (here : Bool) (before : Option ℕ) (amount : ℕ)
     → unwrap_or (if here then Some None else None) before ≡ Some amount → before ≡ Some amount
 not_ended true before amount is_bid = absurd (cc)
 not_ended false before amount is_bid = is_bid

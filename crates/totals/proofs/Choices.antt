@@ -68,9 +68,3 @@ company_at_place ChesapeakeOhio = refl
 company_at_place Erie = refl
 company_at_place NewHaven = refl
 company_at_place BostonMaine = refl
-
--- companies of one place are the same
-pub same_company_is : (a b : Company) → same_company a b ≡ true → a ≡ b
-same_company_is a b same =
-    sym (company_at_place a) ∙ ap company_at ((Decides-eqb (index_of_company a) (index_of_company b)).0 same)
-    ∙ company_at_place b
