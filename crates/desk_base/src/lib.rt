@@ -2,21 +2,6 @@
 //! rounds can still come in a game, why an order is wrong, a game between two rounds, how many
 //! tokens, trains and tiles are left, and a text piece by piece.
 //!
-//! An order file in memory, `FIRST`, played up to the end of PR1, after which PR2 comes:
-//!
-//! ```
-//! let Ok(sheets) = collect(rt.alloc(), FIRST.as_bytes()) else {
-//!     panic!(rt; "refused")
-//! };
-//! let Ok(play) = play_behind(rt.alloc(), &sheets, Round::Opening(1)) else {
-//!     panic!(rt; "not played")
-//! };
-//! let Some(stood) = stood_now(&play) else {
-//!     panic!(rt; "broken off")
-//! };
-//! assert_eq!(rt; stood.end, End::Awaiting(Round::Opening(2)));
-//! ```
-//!
 //! Reading order: `text` (`Piece`, `push`, `fill`), `wrapped` (lines of 80 columns), `reason`
 //! (`Reason`), `advice`, `explaining` (`explain`), `set_number` (`number_in_set`, `end_after`),
 //! `between_rounds` (`Stood`), `next_round` (`Coming`), `stock_left`, `coming` (`can_come`),

@@ -9,17 +9,6 @@
 //! fails. Each file has exactly one report. `length_of_round` cuts a list of events into its
 //! rounds.
 //!
-//! An order file in memory, `FIRST`, and its report:
-//!
-//! ```
-//! let Ok(sheets) = collect(rt.alloc(), FIRST.as_bytes()) else {
-//!     panic!(rt; "refused")
-//! };
-//! let game = play(rt.alloc(), &sheets)?;
-//! let text = report(rt.alloc(), &game)?;
-//! assert_eq!(rt; text.as_slice(), FIRST_REPORT.as_bytes());
-//! ```
-//!
 //! Reading order: `column` (numbers and names in columns), `line` (an event as a line), `statement`
 //! (what each player and the bank hold), `end_worth` (what each player is worth at the end), `text`
 //! (`refusal_text`, `report`, `round_text`), `parts` (`header_text`, `next_text`, `end_text` and

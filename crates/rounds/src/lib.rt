@@ -5,16 +5,6 @@
 //! broken and its set has ended. Other crates play an opening and a stock round. This crate plays
 //! an operating round, company by company; the crate `operating` plays each company's turn.
 //!
-//! An order file in memory, `FIRST`, whose game waits for the sheets of PR2:
-//!
-//! ```
-//! let Ok(sheets) = collect(rt.alloc(), FIRST.as_bytes()) else {
-//!     panic!(rt; "refused")
-//! };
-//! let game = play(rt.alloc(), &sheets)?;
-//! assert_eq!(rt; game.outcome(), End::Awaiting(Round::Opening(2)));
-//! ```
-//!
 //! Reading order: `following`, `sequence` (`next`), `fault`, `operating_round`, `steps` (`Play`, a
 //! round at a time), `game` (`Game`, `play_with`, `play`), `laws`, `call_laws`.
 #![tactic(auto)]

@@ -1,7 +1,6 @@
 //! The examples at the roots of the desk's crates, word for word: `./check docs` compares them.
 
 use crate::support::FIRST;
-use desk_base::{play_behind, stood_now};
 use desk_check::{Extent, check};
 use desk_moves::{read_company, read_hex, read_kind};
 use desk_round::round;
@@ -11,8 +10,6 @@ use map_tables::Hex;
 use moves::least_bid;
 use page::page;
 use page_all::page_of_all;
-use rounds::End;
-use sheets::collect;
 use std::test::Fail;
 use tables::{Company, Kind, Private, Round};
 
@@ -20,20 +17,6 @@ use tables::{Company, Kind, Private, Round};
 fn moves_knows_the_least_bid(rt: HostRuntime) {
     let history = History::start(rt.alloc(), 3);
     assert_eq!(rt; least_bid(&history, Private::ChamplainStLawrence), 45);
-}
-
-#[test]
-fn desk_base_stands_after_a_round(rt: HostRuntime) {
-    let Ok(sheets) = collect(rt.alloc(), FIRST.as_bytes()) else {
-        panic!(rt; "refused")
-    };
-    let Ok(play) = play_behind(rt.alloc(), &sheets, Round::Opening(1)) else {
-        panic!(rt; "not played")
-    };
-    let Some(stood) = stood_now(&play) else {
-        panic!(rt; "broken off")
-    };
-    assert_eq!(rt; stood.end, End::Awaiting(Round::Opening(2)));
 }
 
 #[test]

@@ -1,12 +1,8 @@
-//! The examples at the roots of `sheets`, `rounds`, `report` and `umpire`, word for word: `./check
-//! docs` compares them.
+//! The examples at the roots of `sheets` and `umpire`, word for word: `./check docs` compares them.
 
 use crate::support::{FIRST, FIRST_REPORT};
 use order_grammar::Order;
-use report::report;
-use rounds::{End, play};
 use sheets::collect;
-use std::test::Fail;
 use tables::{Round, Seat};
 use umpire::{Watched, run};
 
@@ -35,25 +31,4 @@ fn umpire_runs_over_bytes(rt: HostRuntime) {
     let mut writer = Watched::new(&mut text);
     assert_eq!(rt; run(rt.alloc(), &mut reader, &mut writer), Ok(()));
     assert_eq!(rt; text.as_slice(), FIRST_REPORT.as_bytes());
-}
-
-#[test]
-fn rounds_plays_a_game(rt: HostRuntime) -> Result<(), Fail> {
-    let Ok(sheets) = collect(rt.alloc(), FIRST.as_bytes()) else {
-        panic!(rt; "refused")
-    };
-    let game = play(rt.alloc(), &sheets)?;
-    assert_eq!(rt; game.outcome(), End::Awaiting(Round::Opening(2)));
-    Ok(())
-}
-
-#[test]
-fn report_reports_a_game(rt: HostRuntime) -> Result<(), Fail> {
-    let Ok(sheets) = collect(rt.alloc(), FIRST.as_bytes()) else {
-        panic!(rt; "refused")
-    };
-    let game = play(rt.alloc(), &sheets)?;
-    let text = report(rt.alloc(), &game)?;
-    assert_eq!(rt; text.as_slice(), FIRST_REPORT.as_bytes());
-    Ok(())
 }
