@@ -3,6 +3,7 @@
 use Rattle.std.proofs.Common.{◌≡◌, ℕ, ◌+◌, ◌<◌, ◌≤◌, Bool, true, false, ◌⊎◌, inl, inr, Some, List, [], ◌∷◌, ◌++◌}
 use Rattle.std.proofs.Common.{length, slice_get, replicate, refl, sym, ap, subst, ◌∙◌, arith, le_trans, length-append}
 use Rattle.std.proofs.lemmas.Option.{slice_get_within}
+use Rattle.std.proofs.lemmas.Bool.{and_from}
 use Rattle.reach.specs.Position.{IsAmong}
 use Rattle.reach.specs.declared.walk.WalkStep.{WalkStep}
 use Rattle.best_run.specs.declared.memo.Found.{Found}
@@ -29,7 +30,7 @@ use Rattle.best_run.proofs.Eased.{freer_none}
 use Rattle.search_task.proofs.MarkedNumbers.{crossed_fit, crossed_marks, crossed_misses, crossed_some}
 use Rattle.search_task.proofs.Places.{below_next}
 use Rattle.best_run.proofs.Traced.{Leads, TakesFrom, traced_both, traced_none}
-use Rattle.search_task.proofs.Booleans.{both_are, both_first, both_second}
+use Rattle.search_task.proofs.Booleans.{both_first, both_second}
 
 -- a segment that leads from a spot is fit
 fits_at : (task : Task) → IsFit task → (spot place : ℕ) (segment : Segment) (stop : Bool)
@@ -192,7 +193,7 @@ module _ (task : Task) (fit : IsFit task) (stop : ℕ) (stops : stop_in (node_at
         place_of = at.0;
         is_leg = at.1;
         first = has.made.place_is;
-        can = both_are (may_come (stop_in (node_at task leg.segment.to)) run leg.segment.to)
+        can = and_from (may_come (stop_in (node_at task leg.segment.to)) run leg.segment.to)
             (misses assigned.used leg.segment.borders.items)
             (ap (λ b. may_come b run leg.segment.to) to_stop
             ∙ (ap (λ (n : ℕ). may_come true run n) has.to_is ∙ chunk.come))

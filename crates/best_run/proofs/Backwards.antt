@@ -16,7 +16,7 @@ use Rattle.reach.proofs.Spots.{back}
 use Rattle.tables.specs.declared.roster.Company.{Company}
 use Rattle.legal_runs.specs.Legal.{AreDistinct, EndsAtStop, border_at, crossed, first_stop, listed, visited, worth}
 use Rattle.legal_runs.proofs.RunReached.{flip_enters, flip_leaves, flipped}
-use Rattle.legal_runs.proofs.TwoTrain.{one_border, returning}
+use Rattle.legal_runs.proofs.TwoTrain.{no_border, one_border, returning}
 use Rattle.best_run.proofs.Prefix.{Holds, onto}
 
 -- things of a list, one by one before others
@@ -108,11 +108,6 @@ onto_border : (hex : Hex) (end : TrackEnd) (borders : List ℕ)
     → onto (border_at hex end) borders ≡ border_at hex end ++ borders
 onto_border hex (AtSide side) borders = refl
 onto_border hex (AtStop number) borders = refl
-
--- no border is crossed at a stop
-no_border : (hex : Hex) (end : TrackEnd) (stop : Stop) → stop_at_end hex end ≡ Some stop → border_at hex end ≡ []
-no_border hex (AtSide side) stop is = absurd cc
-no_border hex (AtStop number) stop is = refl
 
 -- a walk begins at a spot
 abbrev pub Starts : List WalkStep → Spot → Type 0

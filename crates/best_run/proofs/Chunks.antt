@@ -2,6 +2,7 @@
 -- then is a leg. So a leg at once leads to the same state as its segments one by one.
 use Rattle.std.proofs.Common.{◌≡◌, ℕ, zero, suc, ◌+◌, ◌<◌, ◌≤◌, Bool, true, false, not, ◌&&◌, nat_lt, ◌⊎◌, inl, inr}
 use Rattle.std.proofs.Common.{List, [], ◌∷◌, ◌++◌, length, get_or, set, refl, sym, ap, subst, ◌∙◌, arith, length-set}
+use Rattle.std.proofs.lemmas.Bool.{and_from}
 use Rattle.reach.proofs.Marking.{set_cases}
 use Rattle.legal_runs.proofs.Marks.{among_both}
 use Rattle.search_task.specs.declared.task.Segment.{Segment}
@@ -24,7 +25,7 @@ use Rattle.best_run.proofs.Eased.{freer_all}
 use Rattle.search_task.proofs.Marks.{length_marked}
 use Rattle.search_task.proofs.Places.{leading_fits, side_value}
 use Rattle.best_run.proofs.Places.{take_free}
-use Rattle.search_task.proofs.Booleans.{both_are, both_first}
+use Rattle.search_task.proofs.Booleans.{both_first}
 
 -- what some segments cross is free where they are
 pub free_all : (segment : Segment) (hops : List Hop) (used : List Bool) → AreFree used segment hops
@@ -274,7 +275,7 @@ module _ (task : Task) (fit : IsFit task) where
   chunk_back [] assigned run segment to later leads free come completes =
       let same : to ≡ segment.to = sym leads.1 in
       record {
-        can = both_are (may_come (stop_in (node_at task segment.to)) run segment.to)
+        can = and_from (may_come (stop_in (node_at task segment.to)) run segment.to)
             (misses assigned.used segment.borders.items)
             (ap (λ b. may_come b run segment.to) leads.0 ∙ (ap (λ (n : ℕ). may_come true run n) leads.1 ∙ come)) free;
         moves = later;
@@ -297,7 +298,7 @@ module _ (task : Task) (fit : IsFit task) where
       chunk_back hops (using assigned segment) (along task run segment) hop.segment to later leads.2 free.1
       (come_by run segment to side ∙ come) (subst (λ s. Completes task s later) (sym same) completes) in
       record {
-        can = both_are (may_come (stop_in (node_at task segment.to)) run segment.to)
+        can = and_from (may_come (stop_in (node_at task segment.to)) run segment.to)
             (misses assigned.used segment.borders.items) (ap (λ b. may_come b run segment.to) side) free.0;
         moves = go hop.place hop.segment ∷ rest.moves;
         completes = (record { passes = leads.0.1; leads = leads.1; taken = rest.can }, rest.completes);

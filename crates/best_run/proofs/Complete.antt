@@ -1,7 +1,7 @@
 -- A run that holds is gone over step by step: from where it is to its end, where it is finished.
 use Rattle.std.proofs.Common.{◌≡◌, ℕ, ◌<◌, ◌≤◌, Bool, true, false, not, ltb, inl, inr, Option, Some, None, IfSome}
 use Rattle.std.proofs.Common.{List, [], ◌∷◌, ◌++◌, length, get_or, refl, sym, ap, subst, ◌∙◌, arith}
-use Rattle.std.proofs.lemmas.Bool.{lt-ltb}
+use Rattle.std.proofs.lemmas.Bool.{and_from, lt-ltb}
 use Rattle.map_tables.specs.declared.hex.Hex.{Hex}
 use Rattle.map_tables.specs.declared.place.Stop.{Stop}
 use Rattle.map_tables.specs.declared.track.TrackEnd.{TrackEnd}
@@ -28,15 +28,11 @@ use Rattle.search_task.specs.Marks.{IsMarked}
 use Rattle.best_run.proofs.Advance.{Tells, node_left, to_side, to_stop}
 use Rattle.search_task.proofs.Marked.{free_misses}
 use Rattle.best_run.proofs.Prefix.{Holds, distinct_apart, holds_first, onto}
-use Rattle.search_task.proofs.Booleans.{both_are}
+use Rattle.legal_runs.proofs.Tests.{to_not}
 
 -- some moves lead from a state to the end, and earn this much
 abbrev pub CanFinish : Task → State → ℕ → Type 0
 CanFinish task state total = (moves : List Move) × Completes task state moves × (total_after task state moves ≡ total)
-
-not_marked : (b : Bool) → (b ≡ true → ⊥) → not b ≡ true
-not_marked true none = absurd (none refl)
-not_marked false none = refl
 
 -- a step from a stop is entered there
 pub next_stop : (at next : Spot) (stop : Stop) → stop_of at ≡ Some stop → AreJoined at next → stop_of next ≡ Some stop
@@ -122,7 +118,7 @@ module _ (position : Position) (company : Company) (kinds : List Kind) (task : T
       subst (λ (n : ℕ). IsSideNode (node_at task n)) (sym is.to)
       (node_left position company kinds task describes (left_at step) None side) in
       record {
-        taken = both_are (may_come (stop_in (node_at task segment.to)) run segment.to)
+        taken = and_from (may_come (stop_in (node_at task segment.to)) run segment.to)
             (misses assigned.used segment.borders.items) (ap (λ b. may_come b run segment.to) node.stops) free;
         tells = subst (λ o. TellsHere (left_at step) (listed o ++ stops)
             (border_at (entered_at step).hex (entered_at step).end ++ borders) (using assigned segment)
@@ -141,11 +137,11 @@ module _ (position : Position) (company : Company) (kinds : List Kind) (task : T
         | inr passed ↦ ahead (left_at step) stop there (inl refl) passed
       ] in
       record {
-        taken = both_are (may_come (stop_in (node_at task segment.to)) run segment.to)
+        taken = and_from (may_come (stop_in (node_at task segment.to)) run segment.to)
             (misses assigned.used segment.borders.items)
             (ap (λ b. may_come b run segment.to) node.stops
-            ∙ both_are (ltb 0 run.left) (not (get_or run.visited segment.to false)) (lt-ltb 0 run.left left)
-            (not_marked (get_or run.visited segment.to false) new)) free;
+            ∙ and_from (ltb 0 run.left) (not (get_or run.visited segment.to false)) (lt-ltb 0 run.left left)
+            (to_not (get_or run.visited segment.to false) new)) free;
         tells = subst (λ o. TellsHere (left_at step) (listed o ++ stops)
             (border_at (entered_at step).hex (entered_at step).end ++ borders) (using assigned segment)
             (along task run segment)) (sym there)
@@ -206,7 +202,7 @@ module _ (position : Position) (company : Company) (kinds : List Kind) (task : T
       subst (λ (v : ℕ). may_earn assigned.kind assigned.cap run.most v ≡ true) (sym tells.value) may in (
         finish ∷ rest.0,
         (
-          both_are (stop_in (node_at task run.head)) (may_earn assigned.kind assigned.cap run.most run.value)
+          and_from (stop_in (node_at task run.head)) (may_earn assigned.kind assigned.cap run.most run.value)
               stops earns,
           rest.1,
         ),

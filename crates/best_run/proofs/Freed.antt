@@ -3,7 +3,7 @@
 -- earned more.
 use Rattle.std.proofs.Common.{◌≡◌, ℕ, ◌+◌, ◌<◌, ◌≤◌, Bool, true, false, not, ◌||◌, nat_le, nat_lt, ◌==◌, ◌⊎◌, inl}
 use Rattle.std.proofs.Common.{inr, List, [], ◌∷◌, length, get_or, refl, sym, ap, subst, ◌∙◌, arith}
-use Rattle.std.proofs.lemmas.Bool.{le-leb, leb-true, lt-ltb, ltb-true}
+use Rattle.std.proofs.lemmas.Bool.{and_from, le-leb, leb-true, lt-ltb, ltb-true}
 use Rattle.search_task.specs.declared.task.Segment.{Segment}
 use Rattle.search_task.specs.declared.task.Task.{Task}
 use Rattle.best_run.specs.declared.state.Assigned.{Assigned}
@@ -20,7 +20,7 @@ use Rattle.best_run.proofs.Eased.{Eased, ease, eased, freer_all, freer_set}
 use Rattle.best_run.proofs.Hopeless.{take_back}
 use Rattle.search_task.proofs.Marks.{length_marked, marked_fewer, marked_most}
 use Rattle.search_task.proofs.Places.{leading_fits}
-use Rattle.search_task.proofs.Booleans.{both_are, both_first, both_second}
+use Rattle.search_task.proofs.Booleans.{both_first, both_second}
 
 -- another run at the same stop
 abbrev pub freed : PartialRun → ℕ → ℕ → ℕ → ℕ → List Bool → PartialRun
@@ -106,7 +106,7 @@ module _ (task : Task) (fit : IsFit task) where
       → can_take task run assigned.used segment ≡ true
       → can_take task (freed run home first left value visited) used segment ≡ true
   frees_take assigned run home first left value visited used kind cap more frees spot index segment leads taken =
-      both_are (may_come stop (freed run home first left value visited) segment.to)
+      and_from (may_come stop (freed run home first left value visited) segment.to)
       (misses used segment.borders.items) (come stop refl
       (both_first (may_come stop run segment.to) (misses assigned.used segment.borders.items) taken)) free
     where
@@ -121,7 +121,7 @@ module _ (task : Task) (fit : IsFit task) where
       come false is came = refl
       come true is came =
           let fits = leading_fits task fit spot index segment leads in
-          both_are (nat_lt 0 left) (not (get_or visited segment.to false))
+          and_from (nat_lt 0 left) (not (get_or visited segment.to false))
           (some_left used run.left left frees.left_is (both_first (nat_lt 0 run.left)
           (not (get_or run.visited segment.to false)) came) segment.borders.items
           (omega (arith, fewer_left task fits.0 true segment fits.1 is used frees.whole free)))
@@ -265,7 +265,7 @@ module _ (task : Task) (fit : IsFit task) where
       let is = completes.0 in
       record {
         completes = (
-          both_are (stop_in (node_at task run.head)) (may_earn kind cap run.most value)
+          and_from (stop_in (node_at task run.head)) (may_earn kind cap run.most value)
               (both_first (stop_in (node_at task run.head)) (may_earn assigned.kind assigned.cap run.most run.value) is)
               (earns_freed assigned.kind assigned.cap kind cap run.most run.value more value frees.looser frees.value_is
               (both_second (stop_in (node_at task run.head))

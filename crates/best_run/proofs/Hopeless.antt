@@ -4,7 +4,7 @@
 use Rattle.std.proofs.Common.{◌≡◌, ℕ, zero, suc, ◌+◌, ◌-◌, ◌*◌, ◌<◌, ◌≤◌, Bool, true, false, not, ◌&&◌, nat_lt, ◌⊎◌}
 use Rattle.std.proofs.Common.{Some, inl, inr, List, [], ◌∷◌, length, get_or, set, slice_get, refl, sym}
 use Rattle.std.proofs.Common.{ap, subst, ◌∙◌, arith, length-set, suc-mul}
-use Rattle.std.proofs.lemmas.Bool.{lt-ltb}
+use Rattle.std.proofs.lemmas.Bool.{and_from, lt-ltb, not-true}
 use Rattle.reach.proofs.Marking.{set_keeps}
 use Rattle.search_task.specs.declared.task.Node.{Node}
 use Rattle.search_task.specs.declared.task.Segment.{Segment}
@@ -34,7 +34,7 @@ use Rattle.best_run.proofs.Eased.{rest_low}
 use Rattle.best_run.proofs.Equal.{low_assigned}
 use Rattle.best_run.proofs.Lasting.{last_stuck}
 use Rattle.search_task.proofs.Marks.{length_marked}
-use Rattle.search_task.proofs.Booleans.{both_are, both_first, both_second, not_both}
+use Rattle.search_task.proofs.Booleans.{both_first, both_second, not_both}
 
 -- the stops ahead that are not visited
 pub but : List Bool → List Bool → List Bool
@@ -99,10 +99,6 @@ spend true false value level here later passed after one first two second left l
 spend false true value level here later passed after one first two second left less ends both fewer all = omega arith
 spend false false value level here later passed after one first two second left less ends both fewer all = omega arith
 
-not_is : (b : Bool) → not b ≡ true → b ≡ false
-not_is true is = absurd cc
-not_is false is = refl
-
 is_not : (b : Bool) → b ≡ false → not b ≡ true
 is_not true is = absurd cc
 is_not false is = refl
@@ -136,14 +132,14 @@ come_before : (task : Task) (run : PartialRun) (segment : Segment) → segment.t
     → (stop : Bool) (spot : ℕ) → may_come stop (along task run segment) spot ≡ true → may_come stop run spot ≡ true
 come_before task run segment low false spot is = refl
 come_before task run segment low true spot is =
-    both_are (nat_lt 0 run.left) (not (get_or run.visited spot false))
+    and_from (nat_lt 0 run.left) (not (get_or run.visited spot false))
     (left_before (stop_in (node_at task segment.to)) run.left
     (both_first (nat_lt 0 (left_after (stop_in (node_at task segment.to)) run.left))
     (not (get_or (marked_if (stop_in (node_at task segment.to)) run.visited segment.to) spot false)) is))
     (is_not (get_or run.visited spot false) (false_or (get_or run.visited spot false) (λ was.
     not_both (get_or (marked_if (stop_in (node_at task segment.to)) run.visited segment.to) spot false)
     (mark_keeps (stop_in (node_at task segment.to)) run.visited segment.to spot low was)
-    (not_is (get_or (marked_if (stop_in (node_at task segment.to)) run.visited segment.to) spot false)
+    (not-true (get_or (marked_if (stop_in (node_at task segment.to)) run.visited segment.to) spot false)
     (both_second (nat_lt 0 (left_after (stop_in (node_at task segment.to)) run.left))
     (not (get_or (marked_if (stop_in (node_at task segment.to)) run.visited segment.to) spot false)) is)))))
 
@@ -160,7 +156,7 @@ take_before task assigned run from segment fits whole spots other is =
     let missed : misses (marked_all assigned.used segment.borders.items) other.borders.items ≡ true =
     both_second (may_come stop (along task run segment) other.to)
     (misses (marked_all assigned.used segment.borders.items) other.borders.items) is in
-    both_are (may_come stop run other.to) (misses assigned.used other.borders.items)
+    and_from (may_come stop run other.to) (misses assigned.used other.borders.items)
     (come_before task run segment (omega (arith, fits.to, spots)) stop other.to came)
     (free_misses assigned.used other.borders.items (λ border among marked.
     misses_free (marked_all assigned.used segment.borders.items) other.borders.items missed border among
@@ -320,7 +316,7 @@ module _ (task : Task) (fit : IsFit task) (ready : AreReady task) (first : Assig
       (misses assigned.used leg.segment.borders.items) taken) in
       let low : leg.segment.to < length run.visited = omega (arith, follows.spots, leads.fits.to) in
       let free : get_or run.visited leg.segment.to false ≡ false =
-      not_is (get_or run.visited leg.segment.to false)
+      not-true (get_or run.visited leg.segment.to false)
       (both_second (nat_lt 0 run.left) (not (get_or run.visited leg.segment.to false)) came) in
       let open_here : get_or (but ahead run.visited) leg.segment.to false ≡ true =
       but_at ahead run.visited leg.segment.to low leads.lies free in

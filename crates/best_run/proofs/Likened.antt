@@ -4,6 +4,7 @@ use Rattle.std.proofs.Common.{◌≡◌, ℕ, zero, suc, ◌+◌, ◌<◌, ◌�
 use Rattle.std.proofs.Common.{inr, Option, Some, None, List, [], ◌∷◌, length, get_or, set, slice_get, replicate, refl}
 use Rattle.std.proofs.Common.{sym, ap, subst, ◌∙◌, arith, get_or-set_same, length-set}
 use Rattle.std.proofs.lemmas.Option.{slice_get_within}
+use Rattle.std.proofs.lemmas.Bool.{and_from}
 use Rattle.reach.proofs.Collected.{none_marked}
 use Rattle.reach.proofs.Marking.{set_cases, set_keeps}
 use Rattle.reach.specs.Position.{IsAmong}
@@ -36,7 +37,7 @@ use Rattle.best_run.proofs.Split.{own_length}
 use Rattle.search_task.proofs.Words.{freer_from}
 use Rattle.search_task.proofs.Marks.{length_marked}
 use Rattle.search_task.proofs.Places.{below_next, one_leg}
-use Rattle.search_task.proofs.Booleans.{both_are, both_first, both_second, not_both}
+use Rattle.search_task.proofs.Booleans.{both_first, both_second, not_both}
 
 -- a run that has visited nothing takes each segment whose borders are not used
 pub takes_free : (task : Task) (used : List Bool) (segment : Segment)
@@ -206,7 +207,7 @@ shut_all task ready used reach most shut all below =
 does_set_out : (task : Task) (reach : List Bool) (spot : ℕ) → stop_in (node_at task spot) ≡ true
     → SetsOut task reach spot → sets_out task reach spot ≡ true
 does_set_out task reach spot stops out =
-    both_are (stop_in (node_at task spot)) (own_in (node_at task spot)
+    and_from (stop_in (node_at task spot)) (own_in (node_at task spot)
     || (get_or reach spot false && not (ends_in (node_at task spot)))) stops
     (by_out (own_in (node_at task spot)) (get_or reach spot false) (ends_in (node_at task spot)) out)
   where
@@ -214,7 +215,7 @@ does_set_out task reach spot stops out =
         → (own || (lies && not ends)) ≡ true
     by_out true lies ends out = refl
     by_out false lies ends (inl own) = let wrong : false ≡ true = own in absurd cc
-    by_out false lies ends (inr on) = both_are lies (not ends) on.0 (ap not on.1)
+    by_out false lies ends (inr on) = and_from lies (not ends) on.0 (ap not on.1)
 
 pub shut_same : (task : Task) (used reach : List Bool) (place stop : ℕ) (shut : List Bool) → IsStop task stop
     → slice_get task.stops.items place ≡ Some stop → sets_out task reach stop ≡ false
@@ -294,7 +295,7 @@ module _ (task : Task) (fit : IsFit task) (ready : AreReady task) (first reach s
       → may_come stop run spot ≡ true → may_come stop (with_marks run marks) spot ≡ true
   comes run marks spot lies sees false came = refl
   comes run marks spot lies sees true came =
-      both_are (nat_lt 0 run.left) (not (get_or marks spot false))
+      and_from (nat_lt 0 run.left) (not (get_or marks spot false))
       (both_first (nat_lt 0 run.left) (not (get_or run.visited spot false)) came)
       (unmarked (get_or marks spot false) refl)
     where
@@ -323,7 +324,7 @@ module _ (task : Task) (fit : IsFit task) (ready : AreReady task) (first reach s
       let fits = leg_fits task fit spot (legs_at task spot) (legs_of task ready spot is) is.1 leg
       (among_place (legs_at task spot) place leg at) in
       record {
-        can = both_are (may_come (stop_in (node_at task leg.segment.to)) (with_marks run marks) leg.segment.to)
+        can = and_from (may_come (stop_in (node_at task leg.segment.to)) (with_marks run marks) leg.segment.to)
             (misses others borders) (comes run marks leg.segment.to (reaches spot is out place leg at before) sees
             (stop_in (node_at task leg.segment.to)) come)
             (free_misses others borders (λ border among marked. elim (shares.either border marked) [

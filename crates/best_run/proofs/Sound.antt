@@ -52,10 +52,7 @@ use Rattle.best_run.proofs.Split.{such_canonical, such_later}
 use Rattle.best_run.proofs.RunsOfSet.{drop_first, drop_none}
 use Rattle.best_run.proofs.Sets.{Avoids, IsSetFor}
 use Rattle.search_task.proofs.Booleans.{both_first, both_second}
-
-not_set : (b : Bool) → not b ≡ true → b ≡ true → ⊥
-not_set true fails is = let wrong : false ≡ true = fails in cc
-not_set false fails is = cc
+use Rattle.legal_runs.proofs.Tests.{not_both}
 
 -- one border at most is at an end
 end_once : (hex : Hex) (end : TrackEnd) → AreDistinct (border_at hex end ++ [])
@@ -160,7 +157,7 @@ module _ (position : Position) (company : Company) (lawful : IsLawful position) 
       let left : 0 < run.left = ltb-true 0 run.left (both_first (ltb 0 run.left)
       (not (get_or run.visited segment.to false)) come) in
       let fresh : IsMarked run.visited segment.to → ⊥ =
-      not_set (get_or run.visited segment.to false) (both_second (ltb 0 run.left)
+      not_both (get_or run.visited segment.to false) (both_second (ltb 0 run.left)
       (not (get_or run.visited segment.to false)) come) in
       record {
         tells = subst (λ o. TellsHere most others (left_at step) (listed o ++ stops)

@@ -12,6 +12,7 @@ use Rattle.best_run.specs.declared.canonical.InReach.{InReach}
 use Rattle.best_run.specs.Ahead.{LiesAhead, Widens, beyond, two_ends}
 use Rattle.search_task.specs.Marks.{Freer}
 use Rattle.best_run.specs.Memo.{IsBarred}
+use Rattle.reach.specs.Search.{map_spots}
 use Rattle.search_task.specs.Spots.{ends_in, node_at, own_in, stop_in}
 use Rattle.search_task.specs.Crossed.{misses}
 use Rattle.search_task.specs.Legs.{IsListed, IsStop, legs_at}
@@ -100,7 +101,7 @@ anywhere =
       left = 1;
       value = 0;
       visited =
-          replicate 744 false;
+          replicate map_spots false;
     }
 
 -- more stops lie in reach, and all to which a leg from a stop leads
@@ -154,7 +155,7 @@ PassesFrom task reach spot = IsStop task spot × (ends_in (node_at task spot) �
 pub record MayGoOn (task : Task) (reach : List Bool) (run : PartialRun) : Type 0 where
   pub head : PassesFrom task reach run.head
   pub home : PassesFrom task reach run.home
-  pub spots : length run.visited ≡ 744
+  pub spots : length run.visited ≡ map_spots
 
 -- the run begun, if any, is the same, except that all stops that are not in reach count as visited
 abbrev pub IsRunCanonical : Task → List Bool → Option PartialRun → Option PartialRun → Type 0

@@ -8,6 +8,7 @@ use Rattle.best_run.specs.declared.state.Assigned.{Assigned}
 use Rattle.best_run.specs.declared.state.PartialRun.{PartialRun}
 use Rattle.search_task.specs.Marks.{AreBarred, Freer}
 use Rattle.best_run.specs.MovePath.{marks_in}
+use Rattle.legal_runs.specs.Legal.{map_borders}
 
 -- The same trains are left in two states, with the same kind of train before them. The first has no
 -- less assigned, no lower cap and no border used that the second does not have.
@@ -29,7 +30,7 @@ pub record DominatesRun (first second : PartialRun) : Type 0 where
   pub turned : first.turned ≡ second.turned
   pub most : first.most ≡ second.most
   pub back : TurnsAs first second
-  pub left : (second.left ≤ first.left) ⊎ (279 ≤ first.left)
+  pub left : (second.left ≤ first.left) ⊎ (map_borders ≤ first.left)
   pub value : second.value ≤ first.value
   pub visited : Freer second.visited first.visited
 

@@ -15,6 +15,8 @@ use Rattle.best_run.specs.declared.state.PartialRun.{PartialRun}
 use Rattle.best_run.specs.declared.move_path.Mark.{Mark}
 use Rattle.best_run.specs.declared.move_path.Mark.TheVariants.{Go, Pass, Finish, Turn}
 use Rattle.best_run.specs.MovePath.{IsWritten, marks_in}
+use Rattle.legal_runs.specs.Legal.{map_borders}
+use Rattle.reach.specs.Search.{map_spots}
 use Rattle.search_task.specs.declared.task.Leg.{Leg}
 use Rattle.search_task.specs.Crossed.{marked_all, misses}
 use Rattle.search_task.specs.Spots.{LeadsFrom, ends_in, node_at, own_in, stop_in, value_in}
@@ -40,7 +42,7 @@ marked_if true marks number = set marks number true
 marked_if false marks number = marks
 
 abbrev pub own_before : Task → ℕ → List Bool
-own_before task zero = replicate 744 false
+own_before task zero = replicate map_spots false
 own_before task (suc number) = marked_if (own_in (node_at task number)) (own_before task number) number
 
 -- a run that is at the token where it begins, by the segment at a place; the tokens before that one
@@ -183,7 +185,7 @@ total_after task state (move ∷ moves) = total_after task (after task state mov
 
 -- nothing is assigned
 abbrev pub start : State
-start = between (record { next = 0; total = 0; kind = 0; cap = 0; used = replicate 279 false })
+start = between (record { next = 0; total = 0; kind = 0; cap = 0; used = replicate map_borders false })
 
 -- the marks of some moves, from the first to the last
 abbrev pub marks_of : List Move → List Mark

@@ -7,10 +7,11 @@ use Rattle.best_run.specs.declared.memo.Found.{Found}
 use Rattle.best_run.specs.declared.state.Assigned.{Assigned}
 use Rattle.best_run.specs.MovePath.{marks_in}
 use Rattle.best_run.specs.Moves.{AreInMemo, Completes, Earns, Move, between, start, total_after}
+use Rattle.legal_runs.specs.Legal.{map_borders}
 
 -- the trains before one do not run, and nothing is used
 abbrev pub nothing_before : ℕ → Assigned
-nothing_before next = record { next = next; total = 0; kind = 0; cap = 0; used = replicate 279 false }
+nothing_before next = record { next = next; total = 0; kind = 0; cap = 0; used = replicate map_borders false }
 
 -- the trains from one on earn at most this much
 abbrev pub EarnAtMost : Task → ℕ → ℕ → Type 0

@@ -8,6 +8,7 @@ ghost use Rattle.best_run.specs.Canonical.{ReachesAt, WidensTo, anywhere, sets_o
 ghost use Rattle.best_run.specs.Moves.{EarnsAtMost};
 ghost use Rattle.search_task.specs.Spots.{ends_in, node_at, stop_in};
 ghost use Rattle.best_run.specs.Suffix.{AreBounds};
+ghost use Rattle.reach.specs.Search.{map_spots};
 ghost use Rattle.search_task.specs.Legs.{IsStop};
 
 use crate::end_stops::count;
@@ -48,7 +49,7 @@ fn anywhere() -> PartialRun
 
 /// Adds what a run may reach from a token to what is in reach of the trains that are left.
 fn reach_from(task: &ReadyTask, assigned: &Assigned, stop: usize, reach: &mut Outlook)
-    requires spot { stop < 744 }
+    requires spot { stop < map_spots }
     requires stops { stop_in (node_at task.now stop) ≡ true }
     requires known { IsWorth task.now.spots.items reach.old.ahead reach.old.worth }
     ensures reaches { WidensTo task.now assigned.now stop reach.old.ahead reach.new.ahead }
@@ -65,7 +66,7 @@ fn reach_from(task: &ReadyTask, assigned: &Assigned, stop: usize, reach: &mut Ou
 
 /// Puts a stop in reach.
 fn hold(task: &ReadyTask, assigned: &Assigned, stop: usize, reach: &mut Outlook)
-    requires spot { stop < 744 }
+    requires spot { stop < map_spots }
     requires known { IsWorth task.now.spots.items reach.old.ahead reach.old.worth }
     ensures holds { Holds stop reach.old.ahead reach.new.ahead }
     ensures known { IsWorth task.now.spots.items reach.new.ahead reach.new.worth }
@@ -80,7 +81,7 @@ fn hold(task: &ReadyTask, assigned: &Assigned, stop: usize, reach: &mut Outlook)
 /// come. Their worth is known for a run that may visit this many stops.
 #[inline(always)]
 fn reach_of(task: &ReadyTask, assigned: &Assigned, stop: usize, left: usize) -> Outlook
-    requires spot { stop < 744 }
+    requires spot { stop < map_spots }
     requires stops { stop_in (node_at task.now stop) ≡ true }
     ensures near { IsNear task.now assigned.now.used stop result.ahead }
     ensures known { IsWorth task.now.spots.items result.ahead result.worth }
@@ -94,7 +95,7 @@ fn reach_of(task: &ReadyTask, assigned: &Assigned, stop: usize, left: usize) -> 
 /// Returns whether a stop lies in reach and may be passed: all that is in reach of it is in reach
 /// already.
 fn is_passed(task: &ReadyTask, stop: usize, ahead: &Spots) -> bool
-    requires spot { stop < 744 }
+    requires spot { stop < map_spots }
     ensures lies { IsTrue result → LiesAhead ahead.now stop }
     ensures passes { IsTrue result → ends_in (node_at task.now stop) ≡ false }
 {
@@ -104,9 +105,9 @@ fn is_passed(task: &ReadyTask, stop: usize, ahead: &Spots) -> bool
 
 /// Adds what is in reach of a token, unless it is in reach already.
 fn reach_token(task: &ReadyTask, assigned: &Assigned, stop: usize, reach: &mut InReach)
-    requires spot { stop < 744 }
+    requires spot { stop < map_spots }
     requires stops { stop_in (node_at task.now stop) ≡ true }
-    requires left { reach.old.left ≤ 744 }
+    requires left { reach.old.left ≤ map_spots }
     ensures { ReachesToken task.now assigned.now.used stop reach.old reach.new }
 {
     task.is_ready();
@@ -123,7 +124,7 @@ fn reach_token(task: &ReadyTask, assigned: &Assigned, stop: usize, reach: &mut I
 
 /// Returns how many stops a train may visit, but no more than there are spots.
 fn left_to(most: usize) -> usize
-    ensures { result ≤ 744 }
+    ensures { result ≤ map_spots }
 {
     if most > SPOTS { SPOTS } else { most }
 }
@@ -183,7 +184,7 @@ pub(crate) fn is_pruned_by_reach(
 
 /// Opens the legs from a stop that cross no used border.
 fn open_from(task: &ReadyTask, assigned: &Assigned, stop: usize, shut: &mut Borders)
-    requires spot { stop < 744 }
+    requires spot { stop < map_spots }
     requires stops { stop_in (node_at task.now stop) ≡ true }
     ensures opens { Opens assigned.now.used shut.old shut.new }
     ensures open { AreOpen task.now assigned.now.used stop shut.new }
@@ -201,7 +202,7 @@ fn open_from(task: &ReadyTask, assigned: &Assigned, stop: usize, shut: &mut Bord
 /// Returns whether a run may set out from a stop: the company has a token there, or it lies in
 /// reach and may be passed.
 fn sets_out(task: &ReadyTask, stop: usize, reach: &Spots) -> bool
-    requires spot { stop < 744 }
+    requires spot { stop < map_spots }
     ensures { result ≡ sets_out task.now reach.now stop }
 {
     let node = task.node(stop);
@@ -252,7 +253,7 @@ pub(crate) fn canonical(task: &ReadyTask, assigned: &Assigned, reach: &Spots) ->
 
 /// Adds a stop, and what a run may reach from there, to what is in reach.
 fn reach_at(task: &ReadyTask, assigned: &Assigned, stop: usize, ahead: &mut Spots)
-    requires spot { stop < 744 }
+    requires spot { stop < map_spots }
     requires stops { stop_in (node_at task.now stop) ≡ true }
     ensures { ReachesAt task.now assigned.now.used stop ahead.old ahead.new }
 {

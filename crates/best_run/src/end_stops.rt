@@ -3,6 +3,8 @@
 ghost use Rattle.std.specs.Prelude.{◌≡◌, ℕ, ◌<◌, ◌≤◌, IsTrue, Some, false, get_or, length, set, true};
 ghost use Rattle.best_run.specs.Ahead.{IsWorth};
 ghost use Rattle.best_run.specs.EndStops.{CountsAsPassed, CrossIt, HasWorth, IsLast};
+ghost use Rattle.legal_runs.specs.Legal.{map_borders};
+ghost use Rattle.reach.specs.Search.{map_spots};
 ghost use Rattle.search_task.specs.Spots.{ends_in, node_at};
 ghost use Rattle.search_task.specs.Legs.{legs_at};
 
@@ -13,8 +15,8 @@ use search_task::ReadyTask;
 /// Returns a border that is crossed by the first two of a stop's legs that cross no used border, or
 /// by the only such leg. Returns `None` if these two share none, or there is no such leg.
 fn exit(task: &ReadyTask, assigned: &Assigned, spot: usize) -> Option<usize>
-    requires spot { spot < 744 }
-    ensures { (border : ℕ) → result ≡ Some border → border < 279 }
+    requires spot { spot < map_spots }
+    ensures { (border : ℕ) → result ≡ Some border → border < map_borders }
 {
     let from = task.departures(spot);
     let mut first = None;
@@ -35,8 +37,8 @@ fn exit(task: &ReadyTask, assigned: &Assigned, spot: usize) -> Option<usize>
 
 /// Returns whether all legs from a stop that cross no used border cross this border.
 fn cross_it(task: &ReadyTask, assigned: &Assigned, spot: usize, border: usize) -> bool
-    requires spot { spot < 744 }
-    requires border { border < 279 }
+    requires spot { spot < map_spots }
+    requires border { border < map_borders }
     ensures { IsTrue result → CrossIt task.now assigned.now.used spot border }
 {
     let from = task.departures(spot);
@@ -53,7 +55,7 @@ fn cross_it(task: &ReadyTask, assigned: &Assigned, spot: usize, border: usize) -
 /// used border cross the one by which it comes. It may be false even if that holds, and it is false
 /// for a run that visits no stops.
 fn is_last(task: &ReadyTask, assigned: &Assigned, run: &PartialRun, spot: usize) -> bool
-    requires spot { spot < 744 }
+    requires spot { spot < map_spots }
     ensures { IsTrue result → (0 < run.now.most) × IsLast task.now assigned.now.used spot }
 {
     task.is_ready();
@@ -74,7 +76,7 @@ pub(crate) fn count(
     spot: usize,
     outlook: &mut Outlook,
 )
-    requires spot { spot < 744 }
+    requires spot { spot < map_spots }
     requires free { get_or outlook.old.ahead spot false ≡ false }
     requires known { HasWorth task.now assigned.now run.now outlook.old.ahead outlook.old.worth }
     ensures marked { outlook.new.ahead ≡ set outlook.old.ahead spot true }
@@ -104,7 +106,7 @@ pub(crate) fn end_at(
     spot: usize,
     outlook: &mut Outlook,
 )
-    requires spot { spot < 744 }
+    requires spot { spot < map_spots }
     requires lies { get_or outlook.old.ahead spot false ≡ true }
     requires passed { CountsAsPassed task.now assigned.now run.now spot outlook.old.ahead
         outlook.old.worth }

@@ -4,6 +4,7 @@ ghost use Rattle.std.specs.Prelude.{◌≡◌, ◌<◌, ◌≤◌, List, true, f
 ghost use Rattle.search_task.specs.declared.task.Node.{Node};
 ghost use Rattle.best_run.specs.Ahead.{IsWorth, WidensAt, WidensBack, WidensBy, WidensFrom, leads_on};
 ghost use Rattle.best_run.specs.EndStops.{HasWorth};
+ghost use Rattle.reach.specs.Search.{map_spots};
 ghost use Rattle.search_task.specs.Spots.{node_at, stop_in};
 
 use crate::end_stops::{count, end_at};
@@ -27,8 +28,9 @@ impl Outlook {
     fn nothing(levels: usize) -> Outlook
         requires levels { 0 < levels }
         requires few { levels ≤ 9 }
-        ensures ahead { result.ahead ≡ replicate 744 false }
-        ensures known { (nodes : List Node) → IsWorth nodes (replicate 744 false) result.worth }
+        ensures ahead { result.ahead ≡ replicate map_spots false }
+        ensures known { (nodes : List Node)
+            → IsWorth nodes (replicate map_spots false) result.worth }
     {
         Outlook {
             ahead: Spots::none(),
@@ -52,8 +54,8 @@ impl Outlook {
 /// Returns an outlook in which nothing lies ahead of a run that may visit this many more stops. If
 /// it may visit all, it earns least by the first level.
 pub(crate) fn nothing_ahead(task: &ReadyTask, left: usize) -> Outlook
-    ensures ahead { result.ahead ≡ replicate 744 false }
-    ensures known { (nodes : List Node) → IsWorth nodes (replicate 744 false) result.worth }
+    ensures ahead { result.ahead ≡ replicate map_spots false }
+    ensures known { (nodes : List Node) → IsWorth nodes (replicate map_spots false) result.worth }
 {
     Outlook::nothing(if left >= task.stop_count() { 1 } else { LEVELS })
 }
@@ -66,7 +68,7 @@ pub(crate) fn leads_on(
     segment: &Segment,
     ahead: &Spots,
 ) -> bool
-    requires to { segment.now.to < 744 }
+    requires to { segment.now.to < map_spots }
     requires stop { stop_in (node_at task.now segment.now.to) ≡ true }
     ensures { result ≡ leads_on task.now assigned.now run.now ahead.now segment.now }
 {
@@ -85,7 +87,7 @@ fn look_from(
     spot: usize,
     outlook: &mut Outlook,
 ) -> bool
-    requires spot { spot < 744 }
+    requires spot { spot < map_spots }
     requires stop { stop_in (node_at task.now spot) ≡ true }
     requires known { HasWorth task.now assigned.now run.now outlook.old.ahead outlook.old.worth }
     ensures widens { WidensFrom task.now assigned.now run.now spot outlook.old.ahead
@@ -121,7 +123,7 @@ pub(crate) fn look_at(
     spot: usize,
     outlook: &mut Outlook,
 )
-    requires spot { spot < 744 }
+    requires spot { spot < map_spots }
     requires stop { stop_in (node_at task.now spot) ≡ true }
     requires free { get_or outlook.old.ahead spot false ≡ false }
     requires known { HasWorth task.now assigned.now run.now outlook.old.ahead outlook.old.worth }
@@ -149,7 +151,7 @@ pub(crate) fn look_along(
     segment: &Segment,
     outlook: &mut Outlook,
 )
-    requires to { segment.now.to < 744 }
+    requires to { segment.now.to < map_spots }
     requires stop { stop_in (node_at task.now segment.now.to) ≡ true }
     requires known { HasWorth task.now assigned.now run.now outlook.old.ahead outlook.old.worth }
     ensures widens { WidensBy task.now assigned.now run.now segment.now outlook.old.ahead
@@ -169,7 +171,7 @@ pub(crate) fn look_back(
     run: &PartialRun,
     outlook: &mut Outlook,
 )
-    requires home { run.now.home < 744 }
+    requires home { run.now.home < map_spots }
     requires begun { stop_in (node_at task.now run.now.home) ≡ true }
     requires known { HasWorth task.now assigned.now run.now outlook.old.ahead outlook.old.worth }
     ensures widens { WidensBack task.now assigned.now run.now outlook.old.ahead

@@ -3,12 +3,14 @@
 ghost use Rattle.std.specs.Prelude.{◌≡◌, ◌+◌, ◌<◌, ◌≤◌, true, false, IsTrue, length};
 ghost use Rattle.best_run.specs.Ahead.{IsInVain};
 ghost use Rattle.best_run.specs.Extend.{MayExtend};
-ghost use Rattle.best_run.specs.Room.{HasRoom};
+ghost use Rattle.best_run.specs.Room.{HasRoom, revenue_most};
 ghost use Rattle.search_task.specs.Fit.{SegmentFits};
 ghost use Rattle.best_run.specs.Suffix.{AreBounds, ArePrunedByCap, AreEqual, ArePrunedBySuffix};
 ghost use Rattle.best_run.specs.Moves.{Any, Explores, IsBegin, IsBeginAt, IsGo, IsTurn, Takes, Tries, between};
 ghost use Rattle.best_run.specs.Moves.{own_before, partial};
 ghost use Rattle.best_run.specs.WaysOn.{AreWaysOn};
+ghost use Rattle.legal_runs.specs.Legal.{map_borders};
+ghost use Rattle.reach.specs.Search.{map_spots};
 ghost use Rattle.search_task.specs.Spots.{node_at, own_in, stop_in};
 
 use crate::canonical::{canonical, canonical_begun, is_pruned_by_reach, reach};
@@ -33,7 +35,7 @@ fn is_pruned_by_suffix(
 ) -> bool
     requires { assigned.now.next ≤ length task.now.trains.items }
     ensures short { IsTrue result → ArePrunedBySuffix task.now bounds.now assigned.now best }
-    ensures whole { length assigned.now.used ≡ 279 }
+    ensures whole { length assigned.now.used ≡ map_borders }
 {
     assigned.marks_all_borders();
     let left = task.train_count() - assigned.next;
@@ -169,11 +171,11 @@ fn is_in_vain(
 ) -> bool
     requires bounds { AreBounds task.now bounds.now }
     requires next { assigned.now.next < length task.now.trains.items }
-    requires head { run.now.head < 744 }
+    requires head { run.now.head < map_spots }
     requires at_stop { stop_in (node_at task.now run.now.head) ≡ true }
-    requires home { run.now.home < 744 }
+    requires home { run.now.home < map_spots }
     requires begun { stop_in (node_at task.now run.now.home) ≡ true }
-    requires room { assigned.now.total + run.now.value ≤ 44720 }
+    requires room { assigned.now.total + run.now.value ≤ revenue_most }
     ensures { IsTrue result → IsInVain task.now assigned.now run.now best }
 {
     if assigned.next + 1 != task.train_count() || task.node(run.head).ends {
@@ -196,7 +198,7 @@ fn begin_at(
     requires bounds { AreBounds task.now bounds.now }
     requires next { assigned.now.next < length task.now.trains.items }
     requires room { HasRoom assigned.now.used assigned.now.total 44640 }
-    requires stop { stop < 744 }
+    requires stop { stop < map_spots }
     requires begins { stop_in (node_at task.now stop) ≡ true }
     requires token { own_in (node_at task.now stop) ≡ true }
     requires before { before.now ≡ own_before task.now stop }
@@ -234,9 +236,9 @@ fn take(
     requires next { assigned.now.next < length task.now.trains.items }
     requires segment { SegmentFits task.now false segment.now }
     requires to { stop_in (node_at task.now segment.now.to) ≡ true }
-    requires home { run.now.home < 744 }
+    requires home { run.now.home < map_spots }
     requires begun { stop_in (node_at task.now run.now.home) ≡ true }
-    requires room { HasRoom assigned.now.used (assigned.now.total + run.now.value) 44720 }
+    requires room { HasRoom assigned.now.used (assigned.now.total + run.now.value) revenue_most }
     ensures { Takes task.now assigned.now run.now segment.now best.old best.new }
 {
     task.is_ready();

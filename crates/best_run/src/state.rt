@@ -7,6 +7,8 @@ ghost use Rattle.best_run.specs.Memo.{Dominates, DominatesRun, IsBarred, TurnsAs
 ghost use Rattle.search_task.specs.Marks.{Freer};
 ghost use Rattle.best_run.specs.Moves.{along, begun, begun_by, can_take, left_after, may_come, may_earn, may_finish};
 ghost use Rattle.best_run.specs.Moves.{own_before, passed, with_run_finished, turned_back, using};
+ghost use Rattle.legal_runs.specs.Legal.{map_borders};
+ghost use Rattle.reach.specs.Search.{map_spots};
 ghost use Rattle.search_task.specs.Crossed.{marked_all, misses};
 ghost use Rattle.search_task.specs.Spots.{node_at, stop_in};
 
@@ -53,7 +55,7 @@ pub(crate) struct PartialRun {
 impl Assigned {
     /// States that each border has its mark. It does nothing; a proof calls it to use the law.
     pub(crate) fn marks_all_borders(&self)
-        ensures { length self.now.used ≡ 279 }
+        ensures { length self.now.used ≡ map_borders }
     {
         self.used.is_whole();
     }
@@ -122,7 +124,7 @@ impl Assigned {
     /// Returns the state with the borders of a segment used.
     pub(crate) fn using(&self, segment: &Segment) -> Assigned
         ensures using { result ≡ using self.now segment.now }
-        ensures whole { length self.now.used ≡ 279 }
+        ensures whole { length self.now.used ≡ map_borders }
     {
         self.used.is_whole();
         Assigned {
@@ -214,7 +216,7 @@ impl PartialRun {
 
     /// Returns whether the run may still visit a stop.
     fn may_come(&self, stop: &BitPlace) -> bool
-        requires { stop.now < 744 }
+        requires { stop.now < map_spots }
         ensures { result ≡ may_come true self.now stop.now }
     {
         !self.visited.has_at(stop) && self.left > 0
@@ -235,7 +237,7 @@ pub(crate) fn can_take(
     assigned: &Assigned,
     segment: &Segment,
 ) -> bool
-    requires to { segment.now.to < 744 }
+    requires to { segment.now.to < map_spots }
     requires stop { stop_in (node_at task.now segment.now.to) ≡ true }
     ensures { result ≡ can_take task.now run.now assigned.now.used segment.now }
 {
@@ -244,7 +246,7 @@ pub(crate) fn can_take(
 
 /// Marks a spot after those before it, if the company has a token there.
 pub(crate) fn mark_own(task: &ReadyTask, number: usize, marks: &mut Spots)
-    requires number { number < 744 }
+    requires number { number < map_spots }
     requires before { marks.old ≡ own_before task.now number }
     ensures { marks.new ≡ own_before task.now (number + 1) }
 {
@@ -262,7 +264,7 @@ pub(crate) fn begun(
     first: usize,
     before: &Spots,
 ) -> PartialRun
-    requires stop { stop < 744 }
+    requires stop { stop < map_spots }
     requires next { assigned.now.next < length task.now.trains.items }
     requires before { before.now ≡ own_before task.now stop }
     ensures { result ≡ begun task.now assigned.now stop first }
@@ -283,7 +285,7 @@ pub(crate) fn begun(
 
 /// Returns whether a run may be finished.
 pub(crate) fn may_finish(task: &ReadyTask, assigned: &Assigned, run: &PartialRun) -> bool
-    requires head { run.now.head < 744 }
+    requires head { run.now.head < map_spots }
     ensures { result ≡ may_finish task.now assigned.now run.now }
 {
     task.node(run.head).stop && assigned.may_earn(run)
@@ -291,7 +293,7 @@ pub(crate) fn may_finish(task: &ReadyTask, assigned: &Assigned, run: &PartialRun
 
 /// Returns a run after a segment.
 pub(crate) fn along(task: &ReadyTask, run: &PartialRun, segment: &Segment) -> PartialRun
-    requires to { segment.now.to < 744 }
+    requires to { segment.now.to < map_spots }
     requires room { run.now.value ≤ 50000 }
     ensures { result ≡ along task.now run.now segment.now }
 {

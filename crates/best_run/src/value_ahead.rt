@@ -1,6 +1,7 @@
 //! What the stops ahead of a run are worth: those that it may pass, and those at which it ends.
 ghost use Rattle.std.specs.Prelude.{◌≡◌, ℕ, ◌+◌, ◌-◌, ◌<◌, ◌≤◌, get_or};
 ghost use Rattle.best_run.specs.Ahead.{HasPassed, HasRanked, HasTakenBack, at_level, ends_by, IsLeast};
+ghost use Rattle.reach.specs.Search.{map_spots};
 
 use tables::Amount;
 
@@ -101,7 +102,7 @@ impl Worth {
     fn at_level(&self, place: usize, left: Amount, on: bool, back: bool) -> Amount
         requires place { place < self.now.levels }
         requires few { self.now.levels ≤ 9 }
-        requires left { left ≤ 744 }
+        requires left { left ≤ map_spots }
         requires room { (each : ℕ) → each < self.now.levels → get_or self.now.beyond each 0 ≤
             59520 }
         requires first { self.now.first ≤ 80 }
@@ -117,7 +118,7 @@ impl Worth {
     pub(crate) fn least(&self, left: Amount, on: bool, back: bool) -> Amount
         requires levels { 0 < self.now.levels }
         requires few { self.now.levels ≤ 9 }
-        requires left { left ≤ 744 }
+        requires left { left ≤ map_spots }
         requires room { (each : ℕ) → each < self.now.levels → get_or self.now.beyond each 0 ≤
             59520 }
         requires first { self.now.first ≤ 80 }

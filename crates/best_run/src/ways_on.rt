@@ -4,8 +4,11 @@ ghost use Rattle.std.specs.Prelude.{◌≡◌, ℕ, ◌+◌, ◌<◌, ◌≤◌,
 ghost use Rattle.search_task.specs.declared.task.Node.{Node};
 ghost use Rattle.best_run.specs.Ahead.{EndsAtMost, IsClosed, IsWorth, goes_back, goes_on};
 ghost use Rattle.best_run.specs.EndStops.{EarnsAhead, HasWorth};
+ghost use Rattle.best_run.specs.Room.{revenue_most};
 ghost use Rattle.best_run.specs.Suffix.{AreBounds};
 ghost use Rattle.best_run.specs.WaysOn.{AreFound, AreWaysOn, IsLow, IsWayAdded, TurnsInVain};
+ghost use Rattle.legal_runs.specs.Legal.{map_borders};
+ghost use Rattle.reach.specs.Search.{map_spots};
 ghost use Rattle.search_task.specs.Legs.{IsStop};
 ghost use Rattle.search_task.specs.Spots.{node_at, stop_in};
 
@@ -34,7 +37,7 @@ pub(crate) struct WaysOn {
 impl WaysOn {
     /// Returns ways on of which nothing is known: none is known to be in vain.
     fn unknown() -> WaysOn
-        ensures vain { result.vain ≡ replicate 744 false }
+        ensures vain { result.vain ≡ replicate map_spots false }
         ensures turns { result.turns_in_vain ≡ false }
         ensures all { result.all_in_vain ≡ false }
     {
@@ -63,7 +66,7 @@ impl WaysOn {
 
 /// Returns whether a run may go on from where it is.
 fn goes_on(task: &ReadyTask, run: &PartialRun) -> bool
-    requires head { run.now.head < 744 }
+    requires head { run.now.head < map_spots }
     ensures { result ≡ goes_on task.now run.now }
 {
     let node = task.node(run.head);
@@ -72,7 +75,7 @@ fn goes_on(task: &ReadyTask, run: &PartialRun) -> bool
 
 /// Returns whether a run may still go on from where it began.
 fn goes_back(task: &ReadyTask, run: &PartialRun) -> bool
-    requires home { run.now.home < 744 }
+    requires home { run.now.home < map_spots }
     ensures { result ≡ goes_back task.now run.now }
 {
     let node = task.node(run.home);
@@ -81,9 +84,9 @@ fn goes_back(task: &ReadyTask, run: &PartialRun) -> bool
 
 /// Returns the most that a run may still earn, in dollars, by what lies ahead.
 fn most_ahead(task: &ReadyTask, assigned: &Assigned, run: &PartialRun, outlook: &Outlook) -> Amount
-    requires head { run.now.head < 744 }
-    requires home { run.now.home < 744 }
-    requires left { run.now.left ≤ 744 }
+    requires head { run.now.head < map_spots }
+    requires home { run.now.home < map_spots }
+    requires left { run.now.left ≤ map_spots }
     requires known { HasWorth task.now assigned.now run.now outlook.now.ahead outlook.now.worth }
     ensures most { EarnsAhead task.now assigned.now run.now outlook.now.ahead result }
     ensures bound { result ≤ 119200 }
@@ -104,12 +107,12 @@ fn earns_too_little(
     bounds: &[Amount],
     best: Amount,
 ) -> bool
-    requires head { run.now.head < 744 }
-    requires home { run.now.home < 744 }
+    requires head { run.now.head < map_spots }
+    requires home { run.now.home < map_spots }
     requires bounds { AreBounds task.now bounds.now }
     requires next { assigned.now.next < length task.now.trains.items }
     requires known { HasWorth task.now assigned.now run.now outlook.now.ahead outlook.now.worth }
-    requires room { assigned.now.total + run.now.value ≤ 44720 }
+    requires room { assigned.now.total + run.now.value ≤ revenue_most }
     ensures { IsTrue result → IsLow task.now assigned.now run.now outlook.now.ahead best }
 {
     let later = task.train_count() - assigned.next - 1;
@@ -139,14 +142,15 @@ pub(crate) fn earns_too_much(task: &ReadyTask, assigned: &Assigned, run: &Partia
 
 /// Finds what lies ahead of a run once it turns back, for which nothing has been found yet.
 fn look_home(task: &ReadyTask, assigned: &Assigned, run: &PartialRun, home: &mut Outlook)
-    requires home { run.now.home < 744 }
+    requires home { run.now.home < map_spots }
     requires begun { stop_in (node_at task.now run.now.home) ≡ true }
-    requires nothing { home.old.ahead ≡ replicate 744 false }
-    requires known { (nodes : List Node) → IsWorth nodes (replicate 744 false) home.old.worth }
+    requires nothing { home.old.ahead ≡ replicate map_spots false }
+    requires known { (nodes : List Node)
+        → IsWorth nodes (replicate map_spots false) home.old.worth }
     ensures closed { IsClosed task.now assigned.now run.now home.new.ahead }
     ensures known { HasWorth task.now assigned.now run.now home.new.ahead home.new.worth }
-    ensures borders { length assigned.now.used ≡ 279 }
-    ensures spots { length run.now.visited ≡ 744 }
+    ensures borders { length assigned.now.used ≡ map_borders }
+    ensures spots { length run.now.visited ≡ map_spots }
 {
     assigned.marks_all_borders();
     run.visited.is_whole();
@@ -170,9 +174,9 @@ fn turns_in_vain(
     requires next { assigned.now.next < length task.now.trains.items }
     requires closed { IsClosed task.now assigned.now run.now home.now.ahead }
     requires known { HasWorth task.now assigned.now run.now home.now.ahead home.now.worth }
-    requires borders { length assigned.now.used ≡ 279 }
-    requires spots { length run.now.visited ≡ 744 }
-    requires room { assigned.now.total + run.now.value ≤ 44720 }
+    requires borders { length assigned.now.used ≡ map_borders }
+    requires spots { length run.now.visited ≡ map_spots }
+    requires room { assigned.now.total + run.now.value ≤ revenue_most }
     ensures { IsTrue result → TurnsInVain task.now assigned.now run.now best }
 {
     task.is_ready();
@@ -199,9 +203,9 @@ fn ways_home(
     requires next { assigned.now.next < length task.now.trains.items }
     requires closed { IsClosed task.now assigned.now run.now home.now.ahead }
     requires known { HasWorth task.now assigned.now run.now home.now.ahead home.now.worth }
-    requires borders { length assigned.now.used ≡ 279 }
-    requires spots { length run.now.visited ≡ 744 }
-    requires room { assigned.now.total + run.now.value ≤ 44720 }
+    requires borders { length assigned.now.used ≡ map_borders }
+    requires spots { length run.now.visited ≡ map_spots }
+    requires room { assigned.now.total + run.now.value ≤ revenue_most }
     ensures { AreFound task.now assigned.now run.now best home.now.ahead 0 result }
 {
     task.is_ready();
@@ -237,9 +241,9 @@ fn look_on(
     requires next { assigned.now.next < length task.now.trains.items }
     requires closed { IsClosed task.now assigned.now run.now home.now.ahead }
     requires known { HasWorth task.now assigned.now run.now home.now.ahead home.now.worth }
-    requires borders { length assigned.now.used ≡ 279 }
-    requires spots { length run.now.visited ≡ 744 }
-    requires room { assigned.now.total + run.now.value ≤ 44720 }
+    requires borders { length assigned.now.used ≡ map_borders }
+    requires spots { length run.now.visited ≡ map_spots }
+    requires room { assigned.now.total + run.now.value ≤ revenue_most }
     requires found { AreFound task.now assigned.now run.now best home.now.ahead 0 ways.old }
     ensures ways { AreWaysOn task.now assigned.now run.now best ways.new }
     ensures most { ways.new.all_in_vain ≡ true → EndsAtMost task.now assigned.now run.now best }
@@ -314,11 +318,11 @@ pub(crate) fn ways_on(
 ) -> WaysOn
     requires bounds { AreBounds task.now bounds.now }
     requires next { assigned.now.next < length task.now.trains.items }
-    requires head { run.now.head < 744 }
+    requires head { run.now.head < map_spots }
     requires at_stop { stop_in (node_at task.now run.now.head) ≡ true }
-    requires home { run.now.home < 744 }
+    requires home { run.now.home < map_spots }
     requires begun { stop_in (node_at task.now run.now.home) ≡ true }
-    requires room { assigned.now.total + run.now.value ≤ 44720 }
+    requires room { assigned.now.total + run.now.value ≤ revenue_most }
     ensures ways { AreWaysOn task.now assigned.now run.now best result }
     ensures most { result.all_in_vain ≡ true → EndsAtMost task.now assigned.now run.now best }
 {

@@ -1,7 +1,7 @@
 -- The slots of a city never become fewer by a tile of its kind and next colour.
 use Rattle.std.proofs.Common.{◌≡◌, ◌∙◌, ap, sym, subst, refl, ℕ, ◌+◌, ◌≤◌, ◌||◌, Bool, true, false, not, cond, leb}
 use Rattle.std.proofs.Common.{List, [], ◌∷◌, ◌++◌, get_or, reverse, Some, None, arith}
-use Rattle.std.proofs.lemmas.Bool.{eqb-true, leb-true, le-leb, or_parts}
+use Rattle.std.proofs.lemmas.Bool.{eqb-true, le-leb, leb-true, not-false, or_parts}
 use Rattle.std.proofs.lemmas.List.Sorted.{IsPermutation-reverse, list_any-IsPermutation}
 use Rattle.std.specs.List.{find, list_any}
 use Rattle.std.specs.Prelude.{◌==◌}
@@ -86,18 +86,13 @@ takes_is (Open own) kind same =
 takes_is Grey kind same = cc
 takes_is Red kind same = cc
 
--- a test that is not false is true
-not_false : (b : Bool) → not b ≡ false → b ≡ true
-not_false true e = refl
-not_false false e = cc
-
 -- so the print of a tile's hex has its kind
 pub kind_is : (lay : Lay) → is_wrong_kind lay ≡ false → (print_of lay.hex).kind ≡ Open (entry_of lay.tile).kind
 unfolding is_wrong_kind
 kind_is lay right =
     let hex = (print_of lay.hex).kind in
     let kind = (entry_of lay.tile).kind in
-    takes_is hex kind (not_false (takes hex kind) (or_parts (not (takes hex kind)) _ right).0)
+    takes_is hex kind (not-false (takes hex kind) (or_parts (not (takes hex kind)) _ right).0)
 
 -- what is found is as none of a list is not
 find_right : (p test : Lay → Bool) (lays : List Lay) (lay : Lay) → list_any p lays ≡ false → find test lays ≡ Some lay
@@ -191,7 +186,7 @@ grows lays lay right own next =
     let old = colour_on lays lay.hex in
     let next_place : place_of_colour new ≡ place_of_colour old + 1 =
     eqb-true (place_of_colour new) (place_of_colour old + 1)
-    (not_false (place_of_colour new == place_of_colour old + 1) next) in
+    (not-false (place_of_colour new == place_of_colour old + 1) next) in
     let before : slots_on lays lay.hex ≡ slots_by kind old = slots_are lays lay.hex kind (kind_is lay own) right in
     let after : (entry_of lay.tile).slots ≡ slots_by kind new = of_tile lay.tile in
     let more : slots_by kind old ≤ slots_by kind new = no_fewer kind old new (omega arith) in

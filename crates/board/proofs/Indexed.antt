@@ -6,7 +6,7 @@ use Rattle.std.proofs.lemmas.Bool.{and_parts, eq-eqb, eqb-true, eqb-false}
 use Rattle.std.proofs.lemmas.List.Folds.{list_any-append}
 use Rattle.std.proofs.lemmas.List.Sums.{sum_by-append, count_by-le-length}
 use Rattle.std.specs.List.{count_by, list_any}
-use Rattle.board_state.proofs.Same.{or_true, stop_is, stop_is_same}
+use Rattle.board_state.proofs.Same.{or_true, stop_is_same}
 use Rattle.board_state.proofs.Tiles.{last_lies}
 use Rattle.board.specs.Index.{IsIndex, counting, holding, holder_order}
 use Rattle.map_tables.specs.Hex.{index_of, same_hex}
@@ -24,6 +24,7 @@ use Rattle.tables.proofs.Companies.{company_is}
 use Rattle.tables.specs.Roster.{index_of_company, same_company}
 use Rattle.tables.specs.declared.roster.Company.{Company}
 use Rattle.tables.specs.declared.roster.Company.TheVariants.{Pennsylvania}
+use Rattle.reach.proofs.Listed.{stop_is}
 
 -- a table of one thing has it everywhere, and elsewhere too
 all_one : {A : Type 0} (n i : ℕ) (x : A) → get_or (replicate n x) i x ≡ x

@@ -1,7 +1,7 @@
 -- Home tokens that are still to come take the slots that are kept.
 use Rattle.std.proofs.Common.{◌≡◌, ◌∙◌, ap, sym, subst, refl, ◌+◌, ◌<◌, ◌≤◌, ◌⊎◌, inl, inr, ◌&&◌, ◌||◌, Bool, true}
 use Rattle.std.proofs.Common.{false, not, cond, List, [], ◌∷◌, ◌++◌, map, Option, Some, None, arith}
-use Rattle.std.proofs.lemmas.Bool.{and_parts, leb-false}
+use Rattle.std.proofs.lemmas.Bool.{and_from, and_parts, leb-false}
 use Rattle.std.proofs.lemmas.List.Folds.{list_any-append}
 use Rattle.std.proofs.lemmas.List.Sums.{sum_by-append, sum_by-cons, sum_by-le-sum_by}
 use Rattle.std.specs.List.{count_by, filter, list_any}
@@ -9,7 +9,7 @@ use Rattle.board_state.specs.MapState.{MapState}
 use Rattle.map_tables.specs.OnMap.{has_token, is_part_of, is_stop, names, same_stop, slots_at, slots_on, taken_at}
 use Rattle.map_tables.specs.Fit.{home_token, homes_to_come}
 use Rattle.board.specs.TokenRules.{is_full_at, is_kept_for, kept_at}
-use Rattle.board_state.proofs.Same.{or_true, stop_is, stop_is_same}
+use Rattle.board_state.proofs.Same.{or_true, stop_is_same}
 use Rattle.map_tables.specs.Home.{home_of}
 use Rattle.map_tables.specs.Place.{joined_stop_of, stop_of}
 use Rattle.map_tables.specs.declared.place.Place.{Place}
@@ -20,6 +20,7 @@ use Rattle.tables.specs.Roster.{companies, same_company}
 use Rattle.tables.specs.declared.roster.Company.{Company}
 use Rattle.tables.specs.declared.roster.Company.TheVariants.{Pennsylvania, NewYorkCentral, CanadianPacific}
 use Rattle.tables.specs.declared.roster.Company.TheVariants.{BaltimoreOhio, ChesapeakeOhio, Erie, NewHaven, BostonMaine}
+use Rattle.reach.proofs.Listed.{stop_is}
 
 -- an element of two lists joined
 pub among_append : {A : Type 0} (xs ys : List A) (x : A) → IsAmong x (xs ++ ys) → IsAmong x xs ⊎ IsAmong x ys
@@ -83,10 +84,6 @@ count_images p f g (x ∷ xs) =
     ])
     ∙ sym (sum_by-cons (λ y. cond (g y && p (f y)) 1 0) x xs)
 
--- tests that both pass
-both : (x y : Bool) → x ≡ true → y ≡ true → (x && y) ≡ true
-both x y first second = ap (λ b. b && y) first ∙ second
-
 -- no home is part of another stop
 home_joined : (company : Company) → joined_stop_of (home_of company) ≡ home_of company
 home_joined Pennsylvania = refl
@@ -99,7 +96,7 @@ kept_is_to_come : (tokens : List (Place × Company)) (stop : Stop) (company : Co
 kept_is_to_come tokens stop company kept =
     let parts = and_parts (same_stop (home_of company) stop) (not (has_token tokens stop company)) kept in
     let here : home_of company ≡ stop = stop_is (home_of company) stop parts.0 in
-    both (not (has_token tokens (home_of company) company)) (names stop (home_token company).0)
+    and_from (not (has_token tokens (home_of company) company)) (names stop (home_token company).0)
     (ap (λ (s : Stop). not (has_token tokens s company)) here ∙ parts.1)
     (ap (λ (s : Stop). same_stop s stop) (home_joined company) ∙ parts.0)
 
@@ -113,7 +110,7 @@ to_come_is_kept tokens stop company to_come =
     let same : same_stop (home_of company) stop ≡ true =
     ap (λ (s : Stop). same_stop s stop) (sym (home_joined company)) ∙ parts.1 in
     let here : home_of company ≡ stop = stop_is (home_of company) stop same in
-    both (same_stop (home_of company) stop) (not (has_token tokens stop company)) same
+    and_from (same_stop (home_of company) stop) (not (has_token tokens stop company)) same
     (ap (λ (s : Stop). not (has_token tokens s company)) (sym here) ∙ parts.0)
 
 -- so with the home tokens to come at least the kept slots are taken
@@ -172,7 +169,7 @@ kept_less_for : (tokens : List (Place × Company)) (token : Place × Company) (s
 kept_less_for tokens token stop company kept =
     let parts = and_parts (same_stop (home_of company) stop) (not (has_token (tokens ++ token ∷ []) stop company))
     kept in
-    both (same_stop (home_of company) stop) (not (has_token tokens stop company)) parts.0
+    and_from (same_stop (home_of company) stop) (not (has_token tokens stop company)) parts.0
     (still_has tokens token stop company parts.1)
 
 pub kept_less : (tokens : List (Place × Company)) (token : Place × Company) (stop : Stop)
@@ -206,7 +203,7 @@ home_takes_kept tokens company none =
     let named : names home (home_token company).0 ≡ true =
     ap (λ (s : Stop). same_stop s home) (home_joined company) ∙ itself in
     let last : list_any has (home_token company ∷ []) ≡ true =
-    ap (λ b. b || false) (both (names home (home_token company).0) (same_company company company) named
+    ap (λ b. b || false) (and_from (names home (home_token company).0) (same_company company company) named
     (company_is_same company company refl)) in
     let lies : has_token more home company ≡ true =
     list_any-append has tokens (home_token company ∷ []) ∙ ap (λ b. list_any has tokens || b) last
@@ -214,7 +211,7 @@ home_takes_kept tokens company none =
     let not_kept : is_kept_for more home company ≡ false =
     ap (λ b. same_stop home home && not b) lies ∙ ap (λ b. b && false) itself in
     let kept_now : is_kept_for tokens home company ≡ true =
-    both (same_stop home home) (not (has_token tokens home company)) itself (ap not none) in
+    and_from (same_stop home home) (not (has_token tokens home company)) itself (ap not none) in
     count_less (is_kept_for more home) (is_kept_for tokens home) companies company
     (kept_less_for tokens (home_token company) home) not_kept kept_now (in_roster company)
 

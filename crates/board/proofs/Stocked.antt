@@ -33,7 +33,7 @@ tile_is a b same =
     sym (at_place a) ∙ ap (λ n. get_or tiles n T1) (eqb-true (tile_index_of a) (tile_index_of b) same) ∙ at_place b
 
 -- each hex is one of the map's once
-once : (hex : Hex) → count_by (same_hex hex) hexes ≡ 1
+pub once : (hex : Hex) → count_by (same_hex hex) hexes ≡ 1
 unfolding hexes index_of site_of
 once A9 = refl
 once _ = refl

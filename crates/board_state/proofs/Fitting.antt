@@ -10,7 +10,6 @@ use Rattle.board_state.specs.MapState.{MapState}
 use Rattle.map_tables.specs.OnMap.{is_part_of, is_stop, names, slots_at, slots_on, taken_at}
 use Rattle.board_state.specs.declared.fault.BoardFault.{BoardFault}
 use Rattle.board_state.specs.declared.fault.BoardFault.TheVariants as fault
-use Rattle.board_state.proofs.Same.{stop_is}
 use Rattle.map_tables.specs.Place.{joined_stop_of, stop_of}
 use Rattle.map_tables.specs.declared.lay.Lay.{Lay}
 use Rattle.map_tables.specs.declared.place.Place.{Place}
@@ -18,6 +17,7 @@ use Rattle.map_tables.specs.declared.place.Stop.{Stop}
 use Rattle.reach.specs.Position.{IsAmong}
 use Rattle.tables.proofs.Rules.{not_broken}
 use Rattle.tables.specs.declared.roster.Company.{Company}
+use Rattle.reach.proofs.Listed.{stop_is}
 
 -- where no element passes a test, none does
 pub none_of : {X : Type 0} (p : X → Bool) (xs : List X) → list_any p xs ≡ false → (x : X) → IsAmong x xs → p x ≡ false

@@ -18,7 +18,7 @@ use Rattle.map_tables.proofs.HexTables.{hex_at_index}
 use Rattle.reach.specs.Position.{AtStop, InHex, at_stop, empty_hex, in_hex, no_stop}
 
 -- each number is under that of all hexes
-index_low : (hex : Hex) → index_of hex < length hexes
+pub index_low : (hex : Hex) → index_of hex < length hexes
 unfolding hexes index_of site_of
 index_low A9 = lit< tt
 index_low hex = lit< tt

@@ -11,14 +11,6 @@ use Rattle.map_tables.specs.declared.place.StopNumber.{StopNumber}
 use Rattle.map_tables.proofs.HexTables.{same_hex-same, same_hex-true}
 use Rattle.reach.proofs.Hexes.{same_stop_index}
 
--- stops that pass for one are one
-pub stop_is : (a b : Stop) → same_stop a b ≡ true → a ≡ b
-stop_is a b same =
-    let parts = and_parts (same_hex a.hex b.hex) (stop_index_of a.number == stop_index_of b.number) same in
-    ap (λ (hex : Hex). stop_at hex a.number) (same_hex-true a.hex b.hex parts.0)
-    ∙ ap (λ (number : StopNumber). stop_at b.hex number)
-    (same_stop_index a.number b.number (eqb-true (stop_index_of a.number) (stop_index_of b.number) parts.1))
-
 -- and one passes for itself
 pub stop_is_same : (a b : Stop) → a ≡ b → same_stop a b ≡ true
 stop_is_same a b is =

@@ -1,7 +1,7 @@
 -- What the choices at a node are: steps that enter a link where the head is, and that pass a test.
 use Rattle.std.proofs.Common.{◌≡◌, ℕ, ◌==◌, Bool, true, false, not, ◌&&◌, inl, inr, Option, Some, None, is_some}
 use Rattle.std.proofs.Common.{option_map, if◌then◌else◌, List, [], ◌∷◌, refl, ap, sym, ◌∙◌, subst, arith}
-use Rattle.std.proofs.lemmas.Bool.{eq-eqb, eqb-true}
+use Rattle.std.proofs.lemmas.Bool.{and_from, and_parts, eq-eqb, eqb-true, not-true}
 use Rattle.map_tables.specs.Border.{neighbour_of}
 use Rattle.map_tables.specs.Place.{joined_hex, joined_stop_of, stop_at}
 use Rattle.map_tables.specs.Side.{facing_of}
@@ -145,18 +145,6 @@ pub record LeadsOver (borders : List ℕ) (hex : Hex) (end : TrackEnd) : Type 0 
   pub beside : neighbour_of hex side ≡ Some next
   pub free : ¬ IsAmong (border_of hex side) borders
 
-both_true : (a b : Bool) → (a && b) ≡ true → (a ≡ true) × (b ≡ true)
-both_true true b is = (refl, is)
-both_true false b is = absurd cc
-
-pub not_true : (b : Bool) → not b ≡ true → b ≡ false
-not_true true is = absurd cc
-not_true false is = refl
-
-pub true_both : (a b : Bool) → a ≡ true → b ≡ true → (a && b) ≡ true
-true_both true b is also = also
-true_both false b is also = absurd cc
-
 there_is : {A : Type 0} (found : Option A) → is_some found ≡ true → (thing : A) × (found ≡ Some thing)
 there_is None is = absurd cc
 there_is (Some thing) is = (thing, refl)
@@ -165,7 +153,7 @@ pub leads_over : (borders : List ℕ) (hex : Hex) (end : TrackEnd) → is_free_e
     → LeadsOver borders hex end
 leads_over borders hex (AtSide side) is =
     let parts : (is_some (neighbour_of hex side) ≡ true) × (not (has_border (border_of hex side) borders) ≡ true) =
-    both_true (is_some (neighbour_of hex side)) (not (has_border (border_of hex side) borders)) is in
+    and_parts (is_some (neighbour_of hex side)) (not (has_border (border_of hex side) borders)) is in
     let other : (next : Hex) × (neighbour_of hex side ≡ Some next) = there_is (neighbour_of hex side) parts.0 in
     record {
       side = side;
@@ -176,7 +164,7 @@ leads_over borders hex (AtSide side) is =
           let wrong : has_border (border_of hex side) borders ≡ true =
           (among_is (border_of hex side) borders).1 among in
           let none : has_border (border_of hex side) borders ≡ false =
-          not_true (has_border (border_of hex side) borders) parts.1 in
+          not-true (has_border (border_of hex side) borders) parts.1 in
           let clash : false ≡ true = sym none ∙ wrong in absurd cc;
     }
 leads_over borders hex (AtStop number) is = absurd cc
@@ -185,7 +173,7 @@ pub over_leads : (borders : List ℕ) (hex : Hex) (end : TrackEnd) → LeadsOver
     → is_free_end borders hex end ≡ true
 over_leads borders hex end over =
     subst (λ (e : TrackEnd). is_free_end borders hex e ≡ true) (sym over.at_side)
-    (true_both (is_some (neighbour_of hex over.side)) (not (has_border (border_of hex over.side) borders))
+    (and_from (is_some (neighbour_of hex over.side)) (not (has_border (border_of hex over.side) borders))
     (ap is_some over.beside)
     (to_not (has_border (border_of hex over.side) borders)
     (λ has. over.free ((among_is (border_of hex over.side) borders).0 has))))

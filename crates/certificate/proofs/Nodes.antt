@@ -5,7 +5,7 @@ use Rattle.std.proofs.Common.{◌≡◌, ℕ, suc, ◌+◌, ◌<◌, ◌≤◌, 
 use Rattle.std.proofs.Common.{Option, Some, None, IfSome, if◌then◌else◌, List, [], ◌∷◌, ◌++◌, length, refl, ap, sym}
 use Rattle.std.proofs.Common.{◌∙◌, subst, arith}
 use Rattle.std.specs.List.{AllByRecursion, list_any}
-use Rattle.std.proofs.lemmas.Bool.{ltb-true, ltb-false}
+use Rattle.std.proofs.lemmas.Bool.{and_parts, ltb-false, ltb-true, not-true, or_cases, or_parts}
 use Rattle.map_tables.specs.Place.{joined_stop_of}
 use Rattle.map_tables.specs.declared.hex.Hex.{Hex}
 use Rattle.map_tables.specs.declared.place.Stop.{Stop}
@@ -31,7 +31,7 @@ use Rattle.certificate.specs.Tree.{may_all_earn, may_come, may_earn, node_of, ru
 use Rattle.certificate.specs.Tree.{steps_at, steps_from, for_each}
 use Rattle.certificate.proofs.Bounds.{one_stop_more}
 use Rattle.certificate.proofs.Branching.{IsWay, LeadsOver, Leaves, border_both, for_each_among, leads_over, leaves_stop}
-use Rattle.certificate.proofs.Branching.{node_if_among, not_true, step_is, with_steps_among}
+use Rattle.certificate.proofs.Branching.{node_if_among, step_is, with_steps_among}
 use Rattle.legal_runs.proofs.Joined.{fails, has_stop_is, has_such}
 use Rattle.legal_runs.proofs.Marks.{among_both}
 use Rattle.legal_runs.proofs.Tests.{has_token_is, is_full_is}
@@ -133,18 +133,6 @@ over_border : (hex : Hex) (end : TrackEnd) (borders : List ℕ) (over : LeadsOve
     → border_at hex end ≡ border_of hex over.side ∷ []
 over_border hex end borders over = ap (border_at hex) over.at_side
 
-either : (a b : Bool) → (a || b) ≡ true → (a ≡ true) ⊎ (b ≡ true)
-either true b is = inl refl
-either false b is = inr is
-
-both : (a b : Bool) → (a && b) ≡ true → (a ≡ true) × (b ≡ true)
-both true b is = (refl, is)
-both false b is = absurd cc
-
-neither : (a b : Bool) → (a || b) ≡ false → (a ≡ false) × (b ≡ false)
-neither true b is = absurd cc
-neither false b is = (refl, is)
-
 -- what is taken of a stop that is new
 record IsNew (reached stops : List Stop) (stop : Stop) : Type 0 where
   there : IsAmong stop reached
@@ -155,13 +143,13 @@ new_stop :
     (stop : Stop) × (found ≡ Some stop) × IsNew reached stops stop
 new_stop reached stops None is = absurd cc
 new_stop reached stops (Some stop) is =
-    let parts = both (has_stop stop reached) (not (has_stop stop stops)) is in (
+    let parts = and_parts (has_stop stop reached) (not (has_stop stop stops)) is in (
       stop,
       refl,
       record {
         there = (has_stop_is stop reached).0 parts.0;
         no_other =
-            not_true (has_stop stop stops) parts.1;
+            not-true (has_stop stop stops) parts.1;
       },
     )
 
@@ -412,7 +400,7 @@ module _ (position : Position) (lawful : IsLawful position) (company : Company) 
           let on : GoesFurther found.0 = from_side spot none is found.0
           (step_is position lawful spot.hex spot.end found.0 found.1) in
           subst (IsGoodChoice assigned run (kind ∷ later)) found.3
-          (elim (either (is_new_stop reached (visited run) (stop_of (left_at found.0)))
+          (elim (or_cases (is_new_stop reached (visited run) (stop_of (left_at found.0)))
           (goes_over (taken_borders node) found.0) found.2) [
             | inl new ↦ let stop = new_stop reached (visited run) (stop_of (left_at found.0)) new in came_to found.0
                 on stop.0 stop.1 stop.2
@@ -457,9 +445,9 @@ module _ (position : Position) (lawful : IsLawful position) (company : Company) 
           let some = subst (λ (b : Bool). IsAmong child (if b then [] else with_steps (goes_over (taken_borders node))
           node (steps_from position stop))) last among in
           let found = with_steps_among (goes_over (taken_borders node)) node (steps_from position stop) child some in
-          let first = neither (is_red position stop) (is_full position company stop
+          let first = or_parts (is_red position stop) (is_full position company stop
           || is_used_up (stops_of kind) (length (visited run))) last in
-          let second = neither (is_full position company stop) (is_used_up (stops_of kind) (length (visited run)))
+          let second = or_parts (is_full position company stop) (is_used_up (stops_of kind) (length (visited run)))
           first.1 in
           let on : GoesFurther found.0 = through_stop stop is first.0 second.0 second.1 found.0
           (leaves_stop position lawful stop (names_itself (left_at step) stop is) found.0 found.1) in
@@ -476,7 +464,7 @@ module _ (position : Position) (lawful : IsLawful position) (company : Company) 
           → is_finished position company reached (visited run) ≡ true →
           IsGoodChoice assigned run (kind ∷ later) (node_of (record { kind = kind; steps = run } ∷ assigned) [] later)
       done stop is finished =
-          let parts = both (not (ltb (length (visited run)) 2)) (list_any (has_token position company) (visited run))
+          let parts = and_parts (not (ltb (length (visited run)) 2)) (list_any (has_token position company) (visited run))
           finished in
           let gone : gone_over run ≡ crossed run = all_gone stop is in
           record {
@@ -486,7 +474,7 @@ module _ (position : Position) (lawful : IsLawful position) (company : Company) 
                   walk = so_far.walk;
                   begins = so_far.begins;
                   ends = (stop, is);
-                  two = ltb-false (length (visited run)) 2 (not_true (ltb (length (visited run)) 2) parts.0);
+                  two = ltb-false (length (visited run)) 2 (not-true (ltb (length (visited run)) 2) parts.0);
                   most = stop_had_room kind (length (visited run)) (left_at step).hex (left_at step).end stop is
                       so_far.room;
                   no_stop_twice = so_far.stops;

@@ -3,7 +3,7 @@
 use Rattle.std.proofs.Common.{◌≡◌, ℕ, suc, Bool, true, false, not, ltb, ◌||◌, ◌⊎◌, inl, inr, Option, Some, None, IfSome}
 use Rattle.std.proofs.Common.{if◌then◌else◌, List, [], ◌∷◌, ◌++◌, length, refl, ap, sym, ◌∙◌, subst, arith}
 use Rattle.std.specs.List.{list_any}
-use Rattle.std.proofs.lemmas.Bool.{false_from_ne_true, lt-ltb, or_left}
+use Rattle.std.proofs.lemmas.Bool.{and_from, false_from_ne_true, lt-ltb, or_left, or_right}
 use Rattle.map_tables.specs.Border.{neighbour_of}
 use Rattle.map_tables.specs.declared.hex.Hex.{Hex}
 use Rattle.map_tables.specs.declared.place.Stop.{Stop}
@@ -27,7 +27,7 @@ use Rattle.certificate.specs.Tree.{IsBelow, Node, children, finishing, for_each,
 use Rattle.certificate.specs.Tree.{goes_over, gone_over, is_finished, is_last_stop, is_new_stop, is_used_up, leads_on}
 use Rattle.certificate.specs.Tree.{node_of, run_borders, steps_at, steps_from, taken_borders, with_steps}
 use Rattle.certificate.proofs.Branching.{LeadsOver, among_for_each, among_node_if, among_with_steps, border_both}
-use Rattle.certificate.proofs.Branching.{over_leads, step_there, stop_left, true_both}
+use Rattle.certificate.proofs.Branching.{over_leads, step_there, stop_left}
 use Rattle.legal_runs.proofs.Joined.{fails, has_stop_is, not_less, such_has}
 use Rattle.legal_runs.proofs.Marks.{among_both}
 use Rattle.certificate.proofs.Nodes.{HasRoom, IsRunBegun, fewer_fit}
@@ -75,10 +75,6 @@ all_false : (a b c : Bool) → a ≡ false → b ≡ false → c ≡ false → (
 all_false true b c p q r = absurd cc
 all_false false true c p q r = absurd cc
 all_false false false c p q r = r
-
-or_right : (a b : Bool) → b ≡ true → (a || b) ≡ true
-or_right true b is = refl
-or_right false b is = is
 
 module _ (position : Position) (lawful : IsLawful position) (company : Company) (reached : List Stop)
     (assigned : List TrainRun) (kind : Kind) (later : List Kind) where
@@ -254,7 +250,7 @@ module _ (position : Position) (lawful : IsLawful position) (company : Company) 
         or_left (is_new_stop reached (visited run) (stop_of (left_at step)))
         (goes_over (gone_over run ++ run_borders assigned) step)
         (subst (λ (s : Option Stop). is_new_stop reached (visited run) s ≡ true) (sym is)
-        (true_both (has_stop stop reached) (not (has_stop stop (visited run))) ((has_stop_is stop reached).1 among)
+        (and_from (has_stop stop reached) (not (has_stop stop (visited run))) ((has_stop_is stop reached).1 among)
         (ap not ((fails (has_stop stop (visited run)) (has_stop_is stop (visited run))).1 stops.0))))
 
     over_side : across (left_at earlier) ≡ Some (entered_at step)
@@ -370,7 +366,7 @@ module _ (position : Position) (lawful : IsLawful position) (company : Company) 
         ((among_both (done (step ∷ before)) (finishing position company reached (at (step ∷ before)) kind later)
         (from_stop position company reached (at (step ∷ before)) kind legal.ends.0)).1
         (inl (among_node_if (is_finished position company reached (visited (step ∷ before))) (done (step ∷ before))
-        (true_both (not (ltb (length (visited (step ∷ before))) 2))
+        (and_from (not (ltb (length (visited (step ∷ before))) 2))
         (list_any (has_token position company) (visited (step ∷ before)))
         (ap not (not_less (length (visited (step ∷ before))) 2 legal.two))
         (such_has (λ stop. HasToken position stop company) (has_token position company)

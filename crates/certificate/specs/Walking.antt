@@ -11,13 +11,13 @@ use Rattle.map_tables.specs.declared.track.TrackEnd.{TrackEnd}
 use Rattle.map_tables.specs.declared.track.TrackEnd.TheVariants.{Side as AtSide, Stop as AtStop}
 use Rattle.reach.specs.Lawful.{IsLawful}
 use Rattle.reach.specs.Position.{Position, IsAmong}
-use Rattle.reach.specs.Reached.{stop_order}
+use Rattle.reach.specs.Reached.{map_stops, stop_order}
 use Rattle.reach.specs.Walk.{entered_at, left_at, stop_of}
 use Rattle.reach.specs.declared.walk.WalkStep.{WalkStep}
 use Rattle.tables.specs.Train.{stops_of}
 use Rattle.tables.specs.declared.rolling_stock.Kind.{Kind}
 use Rattle.legal_runs.specs.Fault.{has_border, has_stop, has_token}
-use Rattle.legal_runs.specs.Legal.{border_at, listed, visited, worth}
+use Rattle.legal_runs.specs.Legal.{border_at, listed, map_borders, visited, worth}
 use Rattle.certificate.specs.Ranking.{ranked_of}
 use Rattle.legal_runs.specs.Set.{TrainRun, revenue_of}
 use Rattle.certificate.specs.HexLinks.{AreHexLinks}
@@ -33,12 +33,12 @@ use Rattle.certificate.specs.declared.tree_walk.Begun.{Begun}
 -- the marks of borders are those of these
 abbrev pub AreCrossed : List Bool → List ℕ → Type 0
 AreCrossed marks borders =
-    (length marks ≡ 279) × ((border : ℕ) → get_or marks border false ≡ has_border border borders)
+    (length marks ≡ map_borders) × ((border : ℕ) → get_or marks border false ≡ has_border border borders)
 
 -- the marks of stops, by their places in the order of the map, are those of these
 abbrev pub AreVisited : List Bool → List Stop → Type 0
 AreVisited marks stops =
-    (length marks ≡ 186) × ((stop : Stop) → get_or marks (stop_order stop) false ≡ has_stop stop stops)
+    (length marks ≡ map_stops) × ((stop : Stop) → get_or marks (stop_order stop) false ≡ has_stop stop stops)
 
 -- the trains of some groups, one group after the other
 abbrev pub trains_in : List Group → List Kind

@@ -4,7 +4,7 @@ mod Transfers
 pub mod Presidents
 mod Counts
 mod CompanyTableLemmas
-mod ShareDeals
+pub mod ShareDeals
 pub mod PresidesByGame
 mod Others
 mod Sales

@@ -2,6 +2,7 @@
 -- small.
 use Rattle.std.proofs.Common.{◌≡◌, ℕ, ◌≤◌, ◌==◌, Bool, true, false, not, ◌||◌, ◌&&◌, List, [], ◌∷◌, ◌++◌, Option, Some}
 use Rattle.std.proofs.Common.{None, is_some, ℤ, pos, ◌≤ℤ◌, ◌-ℤ◌, ◌+ℤ◌, refl, sym, subst, ap, ◌∙◌, arith}
+use Rattle.std.proofs.lemmas.Bool.{not-false}
 use Rattle.std.proofs.lemmas.Int.{ints}
 use Rattle.std.specs.Int.Signed.{le_z, lt_z}
 use Rattle.certs.specs.Counted.{presides}
@@ -28,11 +29,6 @@ use Rattle.tables.specs.Rules.{Rule, first_broken}
 use Rattle.tables.specs.declared.roster.Company.{Company}
 use Rattle.tables.specs.declared.seat.Seat.{Seat}
 
--- what is not so is false
-pub holds : (b : Bool) → not b ≡ false → b ≡ true
-holds true kept = refl
-holds false kept = cc
-
 -- who may sell to pay for a train may sell
 stays : (president leaves moves : Bool) → (president && (leaves || moves)) ≡ false
     → (president && (leaves || false)) ≡ false
@@ -52,7 +48,7 @@ sale_allowed seats events seat sale operating none =
       leaves =
           stays (presides seat (president_of events sale.company)) (none_is_left seats events seat sale)
           (moves_operating seats events seat sale operating) (kept PresidentMustStay);
-      started = holds (is_started events sale.company) (kept WrongStart);
+      started = not-false (is_started events sale.company) (kept WrongStart);
     }
 
 -- a company that is started stays so

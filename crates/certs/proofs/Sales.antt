@@ -29,6 +29,7 @@ use Rattle.tables.specs.Seat.{seat_at}
 use Rattle.tables.specs.declared.roster.Company.{Company}
 use Rattle.tables.specs.declared.seat.Seat.{Seat}
 use Rattle.tables.specs.declared.squares.Square.{Square}
+use Rattle.tables.proofs.Companies.{company_itself}
 
 -- a company that is started is led
 pub started_is_led : (game : Game) (company : Company) → is_started game.events company ≡ true → IsSound game
@@ -61,10 +62,6 @@ president_broken seats events company =
       | false ↦ refl
     ]
 
--- a company is itself
-itself : (company : Company) → same_company company company ≡ true
-itself company = grind (arith, nat_tests)
-
 -- what a sale of this many shares takes from a seat
 taken : (same by : Bool) (held : ℤ) (shares : ℕ) → same ≡ true
     → ((held +ℤ pos (if same then 0 else 0)) -ℤ pos (if same then (if by then shares else 0) else 0))
@@ -80,7 +77,7 @@ shares_sold game company seat shares price other =
     shares_broken game.seats (game.events ++ event.Sells company seat shares price ∷ []) company other
     ∙ shares_of_at_end game.events (event.Sells company seat shares price) company (OfSeat other)
     ∙ taken (same_company company company) (seat.0 == other.0) (seat_shares_of game.events company other) shares
-    (itself company)
+    (company_itself company)
 
 -- a sale changes no president
 president_sold : (game : Game) (company : Company) (seat : Seat) (shares price : ℕ)

@@ -14,7 +14,7 @@ use Rattle.totals.specs.Bids.{free_cash_of}
 use Rattle.totals.specs.LookBack.{Game, cash_of, with_event}
 use Rattle.history.specs.Sound.{IsSound}
 use Rattle.totals.specs.Trains.{at_least_zero}
-use Rattle.forced_purchase.proofs.CheapestTrain.{cheapest_low, company_itself, less_is, not_less_is}
+use Rattle.forced_purchase.proofs.CheapestTrain.{cheapest_low, less_is, not_less_is}
 use Rattle.forced_purchase.specs.Forced.{with_aid}
 use Rattle.forced_purchase.specs.Shortfall.{cheapest, falls_short, lack_of}
 use Rattle.forced_purchase.specs.ForcedLaws.{AidIsWhatLacks, NoAidWithoutLack}
@@ -22,6 +22,7 @@ use Rattle.purchases.specs.Train.{cost_of}
 use Rattle.forced_purchase.specs.declared.operator.Operator.{Operator}
 use Rattle.tables.specs.Roster.{same_company}
 use Rattle.tables.specs.declared.roster.Company.{Company}
+use Rattle.tables.proofs.Companies.{company_itself}
 
 -- this many, of a sum that is at most a number, are at most as many
 so_low : (sum : ℤ) (most : ℕ) → sum ≤ℤ pos most → at_least_zero sum ≤ most

@@ -3,7 +3,7 @@
 use Rattle.std.proofs.Common.{◌≡◌, ◌⊎◌, ℕ, ◌≤◌, Bool, true, false, not, ◌&&◌, ◌||◌, nat_lt, cond, if◌then◌else◌, List}
 use Rattle.std.proofs.Common.{[], ◌∷◌, ◌++◌, Option, Some, None, ℤ, pos, negsuc, ◌≤ℤ◌, ◌<ℤ◌, ◌+ℤ◌, ◌-ℤ◌, inl, inr, refl}
 use Rattle.std.proofs.Common.{sym, ap, subst, ◌∙◌, arith}
-use Rattle.std.proofs.lemmas.Bool.{ltb-false, lt-ltb}
+use Rattle.std.proofs.lemmas.Bool.{lt-ltb, ltb-false, or_left, or_right}
 use Rattle.std.proofs.lemmas.Bool.Decides.{nat_tests}
 use Rattle.std.proofs.lemmas.Int.{ints}
 use Rattle.std.specs.Int.Signed.{lt_z}
@@ -32,6 +32,7 @@ use Rattle.tables.specs.Train.{limit_of, same_kind, trains_of}
 use Rattle.tables.specs.declared.rolling_stock.Kind.{Kind}
 use Rattle.tables.specs.declared.rolling_stock.Kind.TheVariants.{Two, Three, Four, Five, Six, Diesel}
 use Rattle.tables.specs.declared.roster.Company.{Company}
+use Rattle.tables.proofs.Companies.{company_itself}
 
 -- a kind is itself
 kind_itself : (kind : Kind) → same_kind kind kind ≡ true
@@ -42,14 +43,6 @@ kind_itself kind = refl
 abbrev IsOneOf : Kind → List Kind → Type 0
 IsOneOf kind [] = ⊥
 IsOneOf kind (other ∷ others) = (other ≡ kind) ⊎ IsOneOf kind others
-
-or_first : (a b : Bool) → a ≡ true → (a || b) ≡ true
-or_first true b is = refl
-or_first false b is = absurd cc
-
-or_second : (a b : Bool) → b ≡ true → (a || b) ≡ true
-or_second true b is = refl
-or_second false b is = is
 
 module _ (events : List Event) where
   -- what is not the first that is left is not left
@@ -82,13 +75,13 @@ module _ (events : List Event) where
       let kept = none_left numbered_kinds none in
       let sixes : nat_lt (trains_sold events Six) 2 ≡ false = kept.1.1.1.1.0 in
       let sold : 2 ≤ trains_sold events Six = ltb-false (trains_sold events Six) 2 sixes in
-      or_second (is_kind (first_left events) Diesel) (same_kind Diesel Diesel && sells_diesels events)
+      or_right (is_kind (first_left events) Diesel) (same_kind Diesel Diesel && sells_diesels events)
       (lt-ltb 0 (trains_sold events Six) (omega arith))
 
   -- the bank sells the first that is left
   sells_first : (kind : Kind) → first_left events ≡ Some kind → sells events kind ≡ true
   sells_first kind is =
-      or_first (is_kind (first_left events) kind) (same_kind kind Diesel && sells_diesels events)
+      or_left (is_kind (first_left events) kind) (same_kind kind Diesel && sells_diesels events)
       (ap (λ (found : Option Kind). is_kind found kind) is ∙ kind_itself kind)
 
   -- the bank sells a D, or one of some kinds
@@ -261,10 +254,6 @@ module _ (game : Game) (company : Company) (none : has_trains game.events compan
         | inl is ↦ subst Allows (sym is) (from_there seller.Bank its.0 refl refl)
         | inr is ↦ subst Allows (sym is) (from_there seller.BankPool its.0 refl refl)
       ]
-
--- a company is itself
-pub company_itself : (company : Company) → same_company company company ≡ true
-company_itself company = grind (arith, nat_tests)
 
 -- what a company has once it was paid what it lacks
 paid_up : (cash lack : ℤ) (cost : ℕ) (same : Bool) → same ≡ true → lack ≡ (pos cost -ℤ cash)

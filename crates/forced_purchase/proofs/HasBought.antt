@@ -11,13 +11,13 @@ use Rattle.events.specs.declared.event.Event.{Event}
 use Rattle.events.specs.declared.event.Event.TheVariants as event
 use Rattle.events.specs.declared.event.TrainSeller.{TrainSeller}
 use Rattle.events.specs.declared.event.TrainSeller.TheVariants as seller
-use Rattle.totals.proofs.Choices.{same_company_is, truth}
+use Rattle.totals.proofs.Choices.{truth}
 use Rattle.totals.proofs.EventAtEnd.{trains_at_before, trains_at_end}
 use Rattle.history.proofs.Rolling.{same_kind_is, same_train_place_is}
 use Rattle.totals.specs.LookBack.{Game, with_event}
 use Rattle.totals.specs.Trains.{TrainsAreHeld, one_if, phase_of, same_train_place, at_least_zero, train_count}
 use Rattle.totals.specs.Trains.{trains_at, trains_held}
-use Rattle.forced_purchase.proofs.CheapestTrain.{cheapest_plain, company_itself, limit_low}
+use Rattle.forced_purchase.proofs.CheapestTrain.{cheapest_plain, limit_low}
 use Rattle.purchases.proofs.Rust.{all_go, by_train_owner, has}
 use Rattle.purchases.proofs.TrainSteps.{IsPassedOn, of_bop, of_fold, of_iterate, of_kind, of_privates}
 use Rattle.purchases.specs.Discard.{next_discard, with_discarded, with_next_discarded}
@@ -35,6 +35,7 @@ use Rattle.tables.specs.Train.{kinds, limit_of, rusting_of, same_kind}
 use Rattle.tables.specs.declared.rolling_stock.Kind.{Kind}
 use Rattle.tables.specs.declared.rolling_stock.Kind.TheVariants.{Two, Three, Four, Five, Six, Diesel}
 use Rattle.tables.specs.declared.roster.Company.{Company}
+use Rattle.tables.proofs.Companies.{company_is, company_itself}
 
 -- what rusts is of another kind than the train by which it does
 rusts_another : (kind new : Kind) → rusts_at (rusting_of kind) new ≡ true → same_kind new kind ≡ false
@@ -168,7 +169,7 @@ module _ (company : Company) (own : Kind) where
   by_limit game other one =
       elim (truth (same_company other company)) [
         | inl same ↦
-            let is : other ≡ company = same_company_is other company same in
+            let is : other ≡ company = company_is other company same in
             let none : excess_of game other ≡ 0 = none_over (train_count game.events (Some other))
             (limit_of (phase_of game.events))
             (ap (λ (its : Company). train_count game.events (Some its)) is ∙ one_in_all game one)

@@ -1,6 +1,7 @@
 -- No sale by which money is raised for a company moves its presidency.
 use Rattle.std.proofs.Common.{◌≡◌, ℕ, ◌*◌, ◌==◌, Bool, true, false, ◌&&◌, ◌||◌, if◌then◌else◌, List, [], ◌∷◌, ◌++◌}
 use Rattle.std.proofs.Common.{Option, Some, None, ℤ, pos, ◌≤ℤ◌, ◌<ℤ◌, ◌+ℤ◌, ◌-ℤ◌, refl, sym, ap, subst, ◌∙◌, arith}
+use Rattle.std.proofs.lemmas.Bool.{or_parts}
 use Rattle.std.proofs.lemmas.Bool.Decides.{nat_tests}
 use Rattle.std.proofs.lemmas.Int.{ints}
 use Rattle.std.specs.Int.Signed.{le_z, lt_z}
@@ -16,14 +17,13 @@ use Rattle.events.specs.declared.event.Event.{Event}
 use Rattle.events.specs.declared.event.Event.TheVariants as event
 use Rattle.events.specs.declared.event.Shareholder.TheVariants.{Seat as OfSeat}
 use Rattle.events.specs.declared.ruling.StockRule.TheVariants.{PresidentMustStay}
-use Rattle.totals.proofs.Choices.{same_company_is}
 use Rattle.totals.proofs.EventAtEnd.{last_said_before, president_of_before, shares_of_at_end, shares_of_before}
 use Rattle.totals.specs.LookBack.{Game}
 use Rattle.totals.specs.Shares.{president_of, president_said, shares_of, square_of}
 use Rattle.history.specs.Record.{breaks}
 use Rattle.market.specs.Moves.{fallen}
 use Rattle.market.specs.Token.{moved_from, same_square}
-use Rattle.forced_purchase.proofs.CheapestTrain.{company_itself, not_less_is}
+use Rattle.forced_purchase.proofs.CheapestTrain.{not_less_is}
 use Rattle.forced_purchase.specs.Raise.{sale_rule, with_sale}
 use Rattle.forced_purchase.specs.declared.operator.Operator.{Operator}
 use Rattle.tables.proofs.Rules.{not_broken}
@@ -31,11 +31,7 @@ use Rattle.tables.specs.Roster.{same_company}
 use Rattle.tables.specs.declared.roster.Company.{Company}
 use Rattle.tables.specs.declared.seat.Seat.{Seat}
 use Rattle.tables.specs.declared.squares.Square.{Square}
-
--- neither of two holds
-neither : (a b : Bool) → (a || b) ≡ false → (a ≡ false) × (b ≡ false)
-neither true b none = absurd cc
-neither false b none = (refl, none)
+use Rattle.tables.proofs.Companies.{company_is, company_itself}
 
 -- a seat stays first with most where none of the others has more than it
 most_stays : (events : List Event) (company : Company) (shares : Seat → ℤ) (first : Seat) (others : List Seat) →
@@ -43,7 +39,7 @@ most_stays : (events : List Event) (company : Company) (shares : Seat → ℤ) (
     one_has events company (shares first +ℤ pos 1) others ≡ false → with_most shares first others ≡ first
 most_stays events company shares first [] fewer none = refl
 most_stays events company shares first (other ∷ others) fewer none =
-    let parts = neither (le_z (shares first +ℤ pos 1) (shares_of events company (OfSeat other)))
+    let parts = or_parts (le_z (shares first +ℤ pos 1) (shares_of events company (OfSeat other)))
     (one_has events company (shares first +ℤ pos 1) others) none in
     let under : shares_of events company (OfSeat other) <ℤ (shares first +ℤ pos 1) = grind (arith, ints, parts.0) in
     let no_more : lt_z (shares first) (shares other) ≡ false =
@@ -226,7 +222,7 @@ sale_leaves by game sale none leads =
     elim (same_company sale.company by.company) as
     (λ (b : Bool). same_company sale.company by.company ≡ b → president_of led by.company ≡ Some by.president) [
       | true ↦ λ same.
-          let is : by.company ≡ sale.company = sym (same_company_is sale.company by.company same) in
+          let is : by.company ≡ sale.company = sym (company_is sale.company by.company same) in
           of_same game by.president sale by.company is kept (none_over by game sale none is leads)
       | false ↦ λ apart. of_other game by.president sale by.company by.president apart kept
     ]

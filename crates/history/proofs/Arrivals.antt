@@ -5,7 +5,7 @@ use Rattle.std.specs.Option.{option_or}
 use Rattle.events.specs.Event.{square_set}
 use Rattle.events.specs.declared.event.Event.{Event}
 use Rattle.events.specs.declared.event.Placement.{Placement}
-use Rattle.totals.proofs.Choices.{same_company_is, something}
+use Rattle.totals.proofs.Choices.{something}
 use Rattle.totals.proofs.Places.{last_place_at_end}
 use Rattle.history.specs.Laws.{ArrivalIsLast, ArrivalsDiffer}
 use Rattle.totals.specs.LookBack.{last_place_from, last_said}
@@ -13,6 +13,7 @@ use Rattle.totals.specs.Shares.{arrival_of, square_of, square_said}
 use Rattle.tables.specs.Roster.{same_company}
 use Rattle.tables.specs.declared.roster.Company.{Company}
 use Rattle.tables.specs.declared.squares.Square.{Square}
+use Rattle.tables.proofs.Companies.{company_is}
 
 -- a place, if there is one, is no lower
 abbrev IsFrom : ℕ → Option ℕ → Type 0
@@ -92,8 +93,8 @@ of_one_company : (a b : Company) (said : Option Placement) → is_some (square_s
     → is_some (square_said b said) ≡ true → a ≡ b
 of_one_company a b None of_a of_b = absurd cc
 of_one_company a b (Some placement) of_a of_b =
-    sym (same_company_is placement.company a (spoken (same_company placement.company a) placement.square of_a))
-    ∙ same_company_is placement.company b (spoken (same_company placement.company b) placement.square of_b)
+    sym (company_is placement.company a (spoken (same_company placement.company a) placement.square of_a))
+    ∙ company_is placement.company b (spoken (same_company placement.company b) placement.square of_b)
 
 -- a company with a square has its place
 has_arrived : (events : List Event) (company : Company) (square : Square) → square_of events company ≡ Some square

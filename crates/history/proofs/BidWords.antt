@@ -2,11 +2,11 @@
 use Rattle.std.proofs.Common.{◌<◌, ◌≡◌, ℕ, ◌≤◌, ◌==◌, ◌⊎◌, inl, inr, Bool, true, false, ◌&&◌, if◌then◌else◌, List, []}
 use Rattle.std.proofs.Common.{◌∷◌, ◌++◌, Option, Some, None, unwrap_or, sum_by, refl, sym, subst, ap, ◌∙◌, arith}
 use Rattle.std.proofs.lemmas.Bool.Decides.{Decides-eqb, nat_tests}
+use Rattle.std.proofs.lemmas.Bool.{and_parts}
 use std.Path.{fun_ext}
 use Rattle.events.specs.Event.{bidding_of}
 use Rattle.events.specs.declared.event.Event.{Event}
 use Rattle.events.specs.declared.event.Event.TheVariants.{Bids, Sold}
-use Rattle.totals.proofs.Choices.{both}
 use Rattle.totals.proofs.EventAtEnd.{bid_of_at_end, now_said_before}
 use Rattle.totals.proofs.Privates.{private_itself, same_private_is}
 use Rattle.totals.specs.Bids.{bid_of, bid_said, bids_elsewhere_of, tied_on}
@@ -100,7 +100,7 @@ bid_after events private seat amount on by said is =
     elim (bid_cases (same_private private on && (seat.0 == by.0)) amount (bid_of events on by) said
     (sym (bid_of_at_end events (Bids private seat amount) on by) ∙ is)) [
       | inl new ↦
-          let here = both (same_private private on) (seat.0 == by.0) new.0 in
+          let here = and_parts (same_private private on) (seat.0 == by.0) new.0 in
           inl (same_seat_is seat by here.1, same_private_is private on here.0, new.1)
       | inr old ↦ inr old.1
     ]

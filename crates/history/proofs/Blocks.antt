@@ -8,7 +8,7 @@ use Rattle.events.specs.declared.event.Event.{Event}
 use Rattle.events.specs.declared.event.Event.TheVariants.{Floats, Moves, President, Sells}
 use Rattle.events.specs.declared.event.Shareholder.TheVariants.{InitialOffering, BankPool, Seat as OfSeat}
 use Rattle.events.specs.declared.event.Transfer.{Transfer}
-use Rattle.totals.proofs.Choices.{nothing_there, old_word, same_company_is, truth}
+use Rattle.totals.proofs.Choices.{nothing_there, old_word, truth}
 use Rattle.totals.proofs.EventAtEnd.{is_floated_before, last_said_at_end, par_of_before}
 use Rattle.totals.proofs.EventAtEnd.{president_of_before, square_of_before}
 use Rattle.history.proofs.NearlySound.{nearly_sound_recorded, recorded_same}
@@ -27,6 +27,7 @@ use Rattle.tables.specs.Roster.{same_company}
 use Rattle.tables.specs.declared.roster.Company.{Company}
 use Rattle.tables.specs.declared.seat.Seat.{Seat}
 use Rattle.tables.specs.declared.squares.Square.{Square}
+use Rattle.tables.proofs.Companies.{company_is}
 
 -- the shares of a sale
 abbrev block : Company → Seat → ℕ → Transfer
@@ -101,7 +102,7 @@ module _ (game : Game) (company : Company) (seat : Seat) (shares price : ℕ) wh
       still_led game.events sold.events other (pars_then other) (presidents_then other)
       (λ president presides two. elim (truth (same_company company other)) [
         | inl same ↦
-            let here = same_company_is company other same in
+            let here = company_is company other same in
             rw (← here) (stays president (ap (president_of game.events) here ∙ presides))
         | inr apart ↦ rw (others_held other president apart) two
       ])
@@ -114,7 +115,7 @@ module _ (game : Game) (company : Company) (seat : Seat) (shares price : ℕ) wh
         before.par,
         pars_then other ∙ before.has_par,
         before.is_par,
-        rw (← (same_company_is company other same)) two,
+        rw (← (company_is company other same)) two,
       )) (λ apart. still_led game.events sold.events other (pars_then other) (presidents_then other)
       (λ by _ two. rw (others_held other by apart) two) before)
 
@@ -150,7 +151,7 @@ is_led_succeeded : (events : List Event) (company : Company) (old new : Seat) �
     → StayLed events (events ++ President company new ∷ [])
 is_led_succeeded events company old new presided more other before =
     is_led_passed events company new other (λ same.
-    let here : company ≡ other = same_company_is company other same in
+    let here : company ≡ other = company_is company other same in
     let same_seat : before.president ≡ old = ap (λ (word : Option Seat). unwrap_or word old)
     (sym before.has_president ∙ sym (ap (president_of events) here) ∙ presided) in
     let its_more : shares_of events other (OfSeat old) ≤ℤ shares_of events other (OfSeat new) = rw (← here) more in
@@ -180,7 +181,7 @@ float_sound game company amount few sound =
     let floats = Floats company amount in
     sound_after game floats (paying game floats refl sound.solvent sound.companies (tt, tt) tt) (
       λ other floated. stay_led game floats refl other (elim (truth (same_company company other)) [
-        | inl same ↦ subst (IsLed game.events) (same_company_is company other same)
+        | inl same ↦ subst (IsLed game.events) (company_is company other same)
             (is_led_few game company (square_of game.events company) refl few sound)
         | inr apart ↦ sound.floated other (sym (ap is_some
             (old_word (same_company company other) company
@@ -196,7 +197,7 @@ had_square : (events : List Event) (company other : Company) (from to square : S
     → (before : Square) × (square_of events other ≡ Some before)
 had_square events company other from to square started placed =
     elim (truth (same_company company other)) [
-      | inl same ↦ (from, sym (ap (square_of events) (same_company_is company other same)) ∙ started)
+      | inl same ↦ (from, sym (ap (square_of events) (company_is company other same)) ∙ started)
       | inr apart ↦ (
         square,
         sym (old_word (same_company company other) to (square_of events other) apart)

@@ -2,7 +2,7 @@
 use Rattle.std.proofs.Common.{ℕ, ◌==◌, inl, inr, if◌then◌else◌, pos, ◌≤ℤ◌, refl}
 use Rattle.events.specs.Event.{party_of_company}
 use Rattle.events.specs.declared.event.Event.TheVariants.{Home, Laid, Token, Withheld}
-use Rattle.totals.proofs.Choices.{same_company_is, truth}
+use Rattle.totals.proofs.Choices.{truth}
 use Rattle.history.proofs.BidWords.{same_seat_is}
 use Rattle.history.proofs.Soundness.{paying, sound_after}
 use Rattle.history.specs.Laws.{HomeKeepsSound, LayKeepsSound, TokenKeepsSound, WithholdingKeepsSound}
@@ -12,6 +12,7 @@ use Rattle.history.specs.Sound.{CompaniesAreSolvent, SeatsAreSolvent}
 use Rattle.tables.specs.Roster.{same_company}
 use Rattle.tables.specs.declared.roster.Company.{Company}
 use Rattle.tables.specs.declared.seat.Seat.{Seat}
+use Rattle.tables.proofs.Companies.{company_is}
 
 -- each company has what it pays, where the one that pays has
 pub can_pay : (game : Game) (company other : Company) (cost : ℕ)
@@ -19,7 +20,7 @@ pub can_pay : (game : Game) (company other : Company) (cost : ℕ)
     → pos (if same_company company other then cost else 0) ≤ℤ cash_of game.seats game.events (party_of_company other)
 can_pay game company other cost enough solvent =
     elim (truth (same_company company other)) [
-      | inl same ↦ rw same (rw (← (same_company_is company other same)) enough)
+      | inl same ↦ rw same (rw (← (company_is company other same)) enough)
       | inr apart ↦ rw apart (solvent other)
     ]
 

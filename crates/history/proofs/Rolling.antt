@@ -5,12 +5,13 @@ use Rattle.std.proofs.Common.{◌++◌, Option, Some, None, pos, ◌≤ℤ◌, r
 use Rattle.std.proofs.lemmas.Bool.Decides.{Decides-eqb}
 use Rattle.std.proofs.lemmas.Int.{ints}
 use Rattle.std.proofs.lemmas.List.Sums.{sum_by_push}
+use Rattle.std.proofs.lemmas.Bool.{and_parts}
 use Rattle.events.specs.Event.{train_owner_place, train_moved}
 use Rattle.events.specs.declared.event.Event.{Event}
 use Rattle.events.specs.declared.event.TrainMove.{TrainMove}
 use Rattle.events.specs.declared.event.TrainPlace.{TrainPlace}
 use Rattle.events.specs.declared.event.TrainPlace.TheVariants as place
-use Rattle.totals.proofs.Choices.{both, same_company_is, truth}
+use Rattle.totals.proofs.Choices.{truth}
 use Rattle.totals.proofs.EventAtEnd.{trains_at_before, trains_at_end}
 use Rattle.totals.specs.Trains.{TrainsAreHeld, one_if, same_train_place, train_goes, trains_at, trains_held}
 use Rattle.totals.specs.Trains.{trains_sold}
@@ -18,6 +19,7 @@ use Rattle.tables.specs.Train.{index_of_kind, same_kind, trains_of}
 use Rattle.tables.specs.declared.rolling_stock.Kind.{Kind}
 use Rattle.tables.specs.declared.rolling_stock.Kind.TheVariants.{Two, Three, Four, Five, Six, Diesel}
 use Rattle.tables.specs.declared.roster.Company.{Company}
+use Rattle.tables.proofs.Companies.{company_is}
 
 -- the kind at a place among the kinds
 abbrev kind_at : ℕ → Kind
@@ -39,7 +41,7 @@ same_kind_is a b same =
 pub same_train_place_is : (a b : TrainPlace) → same_train_place a b ≡ true → a ≡ b
 same_train_place_is place.Bank place.Bank same = refl
 same_train_place_is place.BankPool place.BankPool same = refl
-same_train_place_is (place.Company a) (place.Company b) same = ap place.Company (same_company_is a b same)
+same_train_place_is (place.Company a) (place.Company b) same = ap place.Company (company_is a b same)
 same_train_place_is place.OutOfPlay place.OutOfPlay same = refl
 same_train_place_is a b same = absurd cc
 
@@ -66,7 +68,7 @@ still_held : (events : List Event) (event : Event) (move : TrainMove) (place : T
 still_held events event move place kind is there before =
     elim (truth (train_goes place kind (Some move))) [
       | inl goes ↦
-          let same = both (same_kind move.kind kind) (same_train_place move.from place) goes in
+          let same = and_parts (same_kind move.kind kind) (same_train_place move.from place) goes in
           let here : pos 1 ≤ℤ trains_at events place kind =
           rw (← (same_train_place_is move.from place same.1), ← (same_kind_is move.kind kind same.0)) there in
           let fact = trains_at_end events event place kind in

@@ -12,7 +12,7 @@ use Rattle.events.specs.declared.event.Event.{Event}
 use Rattle.events.specs.declared.event.Shareholder.{Shareholder}
 use Rattle.events.specs.declared.event.Shareholder.TheVariants.{InitialOffering, BankPool, Seat as OfSeat}
 use Rattle.events.specs.declared.event.Transfer.{Transfer}
-use Rattle.totals.proofs.Choices.{chosen, either_order, nothing_there, passed_over, same_company_is, truth}
+use Rattle.totals.proofs.Choices.{chosen, either_order, nothing_there, passed_over, truth}
 use Rattle.totals.proofs.EventAtEnd.{shares_of_at_end, par_of_before, president_of_before}
 use Rattle.totals.specs.LookBack.{Game, with_event}
 use Rattle.totals.specs.Shares.{brought_to, held_by, same_shareholder, shares_of, taken_from, square_of}
@@ -25,6 +25,7 @@ use Rattle.history.proofs.Soundness.{IsNearlySound, StayLed, closed_kept, floate
 use Rattle.history.proofs.Soundness.{still_led, unplaced_before}
 use Rattle.order_grammar.specs.declared.order.ShareSource.{ShareSource}
 use Rattle.order_grammar.specs.declared.order.ShareSource.TheVariants as source
+use Rattle.tables.proofs.Companies.{company_is}
 
 -- places that are the same
 same_shareholder_is : (a b : Shareholder) → same_shareholder a b ≡ true → a ≡ b
@@ -136,7 +137,7 @@ taken_low events transfer company place enough held =
       | inl same ↦
           elim (truth (same_shareholder transfer.from place)) [
             | inl here ↦ rw (same, here) (rw (
-              ← (same_company_is transfer.company company same),
+              ← (company_is transfer.company company same),
               ← (same_shareholder_is transfer.from place here),
             ) enough)
             | inr elsewhere ↦ rw (same, elsewhere) held
@@ -194,7 +195,7 @@ left_after events transfer many offered company unplaced =
           ap (λ (is : Bool). if is then transfer.shares else 0) same in
           rw its (subst (λ (one : Company). square_of events one ≡ None
           → pos (least_offered events one + part transfer.from InitialOffering transfer.shares) ≤ℤ shares_of events
-          one InitialOffering) (same_company_is transfer.company company same) many unplaced)
+          one InitialOffering) (company_is transfer.company company same) many unplaced)
       | inr apart ↦
           let its : moved company transfer ≡ 0 = ap (λ (is : Bool). if is then transfer.shares else 0) apart in
           let none : part transfer.from InitialOffering 0 ≡ 0 =

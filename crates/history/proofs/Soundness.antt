@@ -4,11 +4,11 @@ use Rattle.std.proofs.Common.{◌≡◌, ℕ, ◌≤◌, Bool, true, false, if�
 use Rattle.std.proofs.Common.{None, is_none, is_some, pos, ◌≤ℤ◌, refl, sym, subst, ap, ◌∙◌, arith, inl}
 use Rattle.std.proofs.lemmas.Int.{ints}
 use Rattle.std.specs.Option.{option_or}
+use Rattle.std.proofs.lemmas.Bool.{and_parts}
 use Rattle.events.specs.Event.{bidding_of, floated_by, office_of, ownership_of, par_set, party_at, party_of_company}
 use Rattle.events.specs.Event.{payment_of, square_set, sv_price_set, tile_laid, token_placed, train_moved, transfer_of}
 use Rattle.events.specs.declared.event.Event.{Event}
 use Rattle.events.specs.declared.event.Shareholder.TheVariants.{InitialOffering, BankPool, Seat as OfSeat}
-use Rattle.totals.proofs.Choices.{both}
 use Rattle.totals.proofs.InOrder.{lays_before, tokens_before}
 use Rattle.history.proofs.Rolling.{no_trains, trains_kept}
 use Rattle.totals.proofs.EventAtEnd.{bid_of_before, bids_of_before, cash_of_at_end, is_closed_before}
@@ -337,7 +337,7 @@ leaves_leaders event = is_none (par_set event) && (is_none (office_of event) && 
 pub stay_led : (game : Game) (event : Event) → leaves_leaders event ≡ true
     → StayLed game.events (with_event game event).events
 stay_led game event silent =
-    let par = both (is_none (par_set event)) _ silent in
+    let par = and_parts (is_none (par_set event)) _ silent in
     let words = nones (office_of event) (transfer_of event) par.1 in
     is_led_kept game event (none (par_set event) par.0) words.0 words.1
 
@@ -354,9 +354,9 @@ pub sound_after : (game : Game) (event : Event) → Shows game event → ShowsMo
     → IsSound (with_event game event)
 sound_after game event shows more sound =
     let given = shown _ (λ silent. given_kept game event (none (sv_price_set event) silent) sound.given) more in
-    let led = shown _ (λ silent. let words = both (leaves_leaders event) _ silent in
+    let led = shown _ (λ silent. let words = and_parts (leaves_leaders event) _ silent in
     led_kept game event (stay_led game event words.0) (none (square_set event) words.1) sound.led) given.1 in
-    let floated = shown _ (λ silent. let words = both (leaves_leaders event) _ silent in
+    let floated = shown _ (λ silent. let words = and_parts (leaves_leaders event) _ silent in
     floated_kept game event (stay_led game event words.0) (none (floated_by event) words.1) sound.floated) led.1 in
     sound_of (with_event game event) (nearly_sound_after game event shows (nearly_sound_of game sound)) given.0 led.0
     floated.0
@@ -371,7 +371,7 @@ no_bids : (seat : Seat) → bids_of [] seat ≡ 0
 no_bids seat = refl
 
 -- and the seats hold nothing
-holds_none : (company : Company) (seats : List Seat) → held_by [] company seats ≡ pos 0
+pub holds_none : (company : Company) (seats : List Seat) → held_by [] company seats ≡ pos 0
 holds_none company [] = refl
 holds_none company (seat ∷ others) = omega (arith, ints, holds_none company others)
 

@@ -30,6 +30,7 @@ use Rattle.tables.specs.declared.roster.Company.TheVariants.{Pennsylvania, NewYo
 use Rattle.tables.specs.declared.roster.Private.TheVariants.{CamdenAmboy, MohawkHudson}
 use Rattle.tables.specs.declared.seat.Seat.{Seat}
 use Rattle.tables.specs.declared.squares.Square.{Square}
+use Rattle.tables.proofs.Companies.{company_itself}
 
 -- a company's par value after one was set
 par_after : (events : List Event) (started : Company) (price : ℕ) (company : Company)
@@ -96,10 +97,6 @@ pub least_eight : (events : List Event) (company : Company) → 8 ≤ least_offe
 least_eight events Pennsylvania = eight_or_nine (is_sold events CamdenAmboy)
 least_eight events NewYorkCentral = eight_or_nine (is_closed events MohawkHudson)
 least_eight events other = omega arith
-
--- a company is itself
-company_itself : (company : Company) → same_company company company ≡ true
-company_itself company = (Decides-eqb (index_of_company company) (index_of_company company)).1 refl
 
 -- a seat is itself
 itself : (n a : ℕ) → (if n == n then a else 0) ≡ a

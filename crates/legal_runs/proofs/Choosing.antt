@@ -145,11 +145,11 @@ decided_taken trains taken =
     (λ kind. most_decided (in_number kind taken) (in_number kind trains))
 
 -- a list of trains has this many of each kind
-count_kinds : List Kind → ℕ
+pub count_kinds : List Kind → ℕ
 count_kinds trains = in_number Two trains + (in_number Three trains
     + (in_number Four trains + (in_number Five trains + (in_number Six trains + in_number Diesel trains))))
 
-counted : (trains : List Kind) → length trains ≡ count_kinds trains
+pub counted : (trains : List Kind) → length trains ≡ count_kinds trains
 unfolding count_kinds
 counted [] = refl
 counted (Two ∷ trains) = let rest : length trains ≡ count_kinds trains = counted trains in omega arith
@@ -160,7 +160,7 @@ counted (Six ∷ trains) = let rest : length trains ≡ count_kinds trains = cou
 counted (Diesel ∷ trains) = let rest : length trains ≡ count_kinds trains = counted trains in omega arith
 
 -- so no more trains are taken than there are
-no_more_taken : (trains taken : List Kind) → AreTakenFrom trains taken → length taken ≤ length trains
+pub no_more_taken : (trains taken : List Kind) → AreTakenFrom trains taken → length taken ≤ length trains
 unfolding count_kinds
 no_more_taken trains taken each =
     omega (arith, counted trains, counted taken, each Two, each Three, each Four, each Five, each Six, each Diesel)

@@ -7,6 +7,7 @@ use Rattle.std.specs.Prelude.{unwrap_or}
 use Rattle.std.proofs.Common.{◌≡◌, ℕ, zero, suc, ◌+◌, ◌*◌, ◌<◌, ◌≤◌, Bool, true, false, List, [], ◌∷◌, ◌++◌, length}
 use Rattle.std.proofs.Common.{get_or, set, refl, sym, subst, ap, ◌∙◌, arith}
 use Rattle.std.specs.List.{AllByRecursion}
+use Rattle.std.proofs.lemmas.Bool.{or_parts}
 use Rattle.map_tables.specs.declared.hex.Hex.{Hex}
 use Rattle.map_tables.specs.declared.place.Stop.{Stop}
 use Rattle.map_tables.specs.declared.place.StopNumber.{StopNumber}
@@ -18,7 +19,7 @@ use Rattle.reach.specs.Walk.{IsWalk, stop_at_end}
 use Rattle.reach.specs.declared.walk.WalkStep.{WalkStep}
 use Rattle.tables.specs.declared.rolling_stock.Kind.{Kind}
 use Rattle.tables.specs.declared.roster.Company.{Company}
-use Rattle.legal_runs.proofs.Joined.{distinct_borders, neither}
+use Rattle.legal_runs.proofs.Joined.{distinct_borders}
 use Rattle.legal_runs.proofs.TallyOfWalk.{crossed_low, length_marked, marked_is}
 use Rattle.legal_runs.proofs.Lawful.{legal_where_unbroken}
 use Rattle.legal_runs.proofs.Written.{ordered, stop_to_stop}
@@ -76,7 +77,7 @@ marks_used used [] low once = omega arith
 marks_used used (border ∷ borders) low once =
     let parts : (has_border_twice (borders_used used) borders ≡ false)
     × ((has_border border (borders_used used) || has_border border borders) ≡ false) =
-    neither (has_border_twice (borders_used used) borders) ((has_border border (borders_used used) || has_border border borders)) once in
+    or_parts (has_border_twice (borders_used used) borders) ((has_border border (borders_used used) || has_border border borders)) once in
     let here : border < length (marked used borders) = omega (arith, length_marked used borders, low.0) in
     let free : get_or (marked used borders) border false ≡ false = marked_is used borders border low.1 ∙ parts.1 in
     omega (arith, mark_used (marked used borders) border here free, marks_used used borders low.1 parts.0)

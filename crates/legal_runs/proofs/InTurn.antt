@@ -5,7 +5,7 @@ use Rattle.std.specs.Prelude.{unwrap_or}
 use Rattle.std.proofs.Common.{◌≡◌, ◌↔◌, ℕ, ◌+◌, ◌-◌, ◌≤◌, Bool, true, false, cond, if◌then◌else◌, ◌&&◌, count_by, inl}
 use Rattle.std.proofs.Common.{inr, Some, List, [], ◌∷◌, ◌++◌, get_or, refl, ap, sym, ◌∙◌, subst, arith}
 use Rattle.std.specs.List.{AllByRecursion, list_all}
-use Rattle.std.proofs.lemmas.Bool.{and_parts, le-leb, leb-true}
+use Rattle.std.proofs.lemmas.Bool.{and_from, and_parts, le-leb, leb-true}
 use Rattle.std.proofs.lemmas.List.Recursion.{is_count_by}
 use Rattle.std.proofs.lemmas.List.{length-replicate}
 use Rattle.reach.specs.Position.{Position, IsAmong}
@@ -193,10 +193,6 @@ enough_is : (trains : List Kind) (claimed : List ClaimedRun) (kind : Kind)
     → (has_enough trains claimed kind ≡ true) ↔ (in_number kind (kinds_claimed claimed) ≤ in_number kind trains)
 enough_is trains claimed kind = grind (arith, counted, counted_claimed, le-leb, leb-true)
 
-true_both : (a b : Bool) → a ≡ true → b ≡ true → (a && b) ≡ true
-true_both true b is also = also
-true_both false b is also = absurd cc
-
 pub taken_is : (trains : List Kind) (claimed : List ClaimedRun)
     → (list_all (has_enough trains claimed) kinds ≡ true) ↔ AreTakenFrom trains (kinds_claimed claimed)
 taken_is trains claimed = (
@@ -209,12 +205,12 @@ taken_is trains claimed = (
       let diesel = and_parts (has_enough trains claimed Diesel) _ six.1 in
       each two.0 three.0 four.0 five.0 six.0 diesel.0,
   λ taken.
-      true_both (has_enough trains claimed Two) _ (there Two taken)
-      (true_both (has_enough trains claimed Three) _ (there Three taken)
-      (true_both (has_enough trains claimed Four) _ (there Four taken)
-      (true_both (has_enough trains claimed Five) _ (there Five taken)
-      (true_both (has_enough trains claimed Six) _ (there Six taken)
-      (true_both (has_enough trains claimed Diesel) _ (there Diesel taken) refl))))),
+      and_from (has_enough trains claimed Two) _ (there Two taken)
+      (and_from (has_enough trains claimed Three) _ (there Three taken)
+      (and_from (has_enough trains claimed Four) _ (there Four taken)
+      (and_from (has_enough trains claimed Five) _ (there Five taken)
+      (and_from (has_enough trains claimed Six) _ (there Six taken)
+      (and_from (has_enough trains claimed Diesel) _ (there Diesel taken) refl))))),
 )
   where
     there : (kind : Kind) → AreTakenFrom trains (kinds_claimed claimed) → has_enough trains claimed kind ≡ true

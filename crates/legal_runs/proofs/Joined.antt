@@ -2,7 +2,7 @@
 use Rattle.std.proofs.Common.{◌≡◌, ◌↔◌, ℕ, ◌+◌, ◌*◌, ◌<◌, ◌≤◌, ◌==◌, Bool, true, false, ◌||◌, ltb, ◌⊎◌, inl, inr}
 use Rattle.std.proofs.Common.{List, [], ◌∷◌, refl, ap, ◌∙◌, arith}
 use Rattle.std.specs.List.{AllByRecursion, list_any}
-use Rattle.std.proofs.lemmas.Bool.{eqb-true, eq-eqb, ltb-true}
+use Rattle.std.proofs.lemmas.Bool.{eq-eqb, eqb-true, ltb-true, or_parts}
 use Rattle.map_tables.specs.Hex.{index_of}
 use Rattle.map_tables.specs.Place.{stop_index_of}
 use Rattle.map_tables.specs.declared.hex.Hex.{Hex}
@@ -26,12 +26,7 @@ pub fails : {P : Type 0} (test : Bool) → (test ≡ true) ↔ P → (test ≡ f
 fails true exact = (λ h. cc, λ none. absurd (none (exact.0 refl)))
 fails false exact = (λ h fact. let wrong : false ≡ true = exact.1 fact in cc, λ none. refl)
 
--- neither of two tests passes
-pub neither : (a b : Bool) → (a || b) ≡ false → (a ≡ false) × (b ≡ false)
-neither true b h = cc
-neither false b h = (refl, h)
-
-both_fail : (a b : Bool) → a ≡ false → b ≡ false → (a || b) ≡ false
+pub both_fail : (a b : Bool) → a ≡ false → b ≡ false → (a || b) ≡ false
 both_fail a b first second = ap (λ x. x || b) first ∙ second
 
 -- stops with one place in the order of the map are one
@@ -68,7 +63,7 @@ pub stops_distinct : (stops : List Stop) → has_stop_twice stops ≡ false → 
 stops_distinct [] h = tt
 stops_distinct (stop ∷ stops) h =
     let parts : (has_stop_twice stops ≡ false) × (has_stop stop stops ≡ false) =
-    neither (has_stop_twice stops) (has_stop stop stops) h in
+    or_parts (has_stop_twice stops) (has_stop stop stops) h in
     ((fails (has_stop stop stops) (has_stop_is stop stops)).0 parts.1, stops_distinct stops parts.0)
 
 pub distinct_stops : (stops : List Stop) → AreDistinct stops → has_stop_twice stops ≡ false
@@ -85,9 +80,9 @@ pub borders_distinct : (used : List ℕ) (borders : List ℕ) → has_border_twi
 borders_distinct used [] h = (tt, tt)
 borders_distinct used (border ∷ borders) h =
     let parts : (has_border_twice used borders ≡ false) × ((has_border border used || has_border border borders) ≡ false) =
-    neither (has_border_twice used borders) ((has_border border used || has_border border borders)) h in
+    or_parts (has_border_twice used borders) ((has_border border used || has_border border borders)) h in
     let free : (has_border border used ≡ false) × (has_border border borders ≡ false) =
-    neither (has_border border used) (has_border border borders) parts.1 in
+    or_parts (has_border border used) (has_border border borders) parts.1 in
     let rest : AreDistinct borders × AllByRecursion (λ b. ¬ IsAmong b used) borders =
     borders_distinct used borders parts.0 in
     (((not_among_is border borders).0 free.1, rest.0), ((not_among_is border used).0 free.0, rest.1))
@@ -108,7 +103,7 @@ module _ (P : Stop → Type 0) (test : Stop → Bool) (exact : (stop : Stop) →
   passes_none [] h = tt
   passes_none (step ∷ before) h =
       let parts : (passes test before ≡ false) × (goes_through test before step ≡ false) =
-      neither (passes test before) (goes_through test before step) h in
+      or_parts (passes test before) (goes_through test before step) h in
       ((by_none before step).0 parts.1, passes_none before parts.0)
 
   pub none_passes : (steps : List WalkStep) → PassesOnly (λ s. ¬ P s) steps → passes test steps ≡ false

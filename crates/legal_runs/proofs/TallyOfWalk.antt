@@ -5,7 +5,7 @@ use Rattle.std.proofs.Common.{◌≡◌, ◌↔◌, ℕ, ◌+◌, ◌-◌, ◌*�
 use Rattle.std.proofs.Common.{if◌then◌else◌, Option, Some, None, List, [], ◌∷◌, ◌++◌, length, get_or, set, replicate}
 use Rattle.std.proofs.Common.{refl, ◌∙◌, arith, get_or-set_same, get_or-set_other, length-set}
 use Rattle.std.specs.List.{AllByRecursion, list_any}
-use Rattle.std.proofs.lemmas.Bool.{cases_eq, eq-eqb, ltb-true, ltb-false}
+use Rattle.std.proofs.lemmas.Bool.{cases_eq, eq-eqb, ltb-false, ltb-true, or_cases}
 use Rattle.map_tables.specs.Border.{neighbour_of}
 use Rattle.map_tables.specs.Hex.{index_of}
 use Rattle.map_tables.specs.Side.{number_of}
@@ -248,11 +248,6 @@ pub crossed_low : (bound : ℕ) (steps : List WalkStep) → 279 ≤ bound → Al
 crossed_low bound [] whole = tt
 crossed_low bound (step ∷ before) whole = grind (arith, low_before, crossed_low bound before whole)
 
--- a test of an element or of others
-or_is : (a b : Bool) → (a || b) ≡ true → (a ≡ true) ⊎ (b ≡ true)
-or_is true b h = inl refl
-or_is false b h = inr h
-
 is_or : (a b : Bool) → (a ≡ true) ⊎ (b ≡ true) → (a || b) ≡ true
 is_or true b h = refl
 is_or false b (inl h) = cc
@@ -261,7 +256,7 @@ is_or false b (inr h) = h
 -- after a walk those borders are used that were used before, and those that it crosses
 pub taken_is : (used borders : List ℕ) (border : ℕ)
     → ((has_border border used || has_border border borders) ≡ true) ↔ (IsAmong border borders ⊎ IsAmong border used)
-taken_is used borders border = grind (arith, or_is, is_or, among_is)
+taken_is used borders border = grind (arith, or_cases, is_or, among_is)
 
 pub crossed_used : CrossedBordersAreUsed
 crossed_used used marks steps are =

@@ -1,6 +1,6 @@
 -- The tests of tokens and of full cities are exact.
 use Rattle.std.proofs.Common.{◌≡◌, ◌↔◌, ℕ, ◌<◌, ◌≤◌, Bool, true, false, ◌&&◌, not, ltb, List, length, refl, sym, arith}
-use Rattle.std.proofs.lemmas.Bool.{ltb-true, ltb-false, lt-ltb}
+use Rattle.std.proofs.lemmas.Bool.{lt-ltb, ltb-false, ltb-true, not-true}
 use Rattle.map_tables.specs.declared.place.Stop.{Stop}
 use Rattle.reach.specs.Position.{Position, HasToken, IsFull, at_stop}
 use Rattle.reach.proofs.Lists.{among_found, found_among}
@@ -33,11 +33,7 @@ three true true false h = cc
 pub all_three : (a b c : Bool) → a ≡ true → b ≡ true → c ≡ true → (a && (b && c)) ≡ true
 all_three a b c first second third = rw (first, second) third
 
-is_false : (b : Bool) → not b ≡ true → b ≡ false
-is_false true h = cc
-is_false false h = refl
-
-not_both : (b : Bool) → not b ≡ true → b ≡ true → ⊥
+pub not_both : (b : Bool) → not b ≡ true → b ≡ true → ⊥
 not_both true h is = cc
 not_both false h is = cc
 
@@ -60,7 +56,7 @@ is_full_is position company stop =
           three (ltb 0 slots) (not (ltb (length tokens) slots)) (not own) h in
           record {
             is_city = ltb-true 0 slots parts.0;
-            all_taken = ltb-false (length tokens) slots (is_false (ltb (length tokens) slots) parts.1);
+            all_taken = ltb-false (length tokens) slots (not-true (ltb (length tokens) slots) parts.1);
             by_others = λ has. not_both own parts.2 ((has_token_is position company stop).1 has);
           },
       λ full.

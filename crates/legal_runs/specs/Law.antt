@@ -19,7 +19,7 @@ use Rattle.reach.specs.declared.walk.WalkStep.{WalkStep}
 use Rattle.tables.specs.declared.rolling_stock.Kind.{Kind}
 use Rattle.tables.specs.declared.roster.Company.{Company}
 use Rattle.legal_runs.specs.Fault.{named_steps, run_fault}
-use Rattle.legal_runs.specs.Legal.{IsLegalRun, border_of, crossed, earned}
+use Rattle.legal_runs.specs.Legal.{IsLegalRun, border_of, crossed, earned, map_borders}
 use Rattle.legal_runs.specs.Marks.{MarksAre, borders_used, marked}
 use Rattle.legal_runs.specs.Named.{walk_named}
 
@@ -79,7 +79,7 @@ unused (mark ∷ marks) = if_unused mark + unused marks
 abbrev pub RunsEarnByBorders : Type 0
 RunsEarnByBorders =
     (position : Position) (company : Company) (kind : Kind) (marks : List Bool) (places : List Place)
-    → length marks ≡ 279 →
+    → length marks ≡ map_borders →
     IsLawful position → run_fault position company kind (borders_used marks) places ≡ None →
     earned position (named_steps position places) + 160 * unused
     (marked marks (crossed (named_steps position places))) ≤ 160 * unused marks

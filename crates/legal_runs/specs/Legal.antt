@@ -42,6 +42,10 @@ abbrev pub border_beyond : ℕ → Option Hex → ℕ
 border_beyond number (Some hex) = 3 * index_of hex + number
 border_beyond number None = number
 
+-- the number of borders of the map: three for each of its 93 hexes
+abbrev pub map_borders : ℕ
+map_borders = 279
+
 -- the number of the border at a side of a hex
 unfoldable pub border_of : Hex → Side → ℕ
 border_of hex side =

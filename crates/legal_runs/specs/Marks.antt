@@ -2,6 +2,7 @@
 -- used are marked; a run marks those that it crosses.
 use Rattle.std.specs.Prelude.{◌≡◌, ◌↔◌, ℕ, ◌+◌, Bool, true, false, ◌⊎◌, List, [], ◌∷◌, if◌then◌else◌, length, get_or}
 use Rattle.std.specs.Prelude.{set}
+use Rattle.legal_runs.specs.Legal.{map_borders}
 use Rattle.reach.specs.Position.{IsAmong}
 
 -- a border is used, by the marks of those that are
@@ -25,7 +26,7 @@ marked marks (border ∷ borders) = set (marked marks borders) border true
 
 -- one mark for each border, and those of these borders are set
 pub record MarksAre (used : List ℕ) (marks : List Bool) : Type 0 where
-  pub for_each : length marks ≡ 279
+  pub for_each : length marks ≡ map_borders
   pub exact : (border : ℕ) → IsUsed marks border ↔ IsAmong border used
 
 -- to the used borders these were added, and no others

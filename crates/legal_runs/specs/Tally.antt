@@ -6,7 +6,7 @@ use Rattle.map_tables.specs.declared.place.Stop.{Stop}
 use Rattle.map_tables.specs.declared.track.TrackEnd.{TrackEnd}
 use Rattle.map_tables.specs.declared.track.TrackEnd.TheVariants.{Side as AtSide, Stop as AtStop}
 use Rattle.reach.specs.Position.{Position, is_red, value_of}
-use Rattle.reach.specs.Reached.{stop_order}
+use Rattle.reach.specs.Reached.{map_stops, stop_order}
 use Rattle.reach.specs.Walk.{entered_at, left_at, stop_of}
 use Rattle.reach.specs.declared.walk.Spot.{Spot}
 use Rattle.reach.specs.declared.walk.WalkStep.{WalkStep}
@@ -26,7 +26,7 @@ no_steps used = record {
   begun = false;
   stops = 0;
   value = 0;
-  seen = replicate 186 false;
+  seen = replicate map_stops false;
   stop_twice = false;
   crossed = used;
   border_twice = false;

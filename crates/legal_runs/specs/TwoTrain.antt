@@ -14,7 +14,7 @@ use Rattle.reach.specs.declared.walk.Spot.{Spot}
 use Rattle.reach.specs.declared.walk.WalkStep.{WalkStep}
 use Rattle.tables.specs.declared.rolling_stock.Kind.TheVariants.{Two}
 use Rattle.tables.specs.declared.roster.Company.{Company}
-use Rattle.legal_runs.specs.Legal.{IsLegalRun, border_of}
+use Rattle.legal_runs.specs.Legal.{IsLegalRun, border_of, map_borders}
 
 -- some run of the company is legal for a 2-train
 abbrev pub CanRun : Position → Company → Type 0
@@ -50,7 +50,7 @@ LeadsFrom position start marks spot step = (entered_at step ≡ spot) × LeadsOn
 
 -- no border is marked
 abbrev pub none_used : List Bool
-none_used = replicate 279 false
+none_used = replicate map_borders false
 
 -- a step leaves a stop with a token of the company, and leads on from there
 abbrev pub LeavesToken : Position → Company → WalkStep → Type 0

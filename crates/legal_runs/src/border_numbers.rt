@@ -1,6 +1,6 @@
 //! The numbers of the borders of the map.
 ghost use Rattle.std.specs.Prelude.{◌≡◌, ◌<◌};
-ghost use Rattle.legal_runs.specs.Legal.{border_of};
+ghost use Rattle.legal_runs.specs.Legal.{border_of, map_borders};
 ghost use Rattle.map_tables.specs.Border.{neighbour_of};
 
 use map_tables::{HEXES, Hex, Side, neighbour};
@@ -14,7 +14,7 @@ pub const BORDERS: usize = NUMBERED * HEXES;
 /// Returns the number of the border at a side of a hex.
 pub(crate) fn border(hex: Hex, side: Side) -> usize
     ensures value { result ≡ border_of hex side }
-    ensures bound { result < 279 }
+    ensures bound { result < map_borders }
 {
     border_to(hex, side, neighbour(hex, side))
 }
@@ -24,7 +24,7 @@ pub(crate) fn border(hex: Hex, side: Side) -> usize
 pub fn border_to(hex: Hex, side: Side, beyond: Option<Hex>) -> usize
     requires { beyond ≡ neighbour_of hex side }
     ensures value { result ≡ border_of hex side }
-    ensures bound { result < 279 }
+    ensures bound { result < map_borders }
 {
     let number = side.number();
     if number < NUMBERED {

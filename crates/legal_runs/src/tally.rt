@@ -2,6 +2,7 @@
 //! borders that it crosses. At the end it gives the first rule that the run breaks.
 ghost use Rattle.std.specs.Prelude.{◌≡◌, ◌+◌, ◌*◌, ◌<◌, ◌≤◌};
 ghost use Rattle.legal_runs.specs.Fault.{has_token, is_full, is_wrong_number};
+ghost use Rattle.legal_runs.specs.Legal.{map_borders};
 ghost use Rattle.legal_runs.specs.Named.{with_leg};
 ghost use Rattle.legal_runs.specs.Tally.{counted, crossing, entering, leaving, no_steps, passing, tally_fault};
 ghost use Rattle.legal_runs.specs.Tally.{visiting};
@@ -84,7 +85,7 @@ impl Tally {
     /// Crosses a border.
     #[tactic(auto, unfolding(crate::specs::Tally::crossing))]
     fn cross(&mut self, border: usize)
-        requires { border < 279 }
+        requires { border < map_borders }
         ensures tally { self.new ≡ crossing self.old border }
         ensures few { self.new.stops ≡ self.old.stops }
         ensures low { self.new.value ≡ self.old.value }

@@ -1,5 +1,6 @@
 //! The borders that a company's trains have already used in its turn.
 ghost use Rattle.std.specs.Prelude.{◌≡◌, ◌<◌, true, false, get_or, replicate, set, IfSome, count_by, not};
+ghost use Rattle.legal_runs.specs.Legal.{map_borders};
 ghost use Rattle.legal_runs.specs.TwoTrain.{crossing};
 
 use crate::border_numbers::{BORDERS, border};
@@ -21,7 +22,7 @@ impl Model for Used {
 
     ghost view = { λ used. used.crossed };
 
-    ghost invariant = { λ used. length used.crossed ≡ 279 };
+    ghost invariant = { λ used. length used.crossed ≡ map_borders };
 
     ghost inverse = { λ marks. record { crossed = marks } };
 }
@@ -29,7 +30,7 @@ impl Model for Used {
 impl Used {
     /// Returns marks for no border.
     pub fn new() -> Used
-        ensures { result ≡ replicate 279 false }
+        ensures { result ≡ replicate map_borders false }
     {
         Used {
             crossed: [false; BORDERS],
@@ -57,7 +58,7 @@ impl Used {
 
     /// Returns whether the border with a number is used.
     pub fn has(&self, border: usize) -> bool
-        requires { border < 279 }
+        requires { border < map_borders }
         ensures { result ≡ get_or self.now border false }
     {
         self.crossed[border]
@@ -66,7 +67,7 @@ impl Used {
     /// Marks a border as used.
     #[tactic(auto, using(crate::proofs::Fewer::fewer_free))]
     pub fn add(&mut self, border: usize)
-        requires { border < 279 }
+        requires { border < map_borders }
         ensures marked { self.new ≡ set self.old border true }
         ensures fewer { get_or self.old border false ≡ false →
             count_by not self.new < count_by not self.old }
@@ -76,7 +77,7 @@ impl Used {
 
     /// Unmarks a border.
     pub fn remove(&mut self, border: usize)
-        requires { border < 279 }
+        requires { border < map_borders }
         ensures { self.new ≡ set self.old border false }
     {
         self.crossed[border] = false;

@@ -1,4 +1,4 @@
 mod Chart
 mod Orders
-mod Operating
+pub mod Operating
 pub mod Tokens

@@ -4,7 +4,7 @@ use Rattle.std.proofs.Common.{nat_lt, Option, Some, None, ℤ, pos, is_some, unw
 use Rattle.std.proofs.lemmas.Bool.Decides.{nat_tests}
 use Rattle.std.specs.Int.Signed.{lt_z}
 use Rattle.std.specs.Option.{option_flatten, option_or}
-use Rattle.std.proofs.lemmas.Bool.{eq-eqb}
+use Rattle.std.proofs.lemmas.Bool.{eq-eqb, or_parts}
 use Rattle.events.specs.Event.{obeyed_of, party_of_company, round_begun_by}
 use Rattle.events.specs.Offers.{offered_in, same_offer}
 use Rattle.events.specs.Orders.{said_by}
@@ -42,7 +42,7 @@ use Rattle.order_grammar.specs.declared.order.Offer.TheVariants as offer
 use Rattle.order_grammar.specs.declared.order.Order.TheVariants as order
 use Rattle.order_grammar.specs.declared.order.TrainSource.{TrainSource}
 use Rattle.order_grammar.specs.declared.order.TrainSource.TheVariants as source
-use Rattle.purchases.proofs.TrainLemmas.{neither, so}
+use Rattle.purchases.proofs.TrainLemmas.{so}
 use Rattle.purchases.specs.Private.{is_given_by, is_too_early, is_wrong_price, owner_agrees_by, private_bought}
 use Rattle.purchases.specs.Private.{private_judgement_by, private_rules_by}
 use Rattle.purchases.specs.Private.{is_too_dear as is_dear}
@@ -245,7 +245,7 @@ train_kept seats before after giver number condition buyer seller kind price non
     let row = not_broken code_of_train_rule (train_purchase_rules_by All game buyer purchase) kept
     train_rule.NoConsent in
     let agree : Bool = presidents_agree_by All old (president_of old seller) (president_of old buyer) sale in
-    let parts = neither (price == 0) (not agree) row in
+    let parts = or_parts (price == 0) (not agree) row in
     let all : presidents_agree_by All old (Some giver) (president_of old buyer) sale ≡ true =
     subst (λ (p : Option Seat). presidents_agree_by All old p (president_of old buyer) sale ≡ true) leads
     (so agree parts.1) in

@@ -2,6 +2,7 @@
 use Rattle.std.proofs.Common.{◌≡◌, ◌≤◌, ℕ, ◌+◌, ◌==◌, false, nat_lt, None, pos, arith}
 use Rattle.std.proofs.lemmas.Bool.Decides.{nat_tests}
 use Rattle.std.specs.Int.Signed.{lt_z}
+use Rattle.std.proofs.lemmas.Bool.{or_parts}
 use Rattle.certs.specs.Purchase.{purchase_judgement, share_purchase_rules}
 use Rattle.certs.specs.Sale.{is_not_held, sale_judgement, sale_rules}
 use Rattle.certs.specs.declared.share_deal.Purchase.TheVariants as purchase
@@ -12,7 +13,7 @@ use Rattle.events.specs.declared.ruling.PrivateRule.TheVariants.{WrongPrice}
 use Rattle.events.specs.declared.ruling.StockRule.TheVariants.{NoParValue, NotHeld}
 use Rattle.moves.specs.Deals.{sale_of}
 use Rattle.moves.specs.Limits.{PrivatesHaveTheirPrice, SalesAreOfWhatIsHeld, StartsAreAtParValues}
-use Rattle.purchases.proofs.TrainLemmas.{neither, not_less, so}
+use Rattle.purchases.proofs.TrainLemmas.{not_less, so}
 use Rattle.purchases.specs.Private.{private_rules}
 use Rattle.tables.proofs.Rules.{not_broken}
 use Rattle.tables.specs.Roster.{face_of}
@@ -23,7 +24,7 @@ unfolding sale_judgement is_not_held
 sales_of_held seats events seat company shares none =
     let kept = not_broken code_of_stock_rule (sale_rules seats events seat (sale_of company shares) None) none in
     let held = shares_of events company (OfSeat seat) in
-    not_less held (pos shares) (neither (shares == 0) (lt_z held (pos shares)) (kept NotHeld)).1
+    not_less held (pos shares) (or_parts (shares == 0) (lt_z held (pos shares)) (kept NotHeld)).1
 
 pub starts_at_par : StartsAreAtParValues
 unfolding purchase_judgement
@@ -40,5 +41,5 @@ pub private_prices : PrivatesHaveTheirPrice
 private_prices game company private price none =
     let kept = not_broken code_of_private_rule (private_rules game company private price) none in
     let face = face_of private in
-    let both = neither (nat_lt (price + price) face) (nat_lt (face + face) price) (kept WrongPrice) in
+    let both = or_parts (nat_lt (price + price) face) (nat_lt (face + face) price) (kept WrongPrice) in
     (no_less (price + price) face both.0, no_less (face + face) price both.1)

@@ -94,13 +94,8 @@ use Rattle.totals.specs.Shares.{par_of, president_of, square_of}
 use Rattle.totals.specs.Trains.{at_least_zero, trains_held}
 use Rattle.turns.specs.RoundOfTurns.{in_turn}
 use Rattle.turns.specs.Ruling.{has_place_in_turn, judged}
-
--- a company is itself
-company_itself : (company : Company) → same_company company company ≡ true
-company_itself company = grind (arith, nat_tests)
-
-either_way : (a b : Company) → same_company a b ≡ same_company b a
-either_way a b = grind (arith, nat_tests)
+use Rattle.tables.proofs.Companies.{company_itself}
+use Rattle.operating.proofs.Idle.{same_either_way}
 
 -- an event by which a party pays this much, and gets nothing
 pays : (seats : ℕ) (events : List Event) (its : Event) (party : Party) (amount : ℕ)
@@ -444,7 +439,7 @@ module _ (buyer : Company) where
   pays_others game kind source.BankPool kept = refl
   pays_others game kind (source.Company seller price) kept =
       ap (λ (b : Bool). if b then price else 0)
-      (either_way seller buyer ∙ (companies_agree game buyer seller kind price kept).another)
+      (same_either_way seller buyer ∙ (companies_agree game buyer seller kind price kept).another)
 
 -- the price of an answer that needs no consent
 price_given : (cost price : ℤ) (broken given : Option Refusal) (asked : Option (Seat × Offer))

@@ -6,23 +6,16 @@ use Rattle.std.proofs.lemmas.Bool.{not-false, not-true}
 use Rattle.std.proofs.lemmas.Bool.Decides.{nat_tests}
 use Rattle.std.specs.Prelude.{find}
 use Rattle.events.specs.declared.event.Event.{Event}
-use Rattle.totals.proofs.Choices.{same_company_is}
 use Rattle.totals.specs.LookBack.{bankrupt_in}
 use Rattle.totals.specs.Operating.{has_operated}
 use Rattle.market.specs.OperatingOrder.{IsOperatingOrder, first_idle, next_company, operates, operating_order_of, times}
 use Rattle.tables.specs.Roster.{companies, same_company}
 use Rattle.tables.specs.declared.roster.Company.{Company}
+use Rattle.tables.proofs.Companies.{company_is, company_itself}
+use Rattle.market.proofs.Operating.{each_comes_once}
 
--- a company is itself, and two are the same either way
-same_self : (company : Company) → same_company company company ≡ true
-same_self company = grind (arith, nat_tests)
-
-same_either_way : (a b : Company) → same_company a b ≡ same_company b a
+pub same_either_way : (a b : Company) → same_company a b ≡ same_company b a
 same_either_way a b = grind (arith, nat_tests)
-
--- each company is in the roster
-in_roster : (company : Company) → times company companies ≡ 1
-in_roster company = grind (arith, nat_tests)
 
 -- how many of some companies have not operated
 abbrev pub idle_in : (Company → Bool) → List Company → ℕ
@@ -53,7 +46,7 @@ module _ (company : Company) (before after : Company → Bool) (too : OperatedTo
   fewer_idle_in (other ∷ others) =
       let one = one_counted (after other) (before other) (same_company other company)
       (too other ∙ ap (λ (b : Bool). before other || b) (same_either_way company other))
-      (λ same. ap before (same_company_is other company same) ∙ idle) in
+      (λ same. ap before (company_is other company same) ∙ idle) in
       omega (arith, one, fewer_idle_in others)
 
 -- a company that had not operated leaves fewer idle
@@ -64,7 +57,7 @@ unfolding idle_of
 fewer_idle company old new too idle =
     omega (
       arith,
-      in_roster company,
+      each_comes_once company,
       fewer_idle_in company (has_operated old) (has_operated new) too
           idle companies,
     )
@@ -84,14 +77,14 @@ found_passes : (test : Company → Bool) (them : List Company) (company : Compan
     → (test company ≡ true) × (1 ≤ times company them)
 found_passes test [] company found = absurd (cc)
 found_passes test (first ∷ others) company found =
-    grind (arith, found_passes test others company, same_self first)
+    grind (arith, found_passes test others company, company_itself first)
 
 -- where nothing is found, all in the list fail
 none_passes : (test : Company → Bool) (them : List Company) (company : Company) → find test them ≡ None
     → 1 ≤ times company them → test company ≡ false
 none_passes test [] company none is_among = absurd (omega arith)
 none_passes test (first ∷ others) company none is_among =
-    grind (arith, none_passes test others company, same_company_is first company)
+    grind (arith, none_passes test others company, company_is first company)
 
 -- there are some only of what operates
 some_operate : (b : Bool) → 1 ≤ (if b then 1 else 0) → b ≡ true

@@ -11,7 +11,7 @@ use Rattle.events.specs.declared.event.Event.{Event}
 use Rattle.events.specs.declared.event.Shareholder.{Shareholder}
 use Rattle.events.specs.declared.event.Shareholder.TheVariants.{InitialOffering, BankPool, Seat as OfSeat}
 use Rattle.events.specs.declared.event.Transfer.{Transfer}
-use Rattle.history.proofs.Soundness.{ten_kept}
+use Rattle.history.proofs.Soundness.{holds_none, ten_kept}
 use Rattle.history.proofs.ShareCount.{IsAtTable, ten_after}
 use Rattle.totals.specs.LookBack.{Game}
 use Rattle.totals.specs.Shares.{held_by, is_floated, president_of, shares_of, shares_in_all}
@@ -62,12 +62,8 @@ ten_along seats (event ∷ rest) before low ten =
     subst (λ (events : List Event). AreTenInAll (table seats events)) (append_assoc before (event ∷ []) rest)
     (ten_along seats rest (before ++ event ∷ []) (omega arith) (one_more seats before event (omega arith) ten))
 
-none_held : (company : Company) (seats : List Seat) → held_by [] company seats ≡ pos 0
-none_held company [] = refl
-none_held company (seat ∷ others) = omega (arith, ints, none_held company others)
-
 ten_first : (seats : ℕ) → AreTenInAll (table seats [])
-ten_first seats company = omega (arith, ints, none_held company (all_seats seats))
+ten_first seats company = omega (arith, ints, holds_none company (all_seats seats))
 
 module _ (events : List Event) (company : Company)
     (held : (place : Shareholder) → pos 0 ≤ℤ shares_of events company place) where

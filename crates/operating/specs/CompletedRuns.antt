@@ -3,6 +3,7 @@
 use Rattle.std.specs.Prelude.{ℕ, Bool, List, ℤ, ◌≡◌, ◌+◌, ◌*◌, ◌≤◌, length, false, replicate, pos, slice_index_or, ◌-◌}
 use Rattle.std.specs.Prelude.{◌^◌, ◌≤ℤ◌, ◌+ℤ◌, slice_set}
 use Rattle.legal_runs.specs.Law.{unused}
+use Rattle.legal_runs.specs.Legal.{map_borders}
 use Rattle.operating.specs.declared.completed_runs.CompletedRun.{CompletedRun}
 use Rattle.tables.specs.Train.{index_of_kind}
 use Rattle.tables.specs.declared.rolling_stock.Kind.{Kind}
@@ -17,12 +18,12 @@ pub record RunsOfTurn : Type 0 where
 -- this is within what trains can do
 pub record IsBounded (trains : List ℤ) (borders : List Bool) (revenue : ℕ) : Type 0 where
   pub kinds : length trains ≡ 6
-  pub marks : length borders ≡ 279
+  pub marks : length borders ≡ map_borders
   pub bounded : revenue + 160 * unused borders ≤ 94640
 
 -- no train has run, and no border is used
 abbrev pub no_runs : RunsOfTurn
-no_runs = record { trains = replicate 6 (pos 0); borders = replicate 279 false; revenue = 0 }
+no_runs = record { trains = replicate 6 (pos 0); borders = replicate map_borders false; revenue = 0 }
 
 -- how many trains of a kind have run in the turn
 abbrev pub has_run : RunsOfTurn → Kind → ℤ

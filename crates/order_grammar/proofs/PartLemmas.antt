@@ -3,7 +3,7 @@
 use Rattle.std.proofs.Common.{◌≡◌, ℕ, Bool, true, false, not, ltb, fold, inl, inr, ◌⊎◌, List, [], ◌∷◌, ◌++◌, Result}
 use Rattle.std.proofs.Common.{Err, Contains, get_or, take, drop, refl, sym, ap, subst, ◌∙◌, arith}
 use Rattle.std.specs.List.{list_all, list_any}
-use Rattle.std.proofs.lemmas.Bool.{cases_Bool, le-ltb, or_parts, false≢true}
+use Rattle.std.proofs.lemmas.Bool.{cases_Bool, false≢true, le-ltb, not-true, or_parts}
 use Rattle.std.proofs.lemmas.List.Folds.{list_all_at, Any-from_list_any}
 use Rattle.order_grammar.specs.Form.{Row, forms, order_forms, play_forms, cert_forms, nearness, nearer, row_reading}
 use Rattle.order_grammar.specs.Form.{rows_reading, words_reading}
@@ -109,11 +109,6 @@ pub listed_is_begun : (text : TextKind) (rows : List Row) (first : List ℕ) →
 listed_is_begun text rows first of listed = passed (λ (word : List ℕ). list_any (begins_form word) rows)
     text.first_words first of.begun listed
 
--- what is denied is false
-pub denied : (b : Bool) → not b ≡ true → b ≡ false
-denied true e = absurd (false≢true e)
-denied false e = refl
-
 -- an unknown word is no nearer
 nearer-unknown : (nearest : Result Order Fault) → nearer nearest (Err UnknownWord) ≡ nearest
 nearer-unknown nearest =
@@ -145,9 +140,9 @@ pub by_all : (text : TextKind) (rows : List Row) (first : List ℕ) (rest : List
 by_all text rows first rest of listed =
     let start : Result Order Fault = Err UnknownWord in
     let f = with_row first rest in
-    let prefix = denied _ (passed (λ (word : List ℕ). not (list_any (begins_form word) of.prefix)) text.first_words
+    let prefix = not-true _ (passed (λ (word : List ℕ). not (list_any (begins_form word) of.prefix)) text.first_words
     first of.not_prefix listed) in
-    let back = denied _ (passed (λ (word : List ℕ). not (list_any (begins_form word) of.back)) text.first_words first
+    let back = not-true _ (passed (λ (word : List ℕ). not (list_any (begins_form word) of.back)) text.first_words first
     of.not_back listed) in
     sym
     (ap (λ (all : List Row). fold f start all) of.whole ∙ fold-rows first rest start of.prefix (rows ++ of.back)

@@ -5,7 +5,7 @@ use Rattle.std.proofs.Common.{refl, sym, ap, subst, ◌∙◌, arith}
 use Rattle.std.specs.Char.{to_ascii_uppercase}
 use Rattle.std.specs.Fmt.{decimal}
 use Rattle.std.specs.List.{list_all}
-use Rattle.std.proofs.lemmas.Bool.{le-ltb, leb-true, eqb-true, and_parts, and_from, or_left, or_right, false≢true}
+use Rattle.std.proofs.lemmas.Bool.{and_from, and_parts, eqb-true, false≢true, le-ltb, leb-true, not-true, or_left, or_right}
 use Rattle.std.proofs.lemmas.Bool.Decides.{nat_tests}
 use Rattle.std.proofs.lemmas.Fmt.{decimal_digit, decimal_by_steps, decimal_nonempty, first_decimal, length-decimal-le}
 use Rattle.std.proofs.lemmas.List.{drop_at, length-append, length-map, append-nil}
@@ -80,11 +80,6 @@ unfoldable pub ArePlain : List (List ℕ) → Type 0
 ArePlain [] = Unit {0}
 ArePlain (word ∷ words) = IsPlain word × ArePlain words
 
--- what is denied does not hold
-denied : (b : Bool) → not b ≡ true → b ≡ false
-denied true e = absurd (false≢true e)
-denied false e = refl
-
 -- what is known of a plain byte
 record PlainByte (byte : ℕ) : Type 0 where
   printable : is_printable byte ≡ true
@@ -100,8 +95,8 @@ plain_byte byte h =
     let d = and_parts (not (byte == 35)) (to_ascii_uppercase byte == byte) b.1 in
     record {
       printable = a.0;
-      no_space = denied (byte == 32) b.0;
-      no_comment = denied (byte == 35) d.0;
+      no_space = not-true (byte == 32) b.0;
+      no_comment = not-true (byte == 35) d.0;
       stays =
           eqb-true (to_ascii_uppercase byte) byte d.1;
     }

@@ -4,7 +4,7 @@ use Rattle.std.proofs.Common.{◌≡◌, ℕ, zero, suc, ◌<◌, Bool, true, fa
 use Rattle.std.proofs.Common.{Option, Some, None, Result, Ok, Err, Contains, codes, length, refl, sym, ap, subst, ◌∙◌}
 use Rattle.std.proofs.Common.{arith}
 use Rattle.std.specs.List.{list_all}
-use Rattle.std.proofs.lemmas.Bool.{cases_Bool, cases_lt, le-ltb, lt-ltb, and_from, false≢true}
+use Rattle.std.proofs.lemmas.Bool.{and_from, cases_Bool, cases_lt, false≢true, le-ltb, lt-ltb, not-true}
 use Rattle.order_grammar.specs.Condition.{Ordered, ordered, unconditional, conditional_reading}
 use Rattle.order_grammar.specs.Form.{order_forms, words_reading, rows_reading}
 use Rattle.order_grammar.specs.Limits.{line_most}
@@ -29,7 +29,7 @@ use Rattle.order_grammar.proofs.ConditionLemmas.{condition_for_read, Conditional
 use Rattle.order_grammar.proofs.KeywordLemmas.{same_word-is, same_word-self}
 use Rattle.order_grammar.proofs.LineFaultLemmas.{stray_byte, not_printable, all_printable, unknown_begins, other_fault}
 use Rattle.order_grammar.proofs.LineFaultLemmas.{begins_some_form, read_by_all, large_spell}
-use Rattle.order_grammar.proofs.PartLemmas.{rows_of_orders, known_read, unknown_read, read_known, passed, denied}
+use Rattle.order_grammar.proofs.PartLemmas.{rows_of_orders, known_read, unknown_read, read_known, passed}
 use Rattle.order_grammar.proofs.RowLemmas.{read_as, words_for_read}
 use Rattle.order_grammar.proofs.SmallLemmas.{are_small, small_by_parts}
 use Rattle.order_grammar.proofs.SpellsLemmas.{words_read_spell}
@@ -54,7 +54,7 @@ unconditional_as order false = refl
 
 -- no line of version 1 begins with IF
 not_if : (first : List ℕ) → Contains order_file.first_words first → same_word first (codes "IF") ≡ false
-not_if first known = denied (same_word first (codes "IF"))
+not_if first known = not-true (same_word first (codes "IF"))
     (passed (λ (word : List ℕ). not (same_word word (codes "IF"))) order_file.first_words first refl known)
 
 -- words that begin with another word than IF are the same in both versions

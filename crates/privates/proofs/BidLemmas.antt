@@ -2,6 +2,7 @@
 -- so a sum that is near it is near some earlier bid; and what is near some bid is near the greatest.
 use Rattle.std.proofs.Common.{◌≡◌, ℕ, ◌+◌, ◌<◌, ◌≤◌, max, ◌==◌, ◌⊎◌, inl, inr, Bool, true, false, ◌||◌, ◌&&◌, nat_lt}
 use Rattle.std.proofs.Common.{if◌then◌else◌, List, [], ◌∷◌, ◌++◌, Option, Some, None, refl, sym, ap, ◌∙◌, arith}
+use Rattle.std.proofs.lemmas.Bool.{or_left, or_parts, or_right}
 use Rattle.std.proofs.lemmas.Bool.Decides.{nat_tests}
 use Rattle.std.proofs.lemmas.List.Folds.{list_any-append}
 use Rattle.std.specs.Option.{option_flatten, option_or}
@@ -59,16 +60,6 @@ near_here private seat amount sum (Some (Made other bid)) said near =
 near_here private seat amount sum (Some (Ended other)) said near =
     no_bid_at_end (same_private other private) amount said
 
--- either test
-first_passes : (a b : Bool) → a ≡ true → (a || b) ≡ true
-first_passes true b pass = refl
-first_passes false b pass = absurd (cc)
-
--- or the other
-second_passes : (a b : Bool) → b ≡ true → (a || b) ≡ true
-second_passes true b pass = refl
-second_passes false b pass = pass
-
 -- a bid that stands was made
 pub standing_was_made : (events : List Event) (private : Private) (seat : Seat) (amount sum : ℕ)
     → bid_of events private seat ≡ Some amount →
@@ -79,14 +70,9 @@ standing_was_made (event ∷ events) private seat amount sum is_bid near =
     let rest : Bool = is_near_some sum events private in
     elim (flatten_cases (last_said (λ e. bid_said private seat (bidding_of e)) events)
     (bid_said private seat (bidding_of event)) amount is_bid) [
-      | inl later ↦ second_passes here rest (standing_was_made events private seat amount sum later near)
-      | inr now ↦ first_passes here rest (near_here private seat amount sum (bidding_of event) now near)
+      | inl later ↦ or_right here rest (standing_was_made events private seat amount sum later near)
+      | inr now ↦ or_left here rest (near_here private seat amount sum (bidding_of event) now near)
     ]
-
--- both tests pass
-pub both : (a b : Bool) → (a && b) ≡ true → (a ≡ true) × (b ≡ true)
-both true b pass = (refl, pass)
-both false b pass = absurd (cc)
 
 -- near the greater of two sums is near one of them
 near_max : (sum a b : ℕ) → nat_lt sum (max a b + 5) ≡ (nat_lt sum (a + 5) || nat_lt sum (b + 5))
@@ -155,17 +141,12 @@ still_may_bid seats before after seat private amount same near may =
       high = ap (λ (b : Bool). nat_lt amount (face_of private + 5) || b) near ∙ may.high;
     }
 
--- neither of two tests passes
-pub neither : (a b : Bool) → (a || b) ≡ false → (a ≡ false) × (b ≡ false)
-neither true b fails = absurd (cc)
-neither false b fails = (refl, fails)
-
 -- no other seat has bid what a seat may bid
 no_other_bid : (game : Game) (private : Private) (seat : Seat) (amount : ℕ)
     → MayBid game.seats game.events seat private amount → IsSound game → (other : Seat)
     → bid_of game.events private other ≡ Some amount → other ≡ seat
 no_other_bid game private seat amount may sound other is =
-    let far = (neither (nat_lt amount (face_of private + 5)) (is_near_some amount game.events private) may.high).1 in
+    let far = (or_parts (nat_lt amount (face_of private + 5)) (is_near_some amount game.events private) may.high).1 in
     let itself : nat_lt amount (amount + 5) ≡ true = grind (arith, nat_tests) in
     let near = standing_was_made game.events private other amount amount is itself in
     let wrong : true ≡ false = sym near ∙ far in

@@ -5,6 +5,7 @@ use Rattle.std.proofs.Common.{◌++◌, Option, Some, None, append-nil, unwrap_o
 use Rattle.std.proofs.lemmas.List.{append_assoc}
 use Rattle.std.proofs.lemmas.List.Folds.{list_any-append}
 use Rattle.std.specs.List.{list_all, list_any}
+use Rattle.std.proofs.lemmas.Bool.{and_parts, or_parts}
 use Rattle.events.specs.Event.{bidding_of}
 use Rattle.events.specs.declared.event.Bid.{Bid}
 use Rattle.events.specs.declared.event.Bidding.{Bidding}
@@ -26,7 +27,6 @@ use Rattle.order_grammar.specs.declared.condition.Condition.{Condition}
 use Rattle.order_grammar.specs.declared.order.Order.{Order}
 use Rattle.order_grammar.specs.declared.order.Order.TheVariants as order
 use Rattle.privates.proofs.RulesAtTable.{by_rules, is_under, rules_at}
-use Rattle.privates.proofs.BidLemmas.{both, neither}
 use Rattle.privates.proofs.TurnLemmas.{may_act_after}
 use Rattle.privates.specs.Bid.{MayBid, is_near_some}
 use Rattle.privates.specs.BidsRise.{BidsRise, OpeningBidsRise, is_near_earlier}
@@ -62,7 +62,7 @@ rise_more : (events : List Event) (new : Event)
     BidsRise (events ++ new ∷ [])
 rise_more [] new far rise = (refl, tt)
 rise_more (event ∷ events) new far rise =
-    let parts = neither (is_near_earlier (bidding_of event) (bidding_of new))
+    let parts = or_parts (is_near_earlier (bidding_of event) (bidding_of new))
     (list_any (λ e. is_near_earlier (bidding_of e) (bidding_of new)) events) far in (
       list_any-append (λ e. is_near_earlier (bidding_of event) (bidding_of e)) events (new ∷ [])
           ∙ ap (λ (b : Bool). b || (is_near_earlier (bidding_of event) (bidding_of new) || false)) rise.0
@@ -79,7 +79,7 @@ never_near (Some (Made private bid)) (event ∷ events) none = absurd (cc)
 never_near (Some (Ended private)) (event ∷ events) none = never_near (Some (Ended private)) events none
 
 -- a bid on a private that is or isn't ended was before, if it stands
-not_ended : (here : Bool) (before : Option ℕ) (amount : ℕ)
+pub not_ended : (here : Bool) (before : Option ℕ) (amount : ℕ)
     → unwrap_or (if here then Some None else None) before ≡ Some amount → before ≡ Some amount
 not_ended true before amount is_bid = absurd (cc)
 not_ended false before amount is_bid = is_bid
@@ -112,7 +112,7 @@ with_others : (seats : ℕ) (events more : List Event) → list_all (λ e. is_no
 with_others seats events [] none before = subst (λ (list : List Event). RiseAt seats list) (sym (append-nil events))
     before
 with_others seats events (event ∷ more) none before =
-    let parts = both (is_no_bid (bidding_of event)) (list_all (λ e. is_no_bid (bidding_of e)) more) none in
+    let parts = and_parts (is_no_bid (bidding_of event)) (list_all (λ e. is_no_bid (bidding_of e)) more) none in
     subst (λ (list : List Event). RiseAt seats list) (append_assoc events (event ∷ []) more)
     (with_others seats (events ++ event ∷ []) more parts.1 (with_other seats events event parts.0 before))
 
@@ -214,7 +214,7 @@ bid_rise : (seats : ℕ) (events : List Event) (seat : Seat) (private : Private)
     seat.0 < seats → RiseAt seats events → RiseAt seats (events ++ event.Bids private seat amount ∷ [])
 bid_rise seats events seat private amount may under before =
     let far : is_near_some amount events private ≡ false =
-    (neither (nat_lt amount (face_of private + 5)) (is_near_some amount events private) may.high).1
+    (or_parts (nat_lt amount (face_of private + 5)) (is_near_some amount events private) may.high).1
     in
     record {
       rise = rise_more events (event.Bids private seat amount) far before.rise;

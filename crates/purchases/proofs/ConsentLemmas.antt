@@ -1,6 +1,7 @@
 -- Who sells has agreed, by the rules that are kept.
 use Rattle.std.proofs.Common.{◌≡◌, ℕ, ◌<◌, ◌==◌, Bool, true, false, not, Option, Some, None, refl, arith}
 use Rattle.std.proofs.lemmas.Bool.Decides.{nat_tests}
+use Rattle.std.proofs.lemmas.Bool.{or_parts}
 use Rattle.events.specs.RuleCodes.{code_of_private_rule, code_of_train_rule}
 use Rattle.events.specs.declared.event.Holder.{Holder}
 use Rattle.events.specs.declared.event.Holder.TheVariants as holder
@@ -8,7 +9,7 @@ use Rattle.events.specs.declared.ruling.PrivateRule.TheVariants as private_rule
 use Rattle.events.specs.declared.ruling.TrainRule.TheVariants as train_rule
 use Rattle.totals.specs.LookBack.{Game, owner_of}
 use Rattle.totals.specs.Shares.{president_of}
-use Rattle.purchases.proofs.TrainLemmas.{neither, so}
+use Rattle.purchases.proofs.TrainLemmas.{so}
 use Rattle.purchases.specs.ConsentLaws.{CompaniesAgree, CompanyAgrees, OwnerAgrees, OwnersAgree}
 use Rattle.purchases.specs.Discard.{has_train}
 use Rattle.purchases.specs.Private.{is_given, owner_agrees, private_rules}
@@ -55,8 +56,8 @@ companies_agree game buyer seller kind price none =
     let sale : Offer = offer.Train kind seller buyer price in
     let agree : Bool = presidents_agree game.events (president_of game.events seller) (president_of game.events buyer)
     sale in
-    let given = neither (price == 0) (not agree) (kept train_rule.NoConsent) in
-    let other = neither (not (has_train game.events seller kind)) (same_company buyer seller)
+    let given = or_parts (price == 0) (not agree) (kept train_rule.NoConsent) in
+    let other = or_parts (not (has_train game.events seller kind)) (same_company buyer seller)
     (kept train_rule.NotSellers) in
     agree_by game seller buyer kind price (president_of game.events seller) (president_of game.events buyer) refl refl
     (so agree given.1) (priced price given.0) (so (has_train game.events seller kind) other.0) other.1

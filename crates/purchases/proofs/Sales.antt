@@ -4,6 +4,7 @@ use Rattle.std.proofs.Common.{◌≡◌, ◌⊎◌, ℕ, ◌+◌, ◌<◌, ◌�
 use Rattle.std.proofs.Common.{if◌then◌else◌, List, Option, Some, None, refl, sym, ap, subst, ◌∙◌, arith}
 use Rattle.std.proofs.lemmas.Bool.Decides.{Decides-eqb, nat_tests}
 use Rattle.std.proofs.lemmas.Int.{ints}
+use Rattle.std.proofs.lemmas.Bool.{and_parts, or_cases}
 use Rattle.events.specs.Event.{place_of_seller}
 use Rattle.events.specs.declared.event.Event.{Event}
 use Rattle.events.specs.declared.event.Event.TheVariants as event
@@ -16,7 +17,6 @@ use Rattle.totals.proofs.EventAtEnd.{trains_at_end}
 use Rattle.history.proofs.Rolling.{same_kind_is, sold_at_end}
 use Rattle.totals.specs.LookBack.{Game, with_event}
 use Rattle.totals.specs.Trains.{TrainsAreHeld, one_if, train_goes, trains_at, trains_sold}
-use Rattle.purchases.proofs.TrainLemmas.{both, either}
 use Rattle.purchases.proofs.Complete.{Alike, alike_closed, alike_on, alike_traded, never}
 use Rattle.purchases.proofs.TrainSteps.{of_bop, of_trade}
 use Rattle.purchases.specs.Train.{are_left, bought, cost_of, first_left, is_kind, is_left, is_on_sale, with_bop_closed}
@@ -179,7 +179,7 @@ pub earlier_sold : (game : Game) (kind earlier : Kind) (number : ℕ) → is_on_
     → index_of_kind earlier < 4 → index_of_kind earlier < index_of_kind kind → trains_sold game.events earlier ≡ number
 earlier_sold game kind earlier number sells held all there numbered before =
     let events = game.events in
-    elim (either (is_kind (first_left events) kind) (same_kind kind Diesel && nat_lt 0 (trains_sold events Six))
+    elim (or_cases (is_kind (first_left events) kind) (same_kind kind Diesel && nat_lt 0 (trains_sold events Six))
     sells) [
       | inl first ↦
           let none = gone (is_left events Two) (is_left events Three) (is_left events Four) (is_left events Five)
@@ -189,7 +189,7 @@ earlier_sold game kind earlier number sells held all there numbered before =
           (sym (left_is events earlier (omega arith)) ∙ none) there in
           omega arith
       | inr diesel ↦
-          let six = (both (same_kind kind Diesel) (nat_lt 0 (trains_sold events Six)) diesel).1 in
+          let six = (and_parts (same_kind kind Diesel) (nat_lt 0 (trains_sold events Six)) diesel).1 in
           all.in_order earlier Six number there numbered (omega arith) (grind (arith, nat_tests, six))
     ]
 
@@ -227,11 +227,11 @@ between_sold game kind sells held all Four before =
 between_sold game kind sells held all Five before =
     omega (arith, earlier_sold game kind Five 3 sells held all refl (omega arith) before)
 between_sold game kind sells held all Six before =
-    elim (either (is_kind (first_left game.events) kind)
+    elim (or_cases (is_kind (first_left game.events) kind)
     (same_kind kind Diesel && nat_lt 0 (trains_sold game.events Six)) sells) [
       | inl first ↦ absurd (six_is_last (is_left game.events Two) (is_left game.events Three)
           (is_left game.events Four) (is_left game.events Five) (is_left game.events Six) kind first before)
-      | inr diesel ↦ let six = (both (same_kind kind Diesel) (nat_lt 0 (trains_sold game.events Six))
+      | inr diesel ↦ let six = (and_parts (same_kind kind Diesel) (nat_lt 0 (trains_sold game.events Six))
           diesel).1 in grind (arith, nat_tests, six)
     ]
 between_sold game kind sells held all Diesel before = absurd (no_later kind before)

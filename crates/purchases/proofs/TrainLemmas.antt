@@ -2,6 +2,7 @@
 -- pay for it, and it has what it trades in. So the game can be played on once it is made.
 use Rattle.std.proofs.Common.{◌≡◌, ◌⊎◌, ℕ, ◌<◌, inl, inr, Bool, true, false, not, ◌&&◌, ◌||◌, nat_lt, if◌then◌else◌}
 use Rattle.std.proofs.Common.{List, [], ◌∷◌, ◌++◌, Option, Some, None, ℤ, pos, ◌≤ℤ◌, refl, sym, ap, subst, ◌∙◌, arith}
+use Rattle.std.proofs.lemmas.Bool.{and_parts, or_cases, or_parts}
 use Rattle.std.proofs.lemmas.Bool.Decides.{nat_tests}
 use Rattle.std.proofs.lemmas.Int.{ints}
 use Rattle.std.specs.Int.Signed.{lt_z}
@@ -37,22 +38,6 @@ pub so : (test : Bool) → not test ≡ false → test ≡ true
 so true kept = refl
 so false kept = absurd (cc)
 
--- one of two tests holds where one or the other does
-pub either : (a b : Bool) → (a || b) ≡ true → (a ≡ true) ⊎ (b ≡ true)
-either true b is = inl refl
-either false b is = inr is
-
--- both of two tests
-pub both : (a b : Bool) → (a && b) ≡ true → (a ≡ true) × (b ≡ true)
-both true true is = (refl, refl)
-both true false is = absurd (cc)
-both false b is = absurd (cc)
-
--- neither of two tests
-pub neither : (a b : Bool) → (a || b) ≡ false → (a ≡ false) × (b ≡ false)
-neither true b is = absurd (cc)
-neither false b is = (refl, is)
-
 -- the first kind that is left is left
 first_is_left : (events : List Event) (some : List Kind) (kind : Kind)
     → is_kind (first_left_of events some) kind ≡ true → is_left events kind ≡ true
@@ -83,16 +68,16 @@ on_sale_there : (events : List Event) (buyer : Company) (from : TrainSeller) (ki
     → is_on_sale events from kind ≡ true →
     is_not_sellers events buyer kind from ≡ false → IsThere events from kind
 on_sale_there events buyer seller.Bank kind on has = λ n number.
-    elim (either (is_kind (first_left_of events numbered_kinds) kind)
+    elim (or_cases (is_kind (first_left_of events numbered_kinds) kind)
     (same_kind kind Diesel && nat_lt 0 (trains_sold events Six)) on) [
       | inl first ↦ fewer_sold (trains_of kind).number (trains_sold events kind) n
           (first_is_left events numbered_kinds kind first) number
-      | inr diesel ↦ absurd (no_number kind n (both (same_kind kind Diesel) (nat_lt 0 (trains_sold events Six))
+      | inr diesel ↦ absurd (no_number kind n (and_parts (same_kind kind Diesel) (nat_lt 0 (trains_sold events Six))
           diesel).0 number)
     ]
 on_sale_there events buyer seller.BankPool kind on has = grind (arith, ints, on)
 on_sale_there events buyer (seller.Company company) kind on has =
-    let held = so (has_train events company kind) (neither (not (has_train events company kind))
+    let held = so (has_train events company kind) (or_parts (not (has_train events company kind))
     (same_company buyer company) has).0 in
     grind (arith, ints, held)
 
@@ -104,8 +89,8 @@ traded_is_held events company kind None old kept is = absurd (cc)
 traded_is_held events company kind (Some one) old kept is =
     let same : one ≡ old = cc in
     let held : Bool = lt_z (pos 0) (trains_held events (Some company) one) in
-    let may = both (same_kind kind Diesel) (may_be_traded one && held) (so (may_trade events company kind one) kept) in
-    let has = (both (may_be_traded one) held may.1).1 in
+    let may = and_parts (same_kind kind Diesel) (may_be_traded one && held) (so (may_trade events company kind one) kept) in
+    let has = (and_parts (may_be_traded one) held may.1).1 in
     subst (λ (k : Kind). pos 1 ≤ℤ trains_held events (Some company) k) same (grind (arith, ints, has))
 
 -- what is not less is as much
@@ -124,7 +109,7 @@ is_another : (events : List Event) (buyer : Company) (from : TrainSeller) (kind 
 is_another events buyer seller.Bank kind has = tt
 is_another events buyer seller.BankPool kind has = tt
 is_another events buyer (seller.Company company) kind has =
-    (neither (not (has_train events company kind)) (same_company buyer company) has).1
+    (or_parts (not (has_train events company kind)) (same_company buyer company) has).1
 
 -- a purchase that breaks no rule
 pub record MayBuy (game : Game) (company : Company) (purchase : TrainPurchase) : Type 0 where

@@ -2,6 +2,7 @@
 -- of all of them.
 use Rattle.std.proofs.Common.{◌≡◌, ℕ, zero, suc, ◌≤◌, ◌<◌, ◌==◌, Bool, true, false, ◌&&◌, nat_lt, if◌then◌else◌, List}
 use Rattle.std.proofs.Common.{[], ◌∷◌, ◌++◌, Option, Some, None, is_some, unwrap_or, refl, ap, ◌∙◌, arith}
+use Rattle.std.proofs.lemmas.Bool.{and_parts}
 use Rattle.std.proofs.lemmas.Bool.Decides.{nat_tests}
 use Rattle.std.specs.List.{fold}
 use Rattle.events.specs.Event.{phase_set}
@@ -192,17 +193,11 @@ phase_then game phase =
     game phase
     ∙ phase_begun game phase
 
--- both of two tests
-both_of : (a b : Bool) → (a && b) ≡ true → (a ≡ true) × (b ≡ true)
-both_of true true is = (refl, refl)
-both_of true false is = absurd (cc)
-both_of false b is = absurd (cc)
-
 -- one that a purchase begins is later
 pub later_begins : (events : List Event) (from : TrainSeller) (kind : Kind) → begins_phase events from kind ≡ true
     → index_of_kind (phase_of events) < index_of_kind kind
 later_begins events seller.Bank kind begins =
-    let both_hold = both_of (trains_sold events kind == 0)
+    let both_hold = and_parts (trains_sold events kind == 0)
     (nat_lt (index_of_kind (phase_of events)) (index_of_kind kind)) begins in
     grind (arith, nat_tests, both_hold.1)
 later_begins events seller.BankPool kind begins = absurd (cc)

@@ -1,5 +1,6 @@
 -- The comparisons of stops and links are exact.
 use Rattle.std.proofs.Common.{◌≡◌, Bool, true, false, ◌&&◌, refl, ap, sym, ◌∙◌}
+use Rattle.std.proofs.lemmas.Bool.{and_from}
 use denote.Enum.Bare.{sameb, same_true, true_same}
 use Rattle.map_tables.specs.contracts.hex.Hex.{the_type as hex_type}
 use Rattle.map_tables.specs.contracts.place.StopNumber.{the_type as number_type}
@@ -18,9 +19,6 @@ both : (x y : Bool) → (x && y) ≡ true → (x ≡ true) × (y ≡ true)
 both true y h = (refl, h)
 both false y h = cc
 
-and_both : (x y : Bool) → x ≡ true → y ≡ true → (x && y) ≡ true
-and_both x y first second = ap (λ b. b && y) first ∙ second
-
 -- stops that compare alike are one
 pub same_stop : (a b : Stop) → (sameb hex_type a.hex b.hex && sameb number_type a.number b.number) ≡ true → a ≡ b
 same_stop a b alike =
@@ -34,7 +32,7 @@ same_stop a b alike =
 -- and one stop compares alike
 pub stop_same : (a b : Stop) → a ≡ b → (sameb hex_type a.hex b.hex && sameb number_type a.number b.number) ≡ true
 stop_same a b is =
-    and_both (sameb hex_type a.hex b.hex) (sameb number_type a.number b.number)
+    and_from (sameb hex_type a.hex b.hex) (sameb number_type a.number b.number)
     (true_same hex_type a.hex b.hex (ap (λ (s : Stop). s.hex) is))
     (true_same number_type a.number b.number (ap (λ (s : Stop). s.number) is))
 
@@ -68,9 +66,9 @@ same_link a b alike =
 
 link_itself : (a : Link) → link_ghosts.eq a a ≡ true
 link_itself a =
-    and_both (sameb hex_type a.hex a.hex) (end_ghosts.eq a.a a.a && end_ghosts.eq a.b a.b)
+    and_from (sameb hex_type a.hex a.hex) (end_ghosts.eq a.a a.a && end_ghosts.eq a.b a.b)
     (true_same hex_type a.hex a.hex refl)
-    (and_both (end_ghosts.eq a.a a.a) (end_ghosts.eq a.b a.b) (end_itself a.a) (end_itself a.b))
+    (and_from (end_ghosts.eq a.a a.a) (end_ghosts.eq a.b a.b) (end_itself a.a) (end_itself a.b))
 
 -- and one link compares alike
 pub link_same : (a b : Link) → a ≡ b → link_ghosts.eq a b ≡ true

@@ -57,7 +57,7 @@ listed_first position company tokens marks waiting named none empty =
     }
 
 -- stops that pass for one are one
-stop_is : (a b : Stop) → same_stop a b ≡ true → a ≡ b
+pub stop_is : (a b : Stop) → same_stop a b ≡ true → a ≡ b
 stop_is a b same =
     let parts = and_parts (same_hex a.hex b.hex) (stop_index_of a.number == stop_index_of b.number) same in
     ap (λ (hex : Hex). stop_at hex a.number) (same_hex-true a.hex b.hex parts.0)

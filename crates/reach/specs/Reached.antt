@@ -29,6 +29,10 @@ ReachesStop position company stop =
     ((joined_stop_of stop ≡ stop) × HasToken position stop company)
     ⊎ ((steps : List WalkStep) × IsWalkOf position company steps × TouchesStop stop steps)
 
+-- the number of places for stops on the map: two for each of its 93 hexes
+abbrev pub map_stops : ℕ
+map_stops = 186
+
 -- the place of a stop in the order of the map: by its hex, and then by its number
 abbrev pub stop_order : Stop → ℕ
 stop_order stop = 2 * index_of stop.hex + stop_index_of stop.number

@@ -18,6 +18,10 @@ use Rattle.reach.specs.declared.walk.Spot.{Spot}
 use Rattle.reach.specs.declared.walk.WalkStep.{WalkStep}
 use Rattle.tables.specs.declared.roster.Company.{Company}
 
+-- the number of spots of the map: eight for each of its 93 hexes
+abbrev pub map_spots : ℕ
+map_spots = 744
+
 -- the number of an end of a hex on the map: eight for each hex. A stop that lies in two hexes has
 -- one number.
 abbrev pub number_at : Hex → TrackEnd → ℕ

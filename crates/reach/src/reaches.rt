@@ -4,7 +4,7 @@ ghost use Rattle.std.specs.Prelude.{◌≡◌, ◌↔◌, IsTrue, [], false, rep
 ghost use Rattle.map_tables.specs.Place.{joined_hex};
 ghost use Rattle.reach.specs.Pieces.{ReachesIn};
 ghost use Rattle.reach.specs.Reached.{ReachesStop};
-ghost use Rattle.reach.specs.Search.{AllArrive, HasAllTokens, IsClosed};
+ghost use Rattle.reach.specs.Search.{AllArrive, HasAllTokens, IsClosed, map_spots};
 ghost use Rattle.reach.specs.Tokens.{AreNamed};
 ghost use Rattle.reach.specs.Walk.{IsTrack};
 
@@ -58,7 +58,7 @@ fn mark_reached<N: Network>(
     marks: &mut Marks,
 )
     requires named { AreNamed (N.position network.now) company tokens.now }
-    requires marks { marks.old.marks ≡ replicate 744 false }
+    requires marks { marks.old.marks ≡ replicate map_spots false }
     requires waiting { marks.old.waiting ≡ [] }
     ensures arrive { AllArrive (N.position network.now) company marks.new.marks }
     ensures tokens { HasAllTokens (N.position network.now) company marks.new.marks }

@@ -8,7 +8,7 @@ ghost use Rattle.reach.specs.Pieces.{HasEnd};
 ghost use Rattle.reach.specs.Position.{IsAmong, links_of};
 ghost use Rattle.reach.specs.Search.{AllArrive, AllWait, AreTaken, CanEnter, GoesOnAt, HasAllTokens, IsClosed};
 ghost use Rattle.reach.specs.Search.{IsEnteredAt, IsFollowed, IsKept, IsMarked, IsMarkedStop, IsMarking, IsTokenMarked};
-ghost use Rattle.reach.specs.Search.{KeepsNone, LeadsTo, Spreads, marked, twin_of};
+ghost use Rattle.reach.specs.Search.{KeepsNone, LeadsTo, Spreads, map_spots, marked, twin_of};
 ghost use Rattle.reach.specs.Tokens.{AreNamed, IsListed, stop_of_token};
 ghost use Rattle.reach.specs.Walk.{IsTrack, entered_at, left_at};
 ghost use Rattle.reach.specs.declared.walk.WalkStep.{WalkStep};
@@ -33,7 +33,7 @@ pub(crate) struct Marks {
 impl Marks {
     /// Returns the marks before the search, when no walk has arrived anywhere.
     pub(crate) fn none() -> Marks
-        ensures marks { result.marks ≡ replicate 744 false }
+        ensures marks { result.marks ≡ replicate map_spots false }
         ensures waiting { result.waiting ≡ [] }
     {
         Marks {
@@ -44,7 +44,7 @@ impl Marks {
 
     /// Returns whether a number is marked.
     fn is_marked(&self, number: usize) -> bool
-        requires { number < 744 }
+        requires { number < map_spots }
         ensures { result ≡ slice_index_or self.now.marks number false }
     {
         self.marks[number]
@@ -247,7 +247,7 @@ fn look<N: Network, K: Keeper>(
 /// Marks the stops with a token of the company, where its walks begin; nothing may be marked
 /// before. All of them are still to look at.
 pub(crate) fn mark_tokens<N: Network>(network: &N, company: Company, marks: &mut Marks)
-    requires marks { marks.old.marks ≡ replicate 744 false }
+    requires marks { marks.old.marks ≡ replicate map_spots false }
     requires waiting { marks.old.waiting ≡ [] }
     ensures arrive { AllArrive (N.position network.now) company marks.new.marks }
     ensures tokens { HasAllTokens (N.position network.now) company marks.new.marks }
@@ -279,7 +279,7 @@ pub(crate) fn mark_named<N: Network>(
     marks: &mut Marks,
 )
     requires named { AreNamed (N.position network.now) company tokens.now }
-    requires marks { marks.old.marks ≡ replicate 744 false }
+    requires marks { marks.old.marks ≡ replicate map_spots false }
     requires waiting { marks.old.waiting ≡ [] }
     ensures arrive { AllArrive (N.position network.now) company marks.new.marks }
     ensures tokens { HasAllTokens (N.position network.now) company marks.new.marks }

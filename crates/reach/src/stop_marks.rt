@@ -1,6 +1,6 @@
 //! Marks of the stops of the map.
 ghost use Rattle.std.specs.Prelude.{◌≡◌, true, false, get_or, replicate, set};
-ghost use Rattle.reach.specs.Reached.{stop_order};
+ghost use Rattle.reach.specs.Reached.{map_stops, stop_order};
 
 use crate::stop_numbers::{STOPS, stop_order};
 use map_tables::Stop;
@@ -20,7 +20,7 @@ impl Model for StopMarks {
 
     ghost view = { λ stops. stops.marks };
 
-    ghost invariant = { λ stops. length stops.marks ≡ 186 };
+    ghost invariant = { λ stops. length stops.marks ≡ map_stops };
 
     ghost inverse = { λ marks. record { marks = marks } };
 }
@@ -28,7 +28,7 @@ impl Model for StopMarks {
 impl StopMarks {
     /// Returns marks by which no stop is marked.
     pub fn none() -> StopMarks
-        ensures { result ≡ replicate 186 false }
+        ensures { result ≡ replicate map_stops false }
     {
         StopMarks {
             marks: [false; STOPS],

@@ -1,7 +1,7 @@
 //! The numbers of the stops and of the spots of the map.
 ghost use Rattle.std.specs.Prelude.{◌≡◌, ◌<◌};
-ghost use Rattle.reach.specs.Reached.{stop_order};
-ghost use Rattle.reach.specs.Search.{spot_number};
+ghost use Rattle.reach.specs.Reached.{map_stops, stop_order};
+ghost use Rattle.reach.specs.Search.{map_spots, spot_number};
 
 use crate::walk::Spot;
 use map_tables::{ENDS, HEXES, SIDES, Stop, TrackEnd, joined_stop};
@@ -15,7 +15,7 @@ pub const SPOTS: usize = ENDS * HEXES;
 /// Returns the place of a stop in the order of the map, given its hex.
 pub fn stop_order(stop: Stop) -> usize
     ensures value { result ≡ stop_order stop }
-    ensures bound { result < 186 }
+    ensures bound { result < map_stops }
 {
     2 * stop.hex.index() + stop.number.index()
 }
@@ -24,7 +24,7 @@ pub fn stop_order(stop: Stop) -> usize
 /// number.
 pub fn spot_number(spot: Spot) -> usize
     ensures value { result ≡ spot_number spot }
-    ensures bound { result < 744 }
+    ensures bound { result < map_spots }
 {
     match spot.end {
         TrackEnd::Side(side) => ENDS * spot.hex.index() + side.number(),

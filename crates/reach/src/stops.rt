@@ -1,7 +1,7 @@
 //! The stops that a company reaches, found without allocating.
 ghost use Rattle.std.specs.Prelude.{◌≡◌, ◌+◌, ◌<◌, ◌≤◌, ◌↔◌, ◌++◌, ◌∷◌, [], IsTrue, length};
 ghost use Rattle.reach.specs.Position.{IsAmong};
-ghost use Rattle.reach.specs.Reached.{AreSortedBy, stop_order};
+ghost use Rattle.reach.specs.Reached.{AreSortedBy, map_stops, stop_order};
 ghost use Rattle.reach.specs.Search.{AreMarkedStops, IsPushed};
 ghost use Rattle.reach.specs.Stops.{AreReachedStops};
 
@@ -32,7 +32,7 @@ impl Model for ReachedStops {
 
     ghost view = { λ reached. take reached.count reached.stops };
 
-    ghost invariant = { λ reached. (reached.count ≤ 186) × (length reached.stops ≡ 186)
+    ghost invariant = { λ reached. (reached.count ≤ map_stops) × (length reached.stops ≡ map_stops)
         × (reached.marks ≡ marks_of (take reached.count reached.stops)) };
 }
 
@@ -54,7 +54,7 @@ impl ReachedStops {
 
     /// Appends a stop.
     fn push(&mut self, stop: Stop)
-        requires { length self.old < 186 }
+        requires { length self.old < map_stops }
         ensures { self.new ≡ self.old ++ stop ∷ [] }
     {
         self.stops[self.count] = stop;
@@ -65,7 +65,7 @@ impl ReachedStops {
     /// Returns the stops, in the order of the map, 186 at most.
     pub fn stops(&self) -> &[Stop]
         ensures value { result.now ≡ self.now }
-        ensures bound { length self.now ≤ 186 }
+        ensures bound { length self.now ≤ map_stops }
     {
         &self.stops[..self.count]
     }
@@ -117,7 +117,7 @@ pub(crate) fn marked_stops(marks: &Marks) -> ReachedStops
 
 /// Appends a stop if it is marked and is listed under its own name.
 fn push_marked(marks: &Marks, stop: Stop, stops: &mut ReachedStops)
-    requires { length stops.old < 186 }
+    requires { length stops.old < map_stops }
     ensures pushed { IsPushed marks.now.marks stop stops.old stops.new }
     ensures few { length stops.new ≤ length stops.old + 1 }
 {

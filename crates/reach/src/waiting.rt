@@ -1,6 +1,7 @@
 //! The spots that a search has still to look at, in few bytes.
 ghost use Rattle.std.specs.Prelude.{◌≡◌, ◌+◌, ◌<◌, ◌++◌, ◌∷◌, [], MatchOption, length};
 ghost use Rattle.reach.specs.HeldSpots.{end_at, held_spot};
+ghost use Rattle.reach.specs.Search.{map_spots};
 
 use crate::stop_numbers::SPOTS;
 use crate::walk::Spot;
@@ -74,7 +75,8 @@ impl Model for Waiting {
 
     ghost view = { λ waiting. map held_spot (take waiting.count waiting.spots) };
 
-    ghost invariant = { λ waiting. (waiting.count ≤ 744) × (length waiting.spots ≡ 744) };
+    ghost invariant = { λ waiting.
+        (waiting.count ≤ map_spots) × (length waiting.spots ≡ map_spots) };
 }
 
 impl Waiting {
@@ -94,7 +96,7 @@ impl Waiting {
 
     /// Appends a spot. There must be room.
     pub(crate) fn push(&mut self, spot: Spot)
-        requires { length self.old < 744 }
+        requires { length self.old < map_spots }
         ensures { self.new ≡ self.old ++ spot ∷ [] }
     {
         self.spots[self.count] = HeldSpot::of(spot);

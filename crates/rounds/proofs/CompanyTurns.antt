@@ -5,7 +5,6 @@ use Rattle.std.proofs.Common.{◌≡◌, ℕ, ◌+◌, ◌<◌, ◌≤◌, Bool,
 use Rattle.std.proofs.Common.{List, [], ◌∷◌, length, Option, Some, None, refl, sym, ap, ◌∙◌, arith}
 use Rattle.std.proofs.Common.{zero, suc, ◌++◌, is_some, subst, ◌-◌, ◌==◌, append_assoc}
 use Rattle.events.specs.declared.event.Event.{Event}
-use Rattle.totals.proofs.Choices.{same_company_is}
 use Rattle.totals.specs.LookBack.{bankrupt_in, Game, in_round, with_event}
 use Rattle.totals.specs.Operating.{has_operated, turn_said, rulings_in_round}
 use Rattle.market.specs.OperatingOrder.{IsOperatingOrder, next_company, operating_order_of, times}
@@ -35,6 +34,8 @@ use Rattle.sheets.specs.File.{players_of}
 use Rattle.sheets.specs.Part.{lines_in, parts_for}
 use Rattle.tables.specs.Seat.{seat_at}
 use Rattle.tables.specs.declared.seat.Seat.{Seat}
+use Rattle.tables.proofs.Companies.{company_is}
+use Rattle.sheets.proofs.TakenLemmas.{next_seat}
 
 -- the order of companies is one
 abbrev AreOrdered : Type 0
@@ -153,7 +154,7 @@ module _ (operates_too : CompanyOperates) (ordered : AreOrdered) (file : List �
   turns_taken (first ∷ others) old new company turns =
       let one = one_taken (has_operated turns.0.events company) (has_operated old.events company)
       (same_company first company) (operates_too file round first old turns.0 turns.1.turn company)
-      (λ same. ap (has_operated old.events) (sym (same_company_is first company same))
+      (λ same. ap (has_operated old.events) (sym (company_is first company same))
       ∙ (next_is_idle ordered old.events first turns.1.is_next).1) in
       omega (arith, one, turns_taken others turns.0 new company turns.2)
 
@@ -281,11 +282,6 @@ pub as_many_ruled : RulingsAreCounted → (from old new : List Event) (left : Se
     → rulings_in_round new seat ≡ rulings_in_round from seat
 as_many_ruled counted from old new left count seat before recorded = let none = count_adds_none
     counted (count == 0) old left count seat in grind (arith, none)
-
--- the seats that are left begin with the next
-next_seat : (seat total : ℕ) → seat < total → range_with_len seat (total - seat)
-    ≡ seat ∷ range_with_len (seat + 1) (total - (seat + 1))
-next_seat seat total within = grind arith
 
 -- the seats that are left bring, after the next of them, what they bring before it
 pub left_goes_on : (file : List ℕ) (round : Round) (from old new : List Event) (seat total : ℕ) (left : Seat)

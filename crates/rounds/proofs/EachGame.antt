@@ -52,6 +52,7 @@ use Rattle.tables.specs.Train.{index_of_kind}
 use Rattle.operating.specs.TileLaws.{OthersKeepTiles, TilesAreAll, TilesAreAllAtFirst}
 use Rattle.operating.specs.TileLaws.{TurnsKeepTiles}
 use Rattle.rounds.specs.Tiles.{AllTilesAreThereInEachGame}
+use Rattle.privates.proofs.OpeningBids.{not_ended}
 
 -- if those who bid sit at the table by the one list, they do by the other
 abbrev pub StillSeated : ℕ → List Event → List Event → Type 0
@@ -62,11 +63,6 @@ pub others_seated : (seats : ℕ) (events : List Event) (its : Event) → biddin
     StillSeated seats events (events ++ its ∷ [])
 others_seated seats events its none seated private seat amount is_bid =
     seated private seat amount (sym (bid_of_before events its private seat none) ∙ is_bid)
-
--- a bid that is once those on a private are ended was before
-not_ended : (here : Bool) (before : Option ℕ) (amount : ℕ) →
-    unwrap_or (if here then Some None else None) before ≡ Some amount → before ≡ Some amount
-not_ended here before amount is_bid = grind arith
 
 -- so does a sale
 sale_seated : (seats : ℕ) (events : List Event) (sold : Private) (buyer : Seat) (price : ℕ) →

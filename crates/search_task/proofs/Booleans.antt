@@ -18,14 +18,6 @@ pub not_true : (b : Bool) → (b ≡ true → ⊥) → not b ≡ true
 not_true true none = absurd (none refl)
 not_true false none = refl
 
-pub left_true : (a b : Bool) → a ≡ true → (a || b) ≡ true
-left_true true b is = refl
-left_true false b is = absurd cc
-
-pub right_true : (a b : Bool) → b ≡ true → (a || b) ≡ true
-right_true true b is = refl
-right_true false b is = is
-
 pub both_first : (a b : Bool) → (a && b) ≡ true → a ≡ true
 both_first true b is = refl
 both_first false b is = absurd cc
@@ -33,7 +25,3 @@ both_first false b is = absurd cc
 pub both_second : (a b : Bool) → (a && b) ≡ true → b ≡ true
 both_second true b is = is
 both_second false b is = absurd cc
-
-pub both_are : (a b : Bool) → a ≡ true → b ≡ true → (a && b) ≡ true
-both_are true b first second = second
-both_are false b first second = absurd cc

@@ -3,12 +3,12 @@ use Rattle.std.proofs.Common.{◌≡◌, ◌↔◌, ℕ, ◌+◌, ◌-◌, ◌<�
 use Rattle.std.proofs.Common.{◌++◌, length, get_or, set, refl, sym, ap, ◌∙◌, arith, get_or-set_same, get_or-set_other}
 use Rattle.std.proofs.Common.{length-set, replicate, zero, suc}
 use Rattle.std.specs.List.{list_any}
-use Rattle.std.proofs.lemmas.Bool.{cases_eq}
+use Rattle.std.proofs.lemmas.Bool.{cases_eq, or_left, or_right}
 use Rattle.reach.specs.Position.{IsAmong}
 use Rattle.search_task.specs.Fit.{BordersFit, unused}
 use Rattle.search_task.specs.Marks.{Freer, IsMarked}
 use Rattle.search_task.specs.Crossed.{cleared_all, marked_all, misses}
-use Rattle.search_task.proofs.Booleans.{left_true, not_both, right_true}
+use Rattle.search_task.proofs.Booleans.{not_both}
 
 -- one more mark
 pub mark_more : (marks : List Bool) (n m : ℕ) → n < length marks
@@ -62,9 +62,9 @@ any_marked : (used : List Bool) (borders : List ℕ) (border : ℕ) → IsAmong 
 any_marked used [] border among marked = absurd among
 any_marked used (first ∷ borders) border among marked =
     elim among [
-      | inl here ↦ left_true (get_or used first false) (list_any (λ b. get_or used b false) borders)
+      | inl here ↦ or_left (get_or used first false) (list_any (λ b. get_or used b false) borders)
           (ap (λ b. get_or used b false) here ∙ marked)
-      | inr later ↦ right_true (get_or used first false) (list_any (λ b. get_or used b false) borders)
+      | inr later ↦ or_right (get_or used first false) (list_any (λ b. get_or used b false) borders)
           (any_marked used borders border later marked)
     ]
 

@@ -5,7 +5,7 @@ use Rattle.std.proofs.Common.{◌⊎◌, inl, inr, List, [], ◌∷◌, length, 
 use Rattle.std.proofs.Common.{arith, eq-eqb, eqb, eqb-true, get_or-set_same, get_or-set_other, length-set, w64}
 use Rattle.std.specs.Prelude.{bit_and, bit_or, not}
 use Rattle.std.specs.Int.{bit_at, trailing_zeros}
-use Rattle.std.proofs.lemmas.Bool.{cases_eq, cases_lt}
+use Rattle.std.proofs.lemmas.Bool.{cases_eq, cases_lt, or_cases, or_left, or_right}
 use Rattle.std.proofs.lemmas.List.{get_or_past}
 use Rattle.std.proofs.lemmas.List.FromFn.{get_or-map-range_with_len, length-map-range_with_len}
 use Rattle.std.proofs.lemmas.Nat.{and_le_l, bit_set_by_shift, pow_below, shr-shr}
@@ -15,7 +15,7 @@ use Rattle.search_task.specs.Marks.{AreApart, AreBarred, AreBoth, AreOnly, Freer
 use Rattle.search_task.specs.Marks.{IsBitOf, bit_of, mark_at, marks_in}
 use Rattle.search_task.proofs.Marked.{mark_more}
 use Rattle.search_task.proofs.Places.{below_next}
-use Rattle.search_task.proofs.Booleans.{left_true, not_both, not_self, not_true, right_true, same_bool}
+use Rattle.search_task.proofs.Booleans.{not_both, not_self, not_true, same_bool}
 
 -- there are as many marks as numbers
 pub length_marks : (count : ℕ) (words : List ℕ) → length (marks_in count words) ≡ count
@@ -59,21 +59,17 @@ pub bit_marked : (count : ℕ) (words : List ℕ) (n : ℕ) → n < count → bi
     → IsMarked (marks_in count words) n
 bit_marked count words n low bit = mark_is count words n low ∙ bit_is words n bit
 
-either_true : (a b : Bool) → (a || b) ≡ true → (a ≡ true) ⊎ (b ≡ true)
-either_true true b is = inl refl
-either_true false b is = inr is
-
 -- the test of a bit in either of two words
 either_bit : (a b i : ℕ) → eqb (bit_at (bit_or a b) i) 1 ≡ (eqb (bit_at a i) 1 || eqb (bit_at b i) 1)
 either_bit a b i =
     same_bool (eqb (bit_at (bit_or a b) i) 1) (eqb (bit_at a i) 1 || eqb (bit_at b i) 1)
     (λ holds. let is = eqb-true (bit_at (bit_or a b) i) 1 holds in
     elim (cases_eq (bit_at a i) 1) [
-      | inl one ↦ left_true (eqb (bit_at a i) 1) (eqb (bit_at b i) 1) (eq-eqb (bit_at a i) 1 one)
-      | inr other ↦ right_true (eqb (bit_at a i) 1) (eqb (bit_at b i) 1)
+      | inl one ↦ or_left (eqb (bit_at a i) 1) (eqb (bit_at b i) 1) (eq-eqb (bit_at a i) 1 one)
+      | inr other ↦ or_right (eqb (bit_at a i) 1) (eqb (bit_at b i) 1)
           (eq-eqb (bit_at b i) 1 (omega (arith, is, other, bit_at_or a b i, bit_at-lt a i)))
     ])
-    (λ holds. eq-eqb (bit_at (bit_or a b) i) 1 (elim (either_true (eqb (bit_at a i) 1) (eqb (bit_at b i) 1) holds) [
+    (λ holds. eq-eqb (bit_at (bit_or a b) i) 1 (elim (or_cases (eqb (bit_at a i) 1) (eqb (bit_at b i) 1) holds) [
       | inl one ↦ omega (arith, eqb-true (bit_at a i) 1 one, bit_at_or a b i, bit_at-lt b i)
       | inr two ↦ omega (arith, eqb-true (bit_at b i) 1 two, bit_at_or a b i, bit_at-lt a i)
     ]))

@@ -10,7 +10,7 @@ use Rattle.map_tables.specs.declared.track.TrackEnd.{TrackEnd}
 use Rattle.map_tables.specs.declared.track.TrackEnd.TheVariants.{Side as AtSide, Stop as AtStop}
 use Rattle.map_tables.specs.declared.track.Link.{Link}
 use Rattle.reach.specs.Position.{Position, HasToken, IsAmong, IsFull, is_red, value_of}
-use Rattle.reach.specs.Search.{spot_number}
+use Rattle.reach.specs.Search.{map_spots, spot_number}
 use Rattle.reach.specs.Walk.{AreJoined, IsTrack, across_end, entered_at, left_at, spot_at, stop_of}
 use Rattle.reach.specs.declared.walk.Spot.{Spot}
 use Rattle.reach.specs.declared.walk.WalkStep.{WalkStep}
@@ -101,7 +101,7 @@ ComesFrom number step = number_before (entered_at step).hex (entered_at step).en
 -- the number of the spot from which a step may be taken, or a number that no spot has
 abbrev pub number_or_none : Option ℕ → ℕ
 number_or_none (Some number) = number
-number_or_none None = 744
+number_or_none None = map_spots
 
 abbrev pub code_before : WalkStep → ℕ
 code_before step = number_or_none (number_before (entered_at step).hex (entered_at step).end)
@@ -152,12 +152,12 @@ pub record IsNumbered (position : Position) (company : Company) (number : ℕ) (
 
 -- all spots by their numbers
 pub record AreNumbered (position : Position) (company : Company) (nodes : List Node) : Type 0 where
-  pub all : length nodes ≡ 744
+  pub all : length nodes ≡ map_spots
   pub each : (number : ℕ) (node : Node) → slice_get nodes number ≡ Some node → IsNumbered position company number node
 
 -- the sides, and the stops before a number
 pub record AreNumberedBefore (position : Position) (company : Company) (most : ℕ) (nodes : List Node) : Type 0 where
-  pub all : length nodes ≡ 744
+  pub all : length nodes ≡ map_spots
   pub each : (number : ℕ) (node : Node) → slice_get nodes number ≡ Some node → (number < most) ⊎ (number % 8 < 6)
       → IsNumbered position company number node
 

@@ -2,7 +2,9 @@
 -- no border twice. A run goes over a leg at once.
 use Rattle.std.specs.Prelude.{◌≡◌, ℕ, ◌+◌, ◌<◌, ◌≤◌, Bool, true, false, ◌⊎◌, Option, Some, None, List, [], ◌∷◌, ◌++◌}
 use Rattle.std.specs.Prelude.{length, replicate, slice_get}
+use Rattle.legal_runs.specs.Legal.{map_borders}
 use Rattle.reach.specs.Position.{IsAmong}
+use Rattle.reach.specs.Search.{map_spots}
 use Rattle.reach.specs.declared.walk.WalkStep.{WalkStep}
 use Rattle.search_task.specs.declared.task.Departures.{Departures}
 use Rattle.search_task.specs.declared.task.Segment.{Segment}
@@ -111,7 +113,7 @@ pub record AddsBelow (task : Task) (used : List Bool) (walked : List WalkStep) (
 
 -- no border is used
 abbrev pub none_used : List Bool
-none_used = replicate 279 false
+none_used = replicate map_borders false
 
 -- the legs from a stop by its segments before one of them
 pub record AreLegsFrom (task : Task) (stop most : ℕ) (legs : List Leg) : Type 0 where
@@ -141,7 +143,7 @@ AreSides task from to = (spot : ℕ) → from ≤ spot → spot < to → stop_in
 
 -- a number is that of a stop
 abbrev pub IsStop : Task → ℕ → Type 0
-IsStop task spot = (spot < 744) × (stop_in (node_at task spot) ≡ true)
+IsStop task spot = (spot < map_spots) × (stop_in (node_at task spot) ≡ true)
 
 -- the legs from a stop, by its number
 abbrev pub legs_in : Option Departures → List Leg
@@ -189,11 +191,11 @@ IsMirrored task = (spot : ℕ) → AllLeadBack task spot
 -- the legs from each stop are known, and the stops from which they lead, and where the company has
 -- tokens. If the task says so, legs lead back over all of them.
 pub record AreReady (task : Task) : Type 0 where
-  pub long : length task.departures.items ≡ 744
+  pub long : length task.departures.items ≡ map_spots
   pub each : (stop : ℕ) (from : Departures) → slice_get task.departures.items stop ≡ Some from
       → stop_in (node_at task stop) ≡ true → AreLegsOf task stop from.legs.items
-  pub stops : AreStops task 744 task.stops.items
-  pub homes : AreHomes task 0 744 task.homes.items
+  pub stops : AreStops task map_spots task.stops.items
+  pub homes : AreHomes task 0 map_spots task.homes.items
   pub mirrored : task.mirrored ≡ true → IsMirrored task
 
 -- a search may walk over the task: its numbers stay within their bounds, and its legs are known

@@ -1,6 +1,7 @@
 -- The segments of track that lead from the spots, in one table. Those from a spot are found from
 -- the last one on, back to the first.
 use Rattle.std.specs.Prelude.{◌≡◌, ℕ, ◌+◌, Bool, true, false, ◌==◌, Some, List, [], ◌∷◌, ◌++◌, length, slice_get}
+use Rattle.reach.specs.Search.{map_spots}
 use Rattle.search_task.specs.declared.segments.Entry.{Entry}
 use Rattle.search_task.specs.declared.segments.Chain.{Chain}
 use Rattle.search_task.specs.declared.task.Segment.{Segment}
@@ -41,6 +42,6 @@ pub record IsChain (entries : List Entry) (spot : ℕ) (chain : Chain) : Type 0 
 
 -- each segment and each spot is so
 pub record AreChained (entries : List Entry) (chains : List Chain) : Type 0 where
-  pub long : length chains ≡ 744
+  pub long : length chains ≡ map_spots
   pub places : (there : ℕ) (entry : Entry) → slice_get entries there ≡ Some entry → HasPlace entries entry
   pub chains_are : (spot : ℕ) (chain : Chain) → slice_get chains spot ≡ Some chain → IsChain entries spot chain

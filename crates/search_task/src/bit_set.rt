@@ -1,6 +1,7 @@
 //! Sets of numbers, a bit each: of the borders or the spots of the map.
 ghost use Rattle.std.specs.Prelude.{◌≡◌, ℕ, ◌-◌, ◌<◌, ◌||◌, IsTrue, Some, true, false, get_or, length, set, replicate};
 ghost use Rattle.std.specs.Int.{bit_at};
+ghost use Rattle.reach.specs.Search.{map_spots};
 ghost use Rattle.search_task.specs.Marks.{AreApart, AreBarred, AreBoth, AreOnly, FillWords, Freer, IsOneOf};
 
 use legal_runs::BORDERS;
@@ -63,7 +64,7 @@ impl Model for BitPlace {
 impl BitPlace {
     /// Returns the number of a spot, with its bit.
     pub(crate) fn of(number: usize) -> BitPlace
-        requires { number < 744 }
+        requires { number < map_spots }
         ensures { result ≡ number }
     {
         BitPlace {

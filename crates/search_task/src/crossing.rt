@@ -1,5 +1,6 @@
 //! The set of the borders that a leg crosses.
 ghost use Rattle.std.specs.Prelude.{◌≡◌, ℕ, ◌<◌, IsTrue, Some, length};
+ghost use Rattle.legal_runs.specs.Legal.{map_borders};
 ghost use Rattle.search_task.specs.Crossed.{cleared_all};
 ghost use Rattle.search_task.specs.Crossed.{IsShared, numbers_in};
 ghost use Rattle.search_task.specs.Crossed.{marked_all, misses};
@@ -24,7 +25,7 @@ impl Model for Crossing {
 
     ghost view = { λ crossing. record { items = numbers_in crossing.set } };
 
-    ghost invariant = { λ crossing. length crossing.set ≡ 279 };
+    ghost invariant = { λ crossing. length crossing.set ≡ map_borders };
 }
 
 impl Crossing {
@@ -61,7 +62,7 @@ impl Crossing {
     /// Returns a border that is one of these and of others; `None` if there is none.
     pub fn shared(&self, other: &Crossing) -> Option<usize>
         ensures shared { IsShared self.now.items other.now.items result }
-        ensures low { (border : ℕ) → result ≡ Some border → border < 279 }
+        ensures low { (border : ℕ) → result ≡ Some border → border < map_borders }
     {
         if self.set.is_apart_from(&other.set) {
             return None;
@@ -75,7 +76,7 @@ impl Crossing {
 
     /// Returns whether a border is one of these.
     pub fn crosses(&self, border: usize) -> bool
-        requires { border < 279 }
+        requires { border < map_borders }
         ensures { IsTrue result → IsAmong border self.now.items }
     {
         self.set.has(border)

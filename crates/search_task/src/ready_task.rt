@@ -1,5 +1,6 @@
 //! A task whose legs are all known, so that it is ready to be searched.
 ghost use Rattle.std.specs.Prelude.{◌≡◌, ◌<◌, Some, get_or, length, slice_get};
+ghost use Rattle.reach.specs.Search.{map_spots};
 ghost use Rattle.search_task.specs.Fit.{IsFit};
 ghost use Rattle.search_task.specs.Legs.{AreReady, IsStop};
 ghost use Rattle.search_task.specs.Spots.{node_at};
@@ -38,7 +39,7 @@ impl ReadyTask {
     /// Returns what is known of a spot, by its number.
     #[inline(always)]
     pub fn node(&self, spot: usize) -> &Node
-        requires { spot < 744 }
+        requires { spot < map_spots }
         ensures { node_at self.now spot ≡ Some result.now }
     {
         &self.task.spots[spot]
@@ -47,7 +48,7 @@ impl ReadyTask {
     /// Returns the departures from a spot, by its number.
     #[inline(always)]
     pub fn departures(&self, spot: usize) -> &Departures
-        requires { spot < 744 }
+        requires { spot < map_spots }
         ensures { slice_get self.now.departures.items spot ≡ Some result.now }
     {
         &self.task.departures[spot]

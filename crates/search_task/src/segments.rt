@@ -1,6 +1,7 @@
 //! The segments of track that lead from the spots, all in one table. The segments from a spot are
 //! added one after another, each with the place of the one before it.
 ghost use Rattle.std.specs.Prelude.{◌≡◌, ◌<◌, [], IfOk, OnOk, Some, length, slice_get};
+ghost use Rattle.reach.specs.Search.{map_spots};
 ghost use Rattle.search_task.specs.Segments.{AddsSegment, segments_from};
 
 use crate::outgoing_segment::Stretch;
@@ -67,7 +68,7 @@ impl Segments {
 
     /// Adds a segment after those that lead from a spot. Fails only if allocation fails.
     pub(crate) fn add(&mut self, from: usize, segment: Stretch) -> Result<(), AllocError>
-        requires { from < 744 }
+        requires { from < map_spots }
         ensures { OnOk result (AddsSegment from segment self.old self.new) }
     {
         let chain = self.chains[from];
@@ -87,7 +88,7 @@ impl Segments {
 
     /// Returns how many segments lead from a spot.
     pub(crate) fn count(&self, spot: usize) -> usize
-        requires { spot < 744 }
+        requires { spot < map_spots }
         ensures { result ≡ length (segments_from spot self.now) }
     {
         self.chains[spot].count
@@ -95,7 +96,7 @@ impl Segments {
 
     /// Returns the segment that leads from a spot at a place among those from there.
     pub(crate) fn at(&self, spot: usize, place: usize) -> &Stretch
-        requires spot { spot < 744 }
+        requires spot { spot < map_spots }
         requires place { place < length (segments_from spot self.now) }
         ensures { slice_get (segments_from spot self.now) place ≡ Some result.now }
     {

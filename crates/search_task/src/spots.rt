@@ -9,6 +9,7 @@ ghost use Rattle.search_task.specs.Legs.{AreHomes};
 ghost use Rattle.map_tables.specs.Hex.{index_of};
 ghost use Rattle.map_tables.specs.Place.{stop_index_of};
 ghost use Rattle.reach.specs.Lawful.{IsLawful};
+ghost use Rattle.reach.specs.Search.{map_spots};
 ghost use Rattle.reach.specs.Walk.{entered_at};
 ghost use Rattle.tables.specs.Train.{stops_of};
 
@@ -114,7 +115,7 @@ fn stop_numbered(place: usize) -> StopNumber
 /// Sets what the next stop is to a company.
 fn lay_stop<N: Network>(network: &N, company: Company, stop: usize, nodes: &mut Vec<Node>)
     requires least { 6 ≤ stop % 8 }
-    requires most { stop < 744 }
+    requires most { stop < map_spots }
     requires before { AreNumberedBefore (N.position network.now) company stop nodes.old.items }
     ensures { let position = N.position network.now in
         AreNumberedBefore position company (stop + 1) nodes.new.items }
@@ -217,7 +218,7 @@ impl Task {
     /// Lists the next spot, if the company has a token there. Fails only if allocation fails.
     fn list_home(&self, spot: usize, homes: &mut Vec<usize>) -> Result<(), AllocError>
         requires fit { IsFit self.now }
-        requires spot { spot < 744 }
+        requires spot { spot < map_spots }
         requires before { AreHomes self.now 0 spot homes.old.items }
         ensures { OnOk result (AreHomes self.now 0 (spot + 1) homes.new.items) }
     {
@@ -231,7 +232,7 @@ impl Task {
     /// allocation fails.
     fn all_homes(&self, alloc: Global) -> Result<Vec<usize>, AllocError>
         requires { IsFit self.now }
-        ensures { IfOk result (λ homes. AreHomes self.now 0 744 homes.items) }
+        ensures { IfOk result (λ homes. AreHomes self.now 0 map_spots homes.items) }
     {
         let mut homes = Vec::new(alloc);
         for hex in 0..HEXES {

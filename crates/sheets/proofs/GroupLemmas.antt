@@ -16,12 +16,7 @@ use Rattle.sheets.specs.Part.{Parts, written_turns_of, numbered, opens_part, par
 use Rattle.sheets.specs.Reading.{order_read}
 use Rattle.tables.specs.declared.round.Round.{Round}
 use Rattle.tables.specs.declared.round.Round.TheVariants.{Opening, Stock, Operating}
-
--- a line past the last that may be an order is no head
-no_head_past : (round : Round) → opens_part round (Err PastLastLine) ≡ false
-no_head_past (Opening number) = refl
-no_head_past (Stock set) = refl
-no_head_past (Operating set number) = refl
+use Rattle.sheets.proofs.Heads.{past_opens_none}
 
 module _ (opens : Result Order Fault → Bool) (no_head : opens (Err PastLastLine) ≡ false) where
   -- one more line before parts, by whether it is past the last and whether it is a head
@@ -47,4 +42,4 @@ module _ (opens : Result Order Fault → Bool) (no_head : opens (Err PastLastLin
 -- a sheet has few written turns
 pub few_written_turns : SheetsHaveFewTurns
 few_written_turns file round seat =
-    few_after (opens_part round) (no_head_past round) (version_of file) (unwrap_or (sheet_of file seat round) []) 0
+    few_after (opens_part round) (past_opens_none round) (version_of file) (unwrap_or (sheet_of file seat round) []) 0

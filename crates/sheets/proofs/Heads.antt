@@ -130,7 +130,7 @@ module _ (law : ReadWhereSpelt) (version : Version) (line : List ℕ) where
   no_part (round.Opening number) differs = no_turn (reading_in version line) differs refl
 
 -- a line past the last opens none
-past_opens_none : (round : Round) → opens_part round (Err PastLastLine) ≡ false
+pub past_opens_none : (round : Round) → opens_part round (Err PastLastLine) ≡ false
 past_opens_none (round.Operating set number) = refl
 past_opens_none (round.Stock number) = refl
 past_opens_none (round.Opening number) = refl

@@ -12,7 +12,7 @@ use Rattle.tables.specs.declared.round.Round.{Round}
 use Rattle.tables.specs.declared.seat.Seat.{Seat}
 
 -- the seats that are left begin with the next
-next_seat : (seat total : ℕ) → seat < total → range_with_len seat (total - seat)
+pub next_seat : (seat total : ℕ) → seat < total → range_with_len seat (total - seat)
     ≡ seat ∷ range_with_len (seat + 1) (total - (seat + 1))
 next_seat seat total within =
     let count : total - seat ≡ suc (total - (seat + 1)) = omega arith in

@@ -3,7 +3,8 @@ use Rattle.std.proofs.Common.{◌≡◌, ℕ, ◌<◌, true, false, List, Option
 use Rattle.std.proofs.Common.{refl, sym, subst, ap, ◌∙◌, arith}
 use Rattle.std.proofs.lemmas.Int.{ints}
 use Rattle.std.specs.Int.Signed.{lt_z}
-use Rattle.certs.proofs.SaleAllowed.{holds, same_start}
+use Rattle.std.proofs.lemmas.Bool.{not-false}
+use Rattle.certs.proofs.SaleAllowed.{same_start}
 use Rattle.certs.specs.Purchase.{is_sold_out_there, purchase_judgement, share_price_of, share_purchase_rules}
 use Rattle.certs.specs.declared.share_deal.Purchase.TheVariants as purchase
 use Rattle.events.specs.Event.{place_of_source}
@@ -38,7 +39,7 @@ purchase_allowed seats events seat company from bought none =
     (share_purchase_rules seats events seat (purchase.Share company from) bought) none in
     record {
       there = kept NoneThere;
-      started = holds (is_started events company) (kept WrongStart);
+      started = not-false (is_started events company) (kept WrongStart);
       pays = kept CashTooSmall;
     }
 

@@ -1,7 +1,8 @@
 -- A company that is started.
 use Rattle.std.proofs.Common.{◌≡◌, ℕ, ◌*◌, ◌<◌, false, List, Option, Some, None, is_some, pos, ◌≤ℤ◌, refl, sym, subst}
 use Rattle.std.proofs.Common.{◌∙◌}
-use Rattle.certs.proofs.SaleAllowed.{holds, same_start}
+use Rattle.std.proofs.lemmas.Bool.{not-false}
+use Rattle.certs.proofs.SaleAllowed.{same_start}
 use Rattle.certs.specs.Purchase.{purchase_judgement, share_purchase_rules}
 use Rattle.certs.specs.declared.share_deal.Purchase.TheVariants as purchase
 use Rattle.events.specs.Event.{is_par_value}
@@ -59,4 +60,4 @@ start_sound game new seat company price cost may within is_cost recorded sound =
     subst (λ (n : ℕ). pos n ≤ℤ free_cash_of game.seats game.events seat) (sym is_cost)
     (paid game.seats game.events seat (president_shares * price) may.pays) in
     subst IsSound (sym recorded) (start_by_purchase_sound game company seat price cost
-    (holds (is_par_value price) may.par) (is_nothing (square_of game.events company) may.fresh) within pays sound)
+    (not-false (is_par_value price) may.par) (is_nothing (square_of game.events company) may.fresh) within pays sound)

@@ -19,3 +19,6 @@ company_is a b same =
 -- one company passes for itself
 pub company_is_same : (a b : Company) → a ≡ b → same_company a b ≡ true
 company_is_same a b is = eq-eqb (index_of_company a) (index_of_company b) (ap index_of_company is)
+
+pub company_itself : (company : Company) → same_company company company ≡ true
+company_itself company = company_is_same company company refl

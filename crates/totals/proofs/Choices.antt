@@ -51,12 +51,6 @@ either_order true false n = refl
 either_order false true n = refl
 either_order false false n = refl
 
--- both of two tests
-pub both : (a b : Bool) → (a && b) ≡ true → (a ≡ true) × (b ≡ true)
-both true true hold = (refl, refl)
-both true false hold = absurd cc
-both false b hold = absurd cc
-
 -- the company at a place of the roster
 abbrev company_at : ℕ → Company
 company_at place =
@@ -74,9 +68,3 @@ company_at_place ChesapeakeOhio = refl
 company_at_place Erie = refl
 company_at_place NewHaven = refl
 company_at_place BostonMaine = refl
-
--- companies of one place are the same
-pub same_company_is : (a b : Company) → same_company a b ≡ true → a ≡ b
-same_company_is a b same =
-    sym (company_at_place a) ∙ ap company_at ((Decides-eqb (index_of_company a) (index_of_company b)).0 same)
-    ∙ company_at_place b

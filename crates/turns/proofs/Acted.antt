@@ -15,24 +15,15 @@ use Rattle.tables.specs.declared.seat.Seat.{Seat}
 use Rattle.turns.specs.Acted.{SaysWhoActed, TurnsSayWhoActed}
 use Rattle.turns.specs.RoundOfTurns.{InTurn, RoundRules, after_lines, in_turn}
 use Rattle.turns.specs.Ruling.{obeyed_by, recorded}
-
--- the first of three that says something says it
-in_order : {A : Type 0} (a b c : Option A) → option_or (option_or a b) c ≡ option_or a (option_or b c)
-in_order None b c = refl
-in_order (Some x) b c = refl
-
--- nothing more is said
-nothing_more : {A : Type 0} (a : Option A) → option_or a None ≡ a
-nothing_more None = refl
-nothing_more (Some x) = refl
+use Rattle.totals.proofs.EventAtEnd.{option_or_assoc, option_or_none}
 
 -- what two lists say last, one after the other
 said_in_both : {A : Type 0} (says : Event → Option A) (prefix back : List Event) →
     last_said says (prefix ++ back) ≡ option_or (last_said says back) (last_said says prefix)
-said_in_both says [] back = sym (nothing_more (last_said says back))
+said_in_both says [] back = sym (option_or_none (last_said says back))
 said_in_both {A} says (event ∷ prefix) back =
     ap (λ (later : Option A). option_or later (says event)) (said_in_both says prefix back)
-    ∙ in_order (last_said says back) (last_said says prefix) (says event)
+    ∙ option_or_assoc (last_said says back) (last_said says prefix) (says event)
 
 -- the seat acted in the one or the other
 in_one_of_both : (seat : Seat) (first second : Bool) →

@@ -25,11 +25,7 @@ use Rattle.tables.specs.declared.round.Round.{Round}
 use Rattle.umpire.proofs.GroupLemmas.{malformed}
 use Rattle.umpire.specs.Groups.{begins_group, with_line, with_lines, with_reading, with_run}
 use Rattle.umpire.specs.Verifier.{AnswersByText, IsReadFor}
-
--- a list of trains has this many of each kind
-count_kinds : List Kind → ℕ
-count_kinds trains = in_number Two trains + (in_number Three trains
-    + (in_number Four trains + (in_number Five trains + (in_number Six trains + in_number Diesel trains))))
+use Rattle.legal_runs.proofs.Choosing.{count_kinds}
 
 counted : (trains : List Kind) → length trains ≡ count_kinds trains
 unfolding count_kinds
