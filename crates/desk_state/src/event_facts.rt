@@ -1,13 +1,13 @@
 //! An event as JSON: an object with the word of its line in the report, and its fields by name.
 
 use crate::facts::{Fact, MEMORY, Object};
-use history::{Event, Holder, PackedRuling, TrainSeller, Verdict};
-use report::name;
+use history::{Event, PackedRuling, TrainSeller, Verdict};
+use report::{holder, name};
 use serde::{Described, Serialize, Serializer};
 use sheets::Sheets;
 use std::alloc::Global;
 use std::str;
-use tables::{Amount, Money, Private, Seat, price};
+use tables::{Amount, Money, Private, price};
 
 /// The name of the member that says which event it is.
 const EVENT: &str = "event";
@@ -79,6 +79,24 @@ impl Serialize for EventFacts<'_> {
     }
 }
 
+/// Writes an event as an object. Each row has a kind of event, the word of its line in the report,
+/// and its other members by name.
+macro_rules! write_event_of {
+    (
+        $event:expr, $alloc:ident, $out:ident
+        $($kind:pat => $word:literal $(, $name:literal: $value:expr)*;)*
+    ) => {
+        match $event {
+            $($kind => Object {
+                alloc: $alloc,
+                facts: &[(EVENT, Fact::from($word)) $(, ($name, Fact::from($value)))*],
+            }
+            .serialize($out),)*
+            _ => $out.unit(), // (of another kind)
+        }
+    };
+}
+
 /// An event of privates.
 #[derive(Drop)]
 struct PrivateEvent<'a>(EventFacts<'a>);
@@ -87,93 +105,28 @@ impl Described for PrivateEvent<'_> {}
 
 impl Serialize for PrivateEvent<'_> {
     fn serialize<S: Serializer>(&self, out: &mut S) -> Result<(), S::Error> {
-        let alloc = self.0.alloc;
-        let sheets = self.0.sheets;
-        let player = |seat: &Seat| Fact::from(name(sheets, *seat));
-        let holder = |holder: &Holder| match holder {
-            Holder::Seat(seat) => Fact::from(name(sheets, *seat)),
-            Holder::Company(company) => Fact::from(*company),
-        };
-        match self.0.event {
-            Event::Sold {
-                private,
-                seat,
-                price,
-            } => {
-                let facts = &[
-                    (EVENT, Fact::from("SOLD")),
-                    ("private", Fact::from(*private)),
-                    ("player", player(seat)),
-                    ("amount", Fact::from(*price)),
-                ];
-                Object { alloc, facts }.serialize(out)
-            }
-            Event::Bids {
-                private,
-                seat,
-                amount,
-            } => {
-                let facts = &[
-                    (EVENT, Fact::from("BIDS")),
-                    ("private", Fact::from(*private)),
-                    ("player", player(seat)),
-                    ("amount", Fact::from(*amount)),
-                ];
-                Object { alloc, facts }.serialize(out)
-            }
-            Event::Price { price } => {
-                let facts = &[
-                    (EVENT, Fact::from("PRICE")),
-                    ("private", Fact::from(Private::SchuylkillValley)),
-                    ("amount", Fact::from(*price)),
-                ];
-                Object { alloc, facts }.serialize(out)
-            }
-            Event::Revenue {
-                private,
-                owner,
-                amount,
-            } => {
-                let facts = &[
-                    (EVENT, Fact::from("REVENUE")),
-                    ("private", Fact::from(*private)),
-                    ("owner", holder(owner)),
-                    ("amount", Fact::from(*amount)),
-                ];
-                Object { alloc, facts }.serialize(out)
-            }
-            Event::Exchanged { seat, from } => {
-                let facts = &[
-                    (EVENT, Fact::from("EXCHANGED")),
-                    ("private", Fact::from(Private::MohawkHudson)),
-                    ("player", player(seat)),
-                    ("from", Fact::from(from.text())),
-                ];
-                Object { alloc, facts }.serialize(out)
-            }
-            Event::Closed(private) => {
-                let facts = &[
-                    (EVENT, Fact::from("CLOSED")),
-                    ("private", Fact::from(*private)),
-                ];
-                Object { alloc, facts }.serialize(out)
-            }
-            Event::PrivateBought {
-                private,
-                company,
-                seller,
-                price,
-            } => {
-                let facts = &[
-                    (EVENT, Fact::from("PRIVATE")),
-                    ("private", Fact::from(*private)),
-                    ("company", Fact::from(*company)),
-                    ("player", player(seller)),
-                    ("amount", Fact::from(*price)),
-                ];
-                Object { alloc, facts }.serialize(out)
-            }
-            _ => out.unit(), // (of another kind)
+        let EventFacts {
+            alloc,
+            sheets,
+            event,
+        } = self.0;
+        write_event_of! { event, alloc, out
+            Event::Sold { private, seat, price } =>
+                "SOLD", "private": *private, "player": name(sheets, *seat), "amount": *price;
+            Event::Bids { private, seat, amount } =>
+                "BIDS", "private": *private, "player": name(sheets, *seat), "amount": *amount;
+            Event::Price { price } =>
+                "PRICE", "private": Private::SchuylkillValley, "amount": *price;
+            Event::Revenue { private, owner, amount } =>
+                "REVENUE", "private": *private, "owner": holder(sheets, *owner),
+                "amount": *amount;
+            Event::Exchanged { seat, from } =>
+                "EXCHANGED", "private": Private::MohawkHudson, "player": name(sheets, *seat),
+                "from": from.text();
+            Event::Closed(private) => "CLOSED", "private": *private;
+            Event::PrivateBought { private, company, seller, price } =>
+                "PRIVATE", "private": *private, "company": *company,
+                "player": name(sheets, *seller), "amount": *price;
         }
     }
 }
@@ -186,89 +139,28 @@ impl Described for ShareEvent<'_> {}
 
 impl Serialize for ShareEvent<'_> {
     fn serialize<S: Serializer>(&self, out: &mut S) -> Result<(), S::Error> {
-        let alloc = self.0.alloc;
-        let sheets = self.0.sheets;
-        let player = |seat: &Seat| Fact::from(name(sheets, *seat));
-        match self.0.event {
-            Event::Given {
-                company,
-                seat,
-                shares,
-            } => {
-                let facts = &[
-                    (EVENT, Fact::from("GIVEN")),
-                    ("company", Fact::from(*company)),
-                    ("player", player(seat)),
-                    ("shares", Fact::from(Amount::from(*shares))),
-                ];
-                Object { alloc, facts }.serialize(out)
-            }
-            Event::Par { company, price } => {
-                let facts = &[
-                    (EVENT, Fact::from("PAR")),
-                    ("company", Fact::from(*company)),
-                    ("amount", Fact::from(*price)),
-                ];
-                Object { alloc, facts }.serialize(out)
-            }
-            Event::President { company, seat } => {
-                let facts = &[
-                    (EVENT, Fact::from("PRESIDENT")),
-                    ("company", Fact::from(*company)),
-                    ("player", player(seat)),
-                ];
-                Object { alloc, facts }.serialize(out)
-            }
-            Event::Bought {
-                company,
-                seat,
-                shares,
-                from,
-                price,
-            } => {
-                let facts = &[
-                    (EVENT, Fact::from("BOUGHT")),
-                    ("company", Fact::from(*company)),
-                    ("player", player(seat)),
-                    ("shares", Fact::from(Amount::from(*shares))),
-                    ("from", Fact::from(from.text())),
-                    ("amount", Fact::from(*price)),
-                ];
-                Object { alloc, facts }.serialize(out)
-            }
-            Event::Sells {
-                company,
-                seat,
-                shares,
-                price,
-            } => {
-                let facts = &[
-                    (EVENT, Fact::from("SELLS")),
-                    ("company", Fact::from(*company)),
-                    ("player", player(seat)),
-                    ("shares", Fact::from(Amount::from(*shares))),
-                    ("amount", Fact::from(*price)),
-                ];
-                Object { alloc, facts }.serialize(out)
-            }
-            Event::Floats { company, amount } => {
-                let facts = &[
-                    (EVENT, Fact::from("FLOATS")),
-                    ("company", Fact::from(*company)),
-                    ("amount", Fact::from(*amount)),
-                ];
-                Object { alloc, facts }.serialize(out)
-            }
-            Event::Moves { company, square } => {
-                let facts = &[
-                    (EVENT, Fact::from("MOVES")),
-                    ("company", Fact::from(*company)),
-                    ("price", Fact::from(price(*square))),
-                    ("square", Fact::from(*square)),
-                ];
-                Object { alloc, facts }.serialize(out)
-            }
-            _ => out.unit(), // (of another kind)
+        let EventFacts {
+            alloc,
+            sheets,
+            event,
+        } = self.0;
+        write_event_of! { event, alloc, out
+            Event::Given { company, seat, shares } =>
+                "GIVEN", "company": *company, "player": name(sheets, *seat),
+                "shares": Amount::from(*shares);
+            Event::Par { company, price } => "PAR", "company": *company, "amount": *price;
+            Event::President { company, seat } =>
+                "PRESIDENT", "company": *company, "player": name(sheets, *seat);
+            Event::Bought { company, seat, shares, from, price } =>
+                "BOUGHT", "company": *company, "player": name(sheets, *seat),
+                "shares": Amount::from(*shares), "from": from.text(), "amount": *price;
+            Event::Sells { company, seat, shares, price } =>
+                "SELLS", "company": *company, "player": name(sheets, *seat),
+                "shares": Amount::from(*shares), "amount": *price;
+            Event::Floats { company, amount } =>
+                "FLOATS", "company": *company, "amount": *amount;
+            Event::Moves { company, square } =>
+                "MOVES", "company": *company, "price": price(*square), "square": *square;
         }
     }
 }
@@ -281,79 +173,26 @@ impl Described for RunEvent<'_> {}
 
 impl Serialize for RunEvent<'_> {
     fn serialize<S: Serializer>(&self, out: &mut S) -> Result<(), S::Error> {
-        let alloc = self.0.alloc;
-        let sheets = self.0.sheets;
-        let holder = |holder: &Holder| match holder {
-            Holder::Seat(seat) => Fact::from(name(sheets, *seat)),
-            Holder::Company(company) => Fact::from(*company),
-        };
-        match self.0.event {
-            Event::Home { company, place } => {
-                let place = place.text();
-                let facts = &[
-                    (EVENT, Fact::from("HOME")),
-                    ("company", Fact::from(*company)),
-                    ("place", Fact::from(place.as_slice())),
-                ];
-                Object { alloc, facts }.serialize(out)
-            }
-            Event::Token {
-                company,
-                place,
-                cost,
-            } => {
-                let place = place.text();
-                let facts = &[
-                    (EVENT, Fact::from("TOKEN")),
-                    ("company", Fact::from(*company)),
-                    ("place", Fact::from(place.as_slice())),
-                    ("amount", Fact::from(*cost)),
-                ];
-                Object { alloc, facts }.serialize(out)
-            }
-            Event::Laid { company, lay, cost } => {
-                let hex = lay.hex.text();
-                let facts = &[
-                    (EVENT, Fact::from("LAID")),
-                    ("company", Fact::from(*company)),
-                    ("tile", Fact::from(Amount::from(lay.tile.number()))),
-                    ("hex", Fact::from(hex.as_slice())),
-                    ("rotation", Fact::from(lay.rot.turns())),
-                    ("is_swapped", Fact::Flag(lay.swap)),
-                    ("amount", Fact::from(*cost)),
-                ];
-                Object { alloc, facts }.serialize(out)
-            }
-            Event::Withheld { company, amount } => {
-                let facts = &[
-                    (EVENT, Fact::from("WITHHELD")),
-                    ("company", Fact::from(*company)),
-                    ("amount", Fact::from(*amount)),
-                ];
-                Object { alloc, facts }.serialize(out)
-            }
-            Event::Runs { company, revenue } => {
-                let facts = &[
-                    (EVENT, Fact::from("RUNS")),
-                    ("company", Fact::from(*company)),
-                    ("amount", Fact::from(*revenue)),
-                ];
-                Object { alloc, facts }.serialize(out)
-            }
-            Event::Dividend {
-                company,
-                holder: paid,
-                amount,
-            } => {
-                let facts = &[
-                    (EVENT, Fact::from("DIVIDEND")),
-                    ("company", Fact::from(*company)),
-                    ("owner", holder(paid)),
-                    ("amount", Fact::from(*amount)),
-                ];
-                Object { alloc, facts }.serialize(out)
-            }
-            _ => out.unit(), // (of another kind)
+        let EventFacts {
+            alloc,
+            sheets,
+            event,
+        } = self.0;
+        write_event_of! { event, alloc, out
+            Event::Home { company, place } =>
+                "HOME", "company": *company, "place": place.text().as_slice();
+            Event::Token { company, place, cost } =>
+                "TOKEN", "company": *company, "place": place.text().as_slice(), "amount": *cost;
+            Event::Laid { company, lay, cost } =>
+                "LAID", "company": *company, "tile": Amount::from(lay.tile.number()),
+                "hex": lay.hex.text().as_slice(), "rotation": lay.rot.turns(),
+                "is_swapped": lay.swap, "amount": *cost;
+            Event::Withheld { company, amount } =>
+                "WITHHELD", "company": *company, "amount": *amount;
+            Event::Runs { company, revenue } => "RUNS", "company": *company, "amount": *revenue;
+            Event::Dividend { company, holder: paid, amount } =>
+                "DIVIDEND", "company": *company, "owner": holder(sheets, *paid),
+                "amount": *amount;
         }
     }
 }
@@ -366,70 +205,18 @@ impl Described for TrainEvent<'_> {}
 
 impl Serialize for TrainEvent<'_> {
     fn serialize<S: Serializer>(&self, out: &mut S) -> Result<(), S::Error> {
-        let alloc = self.0.alloc;
-        match self.0.event {
-            Event::Traded { company, kind } => {
-                let facts = &[
-                    (EVENT, Fact::from("TRADED")),
-                    ("company", Fact::from(*company)),
-                    ("train", Fact::from(*kind)),
-                ];
-                Object { alloc, facts }.serialize(out)
-            }
-            Event::Train {
-                company,
-                kind,
-                from,
-                price,
-            } => {
-                let facts = &[
-                    (EVENT, Fact::from("TRAIN")),
-                    ("company", Fact::from(*company)),
-                    ("train", Fact::from(*kind)),
-                    ("from", Fact::from(*from)),
-                    ("amount", Fact::from(*price)),
-                ];
-                Object { alloc, facts }.serialize(out)
-            }
-            Event::Phase(kind) => {
-                let facts = &[(EVENT, Fact::from("PHASE")), ("train", Fact::from(*kind))];
-                Object { alloc, facts }.serialize(out)
-            }
-            Event::Rusted {
-                owner: Some(company),
-                kind,
-            } => {
-                let facts = &[
-                    (EVENT, Fact::from("RUSTED")),
-                    ("owner", Fact::from(*company)),
-                    ("train", Fact::from(*kind)),
-                ];
-                Object { alloc, facts }.serialize(out)
-            }
-            Event::Rusted { owner: None, kind } => {
-                let facts = &[
-                    (EVENT, Fact::from("RUSTED")),
-                    ("owner", Fact::from("POOL")),
-                    ("train", Fact::from(*kind)),
-                ];
-                Object { alloc, facts }.serialize(out)
-            }
-            Event::Discarded { company, kind } => {
-                let facts = &[
-                    (EVENT, Fact::from("DISCARDED")),
-                    ("company", Fact::from(*company)),
-                    ("train", Fact::from(*kind)),
-                ];
-                Object { alloc, facts }.serialize(out)
-            }
-            Event::Forced(company) => {
-                let facts = &[
-                    (EVENT, Fact::from("FORCED")),
-                    ("company", Fact::from(*company)),
-                ];
-                Object { alloc, facts }.serialize(out)
-            }
-            _ => out.unit(), // (of another kind)
+        let EventFacts { alloc, event, .. } = self.0;
+        write_event_of! { event, alloc, out
+            Event::Traded { company, kind } => "TRADED", "company": *company, "train": *kind;
+            Event::Train { company, kind, from, price } =>
+                "TRAIN", "company": *company, "train": *kind, "from": *from, "amount": *price;
+            Event::Phase(kind) => "PHASE", "train": *kind;
+            Event::Rusted { owner: Some(company), kind } =>
+                "RUSTED", "owner": *company, "train": *kind;
+            Event::Rusted { owner: None, kind } => "RUSTED", "owner": "POOL", "train": *kind;
+            Event::Discarded { company, kind } =>
+                "DISCARDED", "company": *company, "train": *kind;
+            Event::Forced(company) => "FORCED", "company": *company;
         }
     }
 }
@@ -442,48 +229,20 @@ impl Described for PlayEvent<'_> {}
 
 impl Serialize for PlayEvent<'_> {
     fn serialize<S: Serializer>(&self, out: &mut S) -> Result<(), S::Error> {
-        let alloc = self.0.alloc;
-        let sheets = self.0.sheets;
-        let player = |seat: &Seat| Fact::from(name(sheets, *seat));
-        match self.0.event {
-            Event::Round(round) => {
-                let facts = &[(EVENT, Fact::from("ROUND")), ("round", Fact::from(*round))];
-                Object { alloc, facts }.serialize(out)
-            }
-            Event::Passes(seat) => {
-                let facts = &[(EVENT, Fact::from("PASSES")), ("player", player(seat))];
-                Object { alloc, facts }.serialize(out)
-            }
-            Event::Left { seat, lines } => {
-                let facts = &[
-                    (EVENT, Fact::from("LEFT")),
-                    ("player", player(seat)),
-                    ("lines", Fact::from(*lines)),
-                ];
-                Object { alloc, facts }.serialize(out)
-            }
-            Event::Aid {
-                seat,
-                company,
-                amount,
-            } => {
-                let facts = &[
-                    (EVENT, Fact::from("AID")),
-                    ("player", player(seat)),
-                    ("company", Fact::from(*company)),
-                    ("amount", Fact::from(*amount)),
-                ];
-                Object { alloc, facts }.serialize(out)
-            }
-            Event::Bankrupt(seat) => {
-                let facts = &[(EVENT, Fact::from("BANKRUPT")), ("player", player(seat))];
-                Object { alloc, facts }.serialize(out)
-            }
-            Event::Broken => {
-                let facts = &[(EVENT, Fact::from("BROKEN"))];
-                Object { alloc, facts }.serialize(out)
-            }
-            _ => out.unit(), // (of another kind)
+        let EventFacts {
+            alloc,
+            sheets,
+            event,
+        } = self.0;
+        write_event_of! { event, alloc, out
+            Event::Round(round) => "ROUND", "round": *round;
+            Event::Passes(seat) => "PASSES", "player": name(sheets, *seat);
+            Event::Left { seat, lines } =>
+                "LEFT", "player": name(sheets, *seat), "lines": *lines;
+            Event::Aid { seat, company, amount } =>
+                "AID", "player": name(sheets, *seat), "company": *company, "amount": *amount;
+            Event::Bankrupt(seat) => "BANKRUPT", "player": name(sheets, *seat);
+            Event::Broken => "BROKEN";
         }
     }
 }

@@ -84,6 +84,12 @@ impl<'a> From<Amount> for Fact<'a> {
     }
 }
 
+impl<'a> From<bool> for Fact<'a> {
+    fn from(flag: bool) -> Fact<'a> {
+        Fact::Flag(flag)
+    }
+}
+
 impl<'a> From<usize> for Fact<'a> {
     fn from(count: usize) -> Fact<'a> {
         Fact::Number(count as Money)

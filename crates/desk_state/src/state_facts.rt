@@ -213,7 +213,7 @@ impl Serialize for Privates<'_> {
                 ("face", Fact::from(row.face)),
                 ("price", price),
                 ("owner", owner),
-                ("is_closed", Fact::Flag(row.is_sold && row.owner.is_none())),
+                ("is_closed", Fact::from(row.is_sold && row.owner.is_none())),
             ];
             out.begin_map(None)?;
             out.flatten_next()?;
@@ -354,8 +354,8 @@ impl Serialize for Figures<'_> {
         };
         let facts = &[
             ("code", Fact::from(company)),
-            ("is_started", Fact::Flag(row.is_started)),
-            ("operates", Fact::Flag(row.operates)),
+            ("is_started", Fact::from(row.is_started)),
+            ("operates", Fact::from(row.operates)),
             ("president", president),
             ("par", par),
             ("price", at),
@@ -427,7 +427,7 @@ impl Serialize for TilesLaid<'_> {
                     ("tile", Fact::Number(Money::from(lay.tile.number()))),
                     ("hex", Fact::from(hex.as_slice())),
                     ("rotation", Fact::from(lay.rot.turns())),
-                    ("is_swapped", Fact::Flag(lay.swap)),
+                    ("is_swapped", Fact::from(lay.swap)),
                 ];
                 Object { alloc, facts }.serialize(out)?;
             }

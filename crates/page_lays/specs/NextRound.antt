@@ -1,6 +1,6 @@
 -- What may be done in a round that comes: before an operating round the standing lines of the players and the turns of the
 -- companies, before another what each player may do in their first turn.
-use Rattle.std.specs.Prelude.{◌≡◌, ℕ, Bool, List, [], Option, None}
+use Rattle.std.specs.Prelude.{◌≡◌, ℕ, Bool, List, [], Option, Some, None}
 use Rattle.desk_base.specs.NextRound.{IsComing}
 use Rattle.desk_base.specs.declared.next_round.Coming.{Coming}
 use Rattle.desk_may.specs.Offerers.{presidents_of}
@@ -10,6 +10,8 @@ use Rattle.page_lays.specs.Turns.{AreTurnsIn, is_wanted}
 use Rattle.page_lays.specs.declared.company_turns.Turn.{Turn}
 use Rattle.page_lays.specs.declared.may.May.{May}
 use Rattle.page_lays.specs.declared.players.Player.{Player}
+use Rattle.rounds.specs.declared.game.End.{End}
+use Rattle.rounds.specs.declared.game.End.TheVariants.{Awaiting, Bank, Bankrupt}
 use Rattle.tables.specs.declared.roster.Company.{Company}
 use Rattle.tables.specs.declared.round.Round.{Round}
 use Rattle.tables.specs.declared.round.Round.TheVariants.{Opening, Stock, Operating}
@@ -31,8 +33,16 @@ pub record IsMayIn (companies : List Company) (round : Round) (file : List ℕ) 
   pub presidents : may.presidents.items ≡ presidents_of game.events
   pub told : AreToldIn (is_wanted companies) round file game may.players.items may.turns.items
 
--- what may be done in a round, in the game of a file after another round, or after the last that it plays
-pub record IsMayNext (file : List ℕ) (after : Option Round) (companies : List Company) (round : Round) (may : May) : Type 0 where
+-- what may be done in the round that a game awaits, and nothing once the game is over
+abbrev pub IsMayAt : List Company → List ℕ → Game → End → Option May → Type 0
+IsMayAt companies file game (Awaiting round) (Some may) = IsMayIn companies round file game may
+IsMayAt companies file game (Awaiting round) None = ⊥
+IsMayAt companies file game Bank may = may ≡ None
+IsMayAt companies file game Bankrupt may = may ≡ None
+
+-- what may be done in the round that comes in the game of a file after a round, or after the last that it plays if none
+-- is named
+pub record IsMayNext (file : List ℕ) (after : Option Round) (companies : List Company) (may : Option May) : Type 0 where
   pub coming : Coming
   pub is_coming : IsComing file after coming
-  pub is_may : IsMayIn companies round file coming.history may
+  pub is_may : IsMayAt companies file coming.history coming.end may

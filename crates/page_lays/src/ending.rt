@@ -12,7 +12,7 @@ use map_tables::Hex;
 use markup::PagePiece::Words;
 use markup::{Part, Tag, Writer, begin_section};
 use page_map::{Scene, begin_hex, begin_hexes};
-use rounds::{End, Play};
+use rounds::Play;
 use sheets::{Sheets, collect};
 use std::alloc::Global;
 
@@ -85,11 +85,10 @@ fn put_moves_of<P: Progress>(
     progress: &mut P,
 ) -> Result<(), DeskFault> {
     let scene = Scene::of(stood);
-    let End::Awaiting(round) = stood.end else {
+    let Some(may) = may_in(alloc, stood.sheets, wanted, progress)? else {
         put_over(out, &scene, words);
         return Ok(());
     };
-    let may = may_in(alloc, stood.sheets, round, wanted, progress)?;
     put_hexes(alloc, out, &scene, &may, words)?;
     Ok(put_may(alloc, out, &scene, &may, wanted)?)
 }

@@ -11,6 +11,7 @@ use crate::players::{Player, players_in_operating, players_in_turns};
 use desk_base::{Coming, DeskFault, coming_in};
 use desk_may::Progress;
 use page_map::Scene;
+use rounds::End;
 use sheets::Sheets;
 use std::alloc::{AllocError, Global};
 use tables::{Round, Seat};
@@ -42,21 +43,23 @@ impl May {
     }
 }
 
-/// Returns what may be done in the next round. The error is `Round` if the round before it was not
-/// played, or `Memory`.
-#[tactic(auto, using(crate::proofs::NextRoundLemmas::is_may_next))]
+/// Returns what may be done in the round that comes; `None` if the game is over. Fails with `Round`
+/// if the named round was not played, and with `Memory` if allocation fails.
+#[tactic(auto, using(crate::proofs::NextRoundLemmas::is_may_next, crate::proofs::NextRoundLemmas::is_over))]
 pub(crate) fn may_in<P: Progress>(
     alloc: Global,
     sheets: &Sheets,
-    round: Round,
     wanted: Wanted,
     progress: &mut P,
-) -> Result<May, DeskFault>
+) -> Result<Option<May>, DeskFault>
     ensures { let wanted = wanted.entry in
-        IfOk result (IsMayNext sheets.now wanted.after wanted.companies.now round) }
+        IfOk result (IsMayNext sheets.now wanted.after wanted.companies.now) }
 {
     let coming = coming_in(alloc, sheets, wanted.after)?;
-    Ok(may_before(alloc, coming, round, wanted, progress)?)
+    match coming.end {
+        End::Awaiting(round) => Ok(Some(may_before(alloc, coming, round, wanted, progress)?)),
+        End::Bank | End::Bankrupt => Ok(None),
+    }
 }
 
 /// Returns what may be done in the next round of a game. Fails only if allocation fails.

@@ -24,6 +24,6 @@ mod statement;
 mod text;
 
 pub use end_worth::player_worth;
-pub use line::{name, push_event};
+pub use line::{holder, name, push_event};
 pub use parts::{end_text, header_text, next_text, outcome_text, unread_text};
 pub use text::{length_of_round, refusal_text, report, round_text};

@@ -353,7 +353,7 @@ fn push_end(out: &mut Vec<u8>) -> Result<(), AllocError>
 }
 
 /// Returns a player's name or a company's code.
-fn holder<'a>(sheets: &'a Sheets, holder: Holder) -> &'a [u8]
+pub fn holder<'a>(sheets: &'a Sheets, holder: Holder) -> &'a [u8]
     ensures { result.now ≡ holder_text sheets.now holder }
 {
     match holder {
