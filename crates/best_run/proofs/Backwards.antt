@@ -9,7 +9,7 @@ use Rattle.map_tables.specs.declared.track.TrackEnd.TheVariants.{Side as AtSide,
 use Rattle.reach.specs.Lawful.{IsLawful}
 use Rattle.reach.specs.Position.{Position, IsAmong, IsFull, is_red}
 use Rattle.reach.specs.Walk.{AreJoined, BeginsAt, GoesOn, IsWalk, PassesBy, PassesOnly, begins_at, entered_at, left_at}
-use Rattle.reach.specs.Walk.{stop_at_end, stop_of}
+use Rattle.reach.specs.Walk.{stop_of}
 use Rattle.reach.specs.declared.walk.Spot.{Spot}
 use Rattle.reach.specs.declared.walk.WalkStep.{WalkStep}
 use Rattle.reach.proofs.Spots.{back}

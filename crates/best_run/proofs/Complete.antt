@@ -1,5 +1,5 @@
 -- A run that holds is gone over step by step: from where it is to its end, where it is finished.
-use Rattle.std.proofs.Common.{◌≡◌, ℕ, ◌<◌, ◌≤◌, Bool, true, false, not, ltb, inl, inr, Option, Some, None, IfSome}
+use Rattle.std.proofs.Common.{◌≡◌, ℕ, ◌<◌, ◌≤◌, true, false, not, ltb, inl, inr, Option, Some, None, IfSome}
 use Rattle.std.proofs.Common.{List, [], ◌∷◌, ◌++◌, length, get_or, refl, sym, ap, subst, ◌∙◌, arith}
 use Rattle.std.proofs.lemmas.Bool.{and_from, lt-ltb}
 use Rattle.map_tables.specs.declared.hex.Hex.{Hex}

@@ -1,19 +1,30 @@
 -- The ways on from a run: by a leg to a stop ahead, or back to where the run began. One is in vain
 -- if the run and the trains after it can earn no more by it than what has been found.
-use Rattle.std.specs.Prelude.{◌≡◌, ℕ, ◌+◌, ◌<◌, ◌≤◌, Bool, true, false, ◌⊎◌, Some, List, slice_get}
+use Rattle.std.specs.Prelude.{◌≡◌, ℕ, ◌+◌, ◌<◌, ◌≤◌, Bool, true, false, ◌⊎◌, Some, List, length, slice_get}
 use Rattle.search_task.specs.declared.task.Node.{Node}
 use Rattle.search_task.specs.declared.task.Task.{Task}
 use Rattle.search_task.specs.declared.task.Leg.{Leg}
+use Rattle.best_run.specs.declared.lookahead.Outlook.{Outlook}
 use Rattle.best_run.specs.declared.state.Assigned.{Assigned}
 use Rattle.best_run.specs.declared.state.PartialRun.{PartialRun}
 use Rattle.best_run.specs.declared.ways_on.WaysOn.{WaysOn}
-use Rattle.best_run.specs.Ahead.{EndsAtMost, LiesAhead, most_ahead}
-use Rattle.best_run.specs.EndStops.{Counts}
+use Rattle.best_run.specs.Ahead.{EndsAtMost, IsClosed, LiesAhead, most_ahead}
+use Rattle.best_run.specs.EndStops.{Counts, HasWorth}
 use Rattle.best_run.specs.Moves.{along, can_take, turned_back, using}
 use Rattle.best_run.specs.Suffix.{ArePrunedByCap, EarnAtMost}
+use Rattle.legal_runs.specs.Legal.{map_borders}
+use Rattle.reach.specs.Search.{map_spots}
 use Rattle.search_task.specs.Legs.{legs_at}
 use Rattle.search_task.specs.Marks.{AreBoth}
 use Rattle.search_task.specs.Spots.{ends_in, node_at}
+
+-- it is known what lies ahead of a run once it turns back, and what that is worth; each border and
+-- each spot has its mark
+pub record KnowsHome (task : Task) (assigned : Assigned) (run : PartialRun) (home : Outlook) : Type 0 where
+  pub closed : IsClosed task assigned run home.ahead
+  pub known : HasWorth task assigned run home.ahead home.worth
+  pub borders : length assigned.used ≡ map_borders
+  pub spots : length run.visited ≡ map_spots
 
 -- a run that earns at most so much and the trains after it can earn no more than has been found:
 -- these earn so much by themselves, or are alike and earn no more than the run

@@ -7,10 +7,10 @@ ghost use Rattle.best_run.specs.Canonical.{IsShutOff, Opens, ReachesToken};
 ghost use Rattle.best_run.specs.Canonical.{ReachesAt, WidensTo, anywhere, sets_out};
 ghost use Rattle.best_run.specs.Moves.{EarnsAtMost};
 ghost use Rattle.search_task.specs.Spots.{ends_in, node_at, stop_in};
-ghost use Rattle.best_run.specs.Suffix.{AreBounds};
 ghost use Rattle.reach.specs.Search.{map_spots};
 ghost use Rattle.search_task.specs.Legs.{IsStop};
 
+use crate::bounded_task::BoundedTask;
 use crate::end_stops::count;
 use crate::lookahead::{Outlook, look_along, nothing_ahead};
 use crate::search::are_pruned_by_cap;
@@ -157,29 +157,19 @@ pub(crate) fn reach(task: &ReadyTask, assigned: &Assigned) -> InReach
 /// in reach. Each of the next trains of one kind earns no more than that allows, and the others no
 /// more than they earn by themselves. It may be false even if that holds.
 pub(crate) fn is_pruned_by_reach(
-    task: &ReadyTask,
+    bounded: &BoundedTask,
     assigned: &Assigned,
     reach: &InReach,
-    bounds: &[Amount],
     best: Amount,
 ) -> bool
-    requires bounds { AreBounds task.now bounds.now }
-    requires next { assigned.now.next < length task.now.trains.items }
-    requires capped { AreCapped task.now assigned.now.used reach.now }
-    ensures { IsTrue result → EarnsAtMost task.now assigned.now best }
+    requires next { assigned.now.next < length bounded.now.task.now.trains.items }
+    requires capped { AreCapped bounded.now.task.now assigned.now.used reach.now }
+    ensures { IsTrue result → EarnsAtMost bounded.now.task.now assigned.now best }
 {
-    task.is_ready();
+    bounded.task.is_ready();
     assigned.marks_all_borders();
     let total = assigned.total;
-    are_pruned_by_cap(
-        task,
-        assigned.next,
-        reach.left,
-        reach.cap,
-        total,
-        bounds,
-        best,
-    )
+    are_pruned_by_cap(bounded, assigned.next, reach.left, reach.cap, total, best)
 }
 
 /// Opens the legs from a stop that cross no used border.

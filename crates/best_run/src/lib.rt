@@ -8,7 +8,7 @@
 //! - `Moves`: what it tries, move by move.
 //! - `MovePath`: how these moves are written down and which runs are read from that.
 //! - `Room`: why its sums stay within a limit.
-//! - `Extend`: what holds wherever a partial run is extended.
+//! - `Extend`: what holds wherever a partial run is looked ahead from, or extended.
 //! - `Suffix`: what the last trains earn by themselves, and equal trains one after another, which
 //!   bounds what they earn after others.
 //! - `Ahead`: what may lie ahead of a run, which bounds what it may still earn.
@@ -43,8 +43,9 @@
 //! assert_eq!(rt; answer.claim.revenue, 30);
 //! ```
 //!
-//! Reading order: `revenue` (the public call), `claim_and_marks`, `trains` (their order), `state`
-//! (the trains assigned so far, and the run begun), `lookahead` (what lies ahead of that run) with
+//! Reading order: `revenue` (the public call), `claim_and_marks`, `trains` (their order),
+//! `bounded_task` (a task with what its last trains earn by themselves), `state` (the trains
+//! assigned so far, and the run begun), `lookahead` (what lies ahead of that run) with
 //! `value_ahead` (what that is worth), `end_stops` (at which stops ahead it ends), `ways_on` (which
 //! ways on may earn more), `move_path` (the moves that earn what has been found), `search_state` (a
 //! state that is kept), `memo` (what has been found, and what need not be explored again),
@@ -53,6 +54,7 @@
 //! as well).
 #![tactic(auto)]
 
+mod bounded_task;
 mod canonical;
 mod claim_and_marks;
 mod claimed;

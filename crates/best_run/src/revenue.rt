@@ -10,6 +10,7 @@ ghost use Rattle.certificate.specs.Filled.{IsAcceptedFilled};
 ghost use Rattle.certificate.specs.Holding.{IsAccepted};
 ghost use Rattle.legal_runs.specs.Set.{IsGreatest};
 
+use crate::bounded_task::BoundedTask;
 use crate::claim_and_marks::Best;
 use crate::claimed::claimed_runs;
 use crate::memo::Found;
@@ -37,7 +38,7 @@ fn assign_last(task: &ReadyTask, count: usize, bounds: &[Amount], best: &mut Fou
         cap: 0,
         used: Borders::none(),
     };
-    assign_next(task, &nothing, bounds, best);
+    assign_next(&BoundedTask { task, bounds }, &nothing, best);
 }
 
 /// Solves for no train, for the last one, for the last two, and so on, up to all but the first.

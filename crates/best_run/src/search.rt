@@ -2,17 +2,18 @@
 //! earn no more than what has been found, or that were tried before.
 ghost use Rattle.std.specs.Prelude.{◌≡◌, ◌+◌, ◌<◌, ◌≤◌, true, false, IsTrue, length};
 ghost use Rattle.best_run.specs.Ahead.{IsInVain};
-ghost use Rattle.best_run.specs.Extend.{MayExtend};
+ghost use Rattle.best_run.specs.Extend.{MayExtend, MayLookAhead};
 ghost use Rattle.best_run.specs.Room.{HasRoom, revenue_most};
 ghost use Rattle.search_task.specs.Fit.{SegmentFits};
-ghost use Rattle.best_run.specs.Suffix.{AreBounds, ArePrunedByCap, AreEqual, ArePrunedBySuffix};
+ghost use Rattle.search_task.specs.Legs.{IsStop};
+ghost use Rattle.best_run.specs.Suffix.{ArePrunedByCap, AreEqual, ArePrunedBySuffix};
 ghost use Rattle.best_run.specs.Moves.{Any, Explores, IsBegin, IsBeginAt, IsGo, IsTurn, Takes, Tries, between};
 ghost use Rattle.best_run.specs.Moves.{own_before, partial};
 ghost use Rattle.best_run.specs.WaysOn.{AreWaysOn};
 ghost use Rattle.legal_runs.specs.Legal.{map_borders};
-ghost use Rattle.reach.specs.Search.{map_spots};
 ghost use Rattle.search_task.specs.Spots.{node_at, own_in, stop_in};
 
+use crate::bounded_task::BoundedTask;
 use crate::canonical::{canonical, canonical_begun, is_pruned_by_reach, reach};
 use crate::memo::Found;
 use crate::move_path::Mark;
@@ -27,18 +28,15 @@ const MANY: usize = 8;
 
 /// Returns whether the trains that are left can earn no more than what has been found, by what they
 /// earn by themselves. It may be false even if that holds.
-fn is_pruned_by_suffix(
-    task: &ReadyTask,
-    assigned: &Assigned,
-    bounds: &[Amount],
-    best: Amount,
-) -> bool
-    requires { assigned.now.next ≤ length task.now.trains.items }
-    ensures short { IsTrue result → ArePrunedBySuffix task.now bounds.now assigned.now best }
+fn is_pruned_by_suffix(bounded: &BoundedTask, assigned: &Assigned, best: Amount) -> bool
+    requires { assigned.now.next ≤ length bounded.now.task.now.trains.items }
+    ensures short { let bounds = bounded.now.bounds.now in
+        IsTrue result → ArePrunedBySuffix bounded.now.task.now bounds assigned.now best }
     ensures whole { length assigned.now.used ≡ map_borders }
 {
     assigned.marks_all_borders();
-    let left = task.train_count() - assigned.next;
+    let bounds = bounded.bounds;
+    let left = bounded.task.train_count() - assigned.next;
     left < bounds.len() && assigned.total <= best && bounds[left] <= best - assigned.total
 }
 
@@ -64,21 +62,21 @@ fn equals(task: &ReadyTask, next: usize, most: usize) -> usize
 /// of the kind that ran last earns no more than the cap, in dollars. It may be false even if that
 /// holds.
 pub(crate) fn are_pruned_by_cap(
-    task: &ReadyTask,
+    bounded: &BoundedTask,
     next: usize,
     kind: usize,
     cap: Amount,
     total: Amount,
-    bounds: &[Amount],
     best: Amount,
 ) -> bool
-    requires next { next ≤ length task.now.trains.items }
-    requires bounds { AreBounds task.now bounds.now }
-    ensures { IsTrue result → ArePrunedByCap task.now next kind cap total best }
+    requires { next ≤ length bounded.now.task.now.trains.items }
+    ensures { IsTrue result → ArePrunedByCap bounded.now.task.now next kind cap total best }
 {
     if kind == 0 || cap > 200_000 {
         return false;
     }
+    let task = bounded.task;
+    let bounds = bounded.bounds;
     let equal = equals(task, next, kind);
     let left = task.train_count() - next - equal;
     let most = equal as Amount * cap;
@@ -91,17 +89,12 @@ pub(crate) fn are_pruned_by_cap(
 /// Tries all ways from a state between runs to the end. Runs come first: what they earn bounds what
 /// is tried if the next train passes.
 #[cycle(explore)]
-pub(crate) fn assign_next(
-    task: &ReadyTask,
-    assigned: &Assigned,
-    bounds: &[Amount],
-    best: &mut Found,
-)
-    requires bounds { AreBounds task.now bounds.now }
-    requires next { assigned.now.next ≤ length task.now.trains.items }
+pub(crate) fn assign_next(bounded: &BoundedTask, assigned: &Assigned, best: &mut Found)
+    requires next { assigned.now.next ≤ length bounded.now.task.now.trains.items }
     requires room { HasRoom assigned.now.used assigned.now.total 44640 }
-    ensures { Explores task.now (between assigned.now) best.old best.new }
+    ensures { Explores bounded.now.task.now (between assigned.now) best.old best.new }
 {
+    let task = bounded.task;
     task.is_ready();
     if assigned.next == task.train_count() {
         if best.amount < assigned.total {
@@ -110,51 +103,50 @@ pub(crate) fn assign_next(
         }
         return;
     }
-    if is_pruned_by_suffix(task, assigned, bounds, best.amount) {
+    if is_pruned_by_suffix(bounded, assigned, best.amount) {
         return;
     }
     if are_pruned_by_cap(
-        task,
+        bounded,
         assigned.next,
         assigned.kind,
         assigned.cap,
         assigned.total,
-        bounds,
         best.amount,
     ) {
         return;
     }
     let reach = reach(task, assigned);
-    if is_pruned_by_reach(task, assigned, &reach, bounds, best.amount) {
+    if is_pruned_by_reach(bounded, assigned, &reach, best.amount) {
         return;
     }
     let canonical = canonical(task, assigned, &reach.ahead);
     if best.dominates(&canonical) {
         return;
     }
-    begin_runs(task, assigned, bounds, best);
+    begin_runs(bounded, assigned, best);
     let before = best.amount;
     let passed = assigned.passed();
-    assign_next(task, &passed, bounds, best);
+    assign_next(bounded, &passed, best);
     best.trace(before, Mark::Pass);
     best.keep(&canonical);
 }
 
 /// Tries all runs of the next train, from each token of the company.
 #[cycle(explore)]
-fn begin_runs(task: &ReadyTask, assigned: &Assigned, bounds: &[Amount], best: &mut Found)
-    requires bounds { AreBounds task.now bounds.now }
-    requires next { assigned.now.next < length task.now.trains.items }
+fn begin_runs(bounded: &BoundedTask, assigned: &Assigned, best: &mut Found)
+    requires next { assigned.now.next < length bounded.now.task.now.trains.items }
     requires room { HasRoom assigned.now.used assigned.now.total 44640 }
-    ensures { Tries task.now (between assigned.now) (IsBegin Any) best.old best.new }
+    ensures { Tries bounded.now.task.now (between assigned.now) (IsBegin Any) best.old best.new }
 {
+    let task = bounded.task;
     task.is_ready();
     let mut before = Spots::none();
     for place in 0..task.home_count() {
         let stop = task.home(place);
         let node = task.node(stop);
         if node.stop {
-            begin_at(task, assigned, stop, &before, bounds, best);
+            begin_at(bounded, assigned, stop, &before, best);
         }
         mark_own(task, stop, &mut before);
     }
@@ -162,60 +154,48 @@ fn begin_runs(task: &ReadyTask, assigned: &Assigned, bounds: &[Amount], best: &m
 
 /// Returns whether a run of the last train that has begun at a token can earn no more than what has
 /// been found. It may be false even if that holds, and is false for an earlier train.
-fn is_in_vain(
-    task: &ReadyTask,
-    assigned: &Assigned,
-    run: &PartialRun,
-    bounds: &[Amount],
-    best: Amount,
-) -> bool
-    requires bounds { AreBounds task.now bounds.now }
-    requires next { assigned.now.next < length task.now.trains.items }
-    requires head { run.now.head < map_spots }
-    requires at_stop { stop_in (node_at task.now run.now.head) ≡ true }
-    requires home { run.now.home < map_spots }
-    requires begun { stop_in (node_at task.now run.now.home) ≡ true }
-    requires room { assigned.now.total + run.now.value ≤ revenue_most }
-    ensures { IsTrue result → IsInVain task.now assigned.now run.now best }
+fn is_in_vain(bounded: &BoundedTask, assigned: &Assigned, run: &PartialRun, best: Amount) -> bool
+    requires { MayLookAhead bounded.now.task.now assigned.now run.now }
+    ensures { IsTrue result → IsInVain bounded.now.task.now assigned.now run.now best }
 {
+    let task = bounded.task;
     if assigned.next + 1 != task.train_count() || task.node(run.head).ends {
         return false;
     }
-    ways_on(task, assigned, run, bounds, best).all_in_vain
+    ways_on(bounded, assigned, run, best).all_in_vain
 }
 
 /// Tries all runs of the next train that begin at a token of the company. The tokens before that
 /// one are given.
 #[cycle(explore)]
 fn begin_at(
-    task: &ReadyTask,
+    bounded: &BoundedTask,
     assigned: &Assigned,
     stop: usize,
     before: &Spots,
-    bounds: &[Amount],
     best: &mut Found,
 )
-    requires bounds { AreBounds task.now bounds.now }
-    requires next { assigned.now.next < length task.now.trains.items }
+    requires next { assigned.now.next < length bounded.now.task.now.trains.items }
     requires room { HasRoom assigned.now.used assigned.now.total 44640 }
-    requires stop { stop < map_spots }
-    requires begins { stop_in (node_at task.now stop) ≡ true }
-    requires token { own_in (node_at task.now stop) ≡ true }
-    requires before { before.now ≡ own_before task.now stop }
-    ensures { Tries task.now (between assigned.now) (IsBeginAt stop Any) best.old best.new }
+    requires begins { IsStop bounded.now.task.now stop }
+    requires token { own_in (node_at bounded.now.task.now stop) ≡ true }
+    requires before { before.now ≡ own_before bounded.now.task.now stop }
+    ensures { let from = between assigned.now in
+        Tries bounded.now.task.now from (IsBeginAt stop Any) best.old best.new }
 {
+    let task = bounded.task;
     task.is_ready();
     assigned.marks_all_borders();
     let from = task.departures(stop);
     let begun = begun(task, assigned, stop, 0, before);
-    if is_in_vain(task, assigned, &begun, bounds, best.amount) {
+    if is_in_vain(bounded, assigned, &begun, best.amount) {
         return;
     }
     for index in 0..from.legs.len() {
         let leg = &from.legs[index];
         let run = begun.by(leg.first);
         let before = best.amount;
-        take(task, assigned, &run, &leg.segment, bounds, best);
+        take(bounded, assigned, &run, &leg.segment, best);
         best.trace_steps(before, &leg.steps);
     }
 }
@@ -225,54 +205,47 @@ fn begin_at(
 #[cycle(explore)]
 #[inline(always)]
 fn take(
-    task: &ReadyTask,
+    bounded: &BoundedTask,
     assigned: &Assigned,
     run: &PartialRun,
     segment: &Segment,
-    bounds: &[Amount],
     best: &mut Found,
 )
-    requires bounds { AreBounds task.now bounds.now }
-    requires next { assigned.now.next < length task.now.trains.items }
-    requires segment { SegmentFits task.now false segment.now }
-    requires to { stop_in (node_at task.now segment.now.to) ≡ true }
-    requires home { run.now.home < map_spots }
-    requires begun { stop_in (node_at task.now run.now.home) ≡ true }
+    requires next { assigned.now.next < length bounded.now.task.now.trains.items }
+    requires segment { SegmentFits bounded.now.task.now false segment.now }
+    requires to { stop_in (node_at bounded.now.task.now segment.now.to) ≡ true }
+    requires begun { IsStop bounded.now.task.now run.now.home }
     requires room { HasRoom assigned.now.used (assigned.now.total + run.now.value) revenue_most }
-    ensures { Takes task.now assigned.now run.now segment.now best.old best.new }
+    ensures { Takes bounded.now.task.now assigned.now run.now segment.now best.old best.new }
 {
+    let task = bounded.task;
     task.is_ready();
     if can_take(task, run, assigned, segment) {
         let next = along(task, run, segment);
         let using = assigned.using(segment);
-        extend(task, &using, &next, bounds, best);
+        extend(bounded, &using, &next, best);
     }
 }
 
 /// Tries all ways to the end from a run that has begun. If it is the first one, others are left
 /// after it, and many stops lie ahead, it looks up whether they have been tried before.
 #[cycle(explore)]
-fn extend(
-    task: &ReadyTask,
-    assigned: &Assigned,
-    run: &PartialRun,
-    bounds: &[Amount],
-    best: &mut Found,
-)
-    requires { MayExtend task.now bounds.now assigned.now run.now }
-    ensures { Explores task.now (partial assigned.now run.now) best.old best.new }
+fn extend(bounded: &BoundedTask, assigned: &Assigned, run: &PartialRun, best: &mut Found)
+    requires { MayExtend bounded.now.task.now assigned.now run.now }
+    ensures { Explores bounded.now.task.now (partial assigned.now run.now) best.old best.new }
 {
+    let task = bounded.task;
     if earns_too_much(task, assigned, run) {
         return;
     }
-    let ways = ways_on(task, assigned, run, bounds, best.amount);
+    let ways = ways_on(bounded, assigned, run, best.amount);
     if ways.all_in_vain {
         return;
     }
     if ways.stops < MANY || assigned.kind != 0 || assigned.next + 1 == task.train_count() {
-        extend_without_memo(task, assigned, run, &ways, bounds, best);
+        extend_without_memo(bounded, assigned, run, &ways, best);
     } else {
-        extend_with_memo(task, assigned, run, &ways, bounds, best);
+        extend_with_memo(bounded, assigned, run, &ways, best);
     }
 }
 
@@ -281,24 +254,24 @@ fn extend(
 #[cycle(explore)]
 #[inline(never)]
 fn extend_with_memo(
-    task: &ReadyTask,
+    bounded: &BoundedTask,
     assigned: &Assigned,
     run: &PartialRun,
     ways: &WaysOn,
-    bounds: &[Amount],
     best: &mut Found,
 )
-    requires may { MayExtend task.now bounds.now assigned.now run.now }
-    requires ways { AreWaysOn task.now assigned.now run.now best.old.amount ways.now }
-    ensures { Explores task.now (partial assigned.now run.now) best.old best.new }
+    requires may { MayExtend bounded.now.task.now assigned.now run.now }
+    requires ways { AreWaysOn bounded.now.task.now assigned.now run.now best.old.amount ways.now }
+    ensures { Explores bounded.now.task.now (partial assigned.now run.now) best.old best.new }
 {
+    let task = bounded.task;
     task.is_ready();
     assigned.marks_all_borders();
     let canonical = canonical_begun(task, assigned, run);
     if best.dominates(&canonical) {
         return;
     }
-    extend_without_memo(task, assigned, run, ways, bounds, best);
+    extend_without_memo(bounded, assigned, run, ways, best);
     best.keep(&canonical);
 }
 
@@ -307,23 +280,22 @@ fn extend_with_memo(
 #[cycle(explore)]
 #[inline(always)]
 fn extend_without_memo(
-    task: &ReadyTask,
+    bounded: &BoundedTask,
     assigned: &Assigned,
     run: &PartialRun,
     ways: &WaysOn,
-    bounds: &[Amount],
     best: &mut Found,
 )
-    requires may { MayExtend task.now bounds.now assigned.now run.now }
-    requires ways { AreWaysOn task.now assigned.now run.now best.old.amount ways.now }
-    ensures { Explores task.now (partial assigned.now run.now) best.old best.new }
+    requires may { MayExtend bounded.now.task.now assigned.now run.now }
+    requires ways { AreWaysOn bounded.now.task.now assigned.now run.now best.old.amount ways.now }
+    ensures { Explores bounded.now.task.now (partial assigned.now run.now) best.old best.new }
 {
-    go_on(task, assigned, run, ways, bounds, best);
-    turn_back(task, assigned, run, ways, bounds, best);
-    if may_finish(task, assigned, run) {
+    go_on(bounded, assigned, run, ways, best);
+    turn_back(bounded, assigned, run, ways, best);
+    if may_finish(bounded.task, assigned, run) {
         let before = best.amount;
         let with_run_finished = assigned.with_run_finished(run);
-        assign_next(task, &with_run_finished, bounds, best);
+        assign_next(bounded, &with_run_finished, best);
         best.trace(before, Mark::Finish);
     }
 }
@@ -331,17 +303,18 @@ fn extend_without_memo(
 /// Tries all ways on from where a run is, except to stops where that is in vain.
 #[cycle(explore)]
 fn go_on(
-    task: &ReadyTask,
+    bounded: &BoundedTask,
     assigned: &Assigned,
     run: &PartialRun,
     ways: &WaysOn,
-    bounds: &[Amount],
     best: &mut Found,
 )
-    requires may { MayExtend task.now bounds.now assigned.now run.now }
-    requires ways { AreWaysOn task.now assigned.now run.now best.old.amount ways.now }
-    ensures { Tries task.now (partial assigned.now run.now) (IsGo Any) best.old best.new }
+    requires may { MayExtend bounded.now.task.now assigned.now run.now }
+    requires ways { AreWaysOn bounded.now.task.now assigned.now run.now best.old.amount ways.now }
+    ensures { let from = partial assigned.now run.now in
+        Tries bounded.now.task.now from (IsGo Any) best.old best.new }
 {
+    let task = bounded.task;
     task.is_ready();
     let head = task.node(run.head);
     if head.ends {
@@ -353,7 +326,7 @@ fn go_on(
         let leg = &from.legs[index];
         if !ways.vain.has_at(&leg.segment.to) {
             let before = best.amount;
-            take(task, assigned, run, &leg.segment, bounds, best);
+            take(bounded, assigned, run, &leg.segment, best);
             best.trace_steps(before, &leg.steps);
         }
     }
@@ -363,17 +336,18 @@ fn go_on(
 /// does not turn back in vain.
 #[cycle(explore)]
 fn turn_back(
-    task: &ReadyTask,
+    bounded: &BoundedTask,
     assigned: &Assigned,
     run: &PartialRun,
     ways: &WaysOn,
-    bounds: &[Amount],
     best: &mut Found,
 )
-    requires may { MayExtend task.now bounds.now assigned.now run.now }
-    requires ways { AreWaysOn task.now assigned.now run.now best.old.amount ways.now }
-    ensures { Tries task.now (partial assigned.now run.now) (IsTurn Any) best.old best.new }
+    requires may { MayExtend bounded.now.task.now assigned.now run.now }
+    requires ways { AreWaysOn bounded.now.task.now assigned.now run.now best.old.amount ways.now }
+    ensures { let from = partial assigned.now run.now in
+        Tries bounded.now.task.now from (IsTurn Any) best.old best.new }
 {
+    let task = bounded.task;
     task.is_ready();
     if run.turned || task.node(run.home).ends {
         return;
@@ -388,7 +362,7 @@ fn turn_back(
         let leg = &from.legs[index];
         if run.first <= leg.first {
             let before = best.amount;
-            take(task, assigned, &back, &leg.segment, bounds, best);
+            take(bounded, assigned, &back, &leg.segment, best);
             best.trace_steps(before, &leg.steps);
             best.trace(before, Mark::Turn);
         }

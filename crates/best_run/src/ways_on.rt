@@ -1,17 +1,15 @@
 //! The ways on from a run that are worth trying: to which stops it may go on, and whether it may
 //! turn back.
-ghost use Rattle.std.specs.Prelude.{◌≡◌, ℕ, ◌+◌, ◌<◌, ◌≤◌, IsTrue, List, false, length, replicate, true};
+ghost use Rattle.std.specs.Prelude.{◌≡◌, ℕ, ◌<◌, ◌≤◌, IsTrue, List, false, replicate, true};
 ghost use Rattle.search_task.specs.declared.task.Node.{Node};
-ghost use Rattle.best_run.specs.Ahead.{EndsAtMost, IsClosed, IsWorth, goes_back, goes_on};
+ghost use Rattle.best_run.specs.Ahead.{EndsAtMost, IsWorth, goes_back, goes_on};
 ghost use Rattle.best_run.specs.EndStops.{EarnsAhead, HasWorth};
-ghost use Rattle.best_run.specs.Room.{revenue_most};
-ghost use Rattle.best_run.specs.Suffix.{AreBounds};
-ghost use Rattle.best_run.specs.WaysOn.{AreFound, AreWaysOn, IsLow, IsWayAdded, TurnsInVain};
-ghost use Rattle.legal_runs.specs.Legal.{map_borders};
+ghost use Rattle.best_run.specs.Extend.{MayLookAhead};
+ghost use Rattle.best_run.specs.WaysOn.{AreFound, AreWaysOn, IsLow, IsWayAdded, KnowsHome, TurnsInVain};
 ghost use Rattle.reach.specs.Search.{map_spots};
 ghost use Rattle.search_task.specs.Legs.{IsStop};
-ghost use Rattle.search_task.specs.Spots.{node_at, stop_in};
 
+use crate::bounded_task::BoundedTask;
 use crate::lookahead::{Outlook, leads_on, look_at, look_back, nothing_ahead};
 use crate::search::are_pruned_by_cap;
 use crate::state::{Assigned, PartialRun, can_take};
@@ -100,23 +98,21 @@ fn most_ahead(task: &ReadyTask, assigned: &Assigned, run: &PartialRun, outlook: 
 /// Returns whether a run and the trains after it can earn no more than what has been found, by what
 /// lies ahead and by what those trains earn by themselves. It may be false even if that holds.
 fn earns_too_little(
-    task: &ReadyTask,
+    bounded: &BoundedTask,
     assigned: &Assigned,
     run: &PartialRun,
     outlook: &Outlook,
-    bounds: &[Amount],
     best: Amount,
 ) -> bool
-    requires head { run.now.head < map_spots }
-    requires home { run.now.home < map_spots }
-    requires bounds { AreBounds task.now bounds.now }
-    requires next { assigned.now.next < length task.now.trains.items }
-    requires known { HasWorth task.now assigned.now run.now outlook.now.ahead outlook.now.worth }
-    requires room { assigned.now.total + run.now.value ≤ revenue_most }
-    ensures { IsTrue result → IsLow task.now assigned.now run.now outlook.now.ahead best }
+    requires may { MayLookAhead bounded.now.task.now assigned.now run.now }
+    requires known { let task = bounded.now.task.now in
+        HasWorth task assigned.now run.now outlook.now.ahead outlook.now.worth }
+    ensures { let task = bounded.now.task.now in
+        IsTrue result → IsLow task assigned.now run.now outlook.now.ahead best }
 {
+    let task = bounded.task;
     let later = task.train_count() - assigned.next - 1;
-    if run.left > SPOTS || later >= bounds.len() {
+    if run.left > SPOTS || later >= bounded.bounds.len() {
         return false;
     }
     let most = run.value + most_ahead(task, assigned, run, outlook);
@@ -124,10 +120,10 @@ fn earns_too_little(
     if total > best {
         return false;
     }
-    if bounds[later] <= best - total {
+    if bounded.bounds[later] <= best - total {
         return true;
     }
-    are_pruned_by_cap(task, assigned.next + 1, run.most, most, total, bounds, best)
+    are_pruned_by_cap(bounded, assigned.next + 1, run.most, most, total, best)
 }
 
 /// Returns whether a run earns more than it may after another one of a train of its kind.
@@ -142,15 +138,11 @@ pub(crate) fn earns_too_much(task: &ReadyTask, assigned: &Assigned, run: &Partia
 
 /// Finds what lies ahead of a run once it turns back, for which nothing has been found yet.
 fn look_home(task: &ReadyTask, assigned: &Assigned, run: &PartialRun, home: &mut Outlook)
-    requires home { run.now.home < map_spots }
-    requires begun { stop_in (node_at task.now run.now.home) ≡ true }
+    requires begun { IsStop task.now run.now.home }
     requires nothing { home.old.ahead ≡ replicate map_spots false }
     requires known { (nodes : List Node)
         → IsWorth nodes (replicate map_spots false) home.old.worth }
-    ensures closed { IsClosed task.now assigned.now run.now home.new.ahead }
-    ensures known { HasWorth task.now assigned.now run.now home.new.ahead home.new.worth }
-    ensures borders { length assigned.now.used ≡ map_borders }
-    ensures spots { length run.now.visited ≡ map_spots }
+    ensures { KnowsHome task.now assigned.now run.now home.new }
 {
     assigned.marks_all_borders();
     run.visited.is_whole();
@@ -162,54 +154,39 @@ fn look_home(task: &ReadyTask, assigned: &Assigned, run: &PartialRun, home: &mut
 /// Returns whether a run that turns back can earn no more than what has been found, by what lies
 /// ahead then. It may be false even if that holds.
 fn turns_in_vain(
-    task: &ReadyTask,
+    bounded: &BoundedTask,
     assigned: &Assigned,
     run: &PartialRun,
     home: &Outlook,
-    bounds: &[Amount],
     best: Amount,
 ) -> bool
-    requires begun { IsStop task.now run.now.home }
-    requires bounds { AreBounds task.now bounds.now }
-    requires next { assigned.now.next < length task.now.trains.items }
-    requires closed { IsClosed task.now assigned.now run.now home.now.ahead }
-    requires known { HasWorth task.now assigned.now run.now home.now.ahead home.now.worth }
-    requires borders { length assigned.now.used ≡ map_borders }
-    requires spots { length run.now.visited ≡ map_spots }
-    requires room { assigned.now.total + run.now.value ≤ revenue_most }
-    ensures { IsTrue result → TurnsInVain task.now assigned.now run.now best }
+    requires may { MayLookAhead bounded.now.task.now assigned.now run.now }
+    requires home { KnowsHome bounded.now.task.now assigned.now run.now home.now }
+    ensures { IsTrue result → TurnsInVain bounded.now.task.now assigned.now run.now best }
 {
-    task.is_ready();
+    bounded.task.is_ready();
     if run.turned {
         return true;
     }
     let back = run.turned_back();
-    earns_too_little(task, assigned, &back, home, bounds, best)
+    earns_too_little(bounded, assigned, &back, home, best)
 }
 
 /// Returns the ways on to the stops that lie ahead once the run turns back. The others are not yet
 /// looked at.
 fn ways_home(
-    task: &ReadyTask,
+    bounded: &BoundedTask,
     assigned: &Assigned,
     run: &PartialRun,
     home: &Outlook,
-    bounds: &[Amount],
     best: Amount,
 ) -> WaysOn
-    requires at_stop { IsStop task.now run.now.head }
-    requires begun { IsStop task.now run.now.home }
-    requires bounds { AreBounds task.now bounds.now }
-    requires next { assigned.now.next < length task.now.trains.items }
-    requires closed { IsClosed task.now assigned.now run.now home.now.ahead }
-    requires known { HasWorth task.now assigned.now run.now home.now.ahead home.now.worth }
-    requires borders { length assigned.now.used ≡ map_borders }
-    requires spots { length run.now.visited ≡ map_spots }
-    requires room { assigned.now.total + run.now.value ≤ revenue_most }
-    ensures { AreFound task.now assigned.now run.now best home.now.ahead 0 result }
+    requires may { MayLookAhead bounded.now.task.now assigned.now run.now }
+    requires home { KnowsHome bounded.now.task.now assigned.now run.now home.now }
+    ensures { AreFound bounded.now.task.now assigned.now run.now best home.now.ahead 0 result }
 {
-    task.is_ready();
-    let turns_in_vain = turns_in_vain(task, assigned, run, home, bounds, best);
+    bounded.task.is_ready();
+    let turns_in_vain = turns_in_vain(bounded, assigned, run, home, best);
     let mut ways = WaysOn {
         ahead: home.ahead.copy(),
         stops: home.stops,
@@ -217,40 +194,33 @@ fn ways_home(
         turns_in_vain,
         all_in_vain: false,
     };
-    if earns_too_little(task, assigned, run, home, bounds, best) {
+    if earns_too_little(bounded, assigned, run, home, best) {
         ways.vain = home.ahead.copy();
         ways.all_in_vain = turns_in_vain;
     }
     ways
 }
 
-/// Looks at the ways on by the legs from where a run is, given what lies ahead once it turns back,
-/// and the ways there.
+/// Returns the ways on from a run by the legs from where it is, with those home. What lies ahead
+/// once it turns back is given.
 fn look_on(
-    task: &ReadyTask,
+    bounded: &BoundedTask,
     assigned: &Assigned,
     run: &PartialRun,
     home: &Outlook,
-    bounds: &[Amount],
     best: Amount,
-    ways: &mut WaysOn,
-)
-    requires at_stop { IsStop task.now run.now.head }
-    requires begun { IsStop task.now run.now.home }
-    requires bounds { AreBounds task.now bounds.now }
-    requires next { assigned.now.next < length task.now.trains.items }
-    requires closed { IsClosed task.now assigned.now run.now home.now.ahead }
-    requires known { HasWorth task.now assigned.now run.now home.now.ahead home.now.worth }
-    requires borders { length assigned.now.used ≡ map_borders }
-    requires spots { length run.now.visited ≡ map_spots }
-    requires room { assigned.now.total + run.now.value ≤ revenue_most }
-    requires found { AreFound task.now assigned.now run.now best home.now.ahead 0 ways.old }
-    ensures ways { AreWaysOn task.now assigned.now run.now best ways.new }
-    ensures most { ways.new.all_in_vain ≡ true → EndsAtMost task.now assigned.now run.now best }
+) -> WaysOn
+    requires may { MayLookAhead bounded.now.task.now assigned.now run.now }
+    requires home { KnowsHome bounded.now.task.now assigned.now run.now home.now }
+    ensures ways { AreWaysOn bounded.now.task.now assigned.now run.now best result }
+    ensures most { result.all_in_vain ≡ true
+        → EndsAtMost bounded.now.task.now assigned.now run.now best }
 {
+    let task = bounded.task;
     task.is_ready();
+    let mut ways = ways_home(bounded, assigned, run, home, best);
     if task.node(run.head).ends {
-        return;
+        return ways;
     }
     let from = task.departures(run.head);
     let legs = from.legs.as_slice();
@@ -259,11 +229,12 @@ fn look_on(
         if leads_on(task, assigned, run, &leg.segment, &ways.ahead) {
             let mut way = home.copy();
             look_at(task, assigned, run, leg.segment.to.number(), &mut way);
-            let in_vain = earns_too_little(task, assigned, run, &way, bounds, best);
+            let in_vain = earns_too_little(bounded, assigned, run, &way, best);
             way.stops = way.stops.wrapping_sub(home.stops);
             ways.add(&way, in_vain);
         }
     }
+    ways
 }
 
 /// Returns how many legs from a stop a run may take, of those that begin by a segment at this place
@@ -310,28 +281,21 @@ fn has_one_way(task: &ReadyTask, assigned: &Assigned, run: &PartialRun) -> bool
 /// Returns the ways on from a run. Ways that are not known to be in vain may be so too. For a run
 /// with one way on nothing is known.
 pub(crate) fn ways_on(
-    task: &ReadyTask,
+    bounded: &BoundedTask,
     assigned: &Assigned,
     run: &PartialRun,
-    bounds: &[Amount],
     best: Amount,
 ) -> WaysOn
-    requires bounds { AreBounds task.now bounds.now }
-    requires next { assigned.now.next < length task.now.trains.items }
-    requires head { run.now.head < map_spots }
-    requires at_stop { stop_in (node_at task.now run.now.head) ≡ true }
-    requires home { run.now.home < map_spots }
-    requires begun { stop_in (node_at task.now run.now.home) ≡ true }
-    requires room { assigned.now.total + run.now.value ≤ revenue_most }
-    ensures ways { AreWaysOn task.now assigned.now run.now best result }
-    ensures most { result.all_in_vain ≡ true → EndsAtMost task.now assigned.now run.now best }
+    requires { MayLookAhead bounded.now.task.now assigned.now run.now }
+    ensures ways { AreWaysOn bounded.now.task.now assigned.now run.now best result }
+    ensures most { result.all_in_vain ≡ true
+        → EndsAtMost bounded.now.task.now assigned.now run.now best }
 {
+    let task = bounded.task;
     if has_one_way(task, assigned, run) {
         return WaysOn::unknown();
     }
     let mut home = nothing_ahead(task, run.left);
     look_home(task, assigned, run, &mut home);
-    let mut ways = ways_home(task, assigned, run, &home, bounds, best);
-    look_on(task, assigned, run, &home, bounds, best, &mut ways);
-    ways
+    look_on(bounded, assigned, run, &home, best)
 }

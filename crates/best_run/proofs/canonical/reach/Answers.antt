@@ -1,6 +1,5 @@
 -- Each token adds what is in reach of it.
-use Rattle.std.proofs.Common.{◌≡◌, ◌+◌, ◌≤◌, Some, length, slice_get, refl, sym, ap, subst, ◌∙◌, arith}
-use Rattle.std.proofs.lemmas.Option.{slice_get_read}
+use Rattle.std.proofs.Common.{◌≡◌, ◌+◌, ◌≤◌, Some, slice_get, sym, ap, subst, ◌∙◌, arith}
 use Rattle.best_run.specs.declared.canonical.InReach.{InReach}
 use Rattle.best_run.specs.Canonical.{AreCappedBelow}
 use Rattle.search_task.specs.Spots.{own_in}

@@ -1,6 +1,5 @@
 -- The legs from each listed stop from which a run may set out are opened.
-use Rattle.std.proofs.Common.{◌≡◌, ◌+◌, Bool, Some, List, length, slice_get, refl, sym, subst, ◌∙◌, arith}
-use Rattle.std.proofs.lemmas.Option.{slice_get_read}
+use Rattle.std.proofs.Common.{◌≡◌, ◌+◌, Bool, Some, List, slice_get, sym, subst, ◌∙◌, arith}
 use Rattle.best_run.specs.Canonical.{IsShutBelow}
 use Rattle.search_task.specs.Legs.{IsStop}
 use Rattle.best_run.proofs.Likened.{shut_all, shut_more, shut_none, shut_same}

@@ -10,10 +10,10 @@ returns c holds =
     record {
       some = omega arith;
       equal = c.equals-equal.result;
-      bound = slice_index_or c.args.bounds.now left 0;
+      bound = slice_index_or c.args.bounded.now.bounds.now left 0;
       are_equal = c.equals-equal.ensures.equal;
-      rest = c.requires.bounds left (slice_index_or c.args.bounds.now left 0) (c.args.next + c.equals-equal.result)
-          (slice_get-get_or c.args.bounds.now left 0 c.if-left-bounds.false)
+      rest = c.args.bounded.now.are_bounds left (slice_index_or c.args.bounded.now.bounds.now left 0) (c.args.next + c.equals-equal.result)
+          (slice_get-get_or c.args.bounded.now.bounds.now left 0 c.if-left-bounds.false)
           (omega (arith, c.train_count.ensures, c.equals-equal.ensures.within));
       short = omega (arith, leb-true _ _ holds);
     }

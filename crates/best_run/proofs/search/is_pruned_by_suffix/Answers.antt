@@ -7,9 +7,9 @@ use Rattle.best_run.proofs.search.is_pruned_by_suffix.Goals.{then-left-bounds, e
 
 pub returns-then-assigned-best-clause-short : goal.returns-then-assigned-best-clause-short
 returns-then-assigned-best-clause-short c holds =
-    let bounds = c.args.bounds.now in
+    let bounds = c.args.bounded.now.bounds.now in
     let left = c.train_count.result - c.args.assigned.now.next in
-    let same : left ≡ length c.args.task.now.trains.items - c.args.assigned.now.next = omega (arith, c.train_count.ensures) in
+    let same : left ≡ length c.args.bounded.now.task.now.trains.items - c.args.assigned.now.next = omega (arith, c.train_count.ensures) in
     elim c.if-left-bounds.branch [
       | then-left-bounds w ↦ (
         slice_index_or bounds left 0,

@@ -1,7 +1,6 @@
 -- Each leg leads to a stop.
-use Rattle.std.proofs.Common.{◌≡◌, Some, List, length, slice_get, refl, arith}
+use Rattle.std.proofs.Common.{◌≡◌, Some, length, slice_get, refl, arith}
 use Rattle.std.proofs.lemmas.Option.{slice_get_read}
-use Rattle.search_task.specs.declared.task.Leg.{Leg}
 use Rattle.search_task.specs.Legs.{AreLegsOf}
 use Rattle.best_run.proofs.Along.{leg_fits}
 use Rattle.search_task.proofs.Described.{among_place}

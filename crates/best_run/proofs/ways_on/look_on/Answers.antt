@@ -18,85 +18,85 @@ use Rattle.best_run.proofs.ways_on.look_on.Goals.{then-leads_on, else-leads_on}
 
 pub returns-then-node-clause-most : goal.returns-then-node-clause-most
 returns-then-node-clause-most c =
-    let task = c.args.task.now in
+    let task = c.args.bounded.now.task.now in
     let run = c.args.run.now in
     let node = c.node.ensures in
-    found_all task c.is_ready.ensures.fit c.is_ready.ensures.ready c.args.assigned.now run c.args.best c.requires.at_stop
-    c.requires.begun c.requires.borders c.requires.spots c.args.home.now.ahead c.args.ways.now 0
+    found_all task c.is_ready.ensures.fit c.is_ready.ensures.ready c.args.assigned.now run c.args.best c.requires.may.at_stop
+    c.requires.may.begun c.requires.home.borders c.requires.home.spots c.args.home.now.ahead c.ways_home-ways.result 0
     (λ passing. absurd (not_both (ends_in (node_at task run.head)) (ap ends_in node ∙ c.if-node.true) passing))
-    c.requires.found
+    c.ways_home-ways.ensures
 
 pub leads_on-requires-clause-to : goal.leads_on-requires-clause-to
 leads_on-requires-clause-to c =
-    let task = c.args.task.now in
+    let task = c.args.bounded.now.task.now in
     let run = c.args.run.now in
     let from = c.departures-from.result.now in
     let legs = from.legs.items in
     let leg = c.index-legs-index.result in
     let whole = c.as_slice-legs.ensures.value in
     let read = c.index-legs-index.is ∙ ap (λ (ws : List Leg). get_or ws c.loop-index.index leg) whole in
-    let are : AreLegsOf task run.head legs = c.is_ready.ensures.ready.each run.head from c.departures-from.ensures c.requires.at_stop.1 in
+    let are : AreLegsOf task run.head legs = c.is_ready.ensures.ready.each run.head from c.departures-from.ensures c.requires.may.at_stop.1 in
     let at : slice_get legs c.loop-index.index ≡ Some leg =
     slice_get_read legs (length legs) c.loop-index.index leg refl
     (omega (arith, ap (λ (ws : List Leg). length ws) whole)) read in
-    let fits = leg_fits task c.is_ready.ensures.fit run.head legs are c.requires.at_stop.1 leg
+    let fits = leg_fits task c.is_ready.ensures.fit run.head legs are c.requires.may.at_stop.1 leg
     (among_place legs c.loop-index.index leg at) in
     fits.0.to
 
 pub leads_on-requires-clause-stop : goal.leads_on-requires-clause-stop
 leads_on-requires-clause-stop c =
-    let task = c.args.task.now in
+    let task = c.args.bounded.now.task.now in
     let run = c.args.run.now in
     let from = c.departures-from.result.now in
     let legs = from.legs.items in
     let leg = c.index-legs-index.result in
     let whole = c.as_slice-legs.ensures.value in
     let read = c.index-legs-index.is ∙ ap (λ (ws : List Leg). get_or ws c.loop-index.index leg) whole in
-    let are : AreLegsOf task run.head legs = c.is_ready.ensures.ready.each run.head from c.departures-from.ensures c.requires.at_stop.1 in
+    let are : AreLegsOf task run.head legs = c.is_ready.ensures.ready.each run.head from c.departures-from.ensures c.requires.may.at_stop.1 in
     let at : slice_get legs c.loop-index.index ≡ Some leg =
     slice_get_read legs (length legs) c.loop-index.index leg refl
     (omega (arith, ap (λ (ws : List Leg). length ws) whole)) read in
-    let fits = leg_fits task c.is_ready.ensures.fit run.head legs are c.requires.at_stop.1 leg
+    let fits = leg_fits task c.is_ready.ensures.fit run.head legs are c.requires.may.at_stop.1 leg
     (among_place legs c.loop-index.index leg at) in
     fits.1
 
 pub look_at-requires-clause-spot : goal.look_at-requires-clause-spot
 look_at-requires-clause-spot c =
-    let task = c.args.task.now in
+    let task = c.args.bounded.now.task.now in
     let run = c.args.run.now in
     let from = c.departures-from.result.now in
     let legs = from.legs.items in
     let leg = c.index-legs-index.result in
     let whole = c.as_slice-legs.ensures.value in
     let read = c.index-legs-index.is ∙ ap (λ (ws : List Leg). get_or ws c.loop-index.index leg) whole in
-    let are : AreLegsOf task run.head legs = c.is_ready.ensures.ready.each run.head from c.departures-from.ensures c.requires.at_stop.1 in
+    let are : AreLegsOf task run.head legs = c.is_ready.ensures.ready.each run.head from c.departures-from.ensures c.requires.may.at_stop.1 in
     let at : slice_get legs c.loop-index.index ≡ Some leg =
     slice_get_read legs (length legs) c.loop-index.index leg refl
     (omega (arith, ap (λ (ws : List Leg). length ws) whole)) read in
-    let fits = leg_fits task c.is_ready.ensures.fit run.head legs are c.requires.at_stop.1 leg
+    let fits = leg_fits task c.is_ready.ensures.fit run.head legs are c.requires.may.at_stop.1 leg
     (among_place legs c.loop-index.index leg at) in
     subst (λ (to : ℕ). to < 744) (sym c.number.ensures) fits.0.to
 
 pub look_at-requires-clause-stop : goal.look_at-requires-clause-stop
 look_at-requires-clause-stop c =
-    let task = c.args.task.now in
+    let task = c.args.bounded.now.task.now in
     let run = c.args.run.now in
     let from = c.departures-from.result.now in
     let legs = from.legs.items in
     let leg = c.index-legs-index.result in
     let whole = c.as_slice-legs.ensures.value in
     let read = c.index-legs-index.is ∙ ap (λ (ws : List Leg). get_or ws c.loop-index.index leg) whole in
-    let are : AreLegsOf task run.head legs = c.is_ready.ensures.ready.each run.head from c.departures-from.ensures c.requires.at_stop.1 in
+    let are : AreLegsOf task run.head legs = c.is_ready.ensures.ready.each run.head from c.departures-from.ensures c.requires.may.at_stop.1 in
     let at : slice_get legs c.loop-index.index ≡ Some leg =
     slice_get_read legs (length legs) c.loop-index.index leg refl
     (omega (arith, ap (λ (ws : List Leg). length ws) whole)) read in
-    let fits = leg_fits task c.is_ready.ensures.fit run.head legs are c.requires.at_stop.1 leg
+    let fits = leg_fits task c.is_ready.ensures.fit run.head legs are c.requires.may.at_stop.1 leg
     (among_place legs c.loop-index.index leg at) in
     subst (λ (to : ℕ). stop_in (node_at task to) ≡ true) (sym c.number.ensures) fits.1
 
 pub loop-index-preserved : goal.loop-index-preserved
 loop-index-preserved c =
-    let task = c.args.task.now in
+    let task = c.args.bounded.now.task.now in
     let assigned = c.args.assigned.now in
     let run = c.args.run.now in
     let home = c.args.home.now.ahead in
@@ -115,29 +115,29 @@ loop-index-preserved c =
     elim c.if-leads_on.branch [
       | then-leads_on w ↦
           subst Found (sym w.ways-is)
-          (found_more task c.is_ready.ensures.fit c.is_ready.ensures.ready assigned run c.args.best c.requires.at_stop c.requires.begun
-          c.requires.borders c.requires.spots home w.look_at.new.outlook.ahead c.loop-index.index leg
-          w.earns_too_little-in_vain.result c.loop-index.ways _ c.requires.closed here
+          (found_more task c.is_ready.ensures.fit c.is_ready.ensures.ready assigned run c.args.best c.requires.may.at_stop c.requires.may.begun
+          c.requires.home.borders c.requires.home.spots home w.look_at.new.outlook.ahead c.loop-index.index leg
+          w.earns_too_little-in_vain.result c.loop-index.ways _ c.requires.home.closed here
           (subst (λ (to : ℕ). WidensAt task assigned run to home w.look_at.new.outlook.ahead) w.number.ensures
           (subst (λ (o : Outlook). WidensAt task assigned run w.number.result o.ahead w.look_at.new.outlook.ahead)
           w.copy-way.ensures w.look_at.ensures.widens))
           w.earns_too_little-in_vain.ensures w.add.ensures c.loop-index.invariant)
       | else-leads_on w ↦
           subst Found (sym w.ways-is)
-          (found_skip task c.is_ready.ensures.fit c.is_ready.ensures.ready assigned run c.args.best c.requires.at_stop c.requires.begun
-          c.requires.borders c.requires.spots home c.loop-index.index leg c.loop-index.ways here
+          (found_skip task c.is_ready.ensures.fit c.is_ready.ensures.ready assigned run c.args.best c.requires.may.at_stop c.requires.may.begun
+          c.requires.home.borders c.requires.home.spots home c.loop-index.index leg c.loop-index.ways here
           (sym c.leads_on.ensures ∙ w.if-leads_on.false) c.loop-index.invariant)
     ]
 
 pub returns-clause-most : goal.returns-clause-most
 returns-clause-most c =
-    let task = c.args.task.now in
+    let task = c.args.bounded.now.task.now in
     let run = c.args.run.now in
     let from = c.departures-from.result.now in
     let there = ap legs_in
     (c.departures-from.ensures) in
-    found_all task c.is_ready.ensures.fit c.is_ready.ensures.ready c.args.assigned.now run c.args.best c.requires.at_stop
-    c.requires.begun c.requires.borders c.requires.spots c.args.home.now.ahead c.loop-index.ways c.loop-index.index
+    found_all task c.is_ready.ensures.fit c.is_ready.ensures.ready c.args.assigned.now run c.args.best c.requires.may.at_stop
+    c.requires.may.begun c.requires.home.borders c.requires.home.spots c.args.home.now.ahead c.loop-index.ways c.loop-index.index
     (λ passing. omega (
       arith,
       ap (λ (ws : List Leg). length ws) there,

@@ -11,12 +11,12 @@ returns-then-run c holds once = absurd (not_both c.args.run.now.turned c.if-run.
 
 pub earns_too_little-requires-clause-known : goal.earns_too_little-requires-clause-known
 earns_too_little-requires-clause-known c =
-    rw c.turned_back-back.ensures (worth_back c.args.task.now c.args.assigned.now c.args.run.now c.args.home.now.ahead
-    c.args.home.now.worth c.requires.known)
+    rw c.turned_back-back.ensures (worth_back c.args.bounded.now.task.now c.args.assigned.now c.args.run.now c.args.home.now.ahead
+    c.args.home.now.worth c.requires.home.known)
 
 pub returns : goal.returns
 returns c holds =
-    turns_by c.args.task.now c.is_ready.ensures.fit c.is_ready.ensures.ready c.args.assigned.now c.args.run.now c.args.best
-    c.requires.begun c.requires.borders c.requires.spots c.args.home.now.ahead c.requires.closed
-    (subst (λ (r : PartialRun). IsLow c.args.task.now c.args.assigned.now r c.args.home.now.ahead c.args.best)
+    turns_by c.args.bounded.now.task.now c.is_ready.ensures.fit c.is_ready.ensures.ready c.args.assigned.now c.args.run.now c.args.best
+    c.requires.may.begun c.requires.home.borders c.requires.home.spots c.args.home.now.ahead c.requires.home.closed
+    (subst (λ (r : PartialRun). IsLow c.args.bounded.now.task.now c.args.assigned.now r c.args.home.now.ahead c.args.best)
     c.turned_back-back.ensures (c.earns_too_little.ensures holds))

@@ -9,24 +9,24 @@ use Rattle.best_run.proofs.ways_on.ways_home.Goals as goal
 
 pub returns-then-earns_too_little : goal.returns-then-earns_too_little
 returns-then-earns_too_little c =
-    let task = c.args.task.now in
+    let task = c.args.bounded.now.task.now in
     let assigned = c.args.assigned.now in
     let run = c.args.run.now in
     let low = c.earns_too_little.ensures c.if-earns_too_little.true in
-    found_none task c.is_ready.ensures.fit c.is_ready.ensures.ready assigned run c.args.best c.requires.at_stop c.requires.begun
-    c.requires.borders c.requires.spots c.args.home.now.ahead _ c.copy.ensures
+    found_none task c.is_ready.ensures.fit c.is_ready.ensures.ready assigned run c.args.best c.requires.may.at_stop c.requires.may.begun
+    c.requires.home.borders c.requires.home.spots c.args.home.now.ahead _ c.copy.ensures
     (record {
       go = subst (λ (ms : List Bool). GoesInVain task assigned run ms c.args.best) (sym c.copy-ways.ensures)
-          (goes_by task c.is_ready.ensures.fit c.is_ready.ensures.ready assigned run c.args.best c.requires.at_stop c.requires.begun
-          c.requires.borders c.requires.spots c.args.home.now.ahead c.requires.closed low);
+          (goes_by task c.is_ready.ensures.fit c.is_ready.ensures.ready assigned run c.args.best c.requires.may.at_stop c.requires.may.begun
+          c.requires.home.borders c.requires.home.spots c.args.home.now.ahead c.requires.home.closed low);
       turn = c.turns_in_vain-turns_in_vain.ensures;
     })
     (λ all. (c.copy-ways.ensures, (all, low)))
 
 pub returns-else-earns_too_little : goal.returns-else-earns_too_little
 returns-else-earns_too_little c =
-    found_none c.args.task.now c.is_ready.ensures.fit c.is_ready.ensures.ready c.args.assigned.now c.args.run.now c.args.best
-    c.requires.at_stop c.requires.begun c.requires.borders c.requires.spots c.args.home.now.ahead _ c.copy.ensures
+    found_none c.args.bounded.now.task.now c.is_ready.ensures.fit c.is_ready.ensures.ready c.args.assigned.now c.args.run.now c.args.best
+    c.requires.may.at_stop c.requires.may.begun c.requires.home.borders c.requires.home.spots c.args.home.now.ahead _ c.copy.ensures
     (record {
       go = λ passing place leg at lies taken. absurd
           (not_both (get_or (replicate 744 false) leg.segment.to false)
