@@ -17,6 +17,7 @@ pub struct Used {
 /// In a contract it is the list of marks, one for each border.
 impl Model for Used {
     ghost use Rattle.std.specs.Prelude.{◌≡◌, Bool, List, length};
+    ghost use Rattle.legal_runs.specs.Legal.{map_borders};
 
     ghost Value = { List Bool };
 

@@ -15,6 +15,7 @@ pub struct StopMarks {
 
 impl Model for StopMarks {
     ghost use Rattle.std.specs.Prelude.{◌≡◌, Bool, List, length};
+    ghost use Rattle.reach.specs.Reached.{map_stops};
 
     ghost Value = { List Bool };
 

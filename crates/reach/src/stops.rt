@@ -27,6 +27,7 @@ impl Model for ReachedStops {
     ghost use Rattle.std.specs.Prelude.{◌≡◌, ◌≤◌, List, length, take};
     ghost use Rattle.map_tables.specs.declared.place.Stop.{Stop};
     ghost use Rattle.reach.specs.Stops.{marks_of};
+    ghost use Rattle.reach.specs.Reached.{map_stops};
 
     ghost Value = { List Stop };
 

@@ -70,6 +70,7 @@ impl Model for Waiting {
     ghost use Rattle.std.specs.Prelude.{◌≡◌, ◌≤◌, List, length, map, take};
     ghost use Rattle.reach.specs.declared.walk.Spot.{Spot};
     ghost use Rattle.reach.specs.HeldSpots.{held_spot};
+    ghost use Rattle.reach.specs.Search.{map_spots};
 
     ghost Value = { List Spot };
 

@@ -22,6 +22,7 @@ impl Model for Crossing {
     ghost Value = { Crossed };
 
     ghost use Rattle.search_task.specs.Crossed.{numbers_in};
+    ghost use Rattle.legal_runs.specs.Legal.{map_borders};
 
     ghost view = { λ crossing. record { items = numbers_in crossing.set } };
 
