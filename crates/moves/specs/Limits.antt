@@ -19,15 +19,15 @@ use Rattle.totals.specs.Shares.{shares_of}
 -- a sale that breaks no rule is of no more shares than the seat has
 abbrev pub SalesAreOfWhatIsHeld : Type 0
 SalesAreOfWhatIsHeld =
-    (seats : ℕ) (events : List Event) (seat : Seat) (company : Company) (shares : ℕ)
-    → judgement_of seats events seat None (Sell company shares) ≡ None
-    → pos shares ≤ℤ shares_of events company (OfSeat seat)
+    (game : Game) (seat : Seat) (company : Company) (shares : ℕ)
+    → judgement_of game seat None (Sell company shares) ≡ None
+    → pos shares ≤ℤ shares_of game.events company (OfSeat seat)
 
 -- a company is started at one of the six par values
 abbrev pub StartsAreAtParValues : Type 0
 StartsAreAtParValues =
-    (seats : ℕ) (events : List Event) (seat : Seat) (company : Company) (price : ℕ)
-    → judgement_of seats events seat None (Par company price) ≡ None → is_par_value price ≡ true
+    (game : Game) (seat : Seat) (company : Company) (price : ℕ)
+    → judgement_of game seat None (Par company price) ≡ None → is_par_value price ≡ true
 
 -- a company pays for a private from half of the face value to twice that
 abbrev pub PrivatesHaveTheirPrice : Type 0
