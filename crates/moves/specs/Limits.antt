@@ -2,9 +2,8 @@
 -- has, and a company is started at one of the six par values alone. A company pays for a private from
 -- half of the face value to twice that. (That no bid under the least is obeyed is
 -- `moves: LeastBidIsLeast`.)
-use Rattle.std.specs.Prelude.{◌≡◌, ◌≤◌, ℕ, ◌+◌, true, List, None, pos, ◌≤ℤ◌}
+use Rattle.std.specs.Prelude.{◌≡◌, ◌≤◌, ℕ, ◌+◌, true, None, pos, ◌≤ℤ◌}
 use Rattle.events.specs.Event.{is_par_value}
-use Rattle.events.specs.declared.event.Event.{Event}
 use Rattle.events.specs.declared.event.Shareholder.TheVariants.{Seat as OfSeat}
 use Rattle.order_grammar.specs.declared.order.Order.TheVariants.{Par, Sell}
 use Rattle.purchases.specs.Private.{private_judgement}

@@ -1,6 +1,6 @@
 -- An order that breaks no rule can be done, and still can after an event that changes nothing of
 -- what parties have and own.
-use Rattle.std.proofs.Common.{◌≡◌, ℕ, List, [], ◌∷◌, ◌++◌, Option, None, refl, sym, subst, ◌∙◌}
+use Rattle.std.proofs.Common.{◌≡◌, List, [], ◌∷◌, ◌++◌, Option, None, refl, sym, subst, ◌∙◌}
 use Rattle.certs.proofs.SaleAllowed.{sale_allowed, still_may_sell}
 use Rattle.certs.specs.Games.{with_events}
 use Rattle.events.specs.Event.{IsQuiet}

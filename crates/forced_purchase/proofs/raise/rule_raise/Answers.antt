@@ -13,9 +13,9 @@ use Rattle.forced_purchase.proofs.raise.rule_raise.Goals as goal
 
 pub sell_block-requires-clause-game : goal.sell_block-requires-clause-game
 sell_block-requires-clause-game c = record {
-      few = subst (λ (game : Game). game.seats ≤ 6) (sym c.in_ok-record_packed.ensures.ruling) c.requires.game.few;
-      sound = c.in_ok-record_packed.ensures.sound;
-    }
+  few = subst (λ (game : Game). game.seats ≤ 6) (sym c.in_ok-record_packed.ensures.ruling) c.requires.game.few;
+  sound = c.in_ok-record_packed.ensures.sound;
+}
 
 pub sell_block-requires-clause-at_table : goal.sell_block-requires-clause-at_table
 sell_block-requires-clause-at_table c = subst (λ (game : Game). c.args.by.president.0 < game.seats)
