@@ -20,7 +20,9 @@ use Rattle.history.specs.Record.{breaks, broken_recorded}
 use Rattle.market.specs.Moves.{right_of}
 use Rattle.market.specs.Token.{with_move}
 use Rattle.history.proofs.NearlySound.{broken_quiet, quiet_sound}
-use Rattle.certs.specs.Dividend.{all_paid, moved_right, paid_for, paid_out, paid_to, paid_to_seats}
+use Rattle.certs.proofs.Games.{moved_there}
+use Rattle.certs.specs.Dividend.{all_paid, paid_for, paid_out, paid_to, paid_to_seats}
+use Rattle.certs.specs.Games.{IsGame, token_moved}
 use Rattle.tables.specs.Seat.{all_seats, seat_at}
 use Rattle.tables.specs.declared.roster.Company.{Company}
 use Rattle.tables.specs.declared.seat.Seat.{Seat}
@@ -33,6 +35,11 @@ broken_sound game sound =
       | true ↦ quiet_sound game event.Broken broken_quiet sound
       | false ↦ sound
     ]
+
+-- so a game stays one that is played
+pub broken_game : (game new : Game) → new ≡ broken_recorded game → IsGame game → IsGame new
+broken_game game new recorded before =
+    subst IsGame (sym recorded) (record { few = before.few; sound = broken_sound game before.sound })
 
 -- seats have no fewer than no shares together
 held_not_under : (events : List Event) (company : Company) (seats : List Seat) → SharesAreHeld events
@@ -75,13 +82,12 @@ pool_most game company sound =
     omega (arith, ints, held_not_under game.events company (all_seats game.seats) sound.held)
 
 -- a dividend keeps a list sound, with the word that the bank is broken
-pub dividend_recorded_sound : (game paid new : Game) (company : Company) (to : Holder) (amount : ℕ)
+pub dividend_recorded_game : (game paid new : Game) (company : Company) (to : Holder) (amount : ℕ)
     → IsParty game.seats (party.Holder to) → paid ≡ with_event game (event.Dividend company to amount)
-    → new ≡ broken_recorded paid → IsSound game → IsSound new
-dividend_recorded_sound game paid new company to amount of_game is_paid is_new sound =
-    subst IsSound (sym (is_new ∙ ap broken_recorded is_paid))
-    (broken_sound (with_event game (event.Dividend company to amount))
-    (dividend_sound game company to amount of_game sound))
+    → new ≡ broken_recorded paid → IsGame game → IsGame new
+dividend_recorded_game game paid new company to amount of_game is_paid is_new before =
+    broken_game (with_event game (event.Dividend company to amount)) new (is_new ∙ ap broken_recorded is_paid)
+    (record { few = before.few; sound = dividend_sound game company to amount of_game before.sound })
 
 -- a table keeps its seats
 pub paid_seats : (game : Game) (company : Company) (to : Holder) (amount : ℕ)
@@ -118,7 +124,4 @@ all_are_paid company revenue old paid new i seats same over leads recorded =
 pub paid_out_steps : (game paid new : Game) (company : Company) (revenue : ℕ) → paid ≡ all_paid company revenue game
     → new.seats ≡ paid.seats → new.events ≡ with_move right_of paid.events company → new ≡ paid_out game company revenue
 paid_out_steps game paid new company revenue is_paid seats events =
-    let made : ℕ → List Event → Game = λ seats events. record { seats = seats; events = events } in
-    ap (λ (n : ℕ). made n new.events) seats
-    ∙ ap (made paid.seats) events
-    ∙ ap (λ (game : Game). moved_right game company) is_paid
+    moved_there right_of paid new company seats events ∙ ap (λ (game : Game). token_moved right_of game company) is_paid

@@ -1,3 +1,4 @@
+pub mod Games
 mod RowLemmas
 mod Moves
 mod Transfers

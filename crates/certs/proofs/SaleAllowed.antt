@@ -6,6 +6,7 @@ use Rattle.std.proofs.lemmas.Bool.{not-false}
 use Rattle.std.proofs.lemmas.Int.{ints}
 use Rattle.std.specs.Int.Signed.{le_z, lt_z}
 use Rattle.certs.specs.Counted.{presides}
+use Rattle.certs.specs.Games.{with_events}
 use Rattle.certs.specs.President.{others_from}
 use Rattle.certs.specs.Sale.{is_first_stock, is_not_held, is_over_five, kept_after, none_is_left, moves_operating}
 use Rattle.certs.specs.Sale.{must_stay, one_has, sale_judgement, sale_rules}
@@ -37,10 +38,12 @@ stays true false moves kept = refl
 stays false leaves moves kept = refl
 
 -- shares can be sold
-pub sale_allowed : (seats : ℕ) (events : List Event) (seat : Seat) (sale : Sale) (operating : Option Company)
-    → sale_judgement seats events seat sale operating ≡ None → MaySell seats events seat sale
+pub sale_allowed : (game : Game) (seat : Seat) (sale : Sale) (operating : Option Company)
+    → sale_judgement game.seats game.events seat sale operating ≡ None → MaySell game seat sale
 unfolding sale_judgement must_stay
-sale_allowed seats events seat sale operating none =
+sale_allowed game seat sale operating none =
+    let events = game.events in
+    let seats = game.seats in
     let kept = not_broken code_of_stock_rule (sale_rules seats events seat sale operating) none in
     record {
       held = kept NotHeld;
@@ -121,34 +124,34 @@ same_judgement seats before after seat sale operating same round =
     (same_row WrongStart {later = []} {earlier = []} (ap not (same_start before after sale.company same)) refl)))))
 
 -- a sale can still be made where a list says the same
-pub still_may_sell : (seats : ℕ) (before after : List Event) (seat : Seat) (sale : Sale) → SaysTheSame before after
-    → MaySell seats before seat sale → MaySell seats after seat sale
+pub still_may_sell : (game : Game) (after : List Event) (seat : Seat) (sale : Sale) → SaysTheSame game.events after
+    → MaySell game seat sale → MaySell (with_events game after) seat sale
 unfolding is_not_held is_over_five
-still_may_sell seats before after seat sale same may =
+still_may_sell game after seat sale same may =
     record {
       held = ap (λ (held : ℤ). sale.shares == 0 || lt_z held (pos sale.shares))
           (same.shares sale.company (OfSeat seat)) ∙ may.held;
       pool = ap (λ (pooled : ℤ). lt_z (pos 5) (pooled +ℤ pos sale.shares)) (same.shares sale.company BankPool)
           ∙ may.pool;
-      leaves = same_stay seats before after seat sale None same ∙ may.leaves;
-      started = same_start before after sale.company same ∙ may.started;
+      leaves = same_stay game.seats game.events after seat sale None same ∙ may.leaves;
+      started = same_start game.events after sale.company same ∙ may.started;
     }
 
 -- a sale that breaks no rule can be made after its ruling
 pub may_sell_after : (old new : Game) (event : Event) (seat : Seat) (sale : Sale) (operating : Option Company)
     → new ≡ with_event old event → IsQuiet event → sale_judgement old.seats old.events seat sale operating ≡ None
-    → MaySell new.seats new.events seat sale
+    → MaySell new seat sale
 may_sell_after old new event seat sale operating recorded quiet none =
-    subst (λ (game : Game). MaySell game.seats game.events seat sale) (sym recorded)
-    (still_may_sell old.seats old.events (old.events ++ event ∷ []) seat sale (quiet_same old.events event quiet)
-    (sale_allowed old.seats old.events seat sale operating none))
+    subst (λ (game : Game). MaySell game seat sale) (sym recorded)
+    (still_may_sell old (old.events ++ event ∷ []) seat sale (quiet_same old.events event quiet)
+    (sale_allowed old seat sale operating none))
 
 -- few shares go to a pool that has none too few and has at most five then
 few_come : (pooled : ℤ) (shares : ℕ) → pos 0 ≤ℤ pooled → lt_z (pos 5) (pooled +ℤ pos shares) ≡ false → shares ≤ 5
 few_come pooled shares some pool = grind (arith, ints, some, pool)
 
 -- a block that may be sold is small
-pub block_small : (game : Game) (seat : Seat) (sale : Sale) → MaySell game.seats game.events seat sale → IsSound game
+pub block_small : (game : Game) (seat : Seat) (sale : Sale) → MaySell game seat sale → IsSound game
     → sale.shares ≤ 5
 unfolding is_over_five
 block_small game seat sale may sound =

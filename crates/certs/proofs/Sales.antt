@@ -7,6 +7,7 @@ use Rattle.std.proofs.lemmas.Int.{ints}
 use Rattle.std.specs.Int.Signed.{lt_z}
 use Rattle.certs.proofs.Presidents.{most_le}
 use Rattle.certs.specs.Counted.{presides}
+use Rattle.certs.specs.Games.{IsGame, with_events}
 use Rattle.certs.specs.President.{others_from, seat_shares_of, successor_of}
 use Rattle.certs.specs.Purchase.{market_price_of}
 use Rattle.certs.specs.Sale.{is_not_held, kept_after, none_is_left, must_stay, one_has}
@@ -21,7 +22,6 @@ use Rattle.totals.specs.LookBack.{Game}
 use Rattle.totals.specs.Shares.{is_started, president_of, square_of}
 use Rattle.history.specs.Sound.{IsLed, IsSound}
 use Rattle.history.specs.Record.{breaks, with_broken}
-use Rattle.market.proofs.Tokens.{same_game}
 use Rattle.certs.proofs.Others.{another_leads}
 use Rattle.certs.specs.SaleAct.{MaySell, sold, succeeded, with_president, with_successor}
 use Rattle.tables.specs.Roster.{same_company}
@@ -128,7 +128,7 @@ led_by_other game company seat shares price old apart is led =
 
 -- who presides after a sale has two shares
 pub successor_has_two : (game : Game) (seat : Seat) (sale : Sale) (price : ℕ) (old : Seat) → game.seats ≤ 6
-    → seat.0 < game.seats → MaySell game.seats game.events seat sale → IsSound game
+    → seat.0 < game.seats → MaySell game seat sale → IsSound game
     → president_of game.events sale.company ≡ Some old
     → pos 2 ≤ℤ seat_shares_of (block_sold game sale.company seat sale.shares price).events sale.company
     (successor_of game.seats (block_sold game sale.company seat sale.shares price).events sale.company old)
@@ -170,7 +170,7 @@ successor_has_two game seat sale price old few within may sound is =
 
 -- the list after a sale and the presidency that follows from it
 succeeded_sound : (game : Game) (seat : Seat) (sale : Sale) (price : ℕ) (old : Seat) → game.seats ≤ 6
-    → seat.0 < game.seats → MaySell game.seats game.events seat sale → IsSound game
+    → seat.0 < game.seats → MaySell game seat sale → IsSound game
     → president_of game.events sale.company ≡ Some old
     → IsSound (record {
       seats = game.seats;
@@ -210,7 +210,7 @@ succeeded_sound game seat sale price old few within may sound is =
 
 -- a sale without a president
 unled_sound : (game : Game) (seat : Seat) (sale : Sale) (price : ℕ) → seat.0 < game.seats
-    → MaySell game.seats game.events seat sale → IsSound game → president_of game.events sale.company ≡ None
+    → MaySell game seat sale → IsSound game → president_of game.events sale.company ≡ None
     → IsSound (block_sold game sale.company seat sale.shares price)
 unfolding is_not_held
 unled_sound game seat sale price within may sound none =
@@ -223,37 +223,25 @@ unled_sound game seat sale price within may sound none =
 
 -- after a sale and the presidency that follows from it a list is sound
 pub sale_led : (game : Game) (seat : Seat) (sale : Sale) (price : ℕ) → game.seats ≤ 6 → seat.0 < game.seats
-    → MaySell game.seats game.events seat sale → IsSound game
-    → IsSound (record {
-      seats = game.seats;
-      events =
-          with_president game.seats (block_sold game sale.company seat sale.shares price).events sale.company;
-    })
+    → MaySell game seat sale → IsSound game
+    → IsSound (with_president (block_sold game sale.company seat sale.shares price) sale.company)
 sale_led game seat sale price few within may sound =
     let company = sale.company in
-    let after : List Event = (block_sold game company seat sale.shares price).events in
+    let after : Game = block_sold game company seat sale.shares price in
     let same = president_sold game company seat sale.shares price in
-    subst (λ (found : Option Seat). IsSound (record
-    { seats = game.seats; events = with_successor game.seats after company found })) (sym same)
+    subst (λ (found : Option Seat). IsSound (with_events after (with_successor after company found))) (sym same)
     (elim (president_of game.events company) as (λ (found : Option Seat). president_of game.events company ≡ found
-    → IsSound (record { seats = game.seats; events = with_successor game.seats after company found })) [
+    → IsSound (with_events after (with_successor after company found))) [
       | None ↦ λ is. unled_sound game seat sale price within may sound is
       | Some old ↦ λ is. succeeded_sound game seat sale price old few within may sound is
     ]
     refl)
 
 -- so it is step by step
-pub sold_sound : (game paid led : Game) (seat : Seat) (sale : Sale) → game.seats ≤ 6 → seat.0 < game.seats
-    → MaySell game.seats game.events seat sale → IsSound game → paid.seats ≡ game.seats
-    → paid.events ≡ sold game.seats game.events seat sale.company sale.shares → led.seats ≡ paid.seats
-    → led.events ≡ with_president paid.seats paid.events sale.company → IsSound led
-sold_sound game paid led seat sale few within may sound paid_seats is_paid led_seats is_led =
+pub sold_game : (game paid led : Game) (seat : Seat) (sale : Sale) → seat.0 < game.seats → MaySell game seat sale
+    → IsGame game → paid ≡ sold game seat sale.company sale.shares → led ≡ with_president paid sale.company
+    → IsGame led
+sold_game game paid led seat sale within may before is_paid is_led =
     let price = sale.shares * market_price_of game.events sale.company in
-    let after : List Event = (block_sold game sale.company seat sale.shares price).events in
-    let events : led.events ≡ with_president game.seats after sale.company =
-    is_led
-    ∙ ap (λ (n : ℕ). with_president n paid.events sale.company) paid_seats
-    ∙ ap (λ (events : List Event). with_president game.seats events sale.company) is_paid
-    in
-    same_game led game.seats (with_president game.seats after sale.company) (led_seats ∙ paid_seats) events
-    (sale_led game seat sale price few within may sound)
+    subst IsGame (sym (is_led ∙ ap (λ (game : Game). with_president game sale.company) is_paid))
+    (record { few = before.few; sound = sale_led game seat sale price before.few within may before.sound })

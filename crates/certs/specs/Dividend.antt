@@ -3,6 +3,7 @@
 -- the bank pool; those of the initial offering are paid nothing. The token of the company on the
 -- chart moves right.
 use Rattle.std.specs.Prelude.{ℕ, ◌==◌, ◌*◌, ◌/◌, if◌then◌else◌, List, [], ◌∷◌, pos, ◌-ℤ◌, ◌≤ℤ◌}
+use Rattle.certs.specs.Games.{token_moved}
 use Rattle.events.specs.declared.event.Event.{Event}
 use Rattle.events.specs.declared.event.Event.TheVariants as event
 use Rattle.events.specs.declared.event.Holder.{Holder}
@@ -16,7 +17,6 @@ use Rattle.history.specs.Sound.{IsSound}
 use Rattle.history.specs.Record.{broken_recorded}
 use Rattle.totals.specs.Trains.{at_least_zero}
 use Rattle.market.specs.Moves.{right_of}
-use Rattle.market.specs.Token.{with_move}
 use Rattle.tables.specs.Seat.{all_seats}
 use Rattle.tables.specs.declared.roster.Company.{Company}
 use Rattle.tables.specs.declared.seat.Seat.{Seat}
@@ -51,13 +51,9 @@ all_paid company revenue game =
     paid_for company (holder.Company company) place.BankPool revenue
     (paid_to_seats company revenue game (all_seats game.seats))
 
--- with the token of a company moved right on the chart
-abbrev pub moved_right : Game → Company → Game
-moved_right game company = record { seats = game.seats; events = with_move right_of game.events company }
-
 -- after the company has paid
 abbrev pub paid_out : Game → Company → ℕ → Game
-paid_out game company revenue = moved_right (all_paid company revenue game) company
+paid_out game company revenue = token_moved right_of (all_paid company revenue game) company
 
 -- in a sound list the bank pays at most the revenue
 abbrev pub NoMoreIsPaid : Type 0

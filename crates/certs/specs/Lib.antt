@@ -1,3 +1,4 @@
+pub mod Games
 pub mod ShareRow
 pub mod CompanyTables
 pub mod Holdings

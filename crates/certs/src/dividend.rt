@@ -1,9 +1,9 @@
 //! What a company pays out for its shares.
 ghost use Rattle.std.specs.Prelude.{◌≡◌, ◌≤◌, ◌≤ℤ◌, OnOk, pos};
 ghost use Rattle.certs.specs.Dividend.{all_paid, dividend_of, paid_for, paid_out, paid_to};
+ghost use Rattle.certs.specs.Games.{IsGame};
 ghost use Rattle.events.specs.declared.event.Party.TheVariants as party;
 ghost use Rattle.history.specs.Money.{IsParty};
-ghost use Rattle.history.specs.Sound.{IsSound};
 ghost use Rattle.totals.specs.Shares.{shares_of};
 
 use history::{Event, History, Holder, Shareholder, at_least_zero};
@@ -15,11 +15,10 @@ use tables::{Amount, Company, SHARES, Seat};
 /// it per share, seat by seat, and the company a tenth for each share in the bank pool. Its token
 /// on the chart moves right. Fails only if allocation fails.
 pub fn pay_out(history: &mut History, company: Company, revenue: Amount) -> Result<(), AllocError>
-    requires few { history.old.seats ≤ 6 }
+    requires game { IsGame history.old }
     requires small { revenue ≤ 100000 }
-    requires sound { IsSound history.old }
     ensures after { OnOk result (history.new ≡ paid_out history.old company revenue) }
-    ensures sound { OnOk result (IsSound history.new) }
+    ensures game { OnOk result (IsGame history.new) }
 {
     pay_all(history, company, revenue)?;
     move_token_right(history, company)?;
@@ -29,11 +28,10 @@ pub fn pay_out(history: &mut History, company: Company, revenue: Amount) -> Resu
 /// Pays from the bank the seats for their shares of a company, seat by seat, and the company for
 /// those in the bank pool.
 fn pay_all(history: &mut History, company: Company, revenue: Amount) -> Result<(), AllocError>
-    requires few { history.old.seats ≤ 6 }
+    requires game { IsGame history.old }
     requires small { revenue ≤ 100000 }
-    requires sound { IsSound history.old }
     ensures after { OnOk result (history.new ≡ all_paid company revenue history.old) }
-    ensures sound { OnOk result (IsSound history.new) }
+    ensures game { OnOk result (IsGame history.new) }
 {
     for seat in 0..history.seats() {
         let seat = Seat::at(seat);
@@ -56,9 +54,9 @@ fn pay_for(
     requires party { IsParty history.old.seats (party.Holder holder) }
     requires most { shares_of history.old.events company place ≤ℤ pos 10 }
     requires small { revenue ≤ 100000 }
-    requires sound { IsSound history.old }
+    requires game { IsGame history.old }
     ensures after { OnOk result (history.new ≡ paid_for company holder place revenue history.old) }
-    ensures sound { OnOk result (IsSound history.new) }
+    ensures game { OnOk result (IsGame history.new) }
 {
     let amount = dividend(history, company, place, revenue);
     pay_to(history, company, holder, amount)
@@ -85,9 +83,9 @@ fn pay_to(
 ) -> Result<(), AllocError>
     requires party { IsParty history.old.seats (party.Holder holder) }
     requires small { amount ≤ 1000000 }
-    requires sound { IsSound history.old }
+    requires game { IsGame history.old }
     ensures after { OnOk result (history.new ≡ paid_to company holder amount history.old) }
-    ensures sound { OnOk result (IsSound history.new) }
+    ensures game { OnOk result (IsGame history.new) }
 {
     if amount == 0 {
         return Ok(());

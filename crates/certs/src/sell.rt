@@ -1,7 +1,7 @@
 //! What follows from a sale.
 ghost use Rattle.std.specs.Prelude.{◌≡◌, ◌≤◌, ◌<◌, OnOk};
+ghost use Rattle.certs.specs.Games.{IsGame, with_events};
 ghost use Rattle.certs.specs.SaleAct.{MaySell, after_sale, sold, succeeded, with_president};
-ghost use Rattle.history.specs.Sound.{IsSound};
 
 use crate::president::successor;
 use crate::purchase::market_price;
@@ -15,14 +15,12 @@ use tables::{Amount, Company, Seat};
 /// passes if another seat then has more, and the token on the chart moves down. Fails only if
 /// allocation fails.
 pub fn sell_block(history: &mut History, seat: Seat, sale: Sale) -> Result<(), AllocError>
-    requires few { history.old.seats ≤ 6 }
+    requires game { IsGame history.old }
     requires at_table { seat.0 < history.old.seats }
-    requires may { MaySell history.old.seats history.old.events seat sale }
-    requires sound { IsSound history.old }
-    ensures seats { OnOk result (history.new.seats ≡ history.old.seats) }
-    ensures events { OnOk result (history.new.events
-        ≡ after_sale history.old.seats history.old.events seat sale.company sale.shares) }
-    ensures sound { OnOk result (IsSound history.new) }
+    requires may { MaySell history.old seat sale }
+    ensures after { OnOk result (history.new
+        ≡ after_sale history.old seat sale.company sale.shares) }
+    ensures game { OnOk result (IsGame history.new) }
 {
     let shares = sale.shares as u8;
     pay_for_block(history, seat, sale.company, shares)?;
@@ -38,10 +36,8 @@ fn pay_for_block(
     company: Company,
     shares: u8,
 ) -> Result<(), AllocError>
-    requires few { shares ≤ 10 }
-    ensures seats { OnOk result (history.new.seats ≡ history.old.seats) }
-    ensures events { OnOk result (history.new.events
-        ≡ sold history.old.seats history.old.events seat company shares) }
+    requires { shares ≤ 10 }
+    ensures { OnOk result (history.new ≡ sold history.old seat company shares) }
 {
     let price = Amount::from(shares) * market_price(&history.now(), company);
     history.append(Event::Sells {
@@ -57,9 +53,7 @@ fn pay_for_block(
 /// Records who presides over a company, if a change of its shares has moved the presidency. Fails
 /// only if allocation fails.
 pub fn record_president(history: &mut History, company: Company) -> Result<(), AllocError>
-    ensures seats { OnOk result (history.new.seats ≡ history.old.seats) }
-    ensures events { OnOk result (history.new.events
-        ≡ with_president history.old.seats history.old.events company) }
+    ensures { OnOk result (history.new ≡ with_president history.old company) }
 {
     let Some(old) = history.now().president(company) else {
         return Ok(());
@@ -75,9 +69,8 @@ fn record_successor(
     old: Seat,
     new: Seat,
 ) -> Result<(), AllocError>
-    ensures seats { OnOk result (history.new.seats ≡ history.old.seats) }
-    ensures events { OnOk result (history.new.events
-        ≡ succeeded history.old.events company old new) }
+    ensures { OnOk result (history.new
+        ≡ with_events history.old (succeeded history.old.events company old new)) }
 {
     if new == old {
         return Ok(());

@@ -21,7 +21,7 @@ abbrev pub turn_rows : TurnAhead → Round → Seat → List Row
 turn_rows turn (Opening number) seat =
     map (opening_row turn.history.seats turn.history.events seat turn.used) (opening_orders turn.history.events)
 turn_rows turn other seat =
-    map (stock_row turn.history.seats turn.history.events seat turn.bought) (stock_orders turn.history.events seat)
+    map (stock_row turn.history seat turn.bought) (stock_orders turn.history.events seat)
 
 -- the lines of a seat's first turn
 abbrev pub turn_lines : List ℕ → TurnAhead → Round → Seat → List ℕ

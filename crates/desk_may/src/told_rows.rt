@@ -67,7 +67,7 @@ pub(crate) fn stock_told(
     bought: Option<Company>,
 ) -> Result<ToldRows, AllocError>
     ensures rows { IfOk result (λ list. list.rows.items
-        ≡ map (stock_row history.now.seats history.now.events seat bought)
+        ≡ map (stock_row history.now seat bought)
         (stock_orders history.now.events seat)) }
     ensures told { IfOk result (λ list. list.told.items
         ≡ map (told_in_stock history.now.seats history.now.events seat) list.rows.items) }

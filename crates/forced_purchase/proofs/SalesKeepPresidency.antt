@@ -78,11 +78,11 @@ module _ (game : Game) (seat : Seat) (sale : Sale) where
   recorded = game.events ++ event.Sells company seat sale.shares (sale.shares * market_price_of game.events company) ∷
       []
 
-  abbrev paid : List Event
-  paid = sold game.seats game.events seat company sale.shares
+  abbrev paid : Game
+  paid = sold game seat company sale.shares
 
   -- a bank that breaks moves no shares and no presidency
-  same_shares : (other : Seat) → shares_of paid company (OfSeat other) ≡ shares_of recorded company (OfSeat other)
+  same_shares : (other : Seat) → shares_of paid.events company (OfSeat other) ≡ shares_of recorded company (OfSeat other)
   same_shares other =
       elim (breaks game.seats recorded) as (λ (b : Bool). shares_of (if b then recorded
       ++ event.Broken ∷ [] else recorded) company (OfSeat other) ≡ shares_of recorded company (OfSeat other)) [
@@ -90,7 +90,7 @@ module _ (game : Game) (seat : Seat) (sale : Sale) where
         | false ↦ refl
       ]
 
-  same_president : (its : Company) → president_of paid its ≡ president_of game.events its
+  same_president : (its : Company) → president_of paid.events its ≡ president_of game.events its
   same_president its =
       elim (breaks game.seats recorded) as (λ (b : Bool). president_of (if b then recorded
       ++ event.Broken ∷ [] else recorded) its ≡ president_of recorded its) [
@@ -101,7 +101,7 @@ module _ (game : Game) (seat : Seat) (sale : Sale) where
       (sale.shares * market_price_of game.events company)) its refl
 
   -- after it nobody has more shares
-  no_more_held : (other : Seat) → shares_of paid company (OfSeat other) ≤ℤ shares_of game.events company (OfSeat other)
+  no_more_held : (other : Seat) → shares_of paid.events company (OfSeat other) ≤ℤ shares_of game.events company (OfSeat other)
   no_more_held other =
       subst (λ (held : ℤ). held ≤ℤ shares_of game.events company (OfSeat other)) (sym (same_shares other))
       (fewer_then (shares_of game.events company (OfSeat other)) (shares_of recorded company (OfSeat other)) _ _
@@ -110,7 +110,7 @@ module _ (game : Game) (seat : Seat) (sale : Sale) where
       (none_brought (same_company company company) sale.shares))
 
   -- and the seat has what it keeps
-  keeps_rest : shares_of paid company (OfSeat seat) ≡ kept_after game.events seat sale
+  keeps_rest : shares_of paid.events company (OfSeat seat) ≡ kept_after game.events seat sale
   keeps_rest =
       same_shares seat
       ∙ rest_then (shares_of game.events company (OfSeat seat)) (shares_of recorded company (OfSeat seat)) _ _
@@ -122,40 +122,40 @@ module _ (game : Game) (seat : Seat) (sale : Sale) where
   -- so it still presides, where the sale is not to move the presidency
   stays_president : one_has game.events company (kept_after game.events seat sale +ℤ pos 1)
       (others_from game.seats seat) ≡ false →
-      successor_of game.seats paid company seat ≡ seat
+      successor_of game.seats paid.events company seat ≡ seat
   stays_president none =
-      most_stays game.events company (seat_shares_of paid company) seat (others_from game.seats seat) no_more_held
+      most_stays game.events company (seat_shares_of paid.events company) seat (others_from game.seats seat) no_more_held
       (ap (λ (kept : ℤ). one_has game.events company (kept +ℤ pos 1) (others_from game.seats seat)) keeps_rest ∙ none)
 
   -- after what follows of its presidency a company has the same president
   abbrev Leads : Company → Seat → List Event → Type 0
   Leads its leader events = president_of events its ≡ Some leader
 
-  of_same : (its : Company) → (its ≡ company) → Leads its seat paid →
+  of_same : (its : Company) → (its ≡ company) → Leads its seat paid.events →
       one_has game.events company (kept_after game.events seat sale +ℤ pos 1) (others_from game.seats seat) ≡ false →
-      Leads its seat (with_president game.seats paid company)
+      Leads its seat (with_president paid company).events
   of_same its same leads none =
-      let found : president_of paid company ≡ Some seat = ap (president_of paid) (sym same) ∙ leads in
-      let stays : ((successor_of game.seats paid company seat).0 == seat.0) ≡ true =
+      let found : president_of paid.events company ≡ Some seat = ap (president_of paid.events) (sym same) ∙ leads in
+      let stays : ((successor_of game.seats paid.events company seat).0 == seat.0) ≡ true =
       ap (λ (new : Seat). new.0 == seat.0) (stays_president none) ∙ itself seat.0 in
-      ap (λ (old : Option Seat). president_of (with_successor game.seats paid company old) its) found
-      ∙ ap (λ (b : Bool). president_of (if b then paid else paid
-      ++ event.President company (successor_of game.seats paid company seat) ∷ []) its) stays
+      ap (λ (old : Option Seat). president_of (with_successor paid company old) its) found
+      ∙ ap (λ (b : Bool). president_of (if b then paid.events else paid.events
+      ++ event.President company (successor_of game.seats paid.events company seat) ∷ []) its) stays
       ∙ leads
 
-  of_other : (its : Company) (leader : Seat) → same_company company its ≡ false → Leads its leader paid
-      → Leads its leader (with_president game.seats paid company)
+  of_other : (its : Company) (leader : Seat) → same_company company its ≡ false → Leads its leader paid.events
+      → Leads its leader (with_president paid company).events
   of_other its leader apart leads =
-      elim (president_of paid company) as (λ (old : Option Seat). Leads its leader
-      (with_successor game.seats paid company old)) [
+      elim (president_of paid.events company) as (λ (old : Option Seat). Leads its leader
+      (with_successor paid company old)) [
         | None ↦ leads
         | Some old ↦
-            let new : Seat = successor_of game.seats paid company old in
+            let new : Seat = successor_of game.seats paid.events company old in
             elim (new.0 == old.0) as (λ (b : Bool). Leads its leader
-            (if b then paid else paid ++ event.President company new ∷ [])) [
+            (if b then paid.events else paid.events ++ event.President company new ∷ [])) [
               | true ↦ leads
               | false ↦ last_said_before (λ e. president_said its (office_of e))
-                  (paid ++ event.President company new ∷ []) paid (event.President company new) refl
+                  (paid.events ++ event.President company new ∷ []) paid.events (event.President company new) refl
                   (ap (λ (b : Bool). if b then Some new else None) apart)
                   ∙ leads
             ]
@@ -214,9 +214,9 @@ pub sale_leaves : (by : Operator) (game : Game) (sale : Sale) → sale_rule by g
     → president_of game.events by.company ≡ Some by.president →
     president_of (with_sale by game sale).events by.company ≡ Some by.president
 sale_leaves by game sale none leads =
-    let paid : List Event = sold game.seats game.events by.president sale.company sale.shares in
-    let led : List Event = with_president game.seats paid sale.company in
-    let kept : president_of paid by.company ≡ Some by.president =
+    let paid : Game = sold game by.president sale.company sale.shares in
+    let led : List Event = (with_president paid sale.company).events in
+    let kept : president_of paid.events by.company ≡ Some by.president =
     same_president game by.president sale by.company ∙ leads in
     let stays : president_of led by.company ≡ Some by.president =
     elim (same_company sale.company by.company) as

@@ -3,7 +3,7 @@ use Rattle.std.proofs.Common.{◌≡◌, ℕ, zero, suc, Bool, true, false, ◌&
 use Rattle.std.proofs.Common.{Some, None, find, option_map, is_none, refl, sym, ap, subst, ◌∙◌}
 use Rattle.certs.proofs.SaleAllowed.{sale_allowed, same_judgement}
 use Rattle.certs.specs.Sale.{sale_judgement}
-use Rattle.certs.specs.SaleAct.{MaySell, after_sale}
+use Rattle.certs.specs.SaleAct.{MaySell}
 use Rattle.certs.specs.declared.share_deal.Sale.{Sale}
 use Rattle.events.specs.Event.{IsQuiet, round_begun_by}
 use Rattle.events.specs.declared.event.Event.{Event}
@@ -32,13 +32,6 @@ use Rattle.tables.specs.Roster.{companies}
 use Rattle.tables.specs.Steps.{iterate}
 use Rattle.tables.specs.declared.roster.Company.{Company}
 use Rattle.turns.specs.Ruling.{judged}
-
--- a game is its seats and its events
-made_of : (game : Game) (seats : ℕ) (events : List Event) → game.seats ≡ seats → game.events ≡ events
-    → game ≡ record { seats = seats; events = events }
-made_of game seats events same_seats same_events =
-    ap (λ (n : ℕ). let made : Game = record { seats = n; events = game.events } in made) same_seats
-    ∙ ap (λ (list : List Event). let made : Game = record { seats = seats; events = list } in made) same_events
 
 -- where no rule of stock refuses, none is broken
 none_refused : (broken : Option StockRule) → option_map refusal.Stock broken ≡ None → broken ≡ None
@@ -75,12 +68,9 @@ raise_obeyed due by game condition sale none =
 pub raised : (due : Bool) (by : Operator) (old recorded new : Game) (line : Numbered) (sale : Sale)
     → raise_rule due by old line.condition sale ≡ None
     → recorded ≡ with_ruling by old line (Obeyed line.condition (order.Raise sale.company sale.shares))
-    → new.seats ≡ recorded.seats → new.events ≡ after_sale recorded.seats recorded.events by.president sale.company
-    sale.shares → new ≡ after_raise due by old line sale
-raised due by old recorded new line sale none is_recorded seats events =
-    made_of new recorded.seats (after_sale recorded.seats recorded.events by.president sale.company sale.shares) seats
-    events ∙ ap (λ (game : Game). with_sale by game sale) is_recorded
-    ∙ ap (raise_ruled by old line sale) (sym none)
+    → new ≡ with_sale by recorded sale → new ≡ after_raise due by old line sale
+raised due by old recorded new line sale none is_recorded sold =
+    sold ∙ ap (λ (game : Game). with_sale by game sale) is_recorded ∙ ap (raise_ruled by old line sale) (sym none)
 
 -- one that breaks a rule is recorded, and sells nothing
 pub raise_refused : (due : Bool) (by : Operator) (old new : Game) (line : Numbered) (sale : Sale)
@@ -112,14 +102,14 @@ found_passes test (first ∷ others) company is =
 
 -- the share of the first company that the president may sell one of can be sold
 pub may_sell_share : (by : Operator) (game : Game) (company : Company) (sale : Sale) → sale ≡ one_share company
-    → next_to_sell by game ≡ Some company → MaySell game.seats game.events by.president sale
+    → next_to_sell by game ≡ Some company → MaySell game by.president sale
 unfolding next_to_sell sale_rule
 may_sell_share by game company sale is found =
     let passes : is_none (sale_judgement game.seats game.events by.president (one_share company) (Some by.company))
     ≡ true = found_passes (λ its. is_none (sale_judgement game.seats game.events by.president (one_share its)
     (Some by.company))) companies company found in
-    subst (λ (its : Sale). MaySell game.seats game.events by.president its) (sym is)
-    (sale_allowed game.seats game.events by.president (one_share company) (Some by.company)
+    subst (λ (its : Sale). MaySell game by.president its) (sym is)
+    (sale_allowed game by.president (one_share company) (Some by.company)
     (nothing (sale_judgement game.seats game.events by.president (one_share company) (Some by.company)) passes))
 
 -- a sale that breaks no rule breaks none after a ruling
@@ -159,13 +149,10 @@ next_allowed by game company found =
 
 -- one is sold
 pub one_sold : (by : Operator) (old new : Game) (company : Company) (sale : Sale) → sale ≡ one_share company
-    → next_to_sell by old ≡ Some company → new.seats ≡ old.seats
-    → new.events ≡ after_sale old.seats old.events by.president sale.company sale.shares
+    → next_to_sell by old ≡ Some company → new ≡ with_sale by old sale
     → new ≡ with_one_sold by old (next_to_sell by old)
-one_sold by old new company sale is found seats events =
-    made_of new old.seats (after_sale old.seats old.events by.president sale.company sale.shares) seats events
-    ∙ ap (λ (its : Sale). with_sale by old its) is
-    ∙ ap (with_one_sold by old) (sym found)
+one_sold by old new company sale is found sold =
+    sold ∙ ap (λ (its : Sale). with_sale by old its) is ∙ ap (with_one_sold by old) (sym found)
 
 -- or none
 pub none_sold : (by : Operator) (game : Game) → next_to_sell by game ≡ None

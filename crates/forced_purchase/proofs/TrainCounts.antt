@@ -61,11 +61,12 @@ module _ (owner : Option Company) where
   size_broken seats events = size_if (breaks seats events) (events ++ event.Broken ∷ []) events events
       (size_before events event.Broken owner refl) refl
 
-  size_succession : (seats : ℕ) (events : List Event) (company : Company) (old : Option Seat)
-      → size (with_successor seats events company old) ≡ size events
-  size_succession seats events company None = refl
-  size_succession seats events company (Some old) =
-      let new : Seat = successor_of seats events company old in
+  size_succession : (game : Game) (company : Company) (old : Option Seat)
+      → size (with_successor game company old) ≡ size game.events
+  size_succession game company None = refl
+  size_succession game company (Some old) =
+      let events = game.events in
+      let new : Seat = successor_of game.seats events company old in
       size_if (new.0 == old.0) events (events ++ event.President company new ∷ []) events refl
       (size_before events (event.President company new) owner refl)
 
@@ -77,24 +78,23 @@ module _ (owner : Option Company) where
       (size_before events (event.Moves company (move square)) owner refl)
 
   -- a sale moves no train
-  pub size_sale : (seats : ℕ) (events : List Event) (seat : Seat) (company : Company) (shares : ℕ)
-      → size (after_sale seats events seat company shares) ≡ size events
-  size_sale seats events seat company shares =
-      let recorded : List Event = events ++ event.Sells company seat shares (shares * market_price_of events company)
-      ∷ [] in
-      let paid : List Event = sold seats events seat company shares in
-      let led : List Event = with_president seats paid company in
+  pub size_sale : (game : Game) (seat : Seat) (company : Company) (shares : ℕ)
+      → size (after_sale game seat company shares).events ≡ size game.events
+  size_sale game seat company shares =
+      let sells : Event = event.Sells company seat shares (shares * market_price_of game.events company) in
+      let paid : Game = sold game seat company shares in
+      let led : List Event = (with_president paid company).events in
       size_move (fallen shares) led company (square_of led company)
-      ∙ size_succession seats paid company (president_of paid company)
-      ∙ size_broken seats recorded
-      ∙ size_before events (event.Sells company seat shares (shares * market_price_of events company)) owner refl
+      ∙ size_succession paid company (president_of paid.events company)
+      ∙ size_broken game.seats (game.events ++ sells ∷ [])
+      ∙ size_before game.events sells owner refl
 
   size_raise_ruled : (by : Operator) (game : Game) (line : Numbered) (sale : Sale) (broken : Option Refusal)
       → size (raise_ruled by game line sale broken).events ≡ size game.events
   size_raise_ruled by game line sale None =
       let ruled : Event = event.Ruled by.president line.number
       (Obeyed line.condition (order.Raise sale.company sale.shares)) in
-      size_sale game.seats (game.events ++ ruled ∷ []) by.president sale.company sale.shares
+      size_sale (with_event game ruled) by.president sale.company sale.shares
       ∙ size_before game.events ruled owner refl
   size_raise_ruled by game line sale (Some rule) =
       size_before game.events (event.Ruled by.president line.number
@@ -118,7 +118,7 @@ module _ (owner : Option Company) where
   size_one_sold : (by : Operator) (game : Game) (found : Option Company)
       → size (with_one_sold by game found).events ≡ size game.events
   size_one_sold by game None = refl
-  size_one_sold by game (Some company) = size_sale game.seats game.events by.president company 1
+  size_one_sold by game (Some company) = size_sale game by.president company 1
 
   size_further : (by : Operator) (game : Game) → size (sold_further by game).events ≡ size game.events
   unfolding sold_further

@@ -41,8 +41,7 @@ raise_rule due by game condition sale =
 
 -- the list after a sale of the president
 abbrev pub with_sale : Operator → Game → Sale → Game
-with_sale by game sale =
-    record { seats = game.seats; events = after_sale game.seats game.events by.president sale.company sale.shares }
+with_sale by game sale = after_sale game by.president sale.company sale.shares
 
 -- after the ruling of this line
 abbrev pub with_ruling : Operator → Game → Numbered → Ruling → Game

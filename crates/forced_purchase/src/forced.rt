@@ -4,6 +4,7 @@
 //! lines of the company's orders, then one share at a time. A president who still falls short is
 //! bankrupt.
 ghost use Rattle.std.specs.Prelude.{◌≡◌, ◌≤◌, ◌<◌, OnOk, false};
+ghost use Rattle.certs.specs.Games.{IsGame};
 ghost use Rattle.history.specs.Sound.{IsSound};
 ghost use Rattle.totals.specs.Trains.{at_least_zero as as_many};
 ghost use Rattle.forced_purchase.specs.Forced.{after_forced, concluded, first_to_sell, next_to_sell, one_share};
@@ -30,10 +31,9 @@ pub fn buy_by_force(
     by: Operator,
     raises: Vec<HeldRaise>,
 ) -> Result<(), AllocError>
-    requires few { history.old.seats ≤ 6 }
+    requires game { IsGame history.old }
     requires at_table { by.president.0 < history.old.seats }
     requires none { has_trains history.old.events by.company ≡ false }
-    requires sound { IsSound history.old }
     ensures after { OnOk result (history.new ≡ after_forced by raises.items history.old) }
     ensures sound { OnOk result (IsSound history.new) }
 {
@@ -50,12 +50,11 @@ const SALES_MOST: usize = COMPANIES * POOL_SHARES_MOST as usize;
 /// Sells shares of the president one at a time, until they no longer fall short or may sell none.
 #[tactic(auto, unfolding(crate::specs::Forced::sold_singly))]
 fn sell_singly(history: &mut History, by: Operator) -> Result<(), AllocError>
-    requires few { history.old.seats ≤ 6 }
+    requires game { IsGame history.old }
     requires at_table { by.president.0 < history.old.seats }
-    requires sound { IsSound history.old }
     ensures seats { OnOk result (history.new.seats ≡ history.old.seats) }
     ensures after { OnOk result (history.new ≡ sold_singly by history.old) }
-    ensures sound { OnOk result (IsSound history.new) }
+    ensures game { OnOk result (IsGame history.new) }
 {
     // Bounded, so that no measure has to be proved; extra passes do nothing.
     for _ in 0..SALES_MOST {
@@ -67,12 +66,11 @@ fn sell_singly(history: &mut History, by: Operator) -> Result<(), AllocError>
 /// Sells one more share of the president, if they fall short and may sell one.
 #[tactic(auto, unfolding(crate::specs::Forced::sold_further))]
 fn sell_further(history: &mut History, by: Operator) -> Result<(), AllocError>
-    requires few { history.old.seats ≤ 6 }
+    requires game { IsGame history.old }
     requires at_table { by.president.0 < history.old.seats }
-    requires sound { IsSound history.old }
     ensures seats { OnOk result (history.new.seats ≡ history.old.seats) }
     ensures after { OnOk result (history.new ≡ sold_further by history.old) }
-    ensures sound { OnOk result (IsSound history.new) }
+    ensures game { OnOk result (IsGame history.new) }
 {
     if falls_short(history, by) {
         sell_next(history, by)?;
@@ -83,13 +81,12 @@ fn sell_further(history: &mut History, by: Operator) -> Result<(), AllocError>
 
 /// Sells one more share of the president, if they may sell one.
 fn sell_next(history: &mut History, by: Operator) -> Result<(), AllocError>
-    requires few { history.old.seats ≤ 6 }
+    requires game { IsGame history.old }
     requires at_table { by.president.0 < history.old.seats }
-    requires sound { IsSound history.old }
     ensures seats { OnOk result (history.new.seats ≡ history.old.seats) }
     ensures after { OnOk result (history.new
         ≡ with_one_sold by history.old (next_to_sell by history.old)) }
-    ensures sound { OnOk result (IsSound history.new) }
+    ensures game { OnOk result (IsGame history.new) }
 {
     if let Some(company) = next_to_sell(history, by) {
         sell_block(history, by.president, share_of(company))?;

@@ -4,9 +4,9 @@
 //! held. A line is refused, whatever its condition, if no purchase is due or the president does not
 //! fall short. After that its condition and the rules of a sale are checked. No sale may move the
 //! presidency of the company.
-ghost use Rattle.std.specs.Prelude.{◌≡◌, ◌≤◌, ◌<◌, ◌++◌, ◌∷◌, [], OnOk};
+ghost use Rattle.std.specs.Prelude.{◌≡◌, ◌<◌, ◌++◌, ◌∷◌, [], OnOk};
 ghost use Rattle.std.specs.Option.{option_copied};
-ghost use Rattle.history.specs.Sound.{IsSound};
+ghost use Rattle.certs.specs.Games.{IsGame};
 ghost use Rattle.forced_purchase.specs.Raise.{after_raise_line, after_raises, needed_rule, raise_rule, raises_in};
 ghost use Rattle.forced_purchase.specs.Raise.{sale_rule};
 ghost use Rattle.sheets.specs.Part.{line_with};
@@ -127,13 +127,12 @@ pub fn rule_raises(
     raises: Vec<HeldRaise>,
     due: bool,
 ) -> Result<(), AllocError>
-    requires few { history.old.seats ≤ 6 }
+    requires game { IsGame history.old }
     requires at_table { by.president.0 < history.old.seats }
-    requires sound { IsSound history.old }
     ensures seats { OnOk result (history.new.seats ≡ history.old.seats) }
     ensures after { OnOk result (history.new
         ≡ after_raises due by history.old raises.items) }
-    ensures sound { OnOk result (IsSound history.new) }
+    ensures game { OnOk result (IsGame history.new) }
 {
     let mut left = raises.into_iter();
     while let Some(held) = left.next() {
@@ -149,13 +148,12 @@ fn rule_raise(
     held: HeldRaise,
     due: bool,
 ) -> Result<(), AllocError>
-    requires few { history.old.seats ≤ 6 }
+    requires game { IsGame history.old }
     requires at_table { by.president.0 < history.old.seats }
-    requires sound { IsSound history.old }
     ensures seats { OnOk result (history.new.seats ≡ history.old.seats) }
     ensures after { OnOk result (history.new
         ≡ after_raise_line due by history.old held held.reading) }
-    ensures sound { OnOk result (IsSound history.new) }
+    ensures game { OnOk result (IsGame history.new) }
 {
     let HeldRaise { line, sale, order } = held;
     let broken = raise_rule(history, by, line.condition.as_ref(), sale, due);

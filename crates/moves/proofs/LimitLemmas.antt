@@ -21,16 +21,17 @@ use Rattle.totals.specs.Shares.{shares_of}
 
 pub sales_of_held : SalesAreOfWhatIsHeld
 unfolding sale_judgement is_not_held
-sales_of_held seats events seat company shares none =
-    let kept = not_broken code_of_stock_rule (sale_rules seats events seat (sale_of company shares) None) none in
-    let held = shares_of events company (OfSeat seat) in
+sales_of_held game seat company shares none =
+    let kept = not_broken code_of_stock_rule
+    (sale_rules game.seats game.events seat (sale_of company shares) None) none in
+    let held = shares_of game.events company (OfSeat seat) in
     not_less held (pos shares) (or_parts (shares == 0) (lt_z held (pos shares)) (kept NotHeld)).1
 
 pub starts_at_par : StartsAreAtParValues
 unfolding purchase_judgement
-starts_at_par seats events seat company price none =
+starts_at_par game seat company price none =
     let kept = not_broken code_of_stock_rule
-    (share_purchase_rules seats events seat (purchase.Par company price) None) none in
+    (share_purchase_rules game.seats game.events seat (purchase.Par company price) None) none in
     so (is_par_value price) (kept NoParValue)
 
 -- what is not under a sum is as much

@@ -141,10 +141,12 @@ broken_moves_none seats events party =
       | false ↦ refl
     ]
 
-successor_moves_none : (seats : ℕ) (events : List Event) (its : Company) (old : Option Seat) (party : Party)
-    → cash_of seats (with_successor seats events its old) party ≡ cash_of seats events party
-successor_moves_none seats events its None party = refl
-successor_moves_none seats events its (Some old) party =
+successor_moves_none : (game : Game) (its : Company) (old : Option Seat) (party : Party)
+    → cash_of game.seats (with_successor game its old) party ≡ cash_of game.seats game.events party
+successor_moves_none game its None party = refl
+successor_moves_none game its (Some old) party =
+    let seats = game.seats in
+    let events = game.events in
     let new : Seat = successor_of seats events its old in
     elim (new.0 == old.0) as (λ (b : Bool).
     cash_of seats (if b then events else events ++ event.President its new ∷ []) party ≡ cash_of seats events party) [
@@ -152,13 +154,15 @@ successor_moves_none seats events its (Some old) party =
       | false ↦ cash_of_before seats events (event.President its new) party refl
     ]
 
-float_moves_none : (seats : ℕ) (events : List Event) (its : Company) (seat : Seat)
-    → cash_of seats (with_float seats events its) (party_at seat) ≡ cash_of seats events (party_at seat)
-float_moves_none seats events its seat =
+float_moves_none : (game : Game) (its : Company) (seat : Seat)
+    → cash_of game.seats (with_float game its).events (party_at seat) ≡ cash_of game.seats game.events (party_at seat)
+float_moves_none game its seat =
+    let seats = game.seats in
+    let events = game.events in
     let par : ℕ = unwrap_or (par_of events its) 0 in
     let floats : Event = event.Floats its (10 * par) in
     elim (is_to_float events its) as (λ (b : Bool).
-    cash_of seats (if b then floated_at seats events its par else events) (party_at seat)
+    cash_of seats (if b then (floated_at game its par).events else events) (party_at seat)
     ≡ cash_of seats events (party_at seat)) [
       | true ↦ broken_moves_none seats (events ++ floats ∷ []) (party_at seat)
           ∙ unmoved seats events floats (party_at seat) refl refl
@@ -188,42 +192,45 @@ buyer_pays : (seat : Seat) (its : Company) (shares : ℕ) (from : ShareSource) (
 buyer_pays seat its shares from price = ap (λ (b : Bool). if b then price else 0) (eq-eqb seat.0 seat.0 refl)
 
 -- what is left of a seat's cash once an order of its turn is done
-left_by_act : (seats : ℕ) (events : List Event) (seat : Seat) (its : Order)
-    → cash_of seats (after_act seats seat events its) (party_at seat)
-    ≡ left_after its (pos (stock_cost events its)) (cash_of seats events (party_at seat))
-left_by_act seats events seat (order.Par its price) =
+left_by_act : (game : Game) (seat : Seat) (its : Order)
+    → cash_of game.seats (after_act game seat its).events (party_at seat)
+    ≡ left_after its (pos (stock_cost game.events its)) (cash_of game.seats game.events (party_at seat))
+left_by_act game seat (order.Par its price) =
+    let seats = game.seats in
+    let events = game.events in
     let pay : Event = event.Bought its seat president_shares InitialOffering (president_shares * price) in
     let first : List Event = events ++ event.Par its price ∷ [] in
-    let second : List Event = first ++ pay ∷ [] in
-    ap (λ (all : List Event). cash_of seats all (party_at seat))
-    (one_by_one events (event.Par its price) pay (event.President its seat))
-    ∙ cash_of_before seats second (event.President its seat) (party_at seat) refl
+    cash_of_before seats (first ++ pay ∷ []) (event.President its seat) (party_at seat) refl
     ∙ pays seats first pay (party_at seat) (2 * price) refl
     (buyer_pays seat its president_shares InitialOffering (president_shares * price))
     ∙ ap (λ (cash : ℤ). cash -ℤ pos (2 * price))
     (cash_of_before seats events (event.Par its price) (party_at seat) refl)
-left_by_act seats events seat (order.BuyShare its from) =
-    let price : ℕ = share_price_of events its from in
-    let paid : List Event = events ++ event.Bought its seat 1 from price ∷ [] in
-    float_moves_none seats (with_president seats paid its) its seat
-    ∙ successor_moves_none seats paid its (president_of paid its) (party_at seat)
-    ∙ pays seats events (event.Bought its seat 1 from price) (party_at seat) price refl (buyer_pays seat its 1 from price)
-left_by_act seats events seat (order.Sell its shares) =
+left_by_act game seat (order.BuyShare its from) =
+    let price : ℕ = share_price_of game.events its from in
+    let paid : Game = share_bought game seat its from in
+    float_moves_none (with_president paid its) its seat
+    ∙ successor_moves_none paid its (president_of paid.events its) (party_at seat)
+    ∙ pays game.seats game.events (event.Bought its seat 1 from price) (party_at seat) price refl
+    (buyer_pays seat its 1 from price)
+left_by_act game seat (order.Sell its shares) =
+    let seats = game.seats in
+    let events = game.events in
     let price : ℕ = stock_cost events (order.Sell its shares) in
     let sells : Event = event.Sells its seat shares price in
-    let paid : List Event = with_broken seats (events ++ sells ∷ []) in
-    token_moves_none seats (fallen shares) (with_president seats paid its) its (square_of (with_president seats paid its) its)
-    (party_at seat)
-    ∙ successor_moves_none seats paid its (president_of paid its) (party_at seat)
+    let paid : Game = sold game seat its shares in
+    let led : List Event = (with_president paid its).events in
+    token_moves_none seats (fallen shares) led its (square_of led its) (party_at seat)
+    ∙ successor_moves_none paid its (president_of paid.events its) (party_at seat)
     ∙ broken_moves_none seats (events ++ sells ∷ []) (party_at seat)
     ∙ gets seats events sells (party_at seat) price (ap (λ (b : Bool). if b then price else 0) (eq-eqb seat.0 seat.0 refl)) refl
-left_by_act seats events seat order.ExchangeMohawk =
-    let given : List Event = exchanged events seat in
-    float_moves_none seats (with_president seats given company.NewYorkCentral) company.NewYorkCentral seat
-    ∙ successor_moves_none seats given company.NewYorkCentral (president_of given company.NewYorkCentral) (party_at seat)
-    ∙ cash_of_before seats events (event.Exchanged seat (exchange_source events)) (party_at seat) refl
-    ∙ less_none (cash_of seats events (party_at seat))
-left_by_act seats events seat other = less_none (cash_of seats events (party_at seat))
+left_by_act game seat order.ExchangeMohawk =
+    let nyc : Company = company.NewYorkCentral in
+    let given : Game = exchanged game seat in
+    float_moves_none (with_president given nyc) nyc seat
+    ∙ successor_moves_none given nyc (president_of given.events nyc) (party_at seat)
+    ∙ cash_of_before game.seats game.events (event.Exchanged seat (exchange_source game.events)) (party_at seat) refl
+    ∙ less_none (cash_of game.seats game.events (party_at seat))
+left_by_act game seat other = less_none (cash_of game.seats game.events (party_at seat))
 
 -- a ruling changes no price
 same_stock_cost : (events : List Event) (seat : Seat) (number : ℕ) (done : Ruling) (its : Order)
@@ -252,20 +259,22 @@ price_told cost price None told = ap price_in told
 price_told cost price (Some rule) told = absurd (true≢false (sym (ap obeys told)))
 
 pub stock_prices_move : StockPricesMove
-stock_prices_move seats events seat deals line its price has orders told =
+stock_prices_move game seat deals line its price has orders told =
+    let seats = game.seats in
+    let events = game.events in
     let done : Ruling = ruling.Obeyed line.condition its in
-    let ruled_list : List Event = events ++ event.Ruled seat line.number done ∷ [] in
+    let after : Game = with_event game (event.Ruled seat line.number done) in
     let is_done : stock_ruling seats seat (in_turn events deals) line ≡ done =
-    stock_ruled seats events seat deals line its has orders
+    stock_ruled game seat deals line its has orders
     ∙ ap (λ (answer : Answer). judged line.condition its (rule_told answer)) told in
     ap (λ (r : Ruling). cash_of seats (stock_after seats seat (in_turn events deals) line.number r).events (party_at seat))
     is_done
-    ∙ left_by_act seats ruled_list seat its
-    ∙ ap (λ (cash : ℤ). left_after its (pos (stock_cost ruled_list its)) cash)
+    ∙ left_by_act after seat its
+    ∙ ap (λ (cash : ℤ). left_after its (pos (stock_cost after.events its)) cash)
     (cash_of_before seats events (event.Ruled seat line.number done) (party_at seat) refl)
     ∙ ap (λ (sum : ℤ). left_after its sum (cash_of seats events (party_at seat)))
     (ap pos (same_stock_cost events seat line.number done its)
-    ∙ price_told (pos (stock_cost events its)) price (stock_refusal seats events seat deals.bought its) told)
+    ∙ price_told (pos (stock_cost events its)) price (stock_refusal game seat deals.bought its) told)
 
 -- what comes with a private moves no cash
 gifts_move_none : (seats : ℕ) (events so_far : List Event) (its : Private) (seat : Seat) (party : Party)

@@ -86,9 +86,9 @@ opening_ruled seats events seat used line order has its =
     (pos (opening_cost events order)) has its
 
 pub stock_ruled : StockRowsAreRuled
-stock_ruled seats events seat deals line order has its =
-    ruled_as_told has_place_in_turn (stock_refusal seats events seat deals.bought) events line order
-    (pos (stock_cost events order)) has its
+stock_ruled game seat deals line order has its =
+    ruled_as_told has_place_in_turn (stock_refusal game seat deals.bought) game.events line order
+    (pos (stock_cost game.events order)) has its
 
 pub before_ruled : RowsBeforeAreRuled
 before_ruled events line order has its =

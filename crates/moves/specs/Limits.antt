@@ -2,9 +2,8 @@
 -- has, and a company is started at one of the six par values alone. A company pays for a private from
 -- half of the face value to twice that. (That no bid under the least is obeyed is
 -- `moves: LeastBidIsLeast`.)
-use Rattle.std.specs.Prelude.{◌≡◌, ◌≤◌, ℕ, ◌+◌, true, List, None, pos, ◌≤ℤ◌}
+use Rattle.std.specs.Prelude.{◌≡◌, ◌≤◌, ℕ, ◌+◌, true, None, pos, ◌≤ℤ◌}
 use Rattle.events.specs.Event.{is_par_value}
-use Rattle.events.specs.declared.event.Event.{Event}
 use Rattle.events.specs.declared.event.Shareholder.TheVariants.{Seat as OfSeat}
 use Rattle.order_grammar.specs.declared.order.Order.TheVariants.{Par, Sell}
 use Rattle.purchases.specs.Private.{private_judgement}
@@ -19,15 +18,15 @@ use Rattle.totals.specs.Shares.{shares_of}
 -- a sale that breaks no rule is of no more shares than the seat has
 abbrev pub SalesAreOfWhatIsHeld : Type 0
 SalesAreOfWhatIsHeld =
-    (seats : ℕ) (events : List Event) (seat : Seat) (company : Company) (shares : ℕ)
-    → judgement_of seats events seat None (Sell company shares) ≡ None
-    → pos shares ≤ℤ shares_of events company (OfSeat seat)
+    (game : Game) (seat : Seat) (company : Company) (shares : ℕ)
+    → judgement_of game seat None (Sell company shares) ≡ None
+    → pos shares ≤ℤ shares_of game.events company (OfSeat seat)
 
 -- a company is started at one of the six par values
 abbrev pub StartsAreAtParValues : Type 0
 StartsAreAtParValues =
-    (seats : ℕ) (events : List Event) (seat : Seat) (company : Company) (price : ℕ)
-    → judgement_of seats events seat None (Par company price) ≡ None → is_par_value price ≡ true
+    (game : Game) (seat : Seat) (company : Company) (price : ℕ)
+    → judgement_of game seat None (Par company price) ≡ None → is_par_value price ≡ true
 
 -- a company pays for a private from half of the face value to twice that
 abbrev pub PrivatesHaveTheirPrice : Type 0

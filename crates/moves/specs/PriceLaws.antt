@@ -38,11 +38,11 @@ left_after other price cash = cash -ℤ price
 -- the price of a row of a stock round moves as its line is obeyed
 abbrev pub StockPricesMove : Type 0
 StockPricesMove =
-    (seats : ℕ) (events : List Event) (seat : Seat) (deals : ShareDeals) (line : Numbered) (order : Order) (price : ℤ) →
-    has_place_in_turn order ≡ true → Orders events line order
-    → stock_answer seats events seat deals.bought order ≡ Obeyed price
-    → cash_of seats (after_stock_line seats seat (in_turn events deals) line).events (party_at seat)
-    ≡ left_after order price (cash_of seats events (party_at seat))
+    (game : Game) (seat : Seat) (deals : ShareDeals) (line : Numbered) (order : Order) (price : ℤ) →
+    has_place_in_turn order ≡ true → Orders game.events line order
+    → stock_answer game seat deals.bought order ≡ Obeyed price
+    → cash_of game.seats (after_stock_line game.seats seat (in_turn game.events deals) line).events (party_at seat)
+    ≡ left_after order price (cash_of game.seats game.events (party_at seat))
 
 -- a private is paid for at this price, and the bids on the next are settled
 pub record IsPaidFor (seats : ℕ) (seat : Seat) (price : ℤ) (old new : List Event) : Type 0 where

@@ -67,10 +67,10 @@ OpeningRowsAreRuled =
 -- so does that of a stock round
 abbrev pub StockRowsAreRuled : Type 0
 StockRowsAreRuled =
-    (seats : ℕ) (events : List Event) (seat : Seat) (deals : ShareDeals) (line : Numbered) (order : Order) →
-    has_place_in_turn order ≡ true → Orders events line order
-    → stock_ruling seats seat (in_turn events deals) line
-    ≡ judged line.condition order (rule_told (stock_answer seats events seat deals.bought order))
+    (game : Game) (seat : Seat) (deals : ShareDeals) (line : Numbered) (order : Order) →
+    has_place_in_turn order ≡ true → Orders game.events line order
+    → stock_ruling game.seats seat (in_turn game.events deals) line
+    ≡ judged line.condition order (rule_told (stock_answer game seat deals.bought order))
 
 -- and that of a standing line of an opening
 abbrev pub RowsBeforeAreRuled : Type 0

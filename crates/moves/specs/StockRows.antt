@@ -21,6 +21,7 @@ use Rattle.tables.specs.Chart.{par_values}
 use Rattle.tables.specs.Roster.{companies}
 use Rattle.tables.specs.declared.roster.Company.{Company}
 use Rattle.tables.specs.declared.seat.Seat.{Seat}
+use Rattle.totals.specs.LookBack.{Game}
 use Rattle.totals.specs.Shares.{shares_of}
 
 -- to start a company, at each par value
@@ -74,11 +75,10 @@ stock_cost events other = 0
 
 -- what becomes of an order as the next line of a seat's turn, in which it has bought of this company or
 -- of none
-abbrev pub stock_answer : ℕ → List Event → Seat → Option Company → Order → Answer
-stock_answer seats events seat bought order =
-    answer_of (pos (stock_cost events order)) (refusal_of seats events seat bought order)
+abbrev pub stock_answer : Game → Seat → Option Company → Order → Answer
+stock_answer game seat bought order =
+    answer_of (pos (stock_cost game.events order)) (refusal_of game seat bought order)
 
 -- the row of an order
-abbrev pub stock_row : ℕ → List Event → Seat → Option Company → Order → Row
-stock_row seats events seat bought order =
-    record { order = order; answer = stock_answer seats events seat bought order }
+abbrev pub stock_row : Game → Seat → Option Company → Order → Row
+stock_row game seat bought order = record { order = order; answer = stock_answer game seat bought order }

@@ -28,7 +28,7 @@ pub fn stock_rows(
     bought: Option<Company>,
 ) -> Result<Vec<Row>, AllocError>
     ensures { IfOk result (λ rows. rows.items
-        ≡ map (stock_row history.now.seats history.now.events seat bought)
+        ≡ map (stock_row history.now seat bought)
         (stock_orders history.now.events seat)) }
 {
     let mut rows = Vec::new(alloc);
@@ -44,7 +44,7 @@ fn push_orders(
     bought: Option<Company>,
 ) -> Result<(), AllocError>
     ensures { OnOk result (rows.new.items ≡ rows.old.items
-        ++ map (stock_row history.now.seats history.now.events seat bought)
+        ++ map (stock_row history.now seat bought)
         (stock_orders history.now.events seat)) }
 {
     push_companies(rows, history, seat, bought)?;
@@ -60,7 +60,7 @@ fn push_companies(
     bought: Option<Company>,
 ) -> Result<(), AllocError>
     ensures { OnOk result (rows.new.items ≡ rows.old.items
-        ++ map (stock_row history.now.seats history.now.events seat bought)
+        ++ map (stock_row history.now seat bought)
         (orders_of_companies history.now.events seat)) }
 {
     for company in &Company::ALL {
@@ -78,7 +78,7 @@ fn push_company(
     company: Company,
 ) -> Result<(), AllocError>
     ensures { OnOk result (rows.new.items ≡ rows.old.items
-        ++ map (stock_row history.now.seats history.now.events seat bought)
+        ++ map (stock_row history.now seat bought)
         (orders_of history.now.events seat company)) }
 {
     push_starts(rows, history, seat, bought, company)?;
@@ -96,7 +96,7 @@ fn push_starts(
     company: Company,
 ) -> Result<(), AllocError>
     ensures { OnOk result (rows.new.items ≡ rows.old.items
-        ++ map (stock_row history.now.seats history.now.events seat bought) (starts_of company)) }
+        ++ map (stock_row history.now seat bought) (starts_of company)) }
 {
     for price in &PAR_VALUES {
         let price = *price;
@@ -114,7 +114,7 @@ fn push_shares(
     company: Company,
 ) -> Result<(), AllocError>
     ensures { OnOk result (rows.new.items ≡ rows.old.items
-        ++ map (stock_row history.now.seats history.now.events seat bought) (shares_from company)) }
+        ++ map (stock_row history.now seat bought) (shares_from company)) }
 {
     for from in &[ShareSource::InitialOffering, ShareSource::BankPool] {
         let from = *from;
@@ -138,7 +138,7 @@ fn push_sales(
     company: Company,
 ) -> Result<(), AllocError>
     ensures { OnOk result (rows.new.items ≡ rows.old.items
-        ++ map (stock_row history.now.seats history.now.events seat bought)
+        ++ map (stock_row history.now seat bought)
         (sales_of history.now.events seat company)) }
 {
     for shares in &NUMBERS {
@@ -157,7 +157,7 @@ fn push_sale(
     shares: Amount,
 ) -> Result<(), AllocError>
     ensures { OnOk result (rows.new.items ≡ rows.old.items
-        ++ map (stock_row history.now.seats history.now.events seat bought)
+        ++ map (stock_row history.now seat bought)
         (orders_of_sale history.now.events seat company shares)) }
 {
     if !is_number_asked(history, seat, company, shares) {
@@ -184,7 +184,7 @@ fn push_order(
     order: Order,
 ) -> Result<(), AllocError>
     ensures { OnOk result (rows.new.items ≡ rows.old.items
-        ++ stock_row history.now.seats history.now.events seat bought order ∷ []) }
+        ++ stock_row history.now seat bought order ∷ []) }
 {
     let answer = answer_to(history, seat, bought, &order);
     push_row(rows, order, answer)
@@ -192,7 +192,7 @@ fn push_order(
 
 /// Returns the outcome of an order as the next line of a seat's turn.
 fn answer_to(history: &History, seat: Seat, bought: Option<Company>, order: &Order) -> Answer
-    ensures { result ≡ stock_answer history.now.seats history.now.events seat bought order.now }
+    ensures { result ≡ stock_answer history.now seat bought order.now }
 {
     let broken = judge(history, seat, bought, order).map(Refusal::Stock);
     answer_of(cost(history, order), broken)
@@ -201,7 +201,7 @@ fn answer_to(history: &History, seat: Seat, bought: Option<Company>, order: &Ord
 /// Returns the first rule that an order of a seat breaks in its turn, in which it has bought of
 /// this company or of none; `None` if it breaks none.
 fn judge(history: &History, seat: Seat, bought: Option<Company>, order: &Order) -> Option<StockRule>
-    ensures { result ≡ judgement_of history.now.seats history.now.events seat bought order.now }
+    ensures { result ≡ judgement_of history.now seat bought order.now }
 {
     match order {
         Order::Par { company, price } => {
@@ -223,7 +223,7 @@ fn judge(history: &History, seat: Seat, bought: Option<Company>, order: &Order) 
 
 /// Returns the rule that an exchange of MH breaks; `None` if it breaks none.
 fn judge_exchange(history: &History, seat: Seat) -> Option<StockRule>
-    ensures { result ≡ exchange_judgement history.now.events seat }
+    ensures { result ≡ exchange_judgement history.now seat }
 {
     if is_no_exchange(history, seat) {
         return Some(StockRule::NoExchange);

@@ -4,6 +4,7 @@
 use Rattle.std.proofs.Common.{◌≡◌, ℕ, zero, suc, ◌*◌, ◌==◌, Bool, true, false, if◌then◌else◌, List, [], ◌∷◌, ◌++◌}
 use Rattle.std.proofs.Common.{Option, Some, None, is_some, is_none, Result, Ok, inl, inr, pos, refl, sym, subst}
 use Rattle.std.specs.Int.Signed.{lt_z}
+use Rattle.certs.specs.Games.{with_events}
 use Rattle.certs.specs.President.{successor_of}
 use Rattle.certs.specs.Purchase.{market_price_of}
 use Rattle.certs.specs.SaleAct.{sold, with_president, with_successor}
@@ -54,10 +55,6 @@ use Rattle.tables.specs.declared.roster.Company.{Company}
 use Rattle.tables.specs.declared.round.Round.{Round}
 use Rattle.tables.specs.declared.seat.Seat.{Seat}
 use Rattle.tables.specs.declared.squares.Square.{Square}
-
--- a game with these events
-abbrev with_events : Game → List Event → Game
-with_events game events = record { seats = game.seats; events = events }
 
 -- what a forced purchase can add beside the events of any turn: a presidency that passes, and a
 -- bankruptcy
@@ -129,7 +126,7 @@ module _ (by : Operator) (R : Game → Game → Type 0) (of : OfEvents by.compan
 
   -- of a presidency that passes
   of_succession : (game : Game) (company : Company) (old : Option Seat)
-      → R game (with_events game (with_successor game.seats game.events company old))
+      → R game (with_events game (with_successor game company old))
   of_succession game company None = of.on.same game
   of_succession game company (Some old) =
       let new : Seat = successor_of game.seats game.events company old in
@@ -152,8 +149,8 @@ module _ (by : Operator) (R : Game → Game → Type 0) (of : OfEvents by.compan
       let sells : Event = event.Sells company by.president sale.shares
       (sale.shares * market_price_of game.events company) in
       let recorded : Game = with_event game sells in
-      let paid : Game = with_events game (sold game.seats game.events by.president company sale.shares) in
-      let led : Game = with_events game (with_president game.seats paid.events company) in
+      let paid : Game = sold game by.president company sale.shares in
+      let led : Game = with_president paid company in
       let first : R game paid = of_break game recorded.events (of.others game sells tt refl refl refl) in
       let second : R paid led = of_succession paid company (president_of paid.events company) in
       of.on.both game led (with_sale by game sale) (of.on.both game paid led first second)

@@ -1,7 +1,8 @@
 -- What a company withholds keeps a list sound, and leaves the seats as they are.
-use Rattle.std.proofs.Common.{◌≡◌, ℕ, refl, sym, subst, List, ap, ◌∙◌, Bool, true, false, if◌then◌else◌}
+use Rattle.std.proofs.Common.{◌≡◌, ℕ, refl, sym, subst, ap, ◌∙◌, Bool, true, false, if◌then◌else◌}
 use Rattle.certs.proofs.Dividends.{broken_sound}
-use Rattle.events.specs.declared.event.Event.{Event}
+use Rattle.certs.proofs.Games.{moved_there}
+use Rattle.certs.specs.Games.{token_moved}
 use Rattle.events.specs.declared.event.Event.TheVariants as event
 use Rattle.history.proofs.Payments.{withholding_sound}
 use Rattle.history.specs.Record.{broken_recorded}
@@ -9,7 +10,7 @@ use Rattle.history.specs.Sound.{IsSound}
 use Rattle.market.proofs.Tokens.{move_sound}
 use Rattle.market.specs.Moves.{square_left_of}
 use Rattle.market.specs.Token.{with_move}
-use Rattle.operating.specs.Pay.{moved_left, withheld, withheld_if_unpaid}
+use Rattle.operating.specs.Pay.{withheld, withheld_if_unpaid}
 use Rattle.operating.specs.Progress.{is_unpaid, pay_done}
 use Rattle.operating.specs.TurnState.{TurnState, turn_state}
 use Rattle.tables.specs.declared.roster.Company.{Company}
@@ -30,10 +31,8 @@ pub withheld_steps : (game paid recorded new : Game) (company : Company) (amount
     → new.seats ≡ recorded.seats → new.events ≡ with_move square_left_of recorded.events company
     → new ≡ withheld game company amount
 withheld_steps game paid recorded new company amount is_paid is_recorded seats events =
-    let made : ℕ → List Event → Game = λ seats events. record { seats = seats; events = events } in
-    ap (λ (n : ℕ). made n new.events) seats
-    ∙ ap (made recorded.seats) events
-    ∙ ap (λ (game : Game). moved_left game company) (is_recorded ∙ ap broken_recorded is_paid)
+    moved_there square_left_of recorded new company seats events
+    ∙ ap (λ (game : Game). token_moved square_left_of game company) (is_recorded ∙ ap broken_recorded is_paid)
 
 -- what the company withholds by itself leaves the seats as they are
 pub withheld_seats : (company : Company) (turn : TurnState)

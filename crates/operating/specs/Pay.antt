@@ -5,6 +5,7 @@
 -- orders end.
 use Rattle.std.specs.Prelude.{Bool, ◌==◌, ◌||◌, List, [], ◌∷◌, Option, ℕ, option_map, if◌then◌else◌}
 use Rattle.certs.specs.Dividend.{paid_out}
+use Rattle.certs.specs.Games.{token_moved}
 use Rattle.events.specs.declared.event.Event.TheVariants as event
 use Rattle.events.specs.declared.ruling.PayRule.{PayRule}
 use Rattle.events.specs.declared.ruling.PayRule.TheVariants.{NothingToPay}
@@ -12,7 +13,6 @@ use Rattle.events.specs.declared.ruling.Refusal.TheVariants as refusal
 use Rattle.forced_purchase.specs.declared.operator.Operator.{Operator}
 use Rattle.history.specs.Record.{broken_recorded}
 use Rattle.market.specs.Moves.{square_left_of}
-use Rattle.market.specs.Token.{with_move}
 use Rattle.operating.specs.Progress.{is_past_pay, is_unpaid, pay_done}
 use Rattle.operating.specs.TurnState.{TurnState, turn_state, ruled}
 use Rattle.operating.specs.declared.progress.Progress.{Progress}
@@ -42,13 +42,10 @@ withhold_rules progress = rule NothingToPay (is_past_pay progress) ∷ []
 abbrev pub withhold_judgement : Progress → Option PayRule
 withhold_judgement progress = first_broken (withhold_rules progress)
 
--- with the token of a company moved left on the chart
-abbrev pub moved_left : Game → Company → Game
-moved_left game company = record { seats = game.seats; events = with_move square_left_of game.events company }
-
 -- after the company has withheld this much
 abbrev pub withheld : Game → Company → ℕ → Game
-withheld game company amount = moved_left (broken_recorded (with_event game (event.Withheld company amount))) company
+withheld game company amount =
+    token_moved square_left_of (broken_recorded (with_event game (event.Withheld company amount))) company
 
 -- after this line, with the rule that refuses its order, if one does; otherwise the game is as
 -- given

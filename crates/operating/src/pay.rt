@@ -3,6 +3,7 @@
 //! of it from the bank, and its token on the chart moves left. A company that has done neither
 //! withholds by itself before it buys a train, and when its orders end.
 ghost use Rattle.std.specs.Prelude.{◌≡◌, ◌≤◌, OnOk};
+ghost use Rattle.certs.specs.Games.{IsGame};
 ghost use Rattle.history.specs.Sound.{IsSound};
 ghost use Rattle.operating.specs.CompanyTurn.{GoesOn, IsInOrder, state};
 ghost use Rattle.operating.specs.Pay.{after_pay, after_withhold, pay_judgement, withheld};
@@ -97,8 +98,7 @@ fn rule_pay(
     order: &Order,
     progress: &mut Progress,
 ) -> Result<(), AllocError>
-    requires few { history.old.seats ≤ 6 }
-    requires sound { IsSound history.old }
+    requires { IsGame history.old }
     ensures turn { OnOk result (turn_state history.new progress.new
         ≡ after_pay by (turn_state history.old progress.old) (line_with line order.now) order.now) }
     ensures sound { OnOk result (IsSound history.new) }

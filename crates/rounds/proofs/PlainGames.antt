@@ -118,7 +118,7 @@ by_move move game company =
 -- by a sale of shares
 by_sale : (by : Operator) (game : Game) (sale : Sale) → AddsPlainly game (with_sale by game sale)
 by_sale by game sale =
-    passes_plain is_still (sale_grows game.seats game.events by.president sale.company sale.shares)
+    passes_plain is_still (sale_grows game by.president sale.company sale.shares)
 
 module _ (company : Company) where
   -- by what the company withholds

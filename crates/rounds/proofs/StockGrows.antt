@@ -9,7 +9,7 @@ use Rattle.events.specs.declared.event.Event.TheVariants as event
 use Rattle.events.specs.declared.ruling.Refusal.TheVariants as refusal
 use Rattle.events.specs.declared.ruling.Ruling.{Ruling}
 use Rattle.events.specs.declared.ruling.Ruling.TheVariants as ruling
-use Rattle.totals.specs.LookBack.{Game}
+use Rattle.totals.specs.LookBack.{Game, with_event}
 use Rattle.totals.specs.Shares.{par_of, president_of, square_of}
 use Rattle.market.specs.Moves.{fallen, up_of}
 use Rattle.market.specs.OperatingOrder.{operating_order_of}
@@ -31,7 +31,7 @@ use Rattle.stock_round.specs.Float.{is_to_float, with_float}
 use Rattle.stock_round.specs.Orders.{after_act, judgement_of, refusal_of}
 use Rattle.stock_round.specs.Standing.{fault_of_standing}
 use Rattle.stock_round.specs.StockRound.{IsStockRound}
-use Rattle.stock_round.specs.Turn.{InTurn, acted, after_stock_line, ruling_in, stock_rules}
+use Rattle.stock_round.specs.Turn.{InTurn, acted, after_stock_line, game_in, ruling_in, stock_rules}
 use Rattle.tables.specs.declared.roster.Company.{Company}
 use Rattle.tables.specs.declared.roster.Company.TheVariants.{NewYorkCentral}
 use Rattle.tables.specs.declared.round.Round.{Round}
@@ -42,26 +42,30 @@ use Rattle.turns.proofs.Ruled.{of_ruled}
 use Rattle.turns.specs.Ruling.{has_place_in_turn, obeyed_by}
 
 -- by the presidency of a company, where it moves from this seat, if any has it
-successor_grows : (seats : ℕ) (events : List Event) (company : Company) (old : Option Seat) →
-    GrowsPlainly is_still events (with_successor seats events company old)
-successor_grows seats events company None = stays
-successor_grows seats events company (Some old) =
-    in_either ((successor_of seats events company old).0 == old.0) stays
-    (by_one_event events (event.President company (successor_of seats events company old)) refl)
+successor_grows : (game : Game) (company : Company) (old : Option Seat) →
+    GrowsPlainly is_still game.events (with_successor game company old)
+successor_grows game company None = stays
+successor_grows game company (Some old) =
+    let new : Seat = successor_of game.seats game.events company old in
+    in_either (new.0 == old.0) stays (by_one_event game.events (event.President company new) refl)
 
 -- by a presidency that moves
-president_grows : (seats : ℕ) (events : List Event) (company : Company) →
-    GrowsPlainly is_still events (with_president seats events company)
-president_grows seats events company = successor_grows seats events company (president_of events company)
+president_grows : (game : Game) (company : Company) →
+    GrowsPlainly is_still game.events (with_president game company).events
+president_grows game company = successor_grows game company (president_of game.events company)
 
 -- by a float
-float_grows : (seats : ℕ) (events : List Event) (company : Company) →
-    GrowsPlainly is_still events (with_float seats events company)
-float_grows seats events company =
-    in_either (is_to_float events company)
-    (by_one_event events (event.Floats company (10 * unwrap_or (par_of events company) 0)) refl ⨾
-    broken_grows seats _)
+float_grows : (game : Game) (company : Company) → GrowsPlainly is_still game.events (with_float game company).events
+float_grows game company =
+    in_either (is_to_float game.events company)
+    (by_one_event game.events (event.Floats company (10 * unwrap_or (par_of game.events company) 0)) refl ⨾
+    broken_grows game.seats _)
     stays
+
+-- by what follows from a share that a seat now has
+share_grows : (game : Game) (company : Company) →
+    GrowsPlainly is_still game.events (with_float (with_president game company) company).events
+share_grows game company = president_grows game company ⨾ float_grows (with_president game company) company
 
 -- by the move of a token from this square, if it is on one
 pub token_grows : (move : Square → Square) (events : List Event) (company : Company) (square : Option Square) →
@@ -72,52 +76,52 @@ token_grows move events company (Some square) =
     (by_one_event events (event.Moves company (move square)) refl)
 
 -- by a purchase
-purchase_grows : (seats : ℕ) (events : List Event) (seat : Seat) (company : Company) (from : ShareSource) →
-    GrowsPlainly is_still events (after_purchase seats events seat company from)
-purchase_grows seats events seat company from =
-    by_one_event events _ refl ⨾ president_grows seats (bought events seat company from) company
-    ⨾ float_grows seats _ company
+purchase_grows : (game : Game) (seat : Seat) (company : Company) (from : ShareSource) →
+    GrowsPlainly is_still game.events (after_purchase game seat company from).events
+purchase_grows game seat company from =
+    by_one_event game.events _ refl ⨾ share_grows (bought game seat company from) company
 
 -- by a sale
-pub sale_grows : (seats : ℕ) (events : List Event) (seat : Seat) (company : Company) (shares : ℕ) →
-    GrowsPlainly is_still events (after_sale seats events seat company shares)
-sale_grows seats events seat company shares =
-    let paid : List Event = sold seats events seat company shares in
-    let presided : List Event = with_president seats paid company in
-    by_one_event events (event.Sells company seat shares (shares * market_price_of events company))
+pub sale_grows : (game : Game) (seat : Seat) (company : Company) (shares : ℕ) →
+    GrowsPlainly is_still game.events (after_sale game seat company shares).events
+sale_grows game seat company shares =
+    let paid : Game = sold game seat company shares in
+    let presided : List Event = (with_president paid company).events in
+    by_one_event game.events (event.Sells company seat shares (shares * market_price_of game.events company))
     refl
-    ⨾ broken_grows seats _ ⨾ president_grows seats paid company
+    ⨾ broken_grows game.seats _ ⨾ president_grows paid company
     ⨾ token_grows (fallen shares) presided company (square_of presided company)
 
 -- by an exchange
-exchange_grows : (seats : ℕ) (events : List Event) (seat : Seat) →
-    GrowsPlainly is_still events (after_exchange seats events seat)
-exchange_grows seats events seat =
-    by_one_event events (event.Exchanged seat (exchange_source events)) refl
-    ⨾ president_grows seats (exchanged events seat) NewYorkCentral ⨾ float_grows seats _
-    NewYorkCentral
+exchange_grows : (game : Game) (seat : Seat) → GrowsPlainly is_still game.events (after_exchange game seat).events
+exchange_grows game seat =
+    by_one_event game.events (event.Exchanged seat (exchange_source game.events)) refl
+    ⨾ share_grows (exchanged game seat) NewYorkCentral
 
 -- by an order that was obeyed
-act_grows : (seats : ℕ) (seat : Seat) (events : List Event) (done : Order) →
-    GrowsPlainly is_still events (after_act seats seat events done)
-act_grows seats seat events (order.Par company price) = record { more = _; longer = refl; aside = refl }
-act_grows seats seat events (order.BuyShare company from) = purchase_grows seats events seat company from
-act_grows seats seat events (order.Sell company shares) = sale_grows seats events seat company shares
-act_grows seats seat events order.ExchangeMohawk = exchange_grows seats events seat
-act_grows seats seat events other = stays
+act_grows : (game : Game) (seat : Seat) (done : Order) →
+    GrowsPlainly is_still game.events (after_act game seat done).events
+act_grows game seat (order.Par company price) =
+    by_one_event game.events (event.Par company price) refl ⨾ by_one_event _ _ refl
+    ⨾ by_one_event _ (event.President company seat) refl
+act_grows game seat (order.BuyShare company from) = purchase_grows game seat company from
+act_grows game seat (order.Sell company shares) = sale_grows game seat company shares
+act_grows game seat order.ExchangeMohawk = exchange_grows game seat
+act_grows game seat other = stays
 
 -- by a line of a turn
 line_grows : (seats : ℕ) (seat : Seat) (turn : InTurn) (line : Numbered) →
     GrowsStill turn.events (after_stock_line seats seat turn line).events
 line_grows seats seat turn line =
-    of_ruled (acted seats seat) (refusal_of seats turn.events seat turn.actions.bought) seat turn line.number
+    of_ruled (acted seats seat) (refusal_of (game_in seats turn) seat turn.actions.bought) seat turn line.number
     (λ (after : InTurn). GrowsStill turn.events after.events)
     (λ (ruled : Ruling) (none : obeyed_by ruled ≡ None).
     by_one_event turn.events (event.Ruled seat line.number ruled) refl)
     (λ (condition : Option Condition) (done : Order)
-    (kept : refusal_of seats turn.events seat turn.actions.bought done ≡ None).
+    (kept : refusal_of (game_in seats turn) seat turn.actions.bought done ≡ None).
     by_one_event turn.events (event.Ruled seat line.number (ruling.Obeyed condition done)) refl
-    ⨾ passes_test is_still (act_grows seats seat _ done))
+    ⨾ passes_test is_still (act_grows (with_event (game_in seats turn)
+    (event.Ruled seat line.number (ruling.Obeyed condition done))) seat done))
     has_place_in_turn turn.events line
 
 -- by the rises of companies that are sold out
@@ -153,11 +157,11 @@ stock_adds =
           recorded_plain seat line.number (ruling.Faulty (fault_of_standing line.reading)) events refl;
       line = λ seats seat turn line plain.
           ruled_plain (acted seats seat)
-          (λ at done. passes_plain is_still (act_grows seats seat at.events done))
+          (λ at done. passes_plain is_still (act_grows (game_in seats at) seat done))
           seat turn line.number (ruling_in seats seat turn line)
-          (ruling_plain has_place_in_turn (refusal_of seats turn.events seat turn.actions.bought) turn.events line
+          (ruling_plain has_place_in_turn (refusal_of (game_in seats turn) seat turn.actions.bought) turn.events line
           plain (λ its. of_mapped refusal.Stock (λ rule. tt)
-          (judgement_of seats turn.events seat turn.actions.bought its)));
+          (judgement_of (game_in seats turn) seat turn.actions.bought its)));
       closed = λ seats events. passes_plain is_still (rises_grow events (operating_order_of
           events));
     }

@@ -12,6 +12,7 @@ use Rattle.stock_round.specs.Float.{with_float}
 use Rattle.tables.specs.Seat.{seat_at}
 use Rattle.tables.specs.declared.roster.Company.TheVariants.{Pennsylvania}
 use Rattle.tables.specs.declared.roster.Private.TheVariants.{ChamplainStLawrence, CamdenAmboy}
+use Rattle.totals.specs.LookBack.{Game}
 use Rattle.totals.specs.Shares.{is_started, shares_of}
 
 abbrev happened : List Event
@@ -52,9 +53,13 @@ bobs_certificates = refl
 abbrev with_two_more : List Event
 with_two_more = happened ++ event.Bought Pennsylvania (seat_at 2) 2 InitialOffering 134 ∷ []
 
-pub prr_floats : with_float 3 with_two_more Pennsylvania ≡ with_two_more ++ event.Floats Pennsylvania 670 ∷ []
+abbrev game : List Event → Game
+game events = record { seats = 3; events = events }
+
+pub prr_floats :
+    with_float (game with_two_more) Pennsylvania ≡ game (with_two_more ++ event.Floats Pennsylvania 670 ∷ [])
 prr_floats = refl
 
 -- before that it does not
-pub not_yet : with_float 3 happened Pennsylvania ≡ happened
+pub not_yet : with_float (game happened) Pennsylvania ≡ game happened
 not_yet = refl

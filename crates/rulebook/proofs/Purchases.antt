@@ -16,6 +16,7 @@ use Rattle.stock_round.specs.Par.{after_start}
 use Rattle.tables.specs.Seat.{seat_at}
 use Rattle.tables.specs.declared.roster.Company.TheVariants.{Pennsylvania, Erie}
 use Rattle.tables.specs.declared.round.Round.TheVariants.{Stock}
+use Rattle.totals.specs.LookBack.{Game}
 
 abbrev before : List Event
 before =
@@ -30,6 +31,9 @@ before =
     ∷ event.Sells Pennsylvania (seat_at 0) 1 100
     ∷ event.Moves Pennsylvania (record { row = 1; column = 7 })
     ∷ []
+
+abbrev game : List Event → Game
+game events = record { seats = 3; events = events }
 
 -- the first rule that a seat breaks by its first purchase of a turn
 abbrev broken : ℕ → Purchase → Option StockRule
@@ -64,16 +68,17 @@ unfolding purchase_judgement is_sold_out_there is_short_of_cash is_at_limit is_o
 cyd_may_buy = refl
 
 pub cyd_buys :
-    after_purchase 3 before (seat_at 2) Pennsylvania BankPool
-    ≡ before ++ event.Bought Pennsylvania (seat_at 2) 1 BankPool 90 ∷ []
+    after_purchase (game before) (seat_at 2) Pennsylvania BankPool
+    ≡ game (before ++ event.Bought Pennsylvania (seat_at 2) 1 BankPool 90 ∷ [])
 cyd_buys = refl
 
 -- or start ERIE at 67, with two shares
 pub cyd_starts :
-    after_start before (seat_at 2) Erie 67
-    ≡ before
+    after_start (game before) (seat_at 2) Erie 67
+    ≡ game
+    (before
     ++ event.Par Erie 67
     ∷ event.Bought Erie (seat_at 2) 2 InitialOffering 134
     ∷ event.President Erie (seat_at 2)
-    ∷ []
+    ∷ [])
 cyd_starts = refl

@@ -15,6 +15,7 @@ use Rattle.tables.specs.Seat.{seat_at}
 use Rattle.tables.specs.declared.roster.Company.{Company}
 use Rattle.tables.specs.declared.roster.Company.TheVariants.{Pennsylvania, BaltimoreOhio}
 use Rattle.tables.specs.declared.round.Round.TheVariants.{Stock}
+use Rattle.totals.specs.LookBack.{Game}
 
 -- what happened before: BOB bought this many shares
 abbrev before : ℕ → List Event
@@ -28,23 +29,28 @@ before bobs =
     ∷ event.Round (Stock 2)
     ∷ []
 
+abbrev game : List Event → Game
+game events = record { seats = 3; events = events }
+
 -- ANN sells three shares of PRR
 pub ann_sells_three :
-    after_sale 3 (before 1) (seat_at 0) Pennsylvania 3
-    ≡ before 1
+    after_sale (game (before 1)) (seat_at 0) Pennsylvania 3
+    ≡ game
+    (before 1
     ++ event.Sells Pennsylvania (seat_at 0) 3 300
     ∷ event.Moves Pennsylvania (record { row = 3; column = 7 })
-    ∷ []
+    ∷ [])
 ann_sells_three = refl
 
 -- the same, if BOB has three: he presides
 pub bob_presides :
-    after_sale 3 (before 3) (seat_at 0) Pennsylvania 3
-    ≡ before 3
+    after_sale (game (before 3)) (seat_at 0) Pennsylvania 3
+    ≡ game
+    (before 3
     ++ event.Sells Pennsylvania (seat_at 0) 3 300
     ∷ event.President Pennsylvania (seat_at 1)
     ∷ event.Moves Pennsylvania (record { row = 3; column = 7 })
-    ∷ []
+    ∷ [])
 bob_presides = refl
 
 -- the first rule that a seat breaks if it sells this many shares of a company

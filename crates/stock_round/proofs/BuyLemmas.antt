@@ -5,6 +5,7 @@ use Rattle.std.proofs.lemmas.Int.{ints}
 use Rattle.std.specs.Int.Signed.{lt_z}
 use Rattle.std.proofs.lemmas.Bool.{not-false}
 use Rattle.certs.proofs.SaleAllowed.{same_start}
+use Rattle.certs.specs.Games.{IsGame, with_events}
 use Rattle.certs.specs.Purchase.{is_sold_out_there, purchase_judgement, share_price_of, share_purchase_rules}
 use Rattle.certs.specs.declared.share_deal.Purchase.TheVariants as purchase
 use Rattle.events.specs.Event.{place_of_source}
@@ -30,24 +31,25 @@ use Rattle.turns.proofs.Acted.{in_both, one_more}
 use Rattle.turns.specs.Acted.{SaysWhoActed}
 
 -- a share can be bought
-pub purchase_allowed : (seats : ℕ) (events : List Event) (seat : Seat) (company : Company) (from : ShareSource)
-    (bought : Option Company) → buy_judgement seats events seat company from bought ≡ None
-    → MayBuy seats events seat company from
+pub purchase_allowed : (game : Game) (seat : Seat) (company : Company) (from : ShareSource) (bought : Option Company)
+    → buy_judgement game seat company from bought ≡ None → MayBuy game seat company from
 unfolding purchase_judgement
-purchase_allowed seats events seat company from bought none =
+purchase_allowed game seat company from bought none =
     let kept = not_broken code_of_stock_rule
-    (share_purchase_rules seats events seat (purchase.Share company from) bought) none in
+    (share_purchase_rules game.seats game.events seat (purchase.Share company from) bought) none in
     record {
       there = kept NoneThere;
-      started = not-false (is_started events company) (kept WrongStart);
+      started = not-false (is_started game.events company) (kept WrongStart);
       pays = kept CashTooSmall;
     }
 
 -- a share can still be bought where a list says the same
-pub still_may_buy : (seats : ℕ) (before after : List Event) (seat : Seat) (company : Company) (from : ShareSource)
-    → SaysTheSame before after → MayBuy seats before seat company from → MayBuy seats after seat company from
+pub still_may_buy : (game : Game) (after : List Event) (seat : Seat) (company : Company) (from : ShareSource)
+    → SaysTheSame game.events after → MayBuy game seat company from → MayBuy (with_events game after) seat company from
 unfolding is_sold_out_there
-still_may_buy seats before after seat company from same may =
+still_may_buy game after seat company from same may =
+    let seats = game.seats in
+    let before = game.events in
     record {
       there = ap (λ (shares : ℤ). lt_z shares (pos 1)) (same.shares company (place_of_source from)) ∙ may.there;
       started = same_start before after company same ∙ may.started;
@@ -62,29 +64,33 @@ there_is : (events : List Event) (company : Company) (from : ShareSource)
 there_is events company from may = grind (arith, ints, may)
 
 -- the purchase of a share
-pub purchase_sound : (game new : Game) (seat : Seat) (company : Company) (from : ShareSource) (price : ℕ)
-    → MayBuy game.seats game.events seat company from → seat.0 < game.seats
+pub purchase_game : (game new : Game) (seat : Seat) (company : Company) (from : ShareSource) (price : ℕ)
+    → MayBuy game seat company from → seat.0 < game.seats
     → price ≡ share_price_of game.events company from → new ≡ with_event game (event.Bought company seat 1 from price)
-    → IsSound game → IsSound new
+    → IsGame game → IsGame new
 unfolding is_sold_out_there
-purchase_sound game new seat company from price may within is_price recorded sound =
+purchase_game game new seat company from price may within is_price recorded before =
+    let sound = before.sound in
     let pays : pos price ≤ℤ free_cash_of game.seats game.events seat =
     subst (λ (n : ℕ). pos n ≤ℤ free_cash_of game.seats game.events seat) (sym is_price)
     (paid game.seats game.events seat (share_price_of game.events company from) may.pays) in
-    subst IsSound (sym recorded)
-    (elim (square_of game.events company) as (λ (found : Option Square). square_of game.events company ≡ found
-    → is_some found ≡ true → IsSound (with_event game (event.Bought company seat 1 from price))) [
-      | None ↦ λ is has. absurd (cc)
-      | Some square ↦ λ is has. purchase_law game company seat 1 from price square is within
-          (there_is game.events company from may.there) pays sound
-    ]
-    refl may.started)
+    subst IsGame (sym recorded) (record {
+      few = before.few;
+      sound =
+          elim (square_of game.events company) as (λ (found : Option Square). square_of game.events company ≡ found
+          → is_some found ≡ true → IsSound (with_event game (event.Bought company seat 1 from price))) [
+            | None ↦ λ is has. absurd (cc)
+            | Some square ↦ λ is has. purchase_law game company seat 1 from price square is within
+                (there_is game.events company from may.there) pays sound
+          ]
+          refl may.started;
+    })
 
 -- by a purchase the seat acts
-pub in_purchase : (seats : ℕ) (seat : Seat) (events : List Event) (company : Company) (from : ShareSource)
-    → SaysWhoActed seat true events (after_purchase seats events seat company from)
-in_purchase seats seat events company from =
-    let paid : List Event = bought events seat company from in
-    in_both seat true false events paid (after_purchase seats events seat company from)
-    (one_more seat true events (event.Bought company seat 1 from (share_price_of events company from)) refl)
-    (in_what_follows seats seat paid company)
+pub in_purchase : (game : Game) (seat : Seat) (company : Company) (from : ShareSource)
+    → SaysWhoActed seat true game.events (after_purchase game seat company from).events
+in_purchase game seat company from =
+    let paid : Game = bought game seat company from in
+    in_both seat true false game.events paid.events (after_purchase game seat company from).events
+    (one_more seat true game.events (event.Bought company seat 1 from (share_price_of game.events company from)) refl)
+    (in_what_follows paid seat company)

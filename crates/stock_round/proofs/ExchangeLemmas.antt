@@ -14,7 +14,7 @@ use Rattle.events.specs.declared.event.Holder.TheVariants as holder
 use Rattle.events.specs.declared.event.Shareholder.TheVariants.{InitialOffering, BankPool, Seat as OfSeat}
 use Rattle.events.specs.declared.ruling.StockRule.TheVariants.{NoExchange}
 use Rattle.history.proofs.Purchases.{exchange_sound as exchange_law}
-use Rattle.history.specs.Sound.{IsSound}
+use Rattle.certs.specs.Games.{IsGame}
 use Rattle.totals.specs.AtEnd.{SaysTheSame}
 use Rattle.totals.specs.LookBack.{Game, owner_of, with_event}
 use Rattle.totals.specs.Shares.{shares_of, square_of}
@@ -33,9 +33,8 @@ use Rattle.turns.proofs.Acted.{in_both, one_more}
 use Rattle.turns.specs.Acted.{SaysWhoActed}
 
 -- MH can be given up
-pub exchange_allowed : (events : List Event) (seat : Seat) → exchange_judgement events seat ≡ None
-    → MayExchange events seat
-exchange_allowed events seat none = not_broken code_of_stock_rule (exchange_rules events seat) none NoExchange
+pub exchange_allowed : (game : Game) (seat : Seat) → exchange_judgement game seat ≡ None → MayExchange game seat
+exchange_allowed game seat none = not_broken code_of_stock_rule (exchange_rules game.events seat) none NoExchange
 
 -- an exchange is allowed as before
 pub same_exchange : (before after : List Event) (seat : Seat) → SaysTheSame before after
@@ -81,25 +80,26 @@ has_source false true there is_offered is_pooled some = grind (arith, ints, is_p
 has_source false false there is_offered is_pooled some = absurd (cc)
 
 -- the exchange of MH
-pub exchange_sound : (game new : Game) (seat : Seat) (from : ShareSource) → MayExchange game.events seat
+pub exchange_game : (game new : Game) (seat : Seat) (from : ShareSource) → MayExchange game seat
     → seat.0 < game.seats → from ≡ exchange_source game.events → new ≡ with_event game (event.Exchanged seat from)
-    → IsSound game → IsSound new
-exchange_sound game new seat from may within is_from recorded sound =
+    → IsGame game → IsGame new
+exchange_game game new seat from may within is_from recorded before =
     let events = game.events in
     let kept = none_of (is_owner seat (owner_of events MohawkHudson)) (is_offered events || is_pooled events) _ may in
     let there : pos 1 ≤ℤ shares_of events NewYorkCentral (place_of_source (exchange_source events)) =
     has_source (is_offered events) (is_pooled events)
     (λ (from : ShareSource). shares_of events NewYorkCentral (place_of_source from)) refl refl kept.1 in
-    subst IsSound (sym recorded)
-    (exchange_law game seat from (owns seat (owner_of events MohawkHudson) kept.0) within
-    (subst (λ (s : ShareSource). pos 1 ≤ℤ shares_of events NewYorkCentral (place_of_source s))
-    (sym is_from) there) sound)
+    subst IsGame (sym recorded) (record {
+      few = before.few;
+      sound = exchange_law game seat from (owns seat (owner_of events MohawkHudson) kept.0) within
+          (subst (λ (s : ShareSource). pos 1 ≤ℤ shares_of events NewYorkCentral (place_of_source s))
+          (sym is_from) there) before.sound;
+    })
 
 -- nobody acts by an exchange
-pub in_exchange : (seats : ℕ) (seat : Seat) (events : List Event)
-    → SaysWhoActed seat false events (after_exchange seats events seat)
-in_exchange seats seat events =
-    let done : List Event = exchanged events seat in
-    in_both seat false false events done (after_exchange seats events seat)
-    (one_more seat false events (event.Exchanged seat (exchange_source events)) refl)
-    (in_what_follows seats seat done NewYorkCentral)
+pub in_exchange : (game : Game) (seat : Seat) → SaysWhoActed seat false game.events (after_exchange game seat).events
+in_exchange game seat =
+    let done : Game = exchanged game seat in
+    in_both seat false false game.events done.events (after_exchange game seat).events
+    (one_more seat false game.events (event.Exchanged seat (exchange_source game.events)) refl)
+    (in_what_follows done seat NewYorkCentral)

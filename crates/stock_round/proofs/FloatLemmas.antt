@@ -4,6 +4,7 @@ use Rattle.std.proofs.Common.{Option, Some, None, ℤ, pos, ◌≤ℤ◌, refl, 
 use Rattle.std.proofs.lemmas.Int.{ints}
 use Rattle.std.specs.Int.Signed.{lt_z}
 use Rattle.std.specs.Prelude.{unwrap_or}
+use Rattle.certs.specs.Games.{IsGame}
 use Rattle.certs.specs.President.{successor_of}
 use Rattle.certs.specs.SaleAct.{with_president, with_successor}
 use Rattle.events.specs.declared.event.Event.{Event}
@@ -53,11 +54,14 @@ float_led game its ready sound =
     refl
 
 -- a company that floats
-pub float_sound : (game new : Game) (its : Company) (amount : ℕ) → is_to_float game.events its ≡ true
-    → new ≡ with_event game (event.Floats its amount) → IsSound game → IsSound new
-float_sound game new its amount ready recorded sound =
-    subst IsSound (sym recorded) (float_law game its amount
-    (few_left (is_floated game.events its) (shares_of game.events its InitialOffering) ready) sound)
+pub float_game : (game new : Game) (its : Company) (amount : ℕ) → is_to_float game.events its ≡ true
+    → new ≡ with_event game (event.Floats its amount) → IsGame game → IsGame new
+float_game game new its amount ready recorded before =
+    subst IsGame (sym recorded) (record {
+      few = before.few;
+      sound = float_law game its amount
+          (few_left (is_floated game.events its) (shares_of game.events its InitialOffering) ready) before.sound;
+    })
 
 -- nobody acts where the bank breaks
 pub in_break : (seats : ℕ) (seat : Seat) (events : List Event) → SaysWhoActed seat false events (with_broken seats events)
@@ -66,30 +70,32 @@ in_break seats seat events =
     (one_more seat false events event.Broken refl) (nobody seat events)
 
 -- nor where a presidency moves from this seat, if any has it
-pub in_succession : (seats : ℕ) (seat : Seat) (events : List Event) (company : Company) (old : Option Seat)
-    → SaysWhoActed seat false events (with_successor seats events company old)
-in_succession seats seat events company None = nobody seat events
-in_succession seats seat events company (Some old) =
-    let new : Seat = successor_of seats events company old in
+pub in_succession : (game : Game) (seat : Seat) (company : Company) (old : Option Seat)
+    → SaysWhoActed seat false game.events (with_successor game company old)
+in_succession game seat company None = nobody seat game.events
+in_succession game seat company (Some old) =
+    let new : Seat = successor_of game.seats game.events company old in
+    let events = game.events in
     in_either seat false events events (events ++ event.President company new ∷ []) (new.0 == old.0)
     (nobody seat events)
     (one_more seat false events (event.President company new) refl)
 
 -- nor where a company floats
-in_float : (seats : ℕ) (seat : Seat) (events : List Event) (company : Company)
-    → SaysWhoActed seat false events (with_float seats events company)
-in_float seats seat events company =
+in_float : (game : Game) (seat : Seat) (company : Company)
+    → SaysWhoActed seat false game.events (with_float game company).events
+in_float game seat company =
+    let events = game.events in
     let par : ℕ = unwrap_or (par_of events company) 0 in
     let recorded : List Event = events ++ event.Floats company (10 * par) ∷ [] in
-    in_either seat false events (floated_at seats events company par) events (is_to_float events company)
-    (in_both seat false false events recorded (with_broken seats recorded)
-    (one_more seat false events (event.Floats company (10 * par)) refl) (in_break seats seat recorded))
+    in_either seat false events (floated_at game company par).events events (is_to_float events company)
+    (in_both seat false false events recorded (with_broken game.seats recorded)
+    (one_more seat false events (event.Floats company (10 * par)) refl) (in_break game.seats seat recorded))
     (nobody seat events)
 
 -- nor by what follows from a share that a seat now has
-pub in_what_follows : (seats : ℕ) (seat : Seat) (events : List Event) (company : Company)
-    → SaysWhoActed seat false events (with_float seats (with_president seats events company) company)
-in_what_follows seats seat events company =
-    let presided : List Event = with_president seats events company in
-    in_both seat false false events presided (with_float seats presided company)
-    (in_succession seats seat events company (president_of events company)) (in_float seats seat presided company)
+pub in_what_follows : (game : Game) (seat : Seat) (company : Company)
+    → SaysWhoActed seat false game.events (with_float (with_president game company) company).events
+in_what_follows game seat company =
+    let presided : Game = with_president game company in
+    in_both seat false false game.events presided.events (with_float presided company).events
+    (in_succession game seat company (president_of game.events company)) (in_float presided seat company)

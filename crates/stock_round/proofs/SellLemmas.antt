@@ -6,6 +6,7 @@ use Rattle.events.specs.declared.event.Event.{Event}
 use Rattle.events.specs.declared.event.Event.TheVariants as event
 use Rattle.market.specs.Moves.{fallen}
 use Rattle.market.specs.Token.{moved_from, same_square}
+use Rattle.totals.specs.LookBack.{Game}
 use Rattle.totals.specs.Shares.{president_of, square_of}
 use Rattle.stock_round.proofs.FloatLemmas.{in_break, in_succession}
 use Rattle.stock_round.specs.Sell.{after_sale}
@@ -25,16 +26,18 @@ in_move move seat events company (Some square) =
     (one_more seat false events (event.Moves company (move square)) refl)
 
 -- nobody acts by the events of a sale, since its line has recorded it
-pub in_sale : (seats : ℕ) (seat : Seat) (events : List Event) (company : Company) (shares : ℕ)
-    → SaysWhoActed seat false events (after_sale seats events seat company shares)
-in_sale seats seat events company shares =
+pub in_sale : (game : Game) (seat : Seat) (company : Company) (shares : ℕ)
+    → SaysWhoActed seat false game.events (after_sale game seat company shares).events
+in_sale game seat company shares =
+    let events = game.events in
     let price : ℕ = shares * market_price_of events company in
     let recorded : List Event = events ++ event.Sells company seat shares price ∷ [] in
-    let paid : List Event = sold seats events seat company shares in
-    let presided : List Event = with_president seats paid company in
-    in_both seat false false events paid (after_sale seats events seat company shares)
-    (in_both seat false false events recorded paid (one_more seat false events (event.Sells company seat shares price)
-    refl) (in_break seats seat recorded))
-    (in_both seat false false paid presided (after_sale seats events seat company shares)
-    (in_succession seats seat paid company (president_of paid company))
-    (in_move (fallen shares) seat presided company (square_of presided company)))
+    let paid : Game = sold game seat company shares in
+    let presided : Game = with_president paid company in
+    let last : List Event = (after_sale game seat company shares).events in
+    in_both seat false false events paid.events last
+    (in_both seat false false events recorded paid.events
+    (one_more seat false events (event.Sells company seat shares price) refl) (in_break game.seats seat recorded))
+    (in_both seat false false paid.events presided.events last
+    (in_succession paid seat company (president_of paid.events company))
+    (in_move (fallen shares) seat presided.events company (square_of presided.events company)))

@@ -1,5 +1,5 @@
 -- The new events of a line of a stock turn say who acted in it.
-use Rattle.std.proofs.Common.{◌≡◌, ℕ, Bool, true, false, ◌||◌, List, [], ◌∷◌, ◌++◌, Option, None, refl}
+use Rattle.std.proofs.Common.{◌≡◌, ℕ, Bool, true, false, ◌||◌, Option, None, refl}
 use Rattle.std.specs.Prelude.{is_some}
 use Rattle.events.specs.declared.event.Event.{Event}
 use Rattle.events.specs.declared.event.Event.TheVariants as event
@@ -10,18 +10,20 @@ use Rattle.order_grammar.specs.declared.order.Order.TheVariants as order
 use Rattle.sheets.specs.Part.{Numbered}
 use Rattle.stock_round.proofs.BuyLemmas.{in_purchase}
 use Rattle.stock_round.proofs.ExchangeLemmas.{in_exchange}
+use Rattle.stock_round.proofs.ParLemmas.{in_start}
 use Rattle.stock_round.proofs.SellLemmas.{in_sale}
 use Rattle.stock_round.specs.Buy.{after_purchase}
 use Rattle.stock_round.specs.Exchange.{after_exchange}
 use Rattle.stock_round.specs.Orders.{refusal_of}
 use Rattle.stock_round.specs.Par.{after_start}
 use Rattle.stock_round.specs.Sell.{after_sale}
-use Rattle.stock_round.specs.Turn.{InTurn, acted, after_ruling, stock_rules}
+use Rattle.stock_round.specs.Turn.{InTurn, acted, after_ruling, game_in, stock_rules}
 use Rattle.tables.specs.declared.seat.Seat.{Seat}
 use Rattle.turns.proofs.Acted.{LineSaysWhoActed, in_both, nobody_ruled, one_more, or_nothing, turns_say}
 use Rattle.turns.proofs.Ruled.{of_ruled}
 use Rattle.turns.specs.Acted.{TurnsSayWhoActed}
 use Rattle.turns.specs.Ruling.{has_place_in_turn}
+use Rattle.totals.specs.LookBack.{Game, with_event}
 
 -- who has bought has acted
 has_bought : (before : Bool) → true ≡ (before || true)
@@ -36,42 +38,42 @@ has_sold false false = refl
 
 -- by a line whose order is done
 order_says : (seats : ℕ) (seat : Seat) (turn : InTurn) (number : ℕ) (condition : Option Condition) (done : Order)
-    → refusal_of seats turn.events seat turn.actions.bought done ≡ None →
+    → refusal_of (game_in seats turn) seat turn.actions.bought done ≡ None →
     LineSaysWhoActed stock_rules seat turn (after_ruling seats seat turn number (Obeyed condition done))
 order_says seats seat turn number condition (order.Par company price) kept =
     let line : Event = event.Ruled seat number (Obeyed condition (order.Par company price)) in
-    let ruled : List Event = turn.events ++ line ∷ [] in
+    let ruled : Game = with_event (game_in seats turn) line in
     record {
       acts = true;
-      says_who = in_both seat false true turn.events ruled (after_start ruled seat company price)
-          (one_more seat false turn.events line refl) (record { more = _; longer = refl; last = refl });
+      says_who = in_both seat false true turn.events ruled.events (after_start ruled seat company price).events
+          (one_more seat false turn.events line refl) (in_start ruled seat company price);
       acted = has_bought (is_some turn.actions.bought || turn.actions.sold);
     }
 order_says seats seat turn number condition (order.BuyShare company from) kept =
     let line : Event = event.Ruled seat number (Obeyed condition (order.BuyShare company from)) in
-    let ruled : List Event = turn.events ++ line ∷ [] in
+    let ruled : Game = with_event (game_in seats turn) line in
     record {
       acts = true;
-      says_who = in_both seat false true turn.events ruled (after_purchase seats ruled seat company from)
-          (one_more seat false turn.events line refl) (in_purchase seats seat ruled company from);
+      says_who = in_both seat false true turn.events ruled.events (after_purchase ruled seat company from).events
+          (one_more seat false turn.events line refl) (in_purchase ruled seat company from);
       acted = has_bought (is_some turn.actions.bought || turn.actions.sold);
     }
 order_says seats seat turn number condition (order.Sell company shares) kept =
     let line : Event = event.Ruled seat number (Obeyed condition (order.Sell company shares)) in
-    let ruled : List Event = turn.events ++ line ∷ [] in
+    let ruled : Game = with_event (game_in seats turn) line in
     record {
       acts = true;
-      says_who = in_both seat true false turn.events ruled (after_sale seats ruled seat company shares)
-          (one_more seat true turn.events line refl) (in_sale seats seat ruled company shares);
+      says_who = in_both seat true false turn.events ruled.events (after_sale ruled seat company shares).events
+          (one_more seat true turn.events line refl) (in_sale ruled seat company shares);
       acted = has_sold (is_some turn.actions.bought) turn.actions.sold;
     }
 order_says seats seat turn number condition order.ExchangeMohawk kept =
     let line : Event = event.Ruled seat number (Obeyed condition order.ExchangeMohawk) in
-    let ruled : List Event = turn.events ++ line ∷ [] in
+    let ruled : Game = with_event (game_in seats turn) line in
     record {
       acts = false;
-      says_who = in_both seat false false turn.events ruled (after_exchange seats ruled seat)
-          (one_more seat false turn.events line refl) (in_exchange seats seat ruled);
+      says_who = in_both seat false false turn.events ruled.events (after_exchange ruled seat).events
+          (one_more seat false turn.events line refl) (in_exchange ruled seat);
       acted = or_nothing (is_some turn.actions.bought || turn.actions.sold);
     }
 order_says seats seat turn number condition other kept = absurd (cc)
@@ -81,7 +83,7 @@ pub stock_turns_say : TurnsSayWhoActed stock_rules
 stock_turns_say =
     turns_say stock_rules refl
     (λ (seats : ℕ) (seat : Seat) (turn : InTurn) (line : Numbered).
-    of_ruled (acted seats seat) (refusal_of seats turn.events seat turn.actions.bought) seat turn line.number
+    of_ruled (acted seats seat) (refusal_of (game_in seats turn) seat turn.actions.bought) seat turn line.number
     (LineSaysWhoActed stock_rules seat turn)
     (nobody_ruled stock_rules seat turn line.number) (order_says seats seat turn line.number) has_place_in_turn
     turn.events line)

@@ -2,13 +2,13 @@
 -- value, one of the bank pool the market price. Its rules are those of a purchase, which are defined
 -- with the certificates, and so is the presidency that passes to a seat that then has strictly more
 -- shares than the president.
-use Rattle.std.specs.Prelude.{◌≡◌, ℕ, true, false, List, [], ◌∷◌, ◌++◌, Option}
+use Rattle.std.specs.Prelude.{◌≡◌, true, false, Option}
 use Rattle.certs.specs.Purchase.{is_sold_out_there, is_short_of_cash, purchase_judgement, share_price_of}
 use Rattle.certs.specs.SaleAct.{with_president}
 use Rattle.certs.specs.declared.share_deal.Purchase.TheVariants as purchase
-use Rattle.events.specs.declared.event.Event.{Event}
 use Rattle.events.specs.declared.event.Event.TheVariants as event
 use Rattle.events.specs.declared.ruling.StockRule.{StockRule}
+use Rattle.totals.specs.LookBack.{Game, with_event}
 use Rattle.totals.specs.Shares.{is_started}
 use Rattle.order_grammar.specs.declared.order.ShareSource.{ShareSource}
 use Rattle.stock_round.specs.Float.{with_float}
@@ -17,22 +17,21 @@ use Rattle.tables.specs.declared.seat.Seat.{Seat}
 
 -- the first rule that a seat breaks if it buys a share from there, in a turn in which it has bought
 -- of this company, if it has bought
-abbrev pub buy_judgement : ℕ → List Event → Seat → Company → ShareSource → Option Company → Option StockRule
-buy_judgement seats events seat company from bought =
-    purchase_judgement seats events seat (purchase.Share company from) bought
+abbrev pub buy_judgement : Game → Seat → Company → ShareSource → Option Company → Option StockRule
+buy_judgement game seat company from bought =
+    purchase_judgement game.seats game.events seat (purchase.Share company from) bought
 
 -- the seat can buy a share of the company from there
-pub record MayBuy (seats : ℕ) (events : List Event) (seat : Seat) (company : Company) (from : ShareSource) : Type
-    0 where
-  pub there : is_sold_out_there events (purchase.Share company from) ≡ false
-  pub started : is_started events company ≡ true
-  pub pays : is_short_of_cash seats events seat (share_price_of events company from) ≡ false
+pub record MayBuy (game : Game) (seat : Seat) (company : Company) (from : ShareSource) : Type 0 where
+  pub there : is_sold_out_there game.events (purchase.Share company from) ≡ false
+  pub started : is_started game.events company ≡ true
+  pub pays : is_short_of_cash game.seats game.events seat (share_price_of game.events company from) ≡ false
 
 -- after a seat has paid for a share
-abbrev pub bought : List Event → Seat → Company → ShareSource → List Event
-bought events seat company from = events ++ event.Bought company seat 1 from (share_price_of events company from) ∷ []
+abbrev pub bought : Game → Seat → Company → ShareSource → Game
+bought game seat company from =
+    with_event game (event.Bought company seat 1 from (share_price_of game.events company from))
 
 -- after a seat has bought a share, and what follows from it
-abbrev pub after_purchase : ℕ → List Event → Seat → Company → ShareSource → List Event
-after_purchase seats events seat company from =
-    with_float seats (with_president seats (bought events seat company from) company) company
+abbrev pub after_purchase : Game → Seat → Company → ShareSource → Game
+after_purchase game seat company from = with_float (with_president (bought game seat company from) company) company

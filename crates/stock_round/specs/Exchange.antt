@@ -1,7 +1,7 @@
 -- EXCHANGE: the owner of MH gives it up for a share of NYC, even before NYC is started. The share
 -- comes from the initial offering, or from the bank pool if the initial offering has none. The owner
 -- may not hold over six shares then, if the zone of NYC's square limits that. It costs nothing.
-use Rattle.std.specs.Prelude.{◌≡◌, ℕ, ◌==◌, Bool, false, not, ◌||◌, if◌then◌else◌, List, [], ◌∷◌, ◌++◌, Option, Some}
+use Rattle.std.specs.Prelude.{◌≡◌, ℕ, ◌==◌, Bool, false, not, ◌||◌, if◌then◌else◌, List, [], ◌∷◌, Option, Some}
 use Rattle.std.specs.Prelude.{None, pos}
 use Rattle.std.specs.Int.Signed.{lt_z}
 use Rattle.certs.specs.Purchase.{is_over_six}
@@ -13,7 +13,7 @@ use Rattle.events.specs.declared.event.Holder.TheVariants as holder
 use Rattle.events.specs.declared.event.Shareholder.TheVariants.{InitialOffering, BankPool}
 use Rattle.events.specs.declared.ruling.StockRule.{StockRule}
 use Rattle.events.specs.declared.ruling.StockRule.TheVariants.{NoExchange}
-use Rattle.totals.specs.LookBack.{owner_of}
+use Rattle.totals.specs.LookBack.{Game, owner_of, with_event}
 use Rattle.totals.specs.Shares.{shares_of}
 use Rattle.order_grammar.specs.declared.order.ShareSource.{ShareSource}
 use Rattle.order_grammar.specs.declared.order.ShareSource.TheVariants as source
@@ -53,22 +53,21 @@ abbrev pub exchange_rules : List Event → Seat → List (Rule StockRule)
 exchange_rules events seat = record { code = NoExchange; broken = is_no_exchange events seat } ∷ []
 
 -- the first rule that a seat breaks by an exchange
-abbrev pub exchange_judgement : List Event → Seat → Option StockRule
-exchange_judgement events seat = first_broken (exchange_rules events seat)
+abbrev pub exchange_judgement : Game → Seat → Option StockRule
+exchange_judgement game seat = first_broken (exchange_rules game.events seat)
 
 -- the seat can give up MH for a share of NYC
-abbrev pub MayExchange : List Event → Seat → Type 0
-MayExchange events seat = is_no_exchange events seat ≡ false
+abbrev pub MayExchange : Game → Seat → Type 0
+MayExchange game seat = is_no_exchange game.events seat ≡ false
 
 -- where the share of NYC for MH comes from: the initial offering first, otherwise the bank pool
 abbrev pub exchange_source : List Event → ShareSource
 exchange_source events = if is_offered events then source.InitialOffering else source.BankPool
 
 -- after a seat has given up MH for a share of NYC
-abbrev pub exchanged : List Event → Seat → List Event
-exchanged events seat = events ++ event.Exchanged seat (exchange_source events) ∷ []
+abbrev pub exchanged : Game → Seat → Game
+exchanged game seat = with_event game (event.Exchanged seat (exchange_source game.events))
 
 -- after a seat has done so, and what follows from it
-abbrev pub after_exchange : ℕ → List Event → Seat → List Event
-after_exchange seats events seat =
-    with_float seats (with_president seats (exchanged events seat) NewYorkCentral) NewYorkCentral
+abbrev pub after_exchange : Game → Seat → Game
+after_exchange game seat = with_float (with_president (exchanged game seat) NewYorkCentral) NewYorkCentral

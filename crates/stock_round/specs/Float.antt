@@ -1,12 +1,14 @@
 -- The float: once at most four shares of a company are left in its initial offering, it has ten
 -- times its par value. A company floats once.
-use Rattle.std.specs.Prelude.{ℕ, ◌*◌, Bool, not, ◌&&◌, if◌then◌else◌, List, [], ◌∷◌, ◌++◌, unwrap_or, pos}
+use Rattle.std.specs.Prelude.{ℕ, ◌*◌, Bool, not, ◌&&◌, if◌then◌else◌, List, unwrap_or, pos}
 use Rattle.std.specs.Int.Signed.{lt_z}
+use Rattle.certs.specs.Games.{with_events}
 use Rattle.events.specs.declared.event.Event.{Event}
 use Rattle.events.specs.declared.event.Event.TheVariants as event
 use Rattle.events.specs.declared.event.Shareholder.TheVariants.{InitialOffering}
 use Rattle.totals.specs.Shares.{is_floated, par_of, shares_of}
-use Rattle.history.specs.Record.{with_broken}
+use Rattle.history.specs.Record.{broken_recorded}
+use Rattle.totals.specs.LookBack.{Game, with_event}
 use Rattle.tables.specs.declared.roster.Company.{Company}
 
 -- the most shares that are left in the initial offering of a company that floats
@@ -19,10 +21,12 @@ is_to_float events company = not (is_floated events company)
     && not (lt_z (pos float_most) (shares_of events company InitialOffering))
 
 -- with FLOATS for a company with this par value, and BROKEN if that breaks the bank
-abbrev pub floated_at : ℕ → List Event → Company → ℕ → List Event
-floated_at seats events company par = with_broken seats (events ++ event.Floats company (10 * par) ∷ [])
+abbrev pub floated_at : Game → Company → ℕ → Game
+floated_at game company par = broken_recorded (with_event game (event.Floats company (10 * par)))
 
 -- with FLOATS if a company floats
-abbrev pub with_float : ℕ → List Event → Company → List Event
-with_float seats events company =
-    if is_to_float events company then floated_at seats events company (unwrap_or (par_of events company) 0) else events
+abbrev pub with_float : Game → Company → Game
+with_float game company =
+    with_events game
+    (if is_to_float game.events company then (floated_at game company (unwrap_or (par_of game.events company) 0)).events
+    else game.events)

@@ -1,12 +1,12 @@
 -- PAR: a seat sets the par value of a company that is not started, and so buys its president's
 -- certificate, two shares of the initial offering, each at that value. It then presides. Its rules
 -- are those of a purchase, which are defined with the certificates.
-use Rattle.std.specs.Prelude.{◌≡◌, ℕ, ◌*◌, false, List, [], ◌∷◌, ◌++◌, Option}
+use Rattle.std.specs.Prelude.{◌≡◌, ℕ, ◌*◌, false, Option}
 use Rattle.certs.specs.Purchase.{is_no_par, is_short_of_cash, purchase_judgement}
 use Rattle.certs.specs.declared.share_deal.Purchase.TheVariants as purchase
-use Rattle.events.specs.declared.event.Event.{Event}
 use Rattle.events.specs.declared.event.Event.TheVariants as event
 use Rattle.events.specs.declared.ruling.StockRule.{StockRule}
+use Rattle.totals.specs.LookBack.{Game, with_event}
 use Rattle.totals.specs.Shares.{is_started}
 use Rattle.order_grammar.specs.declared.order.ShareSource.TheVariants.{InitialOffering}
 use Rattle.tables.specs.declared.roster.Company.{Company}
@@ -14,25 +14,24 @@ use Rattle.tables.specs.declared.seat.Seat.{Seat}
 
 -- the first rule that a seat breaks if it sets this par value, in a turn in which it has bought of
 -- this company, if it has bought
-abbrev pub par_judgement : ℕ → List Event → Seat → Company → ℕ → Option Company → Option StockRule
-par_judgement seats events seat company price bought =
-    purchase_judgement seats events seat (purchase.Par company price) bought
+abbrev pub par_judgement : Game → Seat → Company → ℕ → Option Company → Option StockRule
+par_judgement game seat company price bought =
+    purchase_judgement game.seats game.events seat (purchase.Par company price) bought
 
 -- the shares of a president's certificate
 abbrev pub president_shares : ℕ
 president_shares = 2
 
 -- the seat can start the company at this par value
-pub record MayStart (seats : ℕ) (events : List Event) (seat : Seat) (company : Company) (price : ℕ) : Type 0 where
+pub record MayStart (game : Game) (seat : Seat) (company : Company) (price : ℕ) : Type 0 where
   pub par : is_no_par (purchase.Par company price) ≡ false
-  pub fresh : is_started events company ≡ false
-  pub pays : is_short_of_cash seats events seat (president_shares * price) ≡ false
+  pub fresh : is_started game.events company ≡ false
+  pub pays : is_short_of_cash game.seats game.events seat (president_shares * price) ≡ false
 
 -- after a seat has set a company's par value, and so bought its president's certificate
-abbrev pub after_start : List Event → Seat → Company → ℕ → List Event
-after_start events seat company price =
-    events
-    ++ event.Par company price
-    ∷ event.Bought company seat president_shares InitialOffering (president_shares * price)
-    ∷ event.President company seat
-    ∷ []
+abbrev pub after_start : Game → Seat → Company → ℕ → Game
+after_start game seat company price =
+    with_event
+    (with_event (with_event game (event.Par company price))
+    (event.Bought company seat president_shares InitialOffering (president_shares * price)))
+    (event.President company seat)

@@ -12,6 +12,7 @@ use Rattle.stock_round.specs.Orders.{after_act, refusal_of}
 use Rattle.stock_round.specs.Standing.{after_standing_line}
 use Rattle.stock_round.specs.declared.deals.ShareDeals.{ShareDeals}
 use Rattle.tables.specs.declared.seat.Seat.{Seat}
+use Rattle.totals.specs.LookBack.{Game}
 use Rattle.turns.specs.RoundOfTurns.{RoundRules, in_turn}
 use Rattle.turns.specs.RoundOfTurns as turns
 use Rattle.turns.specs.Ruling.{after_ruling as turn_ruled, has_place_in_turn, line_ruling}
@@ -20,9 +21,14 @@ use Rattle.turns.specs.Ruling.{after_ruling as turn_ruled, has_place_in_turn, li
 abbrev pub InTurn : Type 0
 InTurn = turns.InTurn ShareDeals
 
+-- the game in a turn
+abbrev pub game_in : ℕ → InTurn → Game
+game_in seats turn = record { seats = seats; events = turn.events }
+
 -- in a turn, after what follows from an order that is done
 abbrev pub acted : ℕ → Seat → InTurn → Order → InTurn
-acted seats seat turn order = in_turn (after_act seats seat turn.events order) (with_deal turn.actions order)
+acted seats seat turn order =
+    in_turn (after_act (game_in seats turn) seat order).events (with_deal turn.actions order)
 
 -- in a turn, after a line with this number and this ruling
 abbrev pub after_ruling : ℕ → Seat → InTurn → ℕ → Ruling → InTurn
@@ -31,7 +37,7 @@ after_ruling seats seat turn number ruling = turn_ruled (acted seats seat) seat 
 -- what becomes of a line of a written turn
 abbrev pub ruling_in : ℕ → Seat → InTurn → Numbered → Ruling
 ruling_in seats seat turn line =
-    line_ruling has_place_in_turn (refusal_of seats turn.events seat turn.actions.bought) turn.events line
+    line_ruling has_place_in_turn (refusal_of (game_in seats turn) seat turn.actions.bought) turn.events line
 
 -- in a turn, after a line of a written turn
 abbrev pub after_stock_line : ℕ → Seat → InTurn → Numbered → InTurn

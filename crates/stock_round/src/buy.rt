@@ -4,8 +4,8 @@
 //! offering.
 //!
 //! The rules are those of a purchase in `certs` (`share_purchase_rules`).
-ghost use Rattle.std.specs.Prelude.{◌≡◌, ◌≤◌, ◌<◌, OnOk};
-ghost use Rattle.history.specs.Sound.{IsSound};
+ghost use Rattle.std.specs.Prelude.{◌≡◌, ◌<◌, OnOk};
+ghost use Rattle.certs.specs.Games.{IsGame};
 ghost use Rattle.stock_round.specs.Buy.{MayBuy, after_purchase, bought, buy_judgement};
 
 use crate::float::record_float;
@@ -25,8 +25,7 @@ pub(crate) fn judge(
     from: ShareSource,
     bought: Option<Company>,
 ) -> Option<StockRule>
-    ensures { result
-        ≡ buy_judgement history.now.seats history.now.events seat company from bought }
+    ensures { result ≡ buy_judgement history.now seat company from bought }
 {
     may_buy(history, seat, Purchase::Share { company, from }, bought).err()
 }
@@ -38,14 +37,11 @@ pub(crate) fn act(
     company: Company,
     from: ShareSource,
 ) -> Result<(), AllocError>
-    requires few { history.old.seats ≤ 6 }
+    requires game { IsGame history.old }
     requires at_table { seat.0 < history.old.seats }
-    requires may { MayBuy history.old.seats history.old.events seat company from }
-    requires sound { IsSound history.old }
-    ensures seats { OnOk result (history.new.seats ≡ history.old.seats) }
-    ensures events { OnOk result (history.new.events
-        ≡ after_purchase history.old.seats history.old.events seat company from) }
-    ensures sound { OnOk result (IsSound history.new) }
+    requires may { MayBuy history.old seat company from }
+    ensures after { OnOk result (history.new ≡ after_purchase history.old seat company from) }
+    ensures game { OnOk result (IsGame history.new) }
 {
     pay_for_share(history, seat, company, from)?;
     record_president(history, company)?;
@@ -59,13 +55,11 @@ fn pay_for_share(
     company: Company,
     from: ShareSource,
 ) -> Result<(), AllocError>
+    requires game { IsGame history.old }
     requires at_table { seat.0 < history.old.seats }
-    requires may { MayBuy history.old.seats history.old.events seat company from }
-    requires sound { IsSound history.old }
-    ensures seats { OnOk result (history.new.seats ≡ history.old.seats) }
-    ensures events { OnOk result (history.new.events
-        ≡ bought history.old.events seat company from) }
-    ensures sound { OnOk result (IsSound history.new) }
+    requires may { MayBuy history.old seat company from }
+    ensures after { OnOk result (history.new ≡ bought history.old seat company from) }
+    ensures game { OnOk result (IsGame history.new) }
 {
     let price = share_cost(history, company, from);
     history.append(Event::Bought {

@@ -1,6 +1,6 @@
 //! The end of a stock round: sold-out companies move up on the chart.
 ghost use Rattle.std.specs.Prelude.{◌≡◌, OnOk};
-ghost use Rattle.history.specs.Sound.{IsSound};
+ghost use Rattle.certs.specs.Games.{IsGame, with_events};
 ghost use Rattle.stock_round.specs.Closing.{all_risen, closed, is_sold_out, risen};
 
 use history::{History, Shareholder};
@@ -10,10 +10,10 @@ use tables::Company;
 
 /// Ends the round: each sold-out company moves up, in operating order.
 pub(crate) fn close(history: &mut History) -> Result<(), AllocError>
-    requires { IsSound history.old }
-    ensures seats { OnOk result (history.new.seats ≡ history.old.seats) }
-    ensures events { OnOk result (history.new.events ≡ closed history.old.events) }
-    ensures sound { OnOk result (IsSound history.new) }
+    requires { IsGame history.old }
+    ensures after { OnOk result (history.new
+        ≡ with_events history.old (closed history.old.events)) }
+    ensures game { OnOk result (IsGame history.new) }
 {
     let order = operating_order(history);
     raise_all(history, order.as_slice())
@@ -21,11 +21,10 @@ pub(crate) fn close(history: &mut History) -> Result<(), AllocError>
 
 /// Moves up those of some companies that are sold out, in order.
 fn raise_all(history: &mut History, companies: &[Company]) -> Result<(), AllocError>
-    requires { IsSound history.old }
-    ensures seats { OnOk result (history.new.seats ≡ history.old.seats) }
-    ensures events { OnOk result (history.new.events
-        ≡ all_risen history.old.events companies.now) }
-    ensures sound { OnOk result (IsSound history.new) }
+    requires { IsGame history.old }
+    ensures after { OnOk result (history.new
+        ≡ with_events history.old (all_risen history.old.events companies.now)) }
+    ensures game { OnOk result (IsGame history.new) }
 {
     for company in companies {
         move_up_if_sold_out(history, *company)?;
@@ -35,10 +34,10 @@ fn raise_all(history: &mut History, companies: &[Company]) -> Result<(), AllocEr
 
 /// Moves up a company, if it is sold out.
 fn move_up_if_sold_out(history: &mut History, company: Company) -> Result<(), AllocError>
-    requires { IsSound history.old }
-    ensures seats { OnOk result (history.new.seats ≡ history.old.seats) }
-    ensures events { OnOk result (history.new.events ≡ risen history.old.events company) }
-    ensures sound { OnOk result (IsSound history.new) }
+    requires { IsGame history.old }
+    ensures after { OnOk result (history.new
+        ≡ with_events history.old (risen history.old.events company)) }
+    ensures game { OnOk result (IsGame history.new) }
 {
     if !is_sold_out(history, company) {
         return Ok(());

@@ -2,8 +2,8 @@
 //! comes from the initial offering, or from the bank pool if the initial offering has none. It
 //! costs nothing, and counts neither as a purchase nor as a sale. The presidency of NYC passes and
 //! NYC floats as after a purchase.
-ghost use Rattle.std.specs.Prelude.{◌≡◌, ◌≤◌, ◌<◌, OnOk};
-ghost use Rattle.history.specs.Sound.{IsSound};
+ghost use Rattle.std.specs.Prelude.{◌≡◌, ◌<◌, OnOk};
+ghost use Rattle.certs.specs.Games.{IsGame};
 ghost use Rattle.stock_round.specs.Exchange.{MayExchange, after_exchange, exchange_judgement, exchange_source};
 ghost use Rattle.stock_round.specs.Exchange.{exchanged, is_no_exchange, is_offered, is_owner, is_pooled};
 ghost use Rattle.totals.specs.LookBack.{owner_of};
@@ -21,7 +21,7 @@ const EXCHANGE_SHARES: u8 = 1;
 
 /// Returns the rule that an exchange of MH by a seat breaks; `None` if it breaks none.
 pub(crate) fn judge(history: &History, seat: Seat) -> Option<StockRule>
-    ensures { result ≡ exchange_judgement history.now.events seat }
+    ensures { result ≡ exchange_judgement history.now seat }
 {
     rules! { StockRule
         NoExchange: is_no_exchange(history, seat),
@@ -69,14 +69,11 @@ fn is_pooled(history: &History) -> bool
 
 /// Exchanges MH of a seat for a share of NYC.
 pub(crate) fn act(history: &mut History, seat: Seat) -> Result<(), AllocError>
-    requires few { history.old.seats ≤ 6 }
+    requires game { IsGame history.old }
     requires at_table { seat.0 < history.old.seats }
-    requires may { MayExchange history.old.events seat }
-    requires sound { IsSound history.old }
-    ensures seats { OnOk result (history.new.seats ≡ history.old.seats) }
-    ensures events { OnOk result (history.new.events
-        ≡ after_exchange history.old.seats history.old.events seat) }
-    ensures sound { OnOk result (IsSound history.new) }
+    requires may { MayExchange history.old seat }
+    ensures after { OnOk result (history.new ≡ after_exchange history.old seat) }
+    ensures game { OnOk result (IsGame history.new) }
 {
     let company = Company::NewYorkCentral;
     give_up_mohawk(history, seat)?;
@@ -86,12 +83,11 @@ pub(crate) fn act(history: &mut History, seat: Seat) -> Result<(), AllocError>
 
 /// Gives a seat a share of NYC for MH, which nobody then owns.
 fn give_up_mohawk(history: &mut History, seat: Seat) -> Result<(), AllocError>
+    requires game { IsGame history.old }
     requires at_table { seat.0 < history.old.seats }
-    requires may { MayExchange history.old.events seat }
-    requires sound { IsSound history.old }
-    ensures seats { OnOk result (history.new.seats ≡ history.old.seats) }
-    ensures events { OnOk result (history.new.events ≡ exchanged history.old.events seat) }
-    ensures sound { OnOk result (IsSound history.new) }
+    requires may { MayExchange history.old seat }
+    ensures after { OnOk result (history.new ≡ exchanged history.old seat) }
+    ensures game { OnOk result (IsGame history.new) }
 {
     let from = exchange_source(history);
     history.append(Event::Exchanged { seat, from })?;

@@ -2,7 +2,7 @@
 //! pays its capital.
 ghost use Rattle.std.specs.Prelude.{◌≡◌, OnOk, true, unwrap_or};
 ghost use Rattle.totals.specs.Shares.{par_of};
-ghost use Rattle.history.specs.Sound.{IsSound};
+ghost use Rattle.certs.specs.Games.{IsGame};
 ghost use Rattle.stock_round.specs.Float.{floated_at, is_to_float, with_float};
 
 use crate::prices::par_value;
@@ -16,11 +16,9 @@ const FLOAT_MOST: ShareCount = 4;
 /// Floats a company, if at most four of its shares are left in the initial offering and it has not
 /// floated yet: the bank pays it ten times its par value.
 pub(crate) fn record_float(history: &mut History, company: Company) -> Result<(), AllocError>
-    requires { IsSound history.old }
-    ensures seats { OnOk result (history.new.seats ≡ history.old.seats) }
-    ensures events { OnOk result (history.new.events
-        ≡ with_float history.old.seats history.old.events company) }
-    ensures sound { OnOk result (IsSound history.new) }
+    requires { IsGame history.old }
+    ensures after { OnOk result (history.new ≡ with_float history.old company) }
+    ensures game { OnOk result (IsGame history.new) }
 {
     if is_to_float(history, company) {
         float(history, company)
@@ -39,12 +37,10 @@ fn is_to_float(history: &History, company: Company) -> bool
 /// Records that a company floats.
 fn float(history: &mut History, company: Company) -> Result<(), AllocError>
     requires ready { is_to_float history.old.events company ≡ true }
-    requires sound { IsSound history.old }
-    ensures seats { OnOk result (history.new.seats ≡ history.old.seats) }
-    ensures events { OnOk result (history.new.events
-        ≡ floated_at history.old.seats history.old.events company
-        (unwrap_or (par_of history.old.events company) 0)) }
-    ensures sound { OnOk result (IsSound history.new) }
+    requires game { IsGame history.old }
+    ensures after { OnOk result (history.new
+        ≡ floated_at history.old company (unwrap_or (par_of history.old.events company) 0)) }
+    ensures game { OnOk result (IsGame history.new) }
 {
     let amount = SHARES * par_value(history, company);
     history.append(Event::Floats { company, amount })?;

@@ -1,6 +1,6 @@
 //! The orders of a turn: which rule one breaks, and what follows if it breaks none.
-ghost use Rattle.std.specs.Prelude.{◌≡◌, ◌≤◌, ◌<◌, IfOk, OnOk};
-ghost use Rattle.history.specs.Sound.{IsSound};
+ghost use Rattle.std.specs.Prelude.{◌≡◌, ◌<◌, IfOk, OnOk};
+ghost use Rattle.certs.specs.Games.{IsGame};
 ghost use Rattle.stock_round.specs.Deals.{with_deal};
 ghost use Rattle.stock_round.specs.Orders.{MayAct, after_act, judgement_of};
 
@@ -19,7 +19,7 @@ pub(crate) fn judge(
     order: &Order,
     bought: Option<Company>,
 ) -> Option<StockRule>
-    ensures { result ≡ judgement_of history.now.seats history.now.events seat bought order.now }
+    ensures { result ≡ judgement_of history.now seat bought order.now }
 {
     match order {
         Order::Par { company, price } => par::judge(history, seat, *company, *price, bought),
@@ -38,15 +38,12 @@ pub(crate) fn act(
     order: &Order,
     deals: ShareDeals,
 ) -> Result<ShareDeals, AllocError>
-    requires few { history.old.seats ≤ 6 }
+    requires game { IsGame history.old }
     requires at_table { seat.0 < history.old.seats }
-    requires may { MayAct history.old.seats history.old.events seat order.now }
-    requires sound { IsSound history.old }
-    ensures seats { OnOk result (history.new.seats ≡ history.old.seats) }
-    ensures events { OnOk result (history.new.events
-        ≡ after_act history.old.seats seat history.old.events order.now) }
+    requires may { MayAct history.old seat order.now }
+    ensures after { OnOk result (history.new ≡ after_act history.old seat order.now) }
     ensures deals { IfOk result (λ now. now ≡ with_deal deals order.now) }
-    ensures sound { OnOk result (IsSound history.new) }
+    ensures game { OnOk result (IsGame history.new) }
 {
     match order {
         Order::Par { company, price } => {

@@ -3,7 +3,7 @@
 //!
 //! The rules are those of a purchase in `certs` (`share_purchase_rules`).
 ghost use Rattle.std.specs.Prelude.{◌≡◌, ◌<◌, OnOk};
-ghost use Rattle.history.specs.Sound.{IsSound};
+ghost use Rattle.certs.specs.Games.{IsGame};
 ghost use Rattle.stock_round.specs.Par.{MayStart, after_start, par_judgement};
 
 use certs::{Purchase, may_buy};
@@ -21,8 +21,7 @@ pub(crate) fn judge(
     price: Amount,
     bought: Option<Company>,
 ) -> Option<StockRule>
-    ensures { result
-        ≡ par_judgement history.now.seats history.now.events seat company price bought }
+    ensures { result ≡ par_judgement history.now seat company price bought }
 {
     may_buy(history, seat, Purchase::Par { company, price }, bought).err()
 }
@@ -34,13 +33,11 @@ pub(crate) fn act(
     company: Company,
     price: Amount,
 ) -> Result<(), AllocError>
+    requires game { IsGame history.old }
     requires at_table { seat.0 < history.old.seats }
-    requires may { MayStart history.old.seats history.old.events seat company price }
-    requires sound { IsSound history.old }
-    ensures seats { OnOk result (history.new.seats ≡ history.old.seats) }
-    ensures events { OnOk result (history.new.events
-        ≡ after_start history.old.events seat company price) }
-    ensures sound { OnOk result (IsSound history.new) }
+    requires may { MayStart history.old seat company price }
+    ensures after { OnOk result (history.new ≡ after_start history.old seat company price) }
+    ensures game { OnOk result (IsGame history.new) }
 {
     history.append(Event::Par { company, price })?;
     history.append(Event::Bought {

@@ -3,8 +3,8 @@
 //! square for each share.
 //!
 //! The rules are those of a sale in `certs` (`sale_rules`).
-ghost use Rattle.std.specs.Prelude.{◌≡◌, ◌≤◌, ◌<◌, OnOk};
-ghost use Rattle.history.specs.Sound.{IsSound};
+ghost use Rattle.std.specs.Prelude.{◌≡◌, ◌<◌, OnOk};
+ghost use Rattle.certs.specs.Games.{IsGame};
 ghost use Rattle.stock_round.specs.Sell.{MaySell, after_sale, sale_of, sell_judgement};
 
 use certs::{Sale, may_sell, sell_block};
@@ -20,8 +20,7 @@ pub(crate) fn judge(
     company: Company,
     shares: Amount,
 ) -> Option<StockRule>
-    ensures { result
-        ≡ sell_judgement history.now.seats history.now.events seat company shares }
+    ensures { result ≡ sell_judgement history.now seat company shares }
 {
     may_sell(history, seat, Sale { company, shares }, None).err()
 }
@@ -33,14 +32,11 @@ pub(crate) fn act(
     company: Company,
     shares: Amount,
 ) -> Result<(), AllocError>
-    requires few { history.old.seats ≤ 6 }
+    requires game { IsGame history.old }
     requires at_table { seat.0 < history.old.seats }
-    requires may { MaySell history.old.seats history.old.events seat (sale_of company shares) }
-    requires sound { IsSound history.old }
-    ensures seats { OnOk result (history.new.seats ≡ history.old.seats) }
-    ensures events { OnOk result (history.new.events
-        ≡ after_sale history.old.seats history.old.events seat company shares) }
-    ensures sound { OnOk result (IsSound history.new) }
+    requires may { MaySell history.old seat (sale_of company shares) }
+    ensures after { OnOk result (history.new ≡ after_sale history.old seat company shares) }
+    ensures game { OnOk result (IsGame history.new) }
 {
     sell_block(history, seat, Sale { company, shares })
 }

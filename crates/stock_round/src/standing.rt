@@ -1,6 +1,7 @@
 //! The standing lines of a sheet for a stock round. Each has a fault, since every order is out of
 //! place there.
 ghost use Rattle.std.specs.Prelude.{◌≡◌, OnOk};
+ghost use Rattle.certs.specs.Games.{with_events};
 ghost use Rattle.history.specs.Sound.{IsSound};
 ghost use Rattle.sheets.specs.Part.{line_unread};
 ghost use Rattle.stock_round.specs.Standing.{after_standing_line};
@@ -20,10 +21,9 @@ pub(crate) fn rule_standing_line(
     line: UnreadLine,
     order: &mut Order,
 ) -> Result<(), AllocError>
-    requires sound { IsSound history.old }
-    ensures seats { OnOk result (history.new.seats ≡ history.old.seats) }
-    ensures events { OnOk result (history.new.events
-        ≡ after_standing_line seat history.old.events (line_unread line.entry)) }
+    requires { IsSound history.old }
+    ensures after { OnOk result (history.new ≡ with_events history.old
+        (after_standing_line seat history.old.events (line_unread line.entry))) }
     ensures sound { OnOk result (IsSound history.new) }
 {
     let fault = fault_out_of_place(line, order);

@@ -1,7 +1,7 @@
 //! The lines of a written turn of a stock round: which orders are allowed in it, by which rules
 //! they are judged, and what they do.
 ghost use Rattle.std.specs.Prelude.{◌≡◌, ◌≤◌, ◌<◌, OnOk, IfOk};
-ghost use Rattle.history.specs.Sound.{IsSound};
+ghost use Rattle.certs.specs.Games.{IsGame};
 ghost use Rattle.sheets.specs.Part.{line_unread};
 ghost use Rattle.stock_round.specs.Orders.{refusal_of};
 ghost use Rattle.stock_round.specs.Turn.{after_stock_line};
@@ -27,7 +27,7 @@ struct TurnLines {
 impl Family for TurnLines {
     ghost place = { has_place_in_turn };
 
-    ghost judgement = { λ lines game seat. refusal_of game.seats game.events seat lines.bought };
+    ghost judgement = { λ lines game seat. refusal_of game seat lines.bought };
 
     ghost may_judge = { λ game seat. (game.seats ≤ 6) × (seat.0 < game.seats) };
 
@@ -49,14 +49,13 @@ pub(crate) fn rule_line(
     order: &mut Order,
     deals: ShareDeals,
 ) -> Result<ShareDeals, AllocError>
-    requires few { history.old.seats ≤ 6 }
+    requires game { IsGame history.old }
     requires at_table { seat.0 < history.old.seats }
-    requires sound { IsSound history.old }
     ensures seats { OnOk result (history.new.seats ≡ history.old.seats) }
     ensures turn { IfOk result (λ now. in_turn history.new.events now
         ≡ after_stock_line history.old.seats seat (in_turn history.old.events deals)
         (line_unread line.entry)) }
-    ensures sound { OnOk result (IsSound history.new) }
+    ensures game { OnOk result (IsGame history.new) }
 {
     let lines = TurnLines {
         bought: deals.bought,

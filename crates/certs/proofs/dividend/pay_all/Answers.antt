@@ -11,7 +11,7 @@ pub pay_for-requires-clause-most : goal.pay_for-requires-clause-most
 pay_for-requires-clause-most c =
     let so_far = c.loop-seat.invariant in
     let number : c.at-seat.result.0 ≡ c.loop-seat.seat = ap (λ (seat : Seat). seat.0) c.at-seat.ensures in
-    seat_most c.loop-seat.history c.args.company c.at-seat.result (omega (arith, so_far.seats)) so_far.sound
+    seat_most c.loop-seat.history c.args.company c.at-seat.result (omega (arith, so_far.seats)) so_far.game.sound
 
 pub loop-seat-preserved : goal.loop-seat-preserved
 loop-seat-preserved c =
@@ -28,12 +28,12 @@ loop-seat-preserved c =
       paid = seats_go_on company revenue game c.pay_for.new.history seat c.loop-seat.seat c.args.history.now.seats
           (omega arith) c.at-seat.ensures recorded
           ∙ so_far.paid;
-      sound = c.in_ok-pay_for.ensures.sound;
+      game = c.in_ok-pay_for.ensures.game;
     }
 
 pub pay_for-requires-2-clause-most : goal.pay_for-requires-2-clause-most
 pay_for-requires-2-clause-most c =
-    pool_most c.loop-seat.history c.args.company c.loop-seat.invariant.sound
+    pool_most c.loop-seat.history c.args.company c.loop-seat.invariant.game.sound
 
 pub returns-clause-after : goal.returns-clause-after
 returns-clause-after c =

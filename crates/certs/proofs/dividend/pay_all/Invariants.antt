@@ -1,7 +1,7 @@
 use Rattle.std.proofs.Common.{◌≡◌, ◌-◌, map}
 use Rattle.std.specs.List.{range_with_len}
 use Rattle.certs.specs.Dividend.{paid_to_seats}
-use Rattle.history.specs.Sound.{IsSound}
+use Rattle.certs.specs.Games.{IsGame}
 use Rattle.tables.specs.Seat.{all_seats, seat_at}
 use Rattle.certs.proofs.dividend.pay_all.Given as goal
 
@@ -12,5 +12,5 @@ invariant-loop-seat l = record {
   paid : paid_to_seats l.company l.revenue l.history
       (map seat_at (range_with_len l.seat (l.fn.history.seats - l.seat)))
       ≡ paid_to_seats l.company l.revenue l.fn.history (all_seats l.fn.history.seats);
-  sound : IsSound l.history;
+  game : IsGame l.history;
 }

@@ -5,18 +5,15 @@ use Rattle.forced_purchase.proofs.TrainCounts.{still_none}
 use Rattle.forced_purchase.proofs.Steps.{forced_then}
 use Rattle.forced_purchase.proofs.forced.buy_by_force.Goals as goal
 
-pub rule_raises-requires-clause-few : goal.rule_raises-requires-clause-few
-rule_raises-requires-clause-few c = subst (λ (game : Game). game.seats ≤ 6) (sym c.in_ok-record_event.ensures.ok)
-    c.requires.few
+pub rule_raises-requires-clause-game : goal.rule_raises-requires-clause-game
+rule_raises-requires-clause-game c = record {
+  few = subst (λ (game : Game). game.seats ≤ 6) (sym c.in_ok-record_event.ensures.ok) c.requires.game.few;
+  sound = c.record_event.ensures.sound;
+}
 
 pub rule_raises-requires-clause-at_table : goal.rule_raises-requires-clause-at_table
 rule_raises-requires-clause-at_table c = subst (λ (game : Game). c.args.by.president.0 < game.seats)
     (sym c.in_ok-record_event.ensures.ok) c.requires.at_table
-
-pub sell_singly-requires-clause-few : goal.sell_singly-requires-clause-few
-sell_singly-requires-clause-few c =
-    subst (λ n. n ≤ 6) (sym (c.in_ok-rule_raises.ensures.seats
-    ∙ ap (λ (game : Game). game.seats) c.in_ok-record_event.ensures.ok)) c.requires.few
 
 pub sell_singly-requires-clause-at_table : goal.sell_singly-requires-clause-at_table
 sell_singly-requires-clause-at_table c =

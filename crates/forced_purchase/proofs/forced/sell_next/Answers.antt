@@ -11,7 +11,7 @@ sell_block-requires-clause-may c =
 pub returns-in-Some-clause-after : goal.returns-in-Some-clause-after
 returns-in-Some-clause-after c =
     one_sold c.args.by c.args.history.now c.sell_block.new.history c.in-Some.company _ c.share_of.ensures
-    (sym c.next_to_sell.ensures ∙ c.in-Some.is) c.in_ok-sell_block.ensures.seats c.in_ok-sell_block.ensures.events
+    (sym c.next_to_sell.ensures ∙ c.in-Some.is) c.in_ok-sell_block.ensures.after
 
 pub returns-clause-after : goal.returns-clause-after
 returns-clause-after c =

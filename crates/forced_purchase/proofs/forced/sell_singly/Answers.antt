@@ -11,7 +11,7 @@ loop-preserved c =
       so_far = iterate_goes_on (sold_further c.args.by) c.args.history.now c.loop.history c.sell_further.new.history
           c.loop.counter c.loop.invariant.so_far c.in_ok-sell_further.ensures.after;
       seats = c.in_ok-sell_further.ensures.seats ∙ c.loop.invariant.seats;
-      sound = c.in_ok-sell_further.ensures.sound;
+      game = c.in_ok-sell_further.ensures.game;
     }
 
 pub returns-clause-after : goal.returns-clause-after

@@ -11,9 +11,11 @@ use Rattle.forced_purchase.specs.Raise.{after_raise_line, raise_rule}
 use Rattle.sheets.specs.Part.{Numbered, line_with}
 use Rattle.forced_purchase.proofs.raise.rule_raise.Goals as goal
 
-pub sell_block-requires-clause-few : goal.sell_block-requires-clause-few
-sell_block-requires-clause-few c = subst (λ (game : Game). game.seats ≤ 6)
-    (sym c.in_ok-record_packed.ensures.ruling) c.requires.few
+pub sell_block-requires-clause-game : goal.sell_block-requires-clause-game
+sell_block-requires-clause-game c = record {
+  few = subst (λ (game : Game). game.seats ≤ 6) (sym c.in_ok-record_packed.ensures.ruling) c.requires.game.few;
+  sound = c.in_ok-record_packed.ensures.sound;
+}
 
 pub sell_block-requires-clause-at_table : goal.sell_block-requires-clause-at_table
 sell_block-requires-clause-at_table c = subst (λ (game : Game). c.args.by.president.0 < game.seats)
@@ -46,7 +48,7 @@ sell_block-requires-clause-may c =
     (sym c.as_ref.ensures.value) ∙ sym c.raise_rule-broken.ensures ∙ nothing c.raise_rule-broken.result none))
 
 pub returns-in_ok-sell_block-clause-seats : goal.returns-in_ok-sell_block-clause-seats
-returns-in_ok-sell_block-clause-seats c = c.in_ok-sell_block.ensures.seats
+returns-in_ok-sell_block-clause-seats c = ap (λ (game : Game). game.seats) c.in_ok-sell_block.ensures.after
     ∙ ap (λ (game : Game). game.seats) c.in_ok-record_packed.ensures.ruling
 
 pub returns-in_ok-sell_block-clause-after : goal.returns-in_ok-sell_block-clause-after
@@ -62,7 +64,7 @@ returns-in_ok-sell_block-clause-after c =
     (recorded_obeyed c.args.history.now c.record_packed.new.history c.args.by.president line
     (Raise its.sale.company its.sale.shares) c.raise_rule-broken.result
     (rw c.held.invariant at c.in_ok-record_packed.ensures.ruling) none)
-    c.in_ok-sell_block.ensures.seats c.in_ok-sell_block.ensures.events)
+    c.in_ok-sell_block.ensures.after)
 
 pub returns-else-branch-clause-after : goal.returns-else-branch-clause-after
 returns-else-branch-clause-after c =

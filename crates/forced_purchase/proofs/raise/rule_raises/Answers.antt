@@ -27,7 +27,7 @@ loop-held-preserved c =
           c.in_ok-rule_raise.ensures.after
           ∙ ap (after_raises due by c.loop-held.history) (sym items)
           ∙ c.loop-held.invariant.after;
-      sound = c.in_ok-rule_raise.ensures.sound;
+      game = c.in_ok-rule_raise.ensures.game;
       len = omega arith;
     }
 

@@ -6,4 +6,4 @@ use Rattle.moves.proofs.stock.push_companies.Given as goal
 abbrev pub invariant-loop-company : goal.invariant-loop-company
 invariant-loop-company l =
     l.rows.items ≡ l.fn.rows.items
-    ++ map (stock_row l.history.seats l.history.events l.seat l.bought) (flat_map (orders_of l.history.events l.seat) (take l.company-index l.company-items))
+    ++ map (stock_row l.history l.seat l.bought) (flat_map (orders_of l.history.events l.seat) (take l.company-index l.company-items))

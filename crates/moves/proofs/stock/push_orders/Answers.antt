@@ -6,6 +6,6 @@ use Rattle.moves.proofs.stock.push_orders.Goals as goal
 
 pub returns : goal.returns
 returns c =
-    rows_both (stock_row c.args.history.now.seats c.args.history.now.events c.args.seat c.args.bought)
+    rows_both (stock_row c.args.history.now c.args.seat c.args.bought)
     (orders_of_companies c.args.history.now.events c.args.seat) (ExchangeMohawk ∷ []) _ _ _
     c.in_ok-push_companies.ensures c.in_ok-push_order.ensures

@@ -8,4 +8,4 @@ use Rattle.moves.proofs.stock.push_shares.Given as goal
 abbrev pub invariant-loop-from : goal.invariant-loop-from
 invariant-loop-from l =
     l.rows.items ≡ l.fn.rows.items
-    ++ map (stock_row l.history.seats l.history.events l.seat l.bought) (flat_map (λ (from : ShareSource). BuyShare l.company from ∷ []) (take l.from-index l.from-items))
+    ++ map (stock_row l.history l.seat l.bought) (flat_map (λ (from : ShareSource). BuyShare l.company from ∷ []) (take l.from-index l.from-items))

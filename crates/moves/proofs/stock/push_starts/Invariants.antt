@@ -7,4 +7,4 @@ use Rattle.moves.proofs.stock.push_starts.Given as goal
 abbrev pub invariant-loop-price : goal.invariant-loop-price
 invariant-loop-price l =
     l.rows.items ≡ l.fn.rows.items
-    ++ map (stock_row l.history.seats l.history.events l.seat l.bought) (flat_map (λ (price : ℕ). Par l.company price ∷ []) (take l.price-index l.price-items))
+    ++ map (stock_row l.history l.seat l.bought) (flat_map (λ (price : ℕ). Par l.company price ∷ []) (take l.price-index l.price-items))

@@ -1,8 +1,8 @@
-use Rattle.stock_round.proofs.BuyLemmas.{purchase_sound}
+use Rattle.stock_round.proofs.BuyLemmas.{purchase_game}
 use Rattle.stock_round.proofs.buy.pay_for_share.Goals as goal
 
-pub returns-clause-sound : goal.returns-clause-sound
-returns-clause-sound c =
-    purchase_sound c.args.history.now c.append.new.self c.args.seat c.args.company c.args.from
+pub returns-clause-game : goal.returns-clause-game
+returns-clause-game c =
+    purchase_game c.args.history.now c.append.new.self c.args.seat c.args.company c.args.from
     c.share_cost-price.result c.requires.may c.requires.at_table c.share_cost-price.ensures.price
-    c.in_ok-append.ensures.ok c.requires.sound
+    c.in_ok-append.ensures.ok c.requires.game

@@ -1,5 +1,6 @@
-use Rattle.std.proofs.Common.{◌≡◌, [], ◌∷◌, ◌++◌, Result, Ok, Err, sym, ap, ◌∙◌}
+use Rattle.std.proofs.Common.{◌≡◌, Result, Ok, Err, sym, ap, ◌∙◌}
 use Rattle.std.proofs.lemmas.Result.{on_ok_weaker}
+use Rattle.certs.specs.Games.{with_events}
 use Rattle.events.specs.declared.event.Event.TheVariants as event
 use Rattle.events.specs.declared.ruling.Ruling.TheVariants.{Faulty}
 use Rattle.totals.specs.LookBack.{Game, with_event}
@@ -21,18 +22,18 @@ fault_is (Ok order) fault is = cc
 recorded_is : (seat : Seat) (line : Numbered) (fault : Fault) (old new : Game)
     → placed has_no_place line.reading ≡ Err fault →
     new ≡ with_event old (event.Ruled seat line.number (Faulty fault))
-    → new.events ≡ after_standing_line seat old.events line
+    → new ≡ with_events old (after_standing_line seat old.events line)
 recorded_is seat line fault old new is recorded =
-    ap (λ (game : Game). game.events) recorded
-    ∙ ap (λ (fault : Fault). old.events ++ event.Ruled seat line.number (Faulty fault) ∷ [])
+    recorded
+    ∙ ap (λ (fault : Fault). with_event old (event.Ruled seat line.number (Faulty fault)))
     (sym (fault_is line.reading fault is))
 
-pub returns-clause-events : goal.returns-clause-events
-returns-clause-events c =
+pub returns-clause-after : goal.returns-clause-after
+returns-clause-after c =
     let line : Numbered = line_unread c.args.line in
     let fault : Fault = c.fault_out_of_place-fault.result in
     let old : Game = c.args.history.now in
     let new : Game = c.record_fault.new.history in
     on_ok_weaker {P = new ≡ with_event old (event.Ruled c.args.seat line.number (Faulty fault))}
-    {Q = new.events ≡ after_standing_line c.args.seat old.events line} c.record_fault.result
+    {Q = new ≡ with_events old (after_standing_line c.args.seat old.events line)} c.record_fault.result
     (recorded_is c.args.seat line fault old new c.fault_out_of_place-fault.ensures) c.record_fault.ensures.ruling
