@@ -5,7 +5,7 @@ ghost use Rattle.std.specs.Prelude.{◌≡◌, ◌-◌, ◌<◌, ◌≤◌, IfOk
 ghost use Rattle.best_run.specs.Revenue.{IsBest};
 ghost use Rattle.best_run.specs.Memo.{IsNothing};
 ghost use Rattle.best_run.specs.Moves.{Explores, between};
-ghost use Rattle.best_run.specs.Suffix.{AreBounds, IsSolved, IsTop, nothing_before};
+ghost use Rattle.best_run.specs.Suffix.{IsSolved, IsTop, nothing_before};
 ghost use Rattle.certificate.specs.Filled.{IsAcceptedFilled};
 ghost use Rattle.certificate.specs.Holding.{IsAccepted};
 ghost use Rattle.legal_runs.specs.Set.{IsGreatest};
@@ -25,20 +25,19 @@ use std::alloc::{AllocError, Global};
 use tables::{Amount, Company, Kind};
 
 /// Tries all ways for this many of the last trains, by themselves.
-fn assign_last(task: &ReadyTask, count: usize, bounds: &[Amount], best: &mut Found)
-    requires bounds { AreBounds task.now bounds.now }
-    requires count { count ≤ length task.now.trains.items }
-    ensures { let next = length task.now.trains.items - count in
-        Explores task.now (between (nothing_before next)) best.old best.new }
+fn assign_last(bounded: &BoundedTask, count: usize, best: &mut Found)
+    requires { count ≤ length bounded.now.task.now.trains.items }
+    ensures { let next = length bounded.now.task.now.trains.items - count in
+        Explores bounded.now.task.now (between (nothing_before next)) best.old best.new }
 {
     let nothing = Assigned {
-        next: task.train_count() - count,
+        next: bounded.task.train_count() - count,
         total: 0,
         kind: 0,
         cap: 0,
         used: Borders::none(),
     };
-    assign_next(&BoundedTask { task, bounds }, &nothing, best);
+    assign_next(bounded, &nothing, best);
 }
 
 /// Solves for no train, for the last one, for the last two, and so on, up to all but the first.
@@ -55,7 +54,11 @@ fn assign_suffixes(
 {
     let mut bounds = Vec::with_capacity(alloc, task.train_count())?;
     for count in 0..task.train_count() {
-        assign_last(task, count, &bounds, best);
+        let bounded = BoundedTask {
+            task,
+            bounds: &bounds,
+        };
+        assign_last(&bounded, count, best);
         bounds.push(best.amount)?;
         best.move_path.write(Mark::Pass);
     }
@@ -69,7 +72,11 @@ fn greatest(task: &ReadyTask, alloc: Global) -> Result<Found, AllocError>
 {
     let mut best = Found::nothing(alloc);
     let bounds = assign_suffixes(task, alloc, &mut best)?;
-    assign_last(task, task.train_count(), &bounds, &mut best);
+    let bounded = BoundedTask {
+        task,
+        bounds: &bounds,
+    };
+    assign_last(&bounded, task.train_count(), &mut best);
     let found = best.unless_refused()?;
     Ok(found)
 }

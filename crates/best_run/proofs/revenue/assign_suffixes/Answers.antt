@@ -11,9 +11,9 @@ loop-count-init c =
     (solved_none c.args.task.now c.args.best.now c.requires.nothing.amount c.requires.nothing.marks
     (empty_memo c.args.task.now c.args.best.now c.requires.nothing))
 
-pub assign_last-requires-clause-bounds : goal.assign_last-requires-clause-bounds
-assign_last-requires-clause-bounds c = subst (AreBounds c.args.task.now) (sym c.deref.ensures.value)
-    c.loop-count.invariant.true_bounds
+pub invariant_of-bounded : goal.invariant_of-bounded
+invariant_of-bounded c =
+    record { are_bounds = subst (AreBounds c.args.task.now) (sym c.deref.ensures.value) c.loop-count.invariant.true_bounds }
 
 pub loop-count-preserved : goal.loop-count-preserved
 loop-count-preserved c =

@@ -6,9 +6,9 @@ use Rattle.best_run.proofs.Eased.{solved_all}
 use Rattle.best_run.proofs.KeptStates.{granted}
 use Rattle.best_run.proofs.revenue.greatest.Goals as goal
 
-pub assign_last-requires-clause-bounds : goal.assign_last-requires-clause-bounds
-assign_last-requires-clause-bounds c = subst (AreBounds c.args.task.now) (sym c.deref.ensures.value)
-    c.in_ok-bounds.ensures.true_bounds
+pub invariant_of-bounded : goal.invariant_of-bounded
+invariant_of-bounded c =
+    record { are_bounds = subst (AreBounds c.args.task.now) (sym c.deref.ensures.value) c.in_ok-bounds.ensures.true_bounds }
 
 pub returns : goal.returns
 returns c =
