@@ -6,8 +6,9 @@ use Rattle.std.proofs.lemmas.List.{length-append}
 use Rattle.std.specs.Prelude.{pos, Bool, Option, Some, None, Result, Ok, Err}
 use Rattle.certificate.specs.Checked.{AnswersBy, AnswersByNext, Shows}
 use Rattle.certificate.specs.declared.group.Group.{Group}
+use Rattle.legal_runs.proofs.Choosing.{no_more_taken}
 use Rattle.legal_runs.specs.Claim.{ClaimHolds, NameRuns}
-use Rattle.legal_runs.specs.Set.{AreTakenFrom, TrainRun, in_number, trains_that_run}
+use Rattle.legal_runs.specs.Set.{TrainRun, trains_that_run}
 use Rattle.legal_runs.specs.declared.claim.Claim.{Claim}
 use Rattle.legal_runs.specs.declared.claim.ClaimedRun.{ClaimedRun}
 use Rattle.legal_runs.specs.declared.runner.RunnerFault.{RunnerFault}
@@ -19,29 +20,11 @@ use Rattle.order_grammar.specs.declared.order.Order.{Order}
 use Rattle.order_grammar.specs.declared.order.Order.TheVariants.{Blank, Claim as ClaimLine, Marks}
 use Rattle.reach.specs.Position.{Position}
 use Rattle.tables.specs.declared.rolling_stock.Kind.{Kind}
-use Rattle.tables.specs.declared.rolling_stock.Kind.TheVariants.{Two, Three, Four, Five, Six, Diesel}
 use Rattle.tables.specs.declared.roster.Company.{Company}
 use Rattle.tables.specs.declared.round.Round.{Round}
 use Rattle.umpire.proofs.GroupLemmas.{malformed}
 use Rattle.umpire.specs.Groups.{begins_group, with_line, with_lines, with_reading, with_run}
 use Rattle.umpire.specs.Verifier.{AnswersByText, IsReadFor}
-use Rattle.legal_runs.proofs.Choosing.{count_kinds}
-
-counted : (trains : List Kind) → length trains ≡ count_kinds trains
-unfolding count_kinds
-counted [] = refl
-counted (Two ∷ trains) = let rest : length trains ≡ count_kinds trains = counted trains in omega arith
-counted (Three ∷ trains) = let rest : length trains ≡ count_kinds trains = counted trains in omega arith
-counted (Four ∷ trains) = let rest : length trains ≡ count_kinds trains = counted trains in omega arith
-counted (Five ∷ trains) = let rest : length trains ≡ count_kinds trains = counted trains in omega arith
-counted (Six ∷ trains) = let rest : length trains ≡ count_kinds trains = counted trains in omega arith
-counted (Diesel ∷ trains) = let rest : length trains ≡ count_kinds trains = counted trains in omega arith
-
--- so no more trains are taken than there are
-no_more_taken : (trains taken : List Kind) → AreTakenFrom trains taken → length taken ≤ length trains
-unfolding count_kinds
-no_more_taken trains taken each =
-    omega (arith, counted trains, counted taken, each Two, each Three, each Four, each Five, each Six, each Diesel)
 
 -- each run that is claimed is of a train
 claimed_counted : (position : Position) (claimed : List ClaimedRun) (runs : List TrainRun)
