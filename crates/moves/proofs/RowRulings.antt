@@ -33,7 +33,7 @@ use Rattle.order_grammar.specs.declared.order.Order.TheVariants.{BuyOwnedPrivate
 use Rattle.order_grammar.specs.declared.order.TrainSource.{TrainSource}
 use Rattle.order_grammar.specs.declared.order.TrainSource.TheVariants as source
 use Rattle.privates.specs.Standing.{has_place_before as may_stand_before, standing_refusal}
-use Rattle.privates.specs.Turn.{refusal_of as opening_refusal}
+use Rattle.privates.specs.Turn.{opening_refusal}
 use Rattle.purchases.specs.Private.{is_given_by, is_too_dear as is_dear, is_too_early, is_wrong_price, private_bought}
 use Rattle.purchases.specs.Private.{private_judgement_by}
 use Rattle.purchases.specs.Standing.{has_place_before, standing_judgement}
@@ -42,7 +42,7 @@ use Rattle.purchases.specs.Train.{is_too_dear, lacks_consent_by, purchase_of, tr
 use Rattle.purchases.specs.declared.consents.Consents.TheVariants.{All, OfGame}
 use Rattle.purchases.specs.declared.train.TrainPurchase.{TrainPurchase}
 use Rattle.sheets.specs.Part.{Numbered}
-use Rattle.stock_round.specs.Orders.{refusal_of as stock_refusal}
+use Rattle.stock_round.specs.Orders.{stock_refusal}
 use Rattle.tables.specs.Roster.{same_private}
 use Rattle.tables.specs.Rules.{Rule, first_broken}
 use Rattle.tables.specs.declared.rolling_stock.Kind.{Kind}

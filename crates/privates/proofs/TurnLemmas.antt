@@ -13,13 +13,13 @@ use Rattle.privates.proofs.BidLemmas.{may_bid, near_after, still_may_bid}
 use Rattle.privates.proofs.BuyLemmas.{may_buy}
 use Rattle.privates.specs.Bank.{price_of}
 use Rattle.privates.specs.Bid.{is_near_some}
-use Rattle.privates.specs.Turn.{MayAct, judgement_of}
+use Rattle.privates.specs.Turn.{MayAct, opening_judgement}
 use Rattle.tables.specs.declared.roster.Private.{Private}
 use Rattle.tables.specs.declared.seat.Seat.{Seat}
 
 -- an order that breaks no rule can be done
 may_act : (seats : ℕ) (events : List Event) (seat : Seat) (used : Bool) (order : Order)
-    → judgement_of seats events seat used order ≡ None → MayAct seats events seat order
+    → opening_judgement seats events seat used order ≡ None → MayAct seats events seat order
 may_act seats events seat used (BuyPrivate private) none = may_buy seats events seat used private none
 may_act seats events seat used (Bid private amount) none = may_bid seats events seat used private amount none
 may_act seats events seat used other none = tt
@@ -37,7 +37,7 @@ still_may seats before after seat other same near may = tt
 
 -- an order that breaks no rule can be done after its ruling
 pub may_act_after : (old new : Game) (event : Event) (seat : Seat) (used : Bool) (order : Order)
-    → new ≡ with_event old event → IsQuiet event → judgement_of old.seats old.events seat used order ≡ None
+    → new ≡ with_event old event → IsQuiet event → opening_judgement old.seats old.events seat used order ≡ None
     → MayAct new.seats new.events seat order
 may_act_after old new event seat used order recorded quiet none =
     subst (λ (game : Game). MayAct game.seats game.events seat order) (sym recorded)

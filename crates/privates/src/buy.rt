@@ -2,7 +2,7 @@
 //! with the private follows, and the bids on the next one are settled at once.
 ghost use Rattle.std.specs.Prelude.{◌≡◌, ◌≤◌, ◌<◌, OnOk};
 ghost use Rattle.privates.specs.Bank.{MayPay, price_of as price_asked};
-ghost use Rattle.privates.specs.Buy.{after_purchase, private_purchase_rules};
+ghost use Rattle.privates.specs.Buy.{after_private_purchase, private_purchase_rules};
 ghost use Rattle.privates.specs.Underway.{IsUnderway};
 ghost use Rattle.tables.specs.Rules.{first_broken};
 
@@ -40,7 +40,7 @@ pub(crate) fn buy(history: &mut History, seat: Seat, private: Private) -> Result
     requires underway { IsUnderway history.old }
     ensures seats { OnOk result (history.new.seats ≡ history.old.seats) }
     ensures events { OnOk result (history.new.events
-        ≡ after_purchase history.old.seats seat history.old.events private) }
+        ≡ after_private_purchase history.old.seats seat history.old.events private) }
     ensures underway { OnOk result (IsUnderway history.new) }
 {
     let price = price_of(&history.now(), private);

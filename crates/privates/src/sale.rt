@@ -5,7 +5,7 @@ ghost use Rattle.events.specs.declared.event.Event.TheVariants as event;
 ghost use Rattle.totals.specs.Bids.{bids_on};
 ghost use Rattle.totals.specs.LookBack.{cheapest_of, with_event};
 ghost use Rattle.privates.specs.Bank.{MayPay};
-ghost use Rattle.privates.specs.Sale.{after_sale, bidder_of, settle_auctions, settled, settled_by};
+ghost use Rattle.privates.specs.Sale.{after_private_sale, bidder_of, settle_auctions, settled, settled_by};
 ghost use Rattle.tables.specs.declared.roster.Private.TheVariants.{BaltimoreOhio, CamdenAmboy};
 ghost use Rattle.privates.specs.Underway.{IsUnderway};
 
@@ -30,7 +30,7 @@ pub(crate) fn sell(
     requires underway { IsUnderway history.old }
     ensures seats { OnOk result (history.new.seats ≡ history.old.seats) }
     ensures events { OnOk result (history.new.events
-        ≡ after_sale history.old.events private buyer price) }
+        ≡ after_private_sale history.old.events private buyer price) }
     ensures underway { OnOk result (IsUnderway history.new) }
 {
     match private {
@@ -74,7 +74,7 @@ fn sell_camden(history: &mut History, buyer: Seat, price: Amount) -> Result<(), 
     requires underway { IsUnderway history.old }
     ensures seats { OnOk result (history.new.seats ≡ history.old.seats) }
     ensures events { OnOk result (history.new.events
-        ≡ after_sale history.old.events CamdenAmboy buyer price) }
+        ≡ after_private_sale history.old.events CamdenAmboy buyer price) }
     ensures underway { OnOk result (IsUnderway history.new) }
 {
     history.append(Event::Sold {
@@ -98,7 +98,7 @@ fn sell_baltimore(history: &mut History, buyer: Seat, price: Amount) -> Result<(
     requires underway { IsUnderway history.old }
     ensures seats { OnOk result (history.new.seats ≡ history.old.seats) }
     ensures events { OnOk result (history.new.events
-        ≡ after_sale history.old.events BaltimoreOhio buyer price) }
+        ≡ after_private_sale history.old.events BaltimoreOhio buyer price) }
     ensures underway { OnOk result (IsUnderway history.new) }
 {
     let company = Company::BaltimoreOhio;
