@@ -18,7 +18,7 @@ use Rattle.operating.specs.Pay.{withheld_if_unpaid}
 use Rattle.operating.specs.TurnEnd.{EndLeads}
 use Rattle.operating.specs.TurnState.{TurnState}
 use Rattle.purchases.specs.Discard.{is_president}
-use Rattle.purchases.specs.Standing.{after_standing, after_standing_line}
+use Rattle.purchases.specs.Standing.{after_all_standing_lines, after_operating_standing_line}
 use Rattle.sheets.specs.CompanyOrders.{company_orders_for, company_orders_in}
 use Rattle.sheets.specs.Part.{Numbered, Parts, parts_for}
 use Rattle.tables.specs.Seat.{seat_at}
@@ -31,12 +31,12 @@ use Rattle.totals.specs.Shares.{president_of}
 -- the standing lines that are looked at are all that there are
 same_standing : (file : List ℕ) (round : Round) (drafter : Option Seat) (seats : ℕ) (events : List Event)
     → IfSome drafter (λ seat. seat.0 < seats) → IsAllLookedAt file round drafter
-    → after_standing_of file drafter round events ≡ after_standing seats file round events
+    → after_standing_of file drafter round events ≡ after_all_standing_lines seats file round events
 same_standing file round None seats events at_table all =
-    sym (none_standing after_standing_line file round events 0 seats
+    sym (none_standing after_operating_standing_line file round events 0 seats
     (λ k from within. ap (λ (parts : Parts). parts.before) (all k refl)))
 same_standing file round (Some seat) seats events at_table all =
-    sym (one_standing after_standing_line file round events seat.0 0 seats (omega arith) (omega (arith, at_table))
+    sym (one_standing after_operating_standing_line file round events seat.0 0 seats (omega arith) (omega (arith, at_table))
     (λ k other within. ap (λ (parts : Parts). parts.before) (all k (grind (arith, nat_tests, other)))))
 
 -- so the round begins as it is told

@@ -32,11 +32,11 @@ use Rattle.order_grammar.specs.declared.order.Order.{Order}
 use Rattle.order_grammar.specs.declared.order.Order.TheVariants.{BuyOwnedPrivate, BuyTrain}
 use Rattle.order_grammar.specs.declared.order.TrainSource.{TrainSource}
 use Rattle.order_grammar.specs.declared.order.TrainSource.TheVariants as source
-use Rattle.privates.specs.Standing.{has_place_before as may_stand_before, standing_refusal}
+use Rattle.privates.specs.Standing.{has_place_before_turns, opening_standing_refusal}
 use Rattle.privates.specs.Turn.{opening_refusal}
 use Rattle.purchases.specs.Private.{is_given_by, is_too_dear as is_dear, is_too_early, is_wrong_price, private_bought}
 use Rattle.purchases.specs.Private.{private_judgement_by}
-use Rattle.purchases.specs.Standing.{has_place_before, standing_judgement}
+use Rattle.purchases.specs.Standing.{has_place_before_companies, operating_standing_judgement}
 use Rattle.purchases.specs.Train.{after_train, is_at_train_limit, is_no_trade_in, is_not_sellers, is_on_sale}
 use Rattle.purchases.specs.Train.{is_too_dear, lacks_consent_by, purchase_of, train_judgement_by}
 use Rattle.purchases.specs.declared.consents.Consents.TheVariants.{All, OfGame}
@@ -92,11 +92,11 @@ stock_ruled game seat deals line order has its =
 
 pub before_ruled : RowsBeforeAreRuled
 before_ruled events line order has its =
-    ruled_as_told may_stand_before (standing_refusal events) events line order (pos (before_cost order)) has its
+    ruled_as_told has_place_before_turns (opening_standing_refusal events) events line order (pos (before_cost order)) has its
 
 pub standing_ruled : StandingRowsAreRuled
 standing_ruled events seat line order has its =
-    ruled_as_told has_place_before (standing_judgement events seat) events line order (pos 0) has its
+    ruled_as_told has_place_before_companies (operating_standing_judgement events seat) events line order (pos 0) has its
 
 -- nothing is not something
 pub none_is_not : {A : Type 0} (x : A) → None ≡ Some x → ⊥

@@ -16,10 +16,10 @@ use Rattle.moves.specs.declared.row.Row.{Row}
 use Rattle.order_grammar.specs.declared.order.Offer.TheVariants as offer
 use Rattle.order_grammar.specs.declared.order.Order.{Order}
 use Rattle.order_grammar.specs.declared.order.Order.TheVariants.{Discard, Limit, Offer as OfferLine}
-use Rattle.privates.specs.Standing.{standing_refusal}
+use Rattle.privates.specs.Standing.{opening_standing_refusal}
 use Rattle.purchases.specs.Discard.{has_train, is_president}
 use Rattle.purchases.specs.Offer.{is_seats}
-use Rattle.purchases.specs.Standing.{standing_judgement}
+use Rattle.purchases.specs.Standing.{operating_standing_judgement}
 use Rattle.tables.specs.Roster.{companies, face_of, privates, same_company}
 use Rattle.tables.specs.Train.{kinds, trains_of}
 use Rattle.tables.specs.declared.rolling_stock.Kind.{Kind}
@@ -52,7 +52,7 @@ before_cost other = 0
 
 -- what becomes of an order as a standing line of an opening
 abbrev pub before_answer : List Event → Order → Answer
-before_answer events order = answer_of (pos (before_cost order)) (standing_refusal events order)
+before_answer events order = answer_of (pos (before_cost order)) (opening_standing_refusal events order)
 
 -- its row
 abbrev pub before_row : List Event → Order → Row
@@ -117,7 +117,7 @@ standing_orders events seat = discards events seat ++ (train_offers events seat 
 
 -- what becomes of an order as a standing line of an operating round
 abbrev pub standing_answer : List Event → Seat → Order → Answer
-standing_answer events seat order = answer_of (pos 0) (standing_judgement events seat order)
+standing_answer events seat order = answer_of (pos 0) (operating_standing_judgement events seat order)
 
 -- its row
 abbrev pub standing_row : List Event → Seat → Order → Row

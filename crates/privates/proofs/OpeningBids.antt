@@ -33,7 +33,7 @@ use Rattle.privates.specs.BidsRise.{BidsRise, OpeningBidsRise, is_near_earlier}
 use Rattle.privates.specs.Closing.{after_fall, after_passing, all_sold, given_away, opening_round_closed}
 use Rattle.privates.specs.Bank.{price_of}
 use Rattle.privates.specs.Sale.{after_private_sale, gifts, settle_auctions, settled, settled_by, settled_of}
-use Rattle.privates.specs.Standing.{standing_ruling}
+use Rattle.privates.specs.Standing.{opening_standing_ruling}
 use Rattle.privates.specs.Turn.{InOpeningTurn, after_opening_line, after_opening_ruling, opening_judgement}
 use Rattle.privates.specs.Turn.{opening_refusal, turn_after_opening_order}
 use Rattle.sheets.specs.Part.{Numbered}
@@ -276,7 +276,7 @@ opening_bids_rise file round old new played some seated rise =
       stays = λ events before. before;
       further = λ a b c first second before. second (first before);
       standing = λ seat events line before. with_other seats events
-          (event.Ruled seat line.number (standing_ruling events line)) refl before;
+          (event.Ruled seat line.number (opening_standing_ruling events line)) refl before;
       line = λ any seat turn line before. tested_rise seats seat turn line (nat_lt seat.0 seats)
           (λ under. is_under seat.0 seats under) before;
       passes = λ events seat before. with_other seats events (event.Passes seat) refl before;

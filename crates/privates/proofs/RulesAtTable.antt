@@ -7,7 +7,7 @@ use Rattle.events.specs.declared.event.Event.{Event}
 use Rattle.totals.specs.LookBack.{Game}
 use Rattle.privates.specs.Closing.{all_sold, opening_round_closed}
 use Rattle.privates.specs.Opening.{IsOpeningRound}
-use Rattle.privates.specs.Standing.{after_standing_line}
+use Rattle.privates.specs.Standing.{after_opening_standing_line}
 use Rattle.privates.specs.Turn.{InOpeningTurn, after_opening_line, opening_rules}
 use Rattle.sheets.specs.Part.{Numbered}
 use Rattle.sheets.specs.Taken.{after_each}
@@ -24,7 +24,7 @@ use Rattle.turns.specs.RoundOfTurns.{IsRoundOfTurns, RoundRules, in_turn, opened
 abbrev pub rules_at : ℕ → RoundRules Bool
 rules_at seats =
     record {
-      standing = after_standing_line;
+      standing = after_opening_standing_line;
       nothing = false;
       line = λ any seat turn line. if nat_lt seat.0 seats then after_opening_line seats seat turn line else turn;
       has_acted = λ acted. acted;

@@ -14,7 +14,7 @@ use Rattle.privates.specs.Bid.{MayBid, after_bid, bid_rules}
 use Rattle.privates.specs.Buy.{after_private_purchase, private_purchase_rules}
 pub use Rattle.privates.specs.Closing.{all_sold}
 use Rattle.privates.specs.Closing.{opening_round_closed}
-use Rattle.privates.specs.Standing.{after_standing_line}
+use Rattle.privates.specs.Standing.{after_opening_standing_line}
 use Rattle.sheets.specs.Part.{Numbered}
 use Rattle.tables.specs.Rules.{first_broken}
 use Rattle.tables.specs.declared.seat.Seat.{Seat}
@@ -74,7 +74,7 @@ after_opening_line seats seat turn line =
 abbrev pub opening_rules : RoundRules Bool
 opening_rules =
     record {
-      standing = after_standing_line;
+      standing = after_opening_standing_line;
       nothing = false;
       line = after_opening_line;
       has_acted = λ acted. acted;

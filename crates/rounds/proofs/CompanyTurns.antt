@@ -29,7 +29,7 @@ use Rattle.std.specs.List.{range_with_len}
 use Rattle.history.proofs.Recording.{left_first}
 use Rattle.totals.specs.AtEnd.{RulingsAreCounted}
 use Rattle.history.specs.Record.{revenues_recorded, with_left}
-use Rattle.purchases.specs.Standing.{after_standing}
+use Rattle.purchases.specs.Standing.{after_all_standing_lines}
 use Rattle.sheets.specs.File.{players_of}
 use Rattle.sheets.specs.Part.{lines_in, parts_for}
 use Rattle.tables.specs.Seat.{seat_at}
@@ -237,17 +237,17 @@ same_game a b seats events = λ i. record { seats = seats i; events = events i }
 -- the ROUND event, the standing lines and the revenues open a round
 pub round_opened : (file : List ℕ) (round : Round) (old recorded ruled paid : Game)
     → old.seats ≡ length (players_of file) → recorded ≡ with_event old (event.Round round)
-    → ruled.seats ≡ recorded.seats → ruled.events ≡ after_standing (length (players_of file)) file round recorded.events
+    → ruled.seats ≡ recorded.seats → ruled.events ≡ after_all_standing_lines (length (players_of file)) file round recorded.events
     → paid ≡ revenues_recorded ruled → paid ≡ opened file round old
 round_opened file round old recorded ruled paid players is_recorded ruled_seats is_ruled is_paid =
     let start : List Event = old.events ++ event.Round round ∷ [] in
-    let events : ruled.events ≡ after_standing old.seats file round start =
+    let events : ruled.events ≡ after_all_standing_lines old.seats file round start =
     is_ruled
-    ∙ ap (λ (game : Game). after_standing (length (players_of file)) file round game.events) is_recorded
-    ∙ ap (λ (seats : ℕ). after_standing seats file round start) (sym players)
+    ∙ ap (λ (game : Game). after_all_standing_lines (length (players_of file)) file round game.events) is_recorded
+    ∙ ap (λ (seats : ℕ). after_all_standing_lines seats file round start) (sym players)
     in
-    let is : ruled ≡ record { seats = old.seats; events = after_standing old.seats file round start } =
-    same_game ruled (record { seats = old.seats; events = after_standing old.seats file round start })
+    let is : ruled ≡ record { seats = old.seats; events = after_all_standing_lines old.seats file round start } =
+    same_game ruled (record { seats = old.seats; events = after_all_standing_lines old.seats file round start })
     (ruled_seats ∙ ap (λ (game : Game). game.seats) is_recorded) events
     in
     is_paid ∙ ap revenues_recorded is

@@ -6,7 +6,8 @@ use Rattle.events.specs.declared.event.Event.TheVariants as event
 use Rattle.events.specs.declared.ruling.Refusal.TheVariants as refusal
 use Rattle.totals.specs.LookBack.{Game}
 use Rattle.privates.specs.Opening.{IsOpeningRound}
-use Rattle.privates.specs.Standing.{has_place_before, standing_judgement, standing_refusal, standing_ruling}
+use Rattle.privates.specs.Standing.{has_place_before_turns, opening_standing_judgement, opening_standing_refusal}
+use Rattle.privates.specs.Standing.{opening_standing_ruling}
 use Rattle.privates.specs.Turn.{opening_judgement, opening_line_ruling, opening_refusal, opening_rules}
 use Rattle.privates.specs.Turn.{turn_after_opening_order}
 use Rattle.rounds.proofs.Growing.{◌⨾◌, Grows, GrowsBy, and_plain, by_one_event, is_aside, is_still}
@@ -65,9 +66,9 @@ pub opening_adds : AddsPlain opening_rules
 opening_adds =
     record {
       standing = λ seat events line plain.
-          recorded_plain seat line.number (standing_ruling events line) events
-          (ruling_plain has_place_before (standing_refusal events) events line plain
-          (λ its. of_mapped refusal.Opening (λ rule. tt) (standing_judgement events its)));
+          recorded_plain seat line.number (opening_standing_ruling events line) events
+          (ruling_plain has_place_before_turns (opening_standing_refusal events) events line plain
+          (λ its. of_mapped refusal.Opening (λ rule. tt) (opening_standing_judgement events its)));
       line = λ seats seat turn line plain.
           ruled_plain (turn_after_opening_order seats seat)
           (λ at done. of_act AnySeat AnyPrivate (GrowsBy is_plain) parts_plain seats seat at.events

@@ -25,7 +25,7 @@ use Rattle.privates.proofs.StandingBids.{cheapest_unsold}
 use Rattle.privates.specs.Closing.{after_fall, after_passing, all_sold, given_away, opening_round_closed}
 use Rattle.privates.specs.Bank.{price_of}
 use Rattle.privates.specs.Opening.{IsOpeningRound}
-use Rattle.privates.specs.Standing.{standing_ruling}
+use Rattle.privates.specs.Standing.{opening_standing_ruling}
 use Rattle.privates.specs.Sale.{after_private_sale, gifts, settle_auctions, settled, settled_by, settled_of}
 use Rattle.privates.specs.Turn.{InOpeningTurn, after_opening_line, after_opening_order}
 use Rattle.privates.specs.Turn.{opening_judgement, opening_refusal, opening_rules}
@@ -218,7 +218,7 @@ module _ (Sits : Seat → Type 0) (Sells : List Event → Private → Type 0) (R
       (record {
         stays = of.same;
         further = of.both;
-        standing = λ seat events line. rulings events seat line.number (standing_ruling events
+        standing = λ seat events line. rulings events seat line.number (opening_standing_ruling events
             line);
         line = λ seats seat turn line. of_line rulings seats seat turn line (sit seat);
         passes = λ events seat. of.quiet events (event.Passes seat) refl;

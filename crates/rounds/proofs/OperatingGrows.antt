@@ -17,8 +17,9 @@ use Rattle.order_grammar.specs.declared.order.Order.{Order}
 use Rattle.order_grammar.specs.declared.order.Order.TheVariants as order
 use Rattle.purchases.specs.Discard.{discard_judgement, is_president}
 use Rattle.purchases.specs.Offer.{is_seats, offer_judgement}
-use Rattle.purchases.specs.Standing.{after_standing, after_standing_line, has_place_before, standing_judgement}
-use Rattle.purchases.specs.Standing.{standing_ruling}
+use Rattle.purchases.specs.Standing.{after_all_standing_lines, after_operating_standing_line}
+use Rattle.purchases.specs.Standing.{has_place_before_companies, operating_standing_judgement}
+use Rattle.purchases.specs.Standing.{operating_standing_ruling}
 use Rattle.rounds.proofs.Growing.{◌⨾◌, Grows, GrowsPlainly, GrowsStill, and_plain, by_one_event}
 use Rattle.rounds.proofs.Growing.{count_aside, is_still}
 use Rattle.rounds.proofs.Growing.{passes_plain, passes_test, revenues_grow, stays, still_is_aside}
@@ -36,19 +37,19 @@ use Rattle.tables.specs.declared.seat.Seat.{Seat}
 
 -- by standing lines
 standing_lines_grow : (seat : Seat) (events : List Event) (lines : List Numbered) →
-    GrowsStill events (after_each (after_standing_line seat) events lines)
+    GrowsStill events (after_each (after_operating_standing_line seat) events lines)
 standing_lines_grow seat events [] = stays
 standing_lines_grow seat events (line ∷ lines) =
-    by_one_event events (event.Ruled seat line.number (standing_ruling events seat line)) refl
-    ⨾ standing_lines_grow seat (after_standing_line seat events line) lines
+    by_one_event events (event.Ruled seat line.number (operating_standing_ruling events seat line)) refl
+    ⨾ standing_lines_grow seat (after_operating_standing_line seat events line) lines
 
 -- by those of each seat
 standing_grows : (file : List ℕ) (round : Round) (events : List Event) (seats : List ℕ) →
-    GrowsStill events (after_all_before after_standing_line file round events seats)
+    GrowsStill events (after_all_before after_operating_standing_line file round events seats)
 standing_grows file round events [] = stays
 standing_grows file round events (seat ∷ seats) =
     standing_lines_grow (seat_at seat) events (parts_for file round seat).before
-    ⨾ standing_grows file round (after_lines_before after_standing_line file round events seat)
+    ⨾ standing_grows file round (after_lines_before after_operating_standing_line file round events seat)
     seats
 
 -- by those and the revenues
@@ -56,7 +57,7 @@ pub opened_still : (file : List ℕ) (round : Round) (old : Game) →
     GrowsStill (old.events ++ event.Round round ∷ []) (opened file round old).events
 opened_still file round old =
     let begun : List Event = old.events ++ event.Round round ∷ [] in
-    let ruled : List Event = after_standing old.seats file round begun in
+    let ruled : List Event = after_all_standing_lines old.seats file round begun in
     standing_grows file round begun (range_with_len 0 old.seats)
     ⨾ passes_test is_still (revenues_grow old.seats ruled privates)
 
@@ -102,7 +103,7 @@ offer_of_family events seat (offer.Private private buyer price) =
     offered_of_family (refusal.Private private_rule.NoConsent) (not (is_seats seat (owner_of events private))) tt
 
 -- so are standing lines
-standing_of_family : (events : List Event) (seat : Seat) (its : Order) → IsOfFamily (standing_judgement events seat its)
+standing_of_family : (events : List Event) (seat : Seat) (its : Order) → IsOfFamily (operating_standing_judgement events seat its)
 standing_of_family events seat (order.Discard company kind) =
     of_mapped refusal.Train (λ rule. tt) (discard_judgement events seat company kind)
 standing_of_family events seat (order.Offer sale) = offer_of_family events seat sale
@@ -113,10 +114,10 @@ pub opened_adds : (file : List ℕ) (round : Round) (old : Game) → SheetsArePl
     GrowsPlain (old.events ++ event.Round round ∷ []) (opened file round old).events
 opened_adds file round old sheets =
     let begun : List Event = old.events ++ event.Round round ∷ [] in
-    let ruled : List Event = after_standing old.seats file round begun in
-    standing_plain after_standing_line
-    (λ seat events line plain. recorded_plain seat line.number (standing_ruling events seat line) events
-    (ruling_plain has_place_before (standing_judgement events seat) events line plain (standing_of_family events seat)))
+    let ruled : List Event = after_all_standing_lines old.seats file round begun in
+    standing_plain after_operating_standing_line
+    (λ seat events line plain. recorded_plain seat line.number (operating_standing_ruling events seat line) events
+    (ruling_plain has_place_before_companies (operating_standing_judgement events seat) events line plain (standing_of_family events seat)))
     file round sheets begun (range_with_len 0 old.seats)
     ⨾ passes_plain is_still (revenues_grow old.seats ruled privates)
 

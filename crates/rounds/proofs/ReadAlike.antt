@@ -77,7 +77,7 @@ module _ (first second : List ℕ) where
         second round old
     same_operating_opened old =
         ap (λ (events : List Event). revenues_recorded (record { seats = old.seats; events = events }))
-        (same_standing rules.after_standing_line (old.events ++ event.Round round ∷ [])
+        (same_standing rules.after_operating_standing_line (old.events ++ event.Round round ∷ [])
         (range_with_len 0 old.seats))
 
     -- a company's orders lead to the same

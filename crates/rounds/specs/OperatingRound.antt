@@ -11,7 +11,7 @@ use Rattle.totals.specs.LookBack.{Game, bankrupt_in}
 use Rattle.totals.specs.Operating.{rulings_in_round}
 use Rattle.history.specs.Record.{revenues_recorded, with_left}
 use Rattle.market.specs.OperatingOrder.{next_company, operates, times}
-use Rattle.purchases.specs.Standing.{after_standing}
+use Rattle.purchases.specs.Standing.{after_all_standing_lines}
 use Rattle.operating.specs.Turn.{IsCompanyTurn}
 use Rattle.sheets.specs.Part.{lines_in, parts_for}
 use Rattle.tables.specs.Seat.{seat_at}
@@ -25,7 +25,7 @@ opened file round old =
     revenues_recorded (record {
       seats = old.seats;
       events =
-          after_standing old.seats file round (old.events ++ event.Round round ∷ []);
+          after_all_standing_lines old.seats file round (old.events ++ event.Round round ∷ []);
     })
 
 -- a company takes its turn as the next

@@ -9,7 +9,7 @@ use Rattle.sheets.specs.Part.{Numbered}
 use Rattle.stock_round.specs.Closing.{stock_round_closed}
 use Rattle.stock_round.specs.Deals.{has_acted, no_deals, with_deal}
 use Rattle.stock_round.specs.Orders.{after_stock_order, stock_refusal}
-use Rattle.stock_round.specs.Standing.{after_standing_line}
+use Rattle.stock_round.specs.Standing.{after_stock_standing_line}
 use Rattle.stock_round.specs.declared.deals.ShareDeals.{ShareDeals}
 use Rattle.tables.specs.declared.seat.Seat.{Seat}
 use Rattle.totals.specs.LookBack.{Game}
@@ -50,7 +50,7 @@ after_stock_line seats seat turn line =
 abbrev pub stock_rules : RoundRules ShareDeals
 stock_rules =
     record {
-      standing = after_standing_line;
+      standing = after_stock_standing_line;
       nothing = no_deals;
       line = after_stock_line;
       has_acted = has_acted;
