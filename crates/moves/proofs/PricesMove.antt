@@ -50,7 +50,7 @@ use Rattle.order_grammar.specs.declared.order.ShareSource.{ShareSource}
 use Rattle.order_grammar.specs.declared.order.ShareSource.TheVariants.{InitialOffering, BankPool}
 use Rattle.order_grammar.specs.declared.order.TrainSource.{TrainSource}
 use Rattle.order_grammar.specs.declared.order.TrainSource.TheVariants as source
-use Rattle.privates.specs.Bank.{price_of}
+use Rattle.privates.specs.Bank.{price_of_private}
 use Rattle.privates.specs.Bid.{after_bid}
 use Rattle.privates.specs.ParOfBo.{par_set_by}
 use Rattle.privates.specs.Sale.{after_private_sale, gifts, settled}
@@ -61,12 +61,12 @@ use Rattle.purchases.specs.Phases.{excess_of, rusts_at, with_all_closed, with_cl
 use Rattle.purchases.specs.Phases.{with_kind_rusted_at, with_limit_kept, with_limits_kept, with_one_rusted, with_phase}
 use Rattle.purchases.specs.Phases.{with_privates_closed, with_rusted, with_trains_rusted}
 use Rattle.purchases.specs.Private.{private_bought, private_judgement, sold_by}
-use Rattle.purchases.specs.Train.{after_train, begins_phase, bought, cost_of, purchase_of, train_judgement, with_bop_closed}
-use Rattle.purchases.specs.Train.{with_trade}
+use Rattle.purchases.specs.Train.{after_train, begins_phase, purchase_of, train_bought, train_judgement}
+use Rattle.purchases.specs.Train.{train_purchase_cost, with_bop_closed, with_trade}
 use Rattle.purchases.specs.declared.consents.Consents.TheVariants.{All, OfGame}
 use Rattle.purchases.specs.declared.train.TrainPurchase.{TrainPurchase}
 use Rattle.sheets.specs.Part.{Numbered}
-use Rattle.stock_round.specs.Buy.{bought as share_bought}
+use Rattle.stock_round.specs.Buy.{share_bought}
 use Rattle.stock_round.specs.Exchange.{exchange_source, exchanged}
 use Rattle.stock_round.specs.Float.{floated_at, is_to_float, with_float}
 use Rattle.stock_round.specs.Orders.{after_stock_order, stock_refusal}
@@ -303,7 +303,7 @@ private_paid seats events its seat price =
 
 -- a ruling changes no private's price
 same_private_price : (events : List Event) (its : Private) (seat : Seat) (number : ℕ) (done : Ruling)
-    → price_of (events ++ event.Ruled seat number done ∷ []) its ≡ price_of events its
+    → price_of_private (events ++ event.Ruled seat number done ∷ []) its ≡ price_of_private events its
 same_private_price events SchuylkillValley seat number done =
     sv_price_of_before events (event.Ruled seat number done) refl
 same_private_price events other seat number done = refl
@@ -316,9 +316,9 @@ moves_in_opening : (seats : ℕ) (events : List Event) (seat : Seat) (number : �
 moves_in_opening seats events seat number done (order.BuyPrivate its) price costs =
     let ruled_list : List Event = events ++ event.Ruled seat number done ∷ [] in
     record {
-      paid = after_private_sale ruled_list its seat (price_of ruled_list its);
-      pays = private_paid seats ruled_list its seat (price_of ruled_list its)
-          ∙ ap (λ (cash : ℤ). cash -ℤ pos (price_of ruled_list its))
+      paid = after_private_sale ruled_list its seat (price_of_private ruled_list its);
+      pays = private_paid seats ruled_list its seat (price_of_private ruled_list its)
+          ∙ ap (λ (cash : ℤ). cash -ℤ pos (price_of_private ruled_list its))
           (cash_of_before seats events (event.Ruled seat number done) (party_at seat) refl)
           ∙ ap (λ (sum : ℤ). cash_of seats events (party_at seat) -ℤ sum)
           (ap pos (same_private_price events its seat number done) ∙ costs);
@@ -419,20 +419,20 @@ module _ (buyer : Company) where
   -- a train is paid for
   train_paid : (game : Game) (purchase : TrainPurchase)
       → paid_to (party_of_company buyer)
-      (payment_of (event.Train buyer purchase.kind purchase.from (cost_of purchase))) ≡ 0
-      → has (after_train game buyer purchase) ≡ has game -ℤ pos (cost_of purchase)
+      (payment_of (event.Train buyer purchase.kind purchase.from (train_purchase_cost purchase))) ≡ 0
+      → has (after_train game buyer purchase) ≡ has game -ℤ pos (train_purchase_cost purchase)
   train_paid game purchase others =
       let traded : Game = with_trade game buyer purchase.trade_in in
-      let pay : Event = event.Train buyer purchase.kind purchase.from (cost_of purchase) in
+      let pay : Event = event.Train buyer purchase.kind purchase.from (train_purchase_cost purchase) in
       let paid : Game = with_event traded pay in
       same_either (begins_phase game.events purchase.from purchase.kind) has
-      (with_phase (bought game buyer purchase) purchase.kind) (bought game buyer purchase)
-      (phase_keeps (bought game buyer purchase) purchase.kind)
+      (with_phase (train_bought game buyer purchase) purchase.kind) (train_bought game buyer purchase)
+      (phase_keeps (train_bought game buyer purchase) purchase.kind)
       ∙ same_either (same_company buyer company.BaltimoreOhio) has (with_closed paid private.BaltimoreOhio) paid
       (closed_keeps paid private.BaltimoreOhio)
-      ∙ pays traded.seats traded.events pay (party_of_company buyer) (cost_of purchase) others
-      (ap (λ (b : Bool). if b then cost_of purchase else 0) (company_itself buyer))
-      ∙ ap (λ (cash : ℤ). cash -ℤ pos (cost_of purchase)) (trade_keeps game purchase.trade_in)
+      ∙ pays traded.seats traded.events pay (party_of_company buyer) (train_purchase_cost purchase) others
+      (ap (λ (b : Bool). if b then train_purchase_cost purchase else 0) (company_itself buyer))
+      ∙ ap (λ (cash : ℤ). cash -ℤ pos (train_purchase_cost purchase)) (trade_keeps game purchase.trade_in)
     where
       trade_keeps : (game : Game) (trade_in : Option Kind) → has (with_trade game buyer trade_in) ≡ has game
       trade_keeps game None = refl
@@ -441,7 +441,7 @@ module _ (buyer : Company) where
   -- the company pays others
   pays_others : (game : Game) (kind : Kind) (from : TrainSource) → train_judgement game buyer (purchase_of kind from) ≡ None
       → paid_to (party_of_company buyer) (payment_of (event.Train buyer (purchase_of kind from).kind
-      (purchase_of kind from).from (cost_of (purchase_of kind from)))) ≡ 0
+      (purchase_of kind from).from (train_purchase_cost (purchase_of kind from)))) ≡ 0
   pays_others game kind source.Bank kept = refl
   pays_others game kind (source.Trade other) kept = refl
   pays_others game kind source.BankPool kept = refl
@@ -479,7 +479,7 @@ train_prices_move by turn line kind from price new past told leads =
     ∙ ap (λ (rule : Option Refusal). ruled_by turn rule) parts.0 in
     ap (λ (t : TurnState). cash_in t.game by.company) is
     ∙ train_paid by.company recorded purchase (pays_others by.company turn.game kind from kept)
-    ∙ ap (λ (cash : ℤ). cash -ℤ pos (cost_of purchase))
+    ∙ ap (λ (cash : ℤ). cash -ℤ pos (train_purchase_cost purchase))
     (cash_of_before turn.game.seats turn.game.events its (party_of_company by.company) refl)
     ∙ ap (λ (sum : ℤ). cash_in turn.game by.company -ℤ sum) parts.1
 

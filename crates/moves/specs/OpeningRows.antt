@@ -11,7 +11,7 @@ use Rattle.moves.specs.declared.row.Answer.{Answer}
 use Rattle.moves.specs.declared.row.Row.{Row}
 use Rattle.order_grammar.specs.declared.order.Order.{Order}
 use Rattle.order_grammar.specs.declared.order.Order.TheVariants.{Bid, BuyPrivate}
-use Rattle.privates.specs.Bank.{price_of}
+use Rattle.privates.specs.Bank.{price_of_private}
 use Rattle.privates.specs.Turn.{opening_refusal}
 use Rattle.tables.specs.Roster.{privates}
 use Rattle.tables.specs.declared.roster.Private.{Private}
@@ -28,7 +28,7 @@ opening_orders events = flat_map (orders_on events) privates
 
 -- what an order costs: a private its price, a bid its sum
 abbrev pub opening_cost : List Event → Order → ℕ
-opening_cost events (BuyPrivate private) = price_of events private
+opening_cost events (BuyPrivate private) = price_of_private events private
 opening_cost events (Bid private amount) = amount
 opening_cost events other = 0
 

@@ -31,7 +31,7 @@ use Rattle.privates.proofs.TurnLemmas.{may_act_after}
 use Rattle.privates.specs.Bid.{MayBid, is_near_some}
 use Rattle.privates.specs.BidsRise.{BidsRise, OpeningBidsRise, is_near_earlier}
 use Rattle.privates.specs.Closing.{after_fall, after_passing, all_sold, given_away, opening_round_closed}
-use Rattle.privates.specs.Bank.{price_of}
+use Rattle.privates.specs.Bank.{price_of_private}
 use Rattle.privates.specs.Sale.{after_private_sale, gifts, settle_auctions, settled, settled_by, settled_of}
 use Rattle.privates.specs.Standing.{opening_standing_ruling}
 use Rattle.privates.specs.Turn.{InOpeningTurn, after_opening_line, after_opening_ruling, opening_judgement}
@@ -44,7 +44,7 @@ use Rattle.tables.specs.declared.roster.Private.TheVariants as private
 use Rattle.tables.specs.declared.seat.Seat.{Seat}
 use Rattle.turns.proofs.RoundLeads.{round_leads}
 use Rattle.turns.proofs.Ruled.{none_as_refusal, of_ruled}
-use Rattle.turns.specs.Ruling.{has_place_in_turn, obeyed_by}
+use Rattle.turns.specs.Ruling.{has_place_in_turn, obeyed_order}
 
 -- bids rise, and those that stand are of seats at the table
 record RiseAt (seats : ℕ) (events : List Event) : Type 0 where
@@ -230,8 +230,8 @@ order_rise : (seats : ℕ) (seat : Seat) (turn : InOpeningTurn) (number : ℕ) �
 order_rise seats seat turn number under before condition (order.BuyPrivate private) kept =
     let recorded : Event = event.Ruled seat number (Obeyed condition (order.BuyPrivate private)) in
     let ruled : List Event = turn.events ++ recorded ∷ [] in
-    settled_rise seats (after_private_sale ruled private seat (price_of ruled private))
-    (after_sale_rise seats ruled private seat (price_of ruled private) (with_other seats turn.events recorded refl
+    settled_rise seats (after_private_sale ruled private seat (price_of_private ruled private))
+    (after_sale_rise seats ruled private seat (price_of_private ruled private) (with_other seats turn.events recorded refl
     before))
 order_rise seats seat turn number under before condition (order.Bid private amount) kept =
     let recorded : Event = event.Ruled seat number (Obeyed condition (order.Bid private amount)) in
@@ -251,7 +251,7 @@ line_rise : (seats : ℕ) (seat : Seat) (turn : InOpeningTurn) (line : Numbered)
 line_rise seats seat turn line under before =
     of_ruled (turn_after_opening_order seats seat) (opening_refusal seats turn.events seat turn.actions) seat turn line.number
     (λ (after : InOpeningTurn). RiseAt seats after.events)
-    (λ (ruling : Ruling) (none : obeyed_by ruling ≡ None). with_other seats turn.events
+    (λ (ruling : Ruling) (none : obeyed_order ruling ≡ None). with_other seats turn.events
     (event.Ruled seat line.number ruling) refl before)
     (order_rise seats seat turn line.number under before) has_place_in_turn turn.events line
 

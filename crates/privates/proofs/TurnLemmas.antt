@@ -11,7 +11,7 @@ use Rattle.order_grammar.specs.declared.order.Order.TheVariants.{BuyPrivate, Bid
 use Rattle.privates.proofs.BankLemmas.{same_pay, same_price}
 use Rattle.privates.proofs.BidLemmas.{may_bid, near_after, still_may_bid}
 use Rattle.privates.proofs.BuyLemmas.{may_buy}
-use Rattle.privates.specs.Bank.{price_of}
+use Rattle.privates.specs.Bank.{price_of_private}
 use Rattle.privates.specs.Bid.{is_near_some}
 use Rattle.privates.specs.Turn.{MayAct, opening_judgement}
 use Rattle.tables.specs.declared.roster.Private.{Private}
@@ -29,7 +29,7 @@ still_may : (seats : ℕ) (before after : List Event) (seat : Seat) (order : Ord
     → ((private : Private) (amount : ℕ) → is_near_some amount after private ≡ is_near_some amount before private)
     → MayAct seats before seat order → MayAct seats after seat order
 still_may seats before after seat (BuyPrivate private) same near may =
-    same_pay seats before after seat private (price_of before private) (price_of after private) same
+    same_pay seats before after seat private (price_of_private before private) (price_of_private after private) same
     (same_price before after private same) may
 still_may seats before after seat (Bid private amount) same near may =
     still_may_bid seats before after seat private amount same (near private amount) may

@@ -10,7 +10,7 @@ use Rattle.totals.specs.LookBack.{cheapest_of, last_said}
 use Rattle.order_grammar.specs.declared.condition.Condition.{Condition}
 use Rattle.order_grammar.specs.declared.order.Order.{Order}
 use Rattle.order_grammar.specs.declared.order.Order.TheVariants as order
-use Rattle.privates.specs.Bank.{price_of}
+use Rattle.privates.specs.Bank.{price_of_private}
 use Rattle.privates.specs.Sale.{after_private_sale, gifts, settle_auctions, settled, settled_by, settled_of}
 use Rattle.privates.specs.Turn.{InOpeningTurn, after_opening_ruling, opening_refusal, opening_rules}
 use Rattle.privates.specs.Turn.{turn_after_opening_order}
@@ -74,7 +74,7 @@ order_says : (seats : ℕ) (seat : Seat) (turn : InOpeningTurn) (number : ℕ) (
     LineSaysWhoActed opening_rules seat turn (after_opening_ruling seats seat turn number (Obeyed condition done))
 order_says seats seat turn number condition (order.BuyPrivate private) kept =
     let ruled : List Event = recorded seat number (Obeyed condition (order.BuyPrivate private)) turn.events in
-    let sold : List Event = after_private_sale ruled private seat (price_of ruled private) in
+    let sold : List Event = after_private_sale ruled private seat (price_of_private ruled private) in
     record {
       acts = true;
       says_who =
@@ -82,7 +82,7 @@ order_says seats seat turn number condition (order.BuyPrivate private) kept =
           (one_more seat true turn.events (event.Ruled seat number (Obeyed condition (order.BuyPrivate private)))
           refl)
           (in_both seat false false ruled sold (settled seats sold)
-          (in_sale seat ruled private seat (price_of ruled private)) (in_settled seat seats sold));
+          (in_sale seat ruled private seat (price_of_private ruled private)) (in_settled seat seats sold));
       acted = now_acted turn.actions;
     }
 order_says seats seat turn number condition (order.Bid private amount) kept =

@@ -11,7 +11,7 @@ use Rattle.events.specs.declared.event.Event.TheVariants.{Given, Par, President,
 use Rattle.totals.specs.Bids.{bids_on}
 use Rattle.totals.specs.LookBack.{cheapest_of}
 use Rattle.privates.specs.Auction.{Bidder, auction_of}
-use Rattle.privates.specs.Limit.{limit_of}
+use Rattle.privates.specs.Limit.{auction_limit}
 use Rattle.privates.specs.ParOfBo.{par_set_by}
 use Rattle.tables.specs.Steps.{iterate}
 use Rattle.tables.specs.declared.roster.Company.TheVariants as company
@@ -37,7 +37,7 @@ after_private_sale events private buyer price = events ++ Sold private buyer pri
 
 -- a bidder in the auction of a private, with a bid and a limit
 abbrev pub bidder_of : ℕ → List Event → Private → Bid → Bidder
-bidder_of seats events private bid = (bid.seat, pos bid.amount, limit_of seats events private bid)
+bidder_of seats events private bid = (bid.seat, pos bid.amount, auction_limit seats events private bid)
 
 -- after a sale to the winner of an auction, who pays this; no price is under 0
 abbrev pub after_auction : List Event → Private → Seat × ℤ → List Event

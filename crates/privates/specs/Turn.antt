@@ -9,7 +9,7 @@ use Rattle.events.specs.declared.ruling.Refusal.TheVariants.{Opening}
 use Rattle.events.specs.declared.ruling.Ruling.{Ruling}
 use Rattle.order_grammar.specs.declared.order.Order.{Order}
 use Rattle.order_grammar.specs.declared.order.Order.TheVariants.{BuyPrivate, Bid}
-use Rattle.privates.specs.Bank.{MayPay, price_of}
+use Rattle.privates.specs.Bank.{MayPay, price_of_private}
 use Rattle.privates.specs.Bid.{MayBid, after_bid, bid_rules}
 use Rattle.privates.specs.Buy.{after_private_purchase, private_purchase_rules}
 pub use Rattle.privates.specs.Closing.{all_sold}
@@ -40,7 +40,7 @@ opening_refusal seats events seat used order = option_map Opening (opening_judge
 
 -- the order can be done, whatever the turn has done before
 abbrev pub MayAct : ℕ → List Event → Seat → Order → Type 0
-MayAct seats events seat (BuyPrivate private) = MayPay seats events seat private (price_of events private)
+MayAct seats events seat (BuyPrivate private) = MayPay seats events seat private (price_of_private events private)
 MayAct seats events seat (Bid private amount) = MayBid seats events seat private amount
 MayAct seats events seat other = Unit {0}
 

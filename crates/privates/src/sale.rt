@@ -10,7 +10,7 @@ ghost use Rattle.tables.specs.declared.roster.Private.TheVariants.{BaltimoreOhio
 ghost use Rattle.privates.specs.Underway.{IsUnderway};
 
 use crate::bidding::auction;
-use crate::limit::limit_of;
+use crate::limit::auction_limit;
 use crate::par_of_bo::par_set_by;
 use arrayvec::ArrayVec;
 use history::{Bid, Event, GameView, History};
@@ -221,6 +221,6 @@ fn bidders_of(
 fn bidder_of(view: &GameView, private: Private, bid: Bid) -> (Seat, Money, Money)
     ensures { result ≡ bidder_of view.now.seats view.now.events.now private bid }
 {
-    let limit = limit_of(view, private, bid);
+    let limit = auction_limit(view, private, bid);
     (bid.seat, Money::from(bid.amount), limit)
 }

@@ -23,7 +23,7 @@ use Rattle.order_grammar.specs.declared.order.Order.TheVariants as order
 use Rattle.privates.proofs.TurnLemmas.{may_act_after}
 use Rattle.privates.proofs.StandingBids.{cheapest_unsold}
 use Rattle.privates.specs.Closing.{after_fall, after_passing, all_sold, given_away, opening_round_closed}
-use Rattle.privates.specs.Bank.{price_of}
+use Rattle.privates.specs.Bank.{price_of_private}
 use Rattle.privates.specs.Opening.{IsOpeningRound}
 use Rattle.privates.specs.Standing.{opening_standing_ruling}
 use Rattle.privates.specs.Sale.{after_private_sale, gifts, settle_auctions, settled, settled_by, settled_of}
@@ -40,7 +40,7 @@ use Rattle.tables.specs.declared.seat.Seat.{Seat}
 use Rattle.tables.specs.declared.round.Round.{Round}
 use Rattle.turns.proofs.RoundLeads.{round_leads}
 use Rattle.turns.proofs.Ruled.{none_as_refusal, of_ruled}
-use Rattle.turns.specs.Ruling.{has_place_in_turn, obeyed_by}
+use Rattle.turns.specs.Ruling.{has_place_in_turn, obeyed_order}
 
 -- what is to be shown so that it holds of the parts of an opening round in which these seats take
 -- turns, and these privates are sold
@@ -146,7 +146,7 @@ module _ (Sits : Seat → Type 0) (Sells : List Event → Private → Type 0) (R
       ((private : Private) → done ≡ order.BuyPrivate private → Sells events private) →
       R events (after_opening_order seats seat events done)
   of_act seats seat events (order.BuyPrivate private) sits sells =
-      of_sales seats events private seat (price_of events private) (sells private refl)
+      of_sales seats events private seat (price_of_private events private) (sells private refl)
   of_act seats seat events (order.Bid private amount) sits sells = of.bids events private seat
       amount sits
   of_act seats seat events other sits sells = of.same events
@@ -160,7 +160,7 @@ module _ (Sits : Seat → Type 0) (Sells : List Event → Private → Type 0) (R
   of_line rulings seats seat turn line sits =
       of_ruled (turn_after_opening_order seats seat) (opening_refusal seats turn.events seat turn.actions) seat turn line.number
       (λ (after : InOpeningTurn). R turn.events after.events)
-      (λ (ruling : Ruling) (none : obeyed_by ruling ≡ None). rulings turn.events seat line.number
+      (λ (ruling : Ruling) (none : obeyed_order ruling ≡ None). rulings turn.events seat line.number
       ruling)
       (λ (condition : Option Condition) (done : Order)
       (kept : opening_refusal seats turn.events seat turn.actions done ≡ None).

@@ -32,8 +32,8 @@ use Rattle.tables.specs.declared.seat.Seat.{Seat}
 use Rattle.turns.specs.RoundOfTurns.{InTurn, in_turn, IsRoundOfTurns, RoundRules}
 use Rattle.turns.specs.RoundOfTurns.{after_written_turn, after_lines, finished, left_from, opened}
 use Rattle.turns.specs.RoundOfTurns.{turns_of}
-use Rattle.turns.specs.Ruling.{after_ruling, done, judged, line_ruling, obeyed_by, placed_ruling}
-use Rattle.turns.specs.Ruling.{recorded, ruling_of, under}
+use Rattle.turns.specs.Ruling.{after_ruling, done, judged, line_ruling, obeyed_order, placed_ruling}
+use Rattle.turns.specs.Ruling.{recorded, refusal_under, ruling_of}
 use Rattle.totals.specs.LookBack.{Game}
 use Rattle.tables.specs.Steps.{iterate}
 use Rattle.tables.specs.Turns.{InPlay, after_turn, written_turns_at, next_written_turn}
@@ -155,8 +155,8 @@ pub ruling_plain : (has_place : Order → Bool) (judgement : Order → Option Re
     (line : Numbered) → IsPlain line → ((its : Order) → IsOfFamily (judgement its)) →
     is_ruled_plainly (line_ruling has_place judgement events line) ≡ true
 ruling_plain has_place judgement events line is of =
-    reading_plain has_place (under events line.condition judgement) line.condition line.reading is
-    (λ its. subst (λ (condition : Option Condition). IsOfFamily (under events condition judgement its)) (sym is)
+    reading_plain has_place (refusal_under events line.condition judgement) line.condition line.reading is
+    (λ its. subst (λ (condition : Option Condition). IsOfFamily (refusal_under events condition judgement its)) (sym is)
     (of its))
 
 -- such a ruling is plain
@@ -179,7 +179,7 @@ module _ {TurnActions : Type 0} (act : InTurn TurnActions → Order → InTurn T
   ruled_plain seat turn number ruling is =
       let ruled : List Event = recorded seat number ruling turn.events in
       recorded_plain seat number ruling turn.events is ⨾ done_plain (in_turn ruled turn.actions)
-      (obeyed_by ruling)
+      (obeyed_order ruling)
 
 module _ (step : Seat → List Event → Numbered → List Event)
     (adds : (seat : Seat) (events : List Event) (line : Numbered) → IsPlain line →

@@ -24,7 +24,7 @@ use Rattle.rounds.proofs.Growing.{passes_plain, passes_test, stays}
 use Rattle.rounds.proofs.PlainRounds.{of_mapped, recorded_plain, ruled_plain, ruling_plain}
 use Rattle.rounds.proofs.PlainRounds.{AddsPlain}
 use Rattle.sheets.specs.Part.{Numbered}
-use Rattle.stock_round.specs.Buy.{after_purchase, bought}
+use Rattle.stock_round.specs.Buy.{after_purchase, share_bought}
 use Rattle.stock_round.specs.Closing.{all_risen, is_sold_out, risen}
 use Rattle.stock_round.specs.Exchange.{after_exchange, exchange_source, exchanged}
 use Rattle.stock_round.specs.Float.{is_to_float, with_float}
@@ -40,7 +40,7 @@ use Rattle.tables.specs.declared.seat.Seat.{Seat}
 use Rattle.tables.specs.declared.squares.Square.{Square}
 use Rattle.turns.proofs.RoundLeads.{round_leads}
 use Rattle.turns.proofs.Ruled.{of_ruled}
-use Rattle.turns.specs.Ruling.{has_place_in_turn, obeyed_by}
+use Rattle.turns.specs.Ruling.{has_place_in_turn, obeyed_order}
 
 -- by the presidency of a company, where it moves from this seat, if any has it
 successor_grows : (game : Game) (company : Company) (old : Option Seat) →
@@ -80,7 +80,7 @@ token_grows move events company (Some square) =
 purchase_grows : (game : Game) (seat : Seat) (company : Company) (from : ShareSource) →
     GrowsPlainly is_still game.events (after_purchase game seat company from).events
 purchase_grows game seat company from =
-    by_one_event game.events _ refl ⨾ share_grows (bought game seat company from) company
+    by_one_event game.events _ refl ⨾ share_grows (share_bought game seat company from) company
 
 -- by a sale
 pub sale_grows : (game : Game) (seat : Seat) (company : Company) (shares : ℕ) →
@@ -116,7 +116,7 @@ line_grows : (seats : ℕ) (seat : Seat) (turn : InStockTurn) (line : Numbered) 
 line_grows seats seat turn line =
     of_ruled (turn_after_stock_order seats seat) (stock_refusal (game_in seats turn) seat turn.actions.bought) seat turn line.number
     (λ (after : InStockTurn). GrowsStill turn.events after.events)
-    (λ (ruled : Ruling) (none : obeyed_by ruled ≡ None).
+    (λ (ruled : Ruling) (none : obeyed_order ruled ≡ None).
     by_one_event turn.events (event.Ruled seat line.number ruled) refl)
     (λ (condition : Option Condition) (done : Order)
     (kept : stock_refusal (game_in seats turn) seat turn.actions.bought done ≡ None).
