@@ -17,8 +17,8 @@ use Rattle.rounds.specs.GameCalls.{AreOver, CallsAreOfTheGame, CompanyCalls, Eac
 use Rattle.rounds.specs.GameCalls.{IsFinished, IsOpened, NextCalls, OperatingCalls, PlayedCalls}
 use Rattle.rounds.specs.GameCalls.{RoundCalls, SomeCalls, Stops, TurnsCall, between_after}
 use Rattle.rounds.specs.GameCalls.{ArePrefix, OneListOfCalls, RefusedCallsAreAPrefix}
-use Rattle.rounds.specs.OperatingRound.{IsOperatingRound, TakeTurns, TakesTurn, TurnsLead, finished}
-use Rattle.rounds.specs.OperatingRound.{opened}
+use Rattle.rounds.specs.OperatingRound.{IsOperatingRound, TakeTurns, TakesTurn, TurnsLead}
+use Rattle.rounds.specs.OperatingRound.{operating_round_finished, operating_round_opened}
 use Rattle.rounds.specs.Play.{AreRounds, Between, IsPlayed, IsRound, IsTheGame, IsToPlay, Played}
 use Rattle.rounds.specs.Play.{SomeGame, before_play, coming, end_of, in_set_before, goes_on}
 use Rattle.rounds.specs.declared.fault.PlayFault.{PlayFault}
@@ -73,7 +73,7 @@ module _ {Runner : Type 0} (earns : Earns Runner) where
   -- the turns of a round that was opened, and what follows them
   pub turns_of_round :
       (file : List ℕ) (round : Round) (old paid : Game) (outcome : Result Game PlayFault) (before after : Runner)
-      → paid ≡ opened file round old →
+      → paid ≡ operating_round_opened file round old →
       Makes earns before (Then (TurnsCall file round) (Unasked Memory (IsFinished file round)) paid outcome) after →
       Makes earns before (OperatingCalls file round old outcome) after
   turns_of_round file round old paid outcome before after is_opened made =
@@ -165,7 +165,7 @@ operating_played file round old new calls course =
               turns = subst (λ (game : Game). TurnsLead file round game rest.between) first.leads.0 led.0;
               after =
                   rest.goes_on.0
-                  ∙ ap (λ (n : ℕ). record { seats = n; events = finished file round n rest.between.events }) seats;
+                  ∙ ap (λ (n : ℕ). record { seats = n; events = operating_round_finished file round n rest.between.events }) seats;
             }
       ]
     ]
@@ -233,15 +233,15 @@ module _ (some : SomeTurnCalls) (file : List ℕ) where
   operating_called : (round : Round) (old new : Game) → IsOperatingRound file round old new →
       AreSome (OperatingCalls file round old (Ok new))
   operating_called round old new played =
-      let start : Game = opened file round old in
+      let start : Game = operating_round_opened file round old in
       let turned : Game = played.turned in
       let turns = turns_called round played.turns.companies start turned played.turns.turns
       played.turns.over_then in
       let seats : turned.seats ≡ old.seats =
       (turns_lead file round turns.1.0 start turned turns.0 turns.1.1).1 in
-      let after : new ≡ record { seats = turned.seats; events = finished file round turned.seats turned.events } =
+      let after : new ≡ record { seats = turned.seats; events = operating_round_finished file round turned.seats turned.events } =
       played.after ∙ ap (λ (n : ℕ). record
-      { seats = n; events = finished file round n turned.events }) (sym seats) in
+      { seats = n; events = operating_round_finished file round n turned.events }) (sym seats) in
       turns_of_round AnyRunner file round old start (Ok new) tt tt refl
       (turns_followed AnyRunner file round start turned (Ok new) tt tt turns (after, refl))
 

@@ -26,7 +26,7 @@ use Rattle.rounds.proofs.Growing.{passes_plain, passes_test, revenues_grow, stay
 use Rattle.rounds.proofs.PlainRounds.{GrowsPlain, IsOfFamily, SheetsArePlain, of_mapped}
 use Rattle.rounds.proofs.PlainRounds.{recorded_plain, ruling_plain}
 use Rattle.rounds.proofs.PlainRounds.{standing_plain}
-use Rattle.rounds.specs.OperatingRound.{finished, left_events, lines_left, opened}
+use Rattle.rounds.specs.OperatingRound.{left_events, lines_left, operating_round_finished, operating_round_opened}
 use Rattle.sheets.specs.Part.{Numbered, parts_for}
 use Rattle.sheets.specs.Taken.{after_all_before, after_each, after_lines_before}
 use Rattle.tables.specs.Roster.{privates}
@@ -54,7 +54,7 @@ standing_grows file round events (seat ∷ seats) =
 
 -- by those and the revenues
 pub opened_still : (file : List ℕ) (round : Round) (old : Game) →
-    GrowsStill (old.events ++ event.Round round ∷ []) (opened file round old).events
+    GrowsStill (old.events ++ event.Round round ∷ []) (operating_round_opened file round old).events
 opened_still file round old =
     let begun : List Event = old.events ++ event.Round round ∷ [] in
     let ruled : List Event = after_all_standing_lines old.seats file round begun in
@@ -72,19 +72,19 @@ left_aside file round events (seat ∷ seats) =
 
 -- by those counts
 finished_grows : (file : List ℕ) (round : Round) (seats : ℕ) (events : List Event) →
-    GrowsPlainly is_still events (finished file round seats events)
+    GrowsPlainly is_still events (operating_round_finished file round seats events)
 finished_grows file round seats events =
     record { more = _; longer = refl; aside = left_aside file round events (range_with_len 0 seats) }
 
 -- so it is still
 pub finished_still : (file : List ℕ) (round : Round) (seats : ℕ) (events : List Event) →
-    GrowsStill events (finished file round seats events)
+    GrowsStill events (operating_round_finished file round seats events)
 finished_still file round seats events = passes_test is_still (finished_grows file round seats
     events)
 
 -- those events stand aside
 pub opened_grows : (file : List ℕ) (round : Round) (old : Game) →
-    Grows (old.events ++ event.Round round ∷ []) (opened file round old).events
+    Grows (old.events ++ event.Round round ∷ []) (operating_round_opened file round old).events
 opened_grows file round old = still_is_aside (opened_still file round old)
 
 -- an offer is refused by its rule, or not
@@ -111,7 +111,7 @@ standing_of_family events seat other = tt
 
 -- where no sheet has a condition, the events before the first company are plain
 pub opened_adds : (file : List ℕ) (round : Round) (old : Game) → SheetsArePlain file round →
-    GrowsPlain (old.events ++ event.Round round ∷ []) (opened file round old).events
+    GrowsPlain (old.events ++ event.Round round ∷ []) (operating_round_opened file round old).events
 opened_adds file round old sheets =
     let begun : List Event = old.events ++ event.Round round ∷ [] in
     let ruled : List Event = after_all_standing_lines old.seats file round begun in
@@ -123,6 +123,6 @@ opened_adds file round old sheets =
 
 -- and those after its last
 pub finished_adds : (file : List ℕ) (round : Round) (seats : ℕ) (events : List Event) →
-    GrowsPlain events (finished file round seats events)
+    GrowsPlain events (operating_round_finished file round seats events)
 finished_adds file round seats events = passes_plain is_still (finished_grows file round seats
     events)

@@ -81,7 +81,7 @@ use Rattle.std.specs.List.{list_all}
 use Rattle.privates.specs.Turn.{opening_rules}
 use Rattle.rounds.proofs.OpeningGrows.{opening_adds}
 use Rattle.rounds.proofs.OperatingGrows.{finished_adds, opened_adds}
-use Rattle.rounds.specs.OperatingRound.{IsOperatingRound, TakeTurns, opened}
+use Rattle.rounds.specs.OperatingRound.{IsOperatingRound, TakeTurns, operating_round_opened}
 use Rattle.rounds.specs.Play.{IsPlayed, before_play}
 use Rattle.sheets.specs.Laws.{VersionOneIsPlain}
 use Rattle.stock_round.specs.Turn.{stock_rules}
@@ -469,7 +469,7 @@ module _ (file : List ℕ) (round : Round) (sheets : SheetsArePlain file round) 
       subst (λ (game : Game). GrowsPlain (old.events ++ event.Round round ∷ []) game.events)
       (sym played.after)
       (opened_adds file round old sheets
-      ⨾ turns_add played.turns.companies (opened file round old) played.turned played.turns.turns
+      ⨾ turns_add played.turns.companies (operating_round_opened file round old) played.turned played.turns.turns
       ⨾ finished_adds file round old.seats played.turned.events)
 
 -- and each round

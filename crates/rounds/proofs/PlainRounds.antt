@@ -22,7 +22,7 @@ use Rattle.rounds.specs.PlainLines.{FamilyAloneJudges, is_plain, is_ruled_plainl
 use Rattle.sheets.specs.CompanyOrders.{company_orders_for, company_orders_in, opens_orders_of}
 use Rattle.sheets.specs.File.{sheet_of, version_of}
 use Rattle.sheets.specs.Laws.{VersionOneIsPlain, plain, plain_parts}
-use Rattle.sheets.specs.Part.{Numbered, Part, Parts, after_head, after_line, written_turns_of}
+use Rattle.sheets.specs.Part.{Numbered, Part, SheetParts, after_head, after_line, written_turns_of}
 use Rattle.sheets.specs.Part.{opens_part, parts_for, lines_in_written_turns}
 use Rattle.sheets.specs.Taken.{after_all_before, after_each, after_lines_before}
 use Rattle.tables.specs.Seat.{seat_at}
@@ -67,11 +67,11 @@ abbrev pub WrittenTurnsArePlain : List (List Numbered) → Type 0
 WrittenTurnsArePlain written_turns = AllByRecursion ArePlain written_turns
 
 -- nor does each line of a sheet
-abbrev pub PartsArePlain : Parts → Type 0
+abbrev pub PartsArePlain : SheetParts → Type 0
 PartsArePlain parts = ArePlain parts.before × WrittenTurnsArePlain (written_turns_of parts)
 
 -- a line before parts
-with_plain : (head : Bool) (line : Numbered) (parts : Parts) → IsPlain line → PartsArePlain parts →
+with_plain : (head : Bool) (line : Numbered) (parts : SheetParts) → IsPlain line → PartsArePlain parts →
     PartsArePlain (if head then after_head line parts else after_line line parts)
 with_plain head line parts is others = grind arith
 

@@ -7,7 +7,7 @@ use Rattle.market.specs.OperatingOrder.{next_company}
 use Rattle.operating.specs.Calls.{Call, Course, IsPrefix, Named, SomeTimesThen, Then, Unasked}
 use Rattle.operating.specs.TurnCalls.{TurnCalls}
 use Rattle.rounds.specs.Faults.{fault_in_turn}
-use Rattle.rounds.specs.OperatingRound.{finished, opened}
+use Rattle.rounds.specs.OperatingRound.{operating_round_finished, operating_round_opened}
 use Rattle.rounds.specs.Play.{Between, IsPlayed, IsTheGame, IsToPlay, Played, before_play, coming, end_of, goes_on}
 use Rattle.rounds.specs.Play.{in_set_before}
 use Rattle.rounds.specs.declared.fault.PlayFault.{PlayFault}
@@ -37,12 +37,12 @@ TurnsCall file round = SomeTimesThen (NextCalls file round) (Unasked Memory AreO
 
 -- an operating round is opened
 abbrev pub IsOpened : List ℕ → Round → Game → Game → Type 0
-IsOpened file round old new = new ≡ opened file round old
+IsOpened file round old new = new ≡ operating_round_opened file round old
 
 -- it is recorded what was left
 abbrev pub IsFinished : List ℕ → Round → Game → Game → Type 0
 IsFinished file round turned new =
-    new ≡ record { seats = turned.seats; events = finished file round turned.seats turned.events }
+    new ≡ record { seats = turned.seats; events = operating_round_finished file round turned.seats turned.events }
 
 -- the course of an operating round
 abbrev pub OperatingCalls : List ℕ → Round → Course Game Game PlayFault
