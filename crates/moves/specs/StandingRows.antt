@@ -18,7 +18,6 @@ use Rattle.order_grammar.specs.declared.order.Order.{Order}
 use Rattle.order_grammar.specs.declared.order.Order.TheVariants.{Discard, Limit, Offer as OfferLine}
 use Rattle.privates.specs.Standing.{opening_standing_refusal}
 use Rattle.purchases.specs.Discard.{has_train, is_president}
-use Rattle.purchases.specs.Offer.{is_seats}
 use Rattle.purchases.specs.Standing.{operating_standing_judgement}
 use Rattle.tables.specs.Roster.{companies, face_of, privates, same_company}
 use Rattle.tables.specs.Train.{kinds, trains_of}
@@ -29,7 +28,7 @@ use Rattle.tables.specs.declared.round.Round.{Round}
 use Rattle.tables.specs.declared.round.Round.TheVariants.{Opening, Stock, Operating}
 use Rattle.tables.specs.declared.seat.Seat.{Seat}
 use Rattle.totals.specs.Bids.{bid_of}
-use Rattle.totals.specs.LookBack.{owner_of}
+use Rattle.totals.specs.LookBack.{is_owner, owner_of}
 use Rattle.totals.specs.Shares.{is_started, president_of}
 
 -- LIMIT on a private at this bid, if there is one
@@ -100,7 +99,7 @@ train_offers events seat = flat_map (train_offers_of events seat) companies
 -- OFFER of a private to a company at its face value, if the seat owns it and the company is started
 abbrev pub private_offer : List Event → Seat → Private → Company → List Order
 private_offer events seat private buyer =
-    only_if (is_seats seat (owner_of events private) && is_started events buyer)
+    only_if (is_owner seat (owner_of events private) && is_started events buyer)
     (OfferLine (offer.Private private buyer (face_of private)) ∷ [])
 
 -- to all companies

@@ -1,19 +1,18 @@
 -- The statement after a round: what each player holds, what each started company has, and the
 -- bank's cash.
-use Rattle.std.specs.Prelude.{◌≡◌, ℕ, zero, suc, Bool, false, if◌then◌else◌, List, [], ◌∷◌, ◌++◌, codes, decimal}
+use Rattle.std.specs.Prelude.{◌≡◌, ℕ, zero, suc, if◌then◌else◌, List, [], ◌∷◌, ◌++◌, codes, decimal}
 use Rattle.std.specs.Prelude.{Option, Some, None}
 use Rattle.certs.specs.Counted.{counted_of}
 use Rattle.std.specs.List.{flat_map, range_with_len}
 use Rattle.std.specs.Fmt.{signed_decimal}
 use Rattle.events.specs.Event.{party_at}
 use Rattle.events.specs.declared.event.Event.{Event}
-use Rattle.events.specs.declared.event.Holder.{Holder}
 use Rattle.events.specs.declared.event.Holder.TheVariants as holder
 use Rattle.events.specs.declared.event.Party.{Party}
 use Rattle.events.specs.declared.event.Party.TheVariants as party
 use Rattle.events.specs.declared.event.Shareholder.{Shareholder}
 use Rattle.events.specs.declared.event.Shareholder.TheVariants.{InitialOffering, BankPool, Seat as OfSeat}
-use Rattle.totals.specs.LookBack.{cash_of, owner_in, owner_of, same_holder}
+use Rattle.totals.specs.LookBack.{cash_of, is_owner, owner_in, owner_of}
 use Rattle.totals.specs.Operating.{tokens_placed}
 use Rattle.totals.specs.Shares.{president_of, shares_of, square_of}
 use Rattle.totals.specs.Trains.{at_least_zero, trains_held}
@@ -30,18 +29,13 @@ use Rattle.tables.specs.declared.roster.Private.{Private}
 use Rattle.tables.specs.declared.seat.Seat.{Seat}
 use Rattle.tables.specs.declared.squares.Square.{Square}
 
--- an owner is this seat
-abbrev pub is_seat : Seat → Option Holder → Bool
-is_seat seat None = false
-is_seat seat (Some owner) = same_holder owner (holder.Seat seat)
-
 -- the owners of the privates, looked up before
 abbrev pub AreOwnersIn : List Event → Owners → Type 0
 AreOwnersIn events owners = (private : Private) → owner_in owners private ≡ owner_of events private
 
 -- the code of a private after a space, if the seat owns it
 abbrev pub code_owned : List Event → Seat → Private → List ℕ
-code_owned events seat private = if is_seat seat (owner_of events private) then 32 ∷ code_of_private private else []
+code_owned events seat private = if is_owner seat (owner_of events private) then 32 ∷ code_of_private private else []
 
 -- the codes of the privates that a seat owns, in roster order
 unfoldable pub codes_owned : List Event → Seat → List ℕ

@@ -3,11 +3,11 @@ ghost use Rattle.std.specs.Prelude.{◌≡◌, ◌∷◌, ◌++◌, [], OnOk, le
 ghost use Rattle.std.specs.Fmt.{signed_decimal};
 ghost use Rattle.std.specs.Option.{ForSome};
 ghost use Rattle.events.specs.declared.event.Shareholder.TheVariants.{Seat as OfSeat};
-ghost use Rattle.totals.specs.LookBack.{owner_in};
+ghost use Rattle.totals.specs.LookBack.{is_owner, owner_in};
 ghost use Rattle.report.specs.Column.{Adds, right_aligned};
 ghost use Rattle.report.specs.Statement.{AreOwnersIn, bank_line_at, cash_column_at, code_owned, codes_owned};
 ghost use Rattle.report.specs.Statement.{company_figures_at, company_line_at, company_lines_at, counted_column};
-ghost use Rattle.report.specs.Statement.{holdings, codes_of_kind, codes_of_trains, is_seat, player_line_at};
+ghost use Rattle.report.specs.Statement.{holdings, codes_of_kind, codes_of_trains, player_line_at};
 ghost use Rattle.report.specs.Statement.{player_lines_at, president_name, started_line_at, statement_at, shares_column};
 ghost use Rattle.report.specs.Statement.{trains_text};
 ghost use Rattle.sheets.specs.File.{players_of};
@@ -193,7 +193,7 @@ fn push_private(
 
 /// Returns whether the seat owns the private.
 pub(crate) fn owns(owners: &Owners, seat: Seat, private: Private) -> bool
-    ensures { result ≡ is_seat seat (owner_in owners.now private) }
+    ensures { result ≡ is_owner seat (owner_in owners.now private) }
 {
     match owners.owner(private) {
         Some(Holder::Seat(owner)) => owner.0 == seat.0,

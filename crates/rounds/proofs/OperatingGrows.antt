@@ -9,14 +9,14 @@ use Rattle.events.specs.declared.ruling.PrivateRule.TheVariants as private_rule
 use Rattle.events.specs.declared.ruling.Refusal.{Refusal}
 use Rattle.events.specs.declared.ruling.Refusal.TheVariants as refusal
 use Rattle.events.specs.declared.ruling.TrainRule.TheVariants as train_rule
-use Rattle.totals.specs.LookBack.{Game, owner_of}
+use Rattle.totals.specs.LookBack.{Game, is_owner, owner_of}
 use Rattle.totals.specs.Shares.{president_of}
 use Rattle.order_grammar.specs.declared.order.Offer.{Offer}
 use Rattle.order_grammar.specs.declared.order.Offer.TheVariants as offer
 use Rattle.order_grammar.specs.declared.order.Order.{Order}
 use Rattle.order_grammar.specs.declared.order.Order.TheVariants as order
 use Rattle.purchases.specs.Discard.{discard_judgement, is_president}
-use Rattle.purchases.specs.Offer.{is_seats, offer_judgement}
+use Rattle.purchases.specs.Offer.{offer_judgement}
 use Rattle.purchases.specs.Standing.{after_all_standing_lines, after_operating_standing_line}
 use Rattle.purchases.specs.Standing.{has_place_before_companies, operating_standing_judgement}
 use Rattle.purchases.specs.Standing.{operating_standing_ruling}
@@ -100,7 +100,7 @@ offer_of_family events seat (offer.Train kind seller buyer price) =
     offered_of_family (refusal.Train train_rule.NoConsent)
     (price == 0 || not (is_president (president_of events seller) seat)) tt
 offer_of_family events seat (offer.Private private buyer price) =
-    offered_of_family (refusal.Private private_rule.NoConsent) (not (is_seats seat (owner_of events private))) tt
+    offered_of_family (refusal.Private private_rule.NoConsent) (not (is_owner seat (owner_of events private))) tt
 
 -- so are standing lines
 standing_of_family : (events : List Event) (seat : Seat) (its : Order) → IsOfFamily (operating_standing_judgement events seat its)

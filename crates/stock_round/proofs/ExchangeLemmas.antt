@@ -16,13 +16,13 @@ use Rattle.events.specs.declared.ruling.StockRule.TheVariants.{NoExchange}
 use Rattle.history.proofs.Purchases.{exchange_sound as exchange_law}
 use Rattle.certs.specs.Games.{IsGame}
 use Rattle.totals.specs.AtEnd.{SaysTheSame}
-use Rattle.totals.specs.LookBack.{Game, owner_of, with_event}
+use Rattle.totals.specs.LookBack.{Game, is_owner, owner_of, with_event}
 use Rattle.totals.specs.Shares.{shares_of, square_of}
 use Rattle.order_grammar.specs.declared.order.ShareSource.{ShareSource}
 use Rattle.order_grammar.specs.declared.order.ShareSource.TheVariants as source
 use Rattle.stock_round.proofs.FloatLemmas.{in_what_follows}
 use Rattle.stock_round.specs.Exchange.{MayExchange, after_exchange, exchange_judgement, exchange_rules, exchange_source}
-use Rattle.stock_round.specs.Exchange.{exchanged, is_no_exchange, is_offered, is_owner, is_pooled}
+use Rattle.stock_round.specs.Exchange.{exchanged, is_no_exchange, is_offered, is_pooled}
 use Rattle.tables.proofs.Rules.{not_broken}
 use Rattle.tables.specs.Seat.{seat_at}
 use Rattle.tables.specs.declared.roster.Company.TheVariants.{NewYorkCentral}
