@@ -188,6 +188,11 @@ class TestReach(unittest.TestCase):
         self.assertEqual(found.types, {('shop', 'Basket'), ('shop', 'Kind')})
 
 
+    def test_files_by_name(self):
+        found = reach.files_by_name({('shop/specs/Rules', 'sold'), ('bank/specs/Rules', 'sold'), ('shop/specs/Rules', 'price')})
+        self.assertEqual(found, {'price': ['shop/specs/Rules'], 'sold': ['bank/specs/Rules', 'shop/specs/Rules']})
+
+
 class TestKinds(unittest.TestCase):
     """Which of the three a definition is."""
 
