@@ -26,7 +26,7 @@ impl Family for StandingLines {
     ghost may_judge = { λ game seat. Unit {0} };
 
     fn has_place(&self, order: &Order) -> bool {
-        may_stand_before(order)
+        has_place_before_turns(order)
     }
 
     fn judge(&self, history: &History, _seat: Seat, order: &Order) -> Option<Refusal> {
@@ -53,7 +53,7 @@ pub(crate) fn rule_standing_line(
 }
 
 /// Returns whether an order may be before the first written turn, as LIMIT and PAR may.
-fn may_stand_before(order: &Order) -> bool
+fn has_place_before_turns(order: &Order) -> bool
     ensures { result ≡ has_place_before_turns order.now }
 {
     matches!(order, Order::Limit { .. } | Order::Par { .. })
