@@ -15,7 +15,7 @@ use Rattle.operating.specs.TurnCalls.{SomeTurnCalls, asked, OneListOfTurnCalls}
 use Rattle.operating.specs.TurnCalls.{RefusedTurnCallsAreAPrefix}
 use Rattle.rounds.specs.GameCalls.{AreOver, CallsAreOfTheGame, CompanyCalls, EachGameCalls}
 use Rattle.rounds.specs.GameCalls.{IsFinished, IsOpened, NextCalls, OperatingCalls, PlayedCalls}
-use Rattle.rounds.specs.GameCalls.{RoundCalls, SomeCalls, Stops, TurnsCall, between_after}
+use Rattle.rounds.specs.GameCalls.{PlayStops, RoundCalls, SomeCalls, TurnsCall, between_after}
 use Rattle.rounds.specs.GameCalls.{ArePrefix, OneListOfCalls, RefusedCallsAreAPrefix}
 use Rattle.rounds.specs.OperatingRound.{IsOperatingRound, TakeTurns, TakesTurn, TurnsLead}
 use Rattle.rounds.specs.OperatingRound.{operating_round_finished, operating_round_opened}
@@ -256,11 +256,11 @@ module _ (some : SomeTurnCalls) (file : List ℕ) where
   -- so do rounds before others that do
   rounds_called : (rounds : ℕ) (old mid : Between) (played : Played) → AreRounds file rounds old
       mid →
-      AreSome (SomeTimesThen (RoundCalls file) (Unasked Memory (Stops file)) mid (Ok played)) →
-      AreSome (SomeTimesThen (RoundCalls file) (Unasked Memory (Stops file)) old (Ok played))
+      AreSome (SomeTimesThen (RoundCalls file) (Unasked Memory (PlayStops file)) mid (Ok played)) →
+      AreSome (SomeTimesThen (RoundCalls file) (Unasked Memory (PlayStops file)) old (Ok played))
   rounds_called zero old mid played rounds later =
       subst (λ (at : Between). AreSome (SomeTimesThen (RoundCalls file) (Unasked Memory
-      (Stops file)) at (Ok played)))
+      (PlayStops file)) at (Ok played)))
       (sym rounds) later
   rounds_called (suc rounds) old mid played are later =
       let last : IsRound file are.0 mid = are.2 in
@@ -271,7 +271,7 @@ module _ (some : SomeTurnCalls) (file : List ℕ) where
       last.in_set_then)
       (played_called last.round are.0.game mid.game last.played) in
       rounds_called rounds old are.0 played are.1
-      (once_more AnyRunner (RoundCalls file) (Unasked Memory (Stops file)) are.0 mid (Ok played) tt
+      (once_more AnyRunner (RoundCalls file) (Unasked Memory (PlayStops file)) are.0 mid (Ok played) tt
       tt tt course later)
 
 -- and so does each game
@@ -287,9 +287,9 @@ game_called some played game =
     let all = rounds_called some played.file game.plays.rounds (before_play played.file) game.last
     played
     game.plays.reached
-    (no_more AnyRunner (RoundCalls played.file) (Unasked Memory (Stops played.file)) game.last
+    (no_more AnyRunner (RoundCalls played.file) (Unasked Memory (PlayStops played.file)) game.last
     (Ok played) tt tt
-    (silent AnyRunner Memory (Stops played.file) game.last played tt tt
+    (silent AnyRunner Memory (PlayStops played.file) game.last played tt tt
     (record { stopped = game.plays.stopped; game = is }) refl)) in
     (all.0, all.1)
 
@@ -311,8 +311,8 @@ one_before file (suc n) old mid new first rounds =
 -- the rounds of a game, with their calls, are its rounds
 rounds_lead :
     (file : List ℕ) (times : ℕ) (old : Between) (played : Played) (calls : List Call) →
-    TimesThen times (RoundCalls file) (Unasked Memory (Stops file)) old (Ok played) calls →
-    (last : Between) × AreRounds file times old last × Stops file last played
+    TimesThen times (RoundCalls file) (Unasked Memory (PlayStops file)) old (Ok played) calls →
+    (last : Between) × AreRounds file times old last × PlayStops file last played
 rounds_lead file zero old played calls course = (old, refl, course.0)
 rounds_lead file (suc times) old played calls course =
     elim course [
@@ -380,7 +380,7 @@ module _ (P : Call → Type 0) (file : List ℕ) where
       ((old : Between) (round : Round) → At old → IsToPlay file old.next round → OfAsked P round) →
       ((old new : Between) → At old → IsRound file old new → At new) →
       (times : ℕ) (old : Between) (played : Played) (calls : List Call) → At old →
-      TimesThen times (RoundCalls file) (Unasked Memory (Stops file)) old (Ok played) calls →
+      TimesThen times (RoundCalls file) (Unasked Memory (PlayStops file)) old (Ok played) calls →
       AllByRecursion P calls
   of_rounds At each on zero old played calls at course = of_none P calls course.1
   of_rounds At each on (suc times) old played calls at course =
@@ -575,9 +575,9 @@ module _ (lists : OneListOfTurnCalls) (prefixes : RefusedTurnCallsAreAPrefix) (f
         }
 
     -- and the game
-    game_called_once : IsOne (SomeTimesThen (RoundCalls file) (Unasked Memory (Stops file)))
+    game_called_once : IsOne (SomeTimesThen (RoundCalls file) (Unasked Memory (PlayStops file)))
     game_called_once =
-        some_times_agree Memory TellsOf (RoundCalls file) (Stops file) round_called_once
+        some_times_agree Memory TellsOf (RoundCalls file) (PlayStops file) round_called_once
         (λ from a b first second. first.game ∙ sym second.game)
         (λ from to outcome calls stops round. true≢false
         (sym (ap (goes_on file) round.1.comes ∙ round.1.posted) ∙ stops.stopped))

@@ -72,13 +72,13 @@ RoundCalls file old outcome calls =
     outcome calls
 
 -- play stops
-pub record Stops (file : List ℕ) (last : Between) (played : Played) : Type 0 where
+pub record PlayStops (file : List ℕ) (last : Between) (played : Played) : Type 0 where
   pub stopped : goes_on file last.next ≡ false
   pub game : played ≡ record { file = file; game = last.game; end = end_of last.next last.game.events }
 
 -- the course of the game of a file
 abbrev pub GameCalls : List ℕ → Result Played PlayFault → List Call → Type 0
-GameCalls file = SomeTimesThen (RoundCalls file) (Unasked Memory (Stops file)) (before_play file)
+GameCalls file = SomeTimesThen (RoundCalls file) (Unasked Memory (PlayStops file)) (before_play file)
 
 -- what makes these calls and leads to a game leads to the game of the file
 abbrev pub CallsAreOfTheGame : Type 0
