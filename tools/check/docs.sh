@@ -20,6 +20,11 @@ docs_must_fail() {
   # shellcheck disable=SC2016
   printf '\n`tables: a_name_that_is_gone`\n' >> "$wrong/docs/developers/architecture.md"
   sees 'a name that is gone' 1 take_over "$wrong/tools/names"
+  rm "$wrong/crates" && mkdir "$wrong/crates" && ln -s "$PWD"/crates/* "$wrong/crates/"
+  rm "$wrong/crates/market" && cp -r crates/market "$wrong/crates"
+  sed -i '/^ *--/!s/\bsquare_before\b/before/g' "$wrong/crates/market/specs/Moves.antt"
+  sees 'a name with two meanings, and the page that has the old one' 3 take_over "$wrong/tools/names"
+  cp crates/market/specs/Moves.antt "$wrong/crates/market/specs"
   printf '\nAnother line.\n' >> "$wrong/docs/rulebook/13-sales.md"
   sees 'a chapter that is not fresh' 1 take_over "$wrong/tools/claim" --check
   sed -i 's/| S3 | [^|]*/| S3 | it sells nothing /' "$wrong/docs/players/rules.md"

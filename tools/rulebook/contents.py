@@ -38,7 +38,7 @@ NOTES: list[tuple[str, str]] = [
     ('tables: Ends', 'What repeats until it is over: some number of steps leads there, it is over then, and after fewer it was not. '
      '`after_turn` is one step of a round of turns: the seat takes its next written turn, or none. The next seat to the left follows, and '
      '`turns_over` asks whether all have passed in succession.'),
-    ('turns: line_ruling', 'A ruling is made by `judged`: the first rule that is broken refuses the line, otherwise it is obeyed. `obeyed_by` '
+    ('turns: line_ruling', 'A ruling is made by `judged`: the first rule that is broken refuses the line, otherwise it is obeyed. `obeyed_order` '
      'is the order that is then to be done, and `done` does it. Each round and each company ends its lines in this way.'),
     ('privates: with_limit', 'The second limit is the greatest of those who do not win. The winner is known by the bid, since no two bids on a '
      'private are equal.'),
@@ -58,7 +58,7 @@ NOTES: list[tuple[str, str]] = [
      'crosses them.'),
     ('operating: RunsOfTurn', 'What the trains have done in a turn: how many of each kind have run, a mark for each of the 279 numbers of borders, '
      'and what was earned. `borders_used` is the list of the numbers that are marked.'),
-    ('purchases: lines_of', 'Which DISCARD lines are left is found by going over the events once. `Lines` is whether the seat presides then, '
+    ('purchases: discard_lines_left', 'Which DISCARD lines are left is found by going over the events once. `Lines` is whether the seat presides then, '
      'and its lines that are left. A round begins without any, an obeyed line is added at the end, and a train that the company gives up '
      'while the seat presides uses up the first line of its kind.'),
     ('order_grammar: rows_reading', 'A line is tried by all forms that begin with its first word. The nearest to an order counts: an order, then '

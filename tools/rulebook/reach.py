@@ -1,11 +1,12 @@
 """Everything that a claim rests on: definitions, types of the source, and words of the kit's library."""
 from __future__ import annotations
 
+import os
 import re
 
 import specs
 from rulebook import terms
-from rulebook.sources import Contract, SourceType
+from rulebook.sources import Contract, SourceType, all_types
 
 Name = tuple[str, str]
 
@@ -100,6 +101,22 @@ class House:
             return definitions, types | {near for word, target in found if not target and (near := self.near(one[0], word))}
         near = (self.near(one[0], word) for word in re.findall(r'\b[A-Z]\w*', of.fields()))
         return [], {other for other in near if other}
+
+
+def read_house(root: str) -> House:
+    """Returns all definitions and types of a repository."""
+    with open(os.path.join(root, 'crates.txt'), encoding='utf-8') as file:
+        below = {name: others.split() for name, others in re.findall(r'^(\w+):(.*)$', file.read(), re.M)}
+    crates = sorted(os.listdir(os.path.join(root, 'crates')))
+    return House(specs.read_all(root), all_types(root, crates), below)
+
+
+def files_by_name(definitions: set[Name]) -> dict[str, list[str]]:
+    """Returns the names of some definitions, in order, each with the files that define it."""
+    found: dict[str, list[str]] = {}
+    for file, name in sorted(definitions, key=lambda one: one[::-1]):
+        found.setdefault(name, []).append(file)
+    return found
 
 
 def library_words(library: dict[str, str], text: str) -> set[Name]:

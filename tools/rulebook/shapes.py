@@ -15,7 +15,7 @@ INNER = r'\([^()]*\)'
 for _ in range(3):
     INNER = r'\((?:[^()]|%s)*\)' % INNER
 ENTRY = re.compile(r'record \{ code = (?P<code>[^;]*); broken = (?P<test>.*?);? \}'
-                   r'|\brule (?P<short>[\w.]+) (?P<term>%s)|(?P<word>[^\W\d][\w.-]*)' % INNER)
+                   r'|\btested_\w+_rule (?P<short>[\w.]+) (?P<term>%s)|(?P<word>[^\W\d][\w.-]*)' % INNER)
 TEXT = re.compile(r'"([^"]*)"')
 # Events whose line begins with another word than their name.
 EVENT_WORDS = {'PrivateBought': 'PRIVATE', 'Ruled': 'OBEYED'}

@@ -188,6 +188,11 @@ class TestReach(unittest.TestCase):
         self.assertEqual(found.types, {('shop', 'Basket'), ('shop', 'Kind')})
 
 
+    def test_files_by_name(self):
+        found = reach.files_by_name({('shop/specs/Rules', 'sold'), ('bank/specs/Rules', 'sold'), ('shop/specs/Rules', 'price')})
+        self.assertEqual(found, {'price': ['shop/specs/Rules'], 'sold': ['bank/specs/Rules', 'shop/specs/Rules']})
+
+
 class TestKinds(unittest.TestCase):
     """Which of the three a definition is."""
 
@@ -216,6 +221,10 @@ class TestShapes(unittest.TestCase):
         rows = self.shapes.rows(named('sale_rules'))
         self.assertEqual([(row.code, row.sentence) for row in rows], [('S1', 'it sells nothing: a price, say'), ('S2', 'it is late')])
         self.assertEqual([row.test for row in rows], ['`shop: is_empty`', 'not `late`'])
+
+    def test_short_rows(self):
+        entries = shapes.ENTRY.finditer('tested_run_rule NoTrack (is_none (walk of)) ∷ rules_of_walk (walk of)')
+        self.assertEqual([entry.group('short', 'term') for entry in entries if entry['short']], [('NoTrack', '(is_none (walk of))')])
 
     def test_events_from_the_inside_out(self):
         self.assertEqual([step.word for step in self.shapes.steps(named('sold'))], ['SOLD', 'PAID', 'CLOSED'])

@@ -9,7 +9,7 @@ use Rattle.tables.specs.declared.rolling_stock.Kind.{Kind}
 use Rattle.tables.specs.declared.roster.Company.{Company}
 use Rattle.legal_runs.specs.Claim.{NameRuns}
 use Rattle.legal_runs.specs.Law.{AreItsPlaces}
-use Rattle.legal_runs.specs.Set.{IsGreatest, IsLegalSet, RunsLegally, TrainRun, revenue_of}
+use Rattle.legal_runs.specs.Set.{IsGreatest, IsLegalSet, RunsLegally, TrainRun, revenue_of_runs}
 use Rattle.legal_runs.specs.Written.{places_of}
 use Rattle.legal_runs.proofs.Written.{legal_written}
 use Rattle.best_run.specs.declared.memo.Found.{Found}
@@ -73,7 +73,7 @@ module _ (position : Position) (company : Company) (lawful : IsLawful position) 
     (describes : Describes position company kinds task) where
   -- each legal set can be earned
   can_earn : (runs : List TrainRun) → IsLegalSet position company kinds runs
-      → CanFinish task start (0 + revenue_of position runs)
+      → CanFinish task start (0 + revenue_of_runs position runs)
   can_earn runs set =
       finish_set position company kinds task describes lawful kinds runs [] nothing none_used describes.trains
       (record { legal = set.legal; each_once = set.each_once; apart = set.apart; avoid = avoid_none runs })
@@ -82,7 +82,7 @@ module _ (position : Position) (company : Company) (lawful : IsLawful position) 
   -- the marks of moves from the start to the end give a legal set of runs
   pub record MarksEarn (marks : List Mark) (amount : ℕ) : Type 0 where
     pub set : IsLegalSet position company kinds (runs_of_marks kinds [] marks)
-    pub earns : revenue_of position (runs_of_marks kinds [] marks) ≡ amount
+    pub earns : revenue_of_runs position (runs_of_marks kinds [] marks) ≡ amount
 
   pub marks_earn : (marks : List Mark) (amount : ℕ) → Earns task start marks amount → MarksEarn marks amount
   marks_earn marks amount earns =
@@ -103,8 +103,8 @@ module _ (position : Position) (company : Company) (lawful : IsLawful position) 
       marks_earn (marks_in found.move_path) found.amount top.earns in
       record { earned = (runs_of_marks kinds [] (marks_in found.move_path), read.set, read.earns); most = most }
     where
-      most : (runs : List TrainRun) → IsLegalSet position company kinds runs → revenue_of position runs ≤ found.amount
+      most : (runs : List TrainRun) → IsLegalSet position company kinds runs → revenue_of_runs position runs ≤ found.amount
       most runs set =
-          let can : CanFinish task start (0 + revenue_of position runs) = can_earn runs set in
+          let can : CanFinish task start (0 + revenue_of_runs position runs) = can_earn runs set in
           let low = top.most can.0 can.1 in
           omega (arith, low, can.2)

@@ -8,7 +8,7 @@ use Rattle.tables.specs.Train.{stops_of}
 use Rattle.tables.specs.declared.rolling_stock.Kind.{Kind}
 use Rattle.tables.specs.declared.roster.Company.{Company}
 use Rattle.legal_runs.specs.Legal.{AreAtMost, crossed, earned, visited}
-use Rattle.legal_runs.specs.Set.{AreApart, RunsLegally, ShareNoBorder, TrainRun, revenue_of}
+use Rattle.legal_runs.specs.Set.{AreApart, RunsLegally, ShareNoBorder, TrainRun, revenue_of_runs}
 use Rattle.legal_runs.proofs.Marks.{among_both}
 use Rattle.search_task.specs.declared.task.Task.{Task}
 use Rattle.best_run.specs.declared.state.Assigned.{Assigned}
@@ -95,10 +95,10 @@ module _ (position : Position) (company : Company) (kinds : List Kind) (task : T
   pub finish_set : IsLawful position → (left : List Kind) (runs : List TrainRun) (others : List ℕ) (assigned : Assigned)
       → Used others assigned → drop assigned.next task.trains.items ≡ most_of_all left
       → IsSetFor position company left others runs → AllByRecursion (IsWithin position assigned.kind assigned.cap) runs
-      → CanFinish task (between assigned) (assigned.total + revenue_of position runs)
+      → CanFinish task (between assigned) (assigned.total + revenue_of_runs position runs)
   finish_set lawful [] runs others assigned used trains set within =
       let none : runs ≡ [] = none_left runs set.each_once in
-      let earns : revenue_of position runs ≡ 0 = ap (revenue_of position) none in
+      let earns : revenue_of_runs position runs ≡ 0 = ap (revenue_of_runs position) none in
       ([], drop_none task.trains.items assigned.next trains, omega arith)
   finish_set lawful (kind ∷ left) runs others assigned used trains set within =
       let next : (assigned.next < length task.trains.items)
@@ -124,15 +124,15 @@ module _ (position : Position) (company : Company) (kinds : List Kind) (task : T
             × AllByRecursion (IsBelow position kind has.run) (has.prefix ++ has.later) =
             all_out (IsBelow position kind has.run) has.prefix has.run has.later
             (subst (AllByRecursion (IsBelow position kind has.run)) has.is has.greatest) in
-            let earns : revenue_of position runs ≡ earned position has.run.steps
-            + revenue_of position (has.prefix ++ has.later) =
-            ap (revenue_of position) has.is ∙ revenue_out position has.prefix has.run has.later in
-            run_first lawful kind others assigned used (assigned.total + revenue_of position runs) next.0 next.1 has.run
+            let earns : revenue_of_runs position runs ≡ earned position has.run.steps
+            + revenue_of_runs position (has.prefix ++ has.later) =
+            ap (revenue_of_runs position) has.is ∙ revenue_out position has.prefix has.run has.later in
+            run_first lawful kind others assigned used (assigned.total + revenue_of_runs position runs) next.0 next.1 has.run
             legal.0 has.kind_is avoid.0
             (may_by assigned.kind assigned.cap (most_of (stops_of kind)) (earned position has.run.steps)
             (λ same. low.0 (same ∙ ap (λ (k : Kind). most_of (stops_of k)) (sym has.kind_is))))
             (λ after next_is total_is kind_is cap_is used_after.
-            let rest : CanFinish task (between after) (after.total + revenue_of position (has.prefix ++ has.later)) =
+            let rest : CanFinish task (between after) (after.total + revenue_of_runs position (has.prefix ++ has.later)) =
             finish_set lawful left (has.prefix ++ has.later) (crossed has.run.steps ++ others) after used_after
             (ap (λ n. drop n task.trains.items) next_is ∙ next.2)
             (record {
@@ -154,7 +154,7 @@ module _ (position : Position) (company : Company) (kinds : List Kind) (task : T
             (has.prefix ++ has.later) below.1 below.1)
             in (rest.0, rest.1, let total = rest.2 in omega arith))
         | inr none ↦
-            let rest : CanFinish task (between (passed assigned)) (assigned.total + revenue_of position runs) =
+            let rest : CanFinish task (between (passed assigned)) (assigned.total + revenue_of_runs position runs) =
             finish_set lawful left runs others (passed assigned) (record { used = used.used; whole = used.whole })
             next.2
             (record {

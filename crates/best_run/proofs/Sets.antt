@@ -10,8 +10,8 @@ use Rattle.tables.specs.declared.rolling_stock.Kind.TheVariants.{Two, Three, Fou
 use Rattle.tables.specs.declared.roster.Company.{Company}
 use Rattle.legal_runs.specs.Legal.{crossed, earned}
 use Rattle.best_run.specs.Moves.{may_earn}
-use Rattle.legal_runs.specs.Set.{AreApart, AreTakenFrom, RunsLegally, ShareNoBorder, TrainRun, in_number, revenue_of}
-use Rattle.legal_runs.specs.Set.{trains_that_run}
+use Rattle.legal_runs.specs.Set.{AreApart, AreTakenFrom, RunsLegally, ShareNoBorder, TrainRun, in_number}
+use Rattle.legal_runs.specs.Set.{revenue_of_runs, trains_that_run}
 use Rattle.search_task.specs.Described.{most_of}
 
 -- a kind is one of six
@@ -58,7 +58,7 @@ all_out P (first ∷ prefix) run later all =
     (rest.0, (all.0, rest.1))
 
 pub revenue_out : (position : Position) (prefix : List TrainRun) (run : TrainRun) (later : List TrainRun)
-    → revenue_of position (prefix ++ run ∷ later) ≡ earned position run.steps + revenue_of position (prefix ++ later)
+    → revenue_of_runs position (prefix ++ run ∷ later) ≡ earned position run.steps + revenue_of_runs position (prefix ++ later)
 revenue_out position [] run later = refl
 revenue_out position (first ∷ prefix) run later = omega (arith, revenue_out position prefix run later)
 

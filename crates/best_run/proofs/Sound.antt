@@ -23,7 +23,7 @@ use Rattle.tables.specs.declared.rolling_stock.Kind.TheVariants.{Two, Three, Fou
 use Rattle.tables.specs.declared.roster.Company.{Company}
 use Rattle.legal_runs.specs.Legal.{AreAtMost, AreDistinct, EndsAtStop, HasSuch, border_at, border_of, crossed, earned}
 use Rattle.legal_runs.specs.Legal.{first_stop, listed, visited}
-use Rattle.legal_runs.specs.Set.{RunsLegally, ShareNoBorder, TrainRun, revenue_of}
+use Rattle.legal_runs.specs.Set.{RunsLegally, ShareNoBorder, TrainRun, revenue_of_runs}
 use Rattle.legal_runs.proofs.Marks.{among_both}
 use Rattle.legal_runs.proofs.TwoTrain.{returning}
 use Rattle.search_task.specs.declared.task.Segment.{Segment}
@@ -216,7 +216,7 @@ module _ (position : Position) (company : Company) (lawful : IsLawful position) 
   pub record RunsEarn (others : List ℕ) (left : List Kind) (assigned : Assigned) (total : ℕ)
       (runs : List TrainRun) : Type 0 where
     pub set : IsSetFor position company left others runs
-    pub earns : assigned.total + revenue_of position runs ≡ total
+    pub earns : assigned.total + revenue_of_runs position runs ≡ total
 
   -- the first of some runs is that of the next train
   pub record RunEarns (others : List ℕ) (kind : Kind) (left : List Kind) (assigned : Assigned) (total : ℕ)
@@ -226,7 +226,7 @@ module _ (position : Position) (company : Company) (lawful : IsLawful position) 
     pub avoids : Avoids others (record { kind = kind; steps = steps })
     pub runs : List TrainRun
     pub set : IsSetFor position company left (crossed steps ++ others) runs
-    pub earns : assigned.total + (earned position steps + revenue_of position runs) ≡ total
+    pub earns : assigned.total + (earned position steps + revenue_of_runs position runs) ≡ total
     pub are : read ≡ record { kind = kind; steps = steps } ∷ runs
 
   -- the borders of a segment change nothing in what the others earn

@@ -4,7 +4,7 @@
 -- allocation fails no group is added.
 use Rattle.std.specs.Prelude.{◌≡◌, ◌<◌, ℤ, pos, List, [], ◌∷◌, ◌++◌, Result, Ok, Err}
 use Rattle.certificate.specs.Filled.{IsAcceptedFilled}
-use Rattle.certificate.specs.Holding.{IsAccepted}
+use Rattle.certificate.specs.Holding.{IsAcceptedClaim}
 use Rattle.certificate.specs.declared.group.Group.{Group}
 use Rattle.legal_runs.specs.declared.runner.RunnerFault.{RunnerFault}
 use Rattle.reach.specs.Position.{Position}
@@ -19,7 +19,7 @@ pub record KeepsOne (position : Position) (round : Round) (company : Company) (t
   pub kept : new ≡ old ++ group ∷ []
   pub of_round : group.round ≡ round
   pub of_company : group.company ≡ company
-  pub accepted : IsAccepted position company trains group.claim group.bits
+  pub accepted : IsAcceptedClaim position company trains group.claim group.bits
   pub filled : IsAcceptedFilled position company trains group.claim group.bits
   pub answered : money ≡ pos group.claim.revenue
   pub small : group.claim.revenue < 50000

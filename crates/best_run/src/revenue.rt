@@ -7,7 +7,7 @@ ghost use Rattle.best_run.specs.Memo.{IsNothing};
 ghost use Rattle.best_run.specs.Moves.{Explores, between};
 ghost use Rattle.best_run.specs.Suffix.{IsSolved, IsTop, nothing_before};
 ghost use Rattle.certificate.specs.Filled.{IsAcceptedFilled};
-ghost use Rattle.certificate.specs.Holding.{IsAccepted};
+ghost use Rattle.certificate.specs.Holding.{IsAcceptedClaim};
 ghost use Rattle.legal_runs.specs.Set.{IsGreatest};
 
 use crate::bounded_task::BoundedTask;
@@ -126,7 +126,7 @@ pub fn best<N: Network>(
     trains: &[Kind],
 ) -> Result<Best, AllocError>
     ensures accepted { let position = N.position network.now in
-        IfOk result (λ best. IsAccepted position company trains.now best.claim best.marks) }
+        IfOk result (λ best. IsAcceptedClaim position company trains.now best.claim best.marks) }
     ensures filled { let position = N.position network.now in
         IfOk result (λ best.
         IsAcceptedFilled position company trains.now best.claim best.marks) }

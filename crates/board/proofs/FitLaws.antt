@@ -15,7 +15,7 @@ use Rattle.board.proofs.KeptHomes.{homes_take, homes_take_no_more, kept_less, pl
 use Rattle.map_tables.specs.Fit.{AreFit, has_bad_side, is_wrong_kind, home_token, homes_to_come}
 use Rattle.map_tables.specs.Home.{home_of}
 use Rattle.map_tables.specs.OnMap.{names, slots_at, taken_at}
-use Rattle.map_tables.specs.Place.{joined_stop_of, stop_of}
+use Rattle.map_tables.specs.Place.{joined_stop_of, stop_of_place}
 use Rattle.map_tables.specs.RuleCodes.{code_of_lay_rule, code_of_token_rule}
 use Rattle.map_tables.specs.declared.lay.Lay.{Lay}
 use Rattle.map_tables.specs.declared.place.Place.{Place}
@@ -64,7 +64,7 @@ fits_without_homes laid fit =
 
 -- one more token that names a stop, for which each stop has room beside the slots that are kept
 -- then
-one_more : (laid : MapState) (token : Place × Company) → Fits laid → ((stop : Stop) × (stop_of token.0 ≡ Some stop))
+one_more : (laid : MapState) (token : Place × Company) → Fits laid → ((stop : Stop) × (stop_of_place token.0 ≡ Some stop))
     → ((stop : Stop) → taken_at (laid.tokens ++ token ∷ []) stop
     + kept_at (laid.tokens ++ token ∷ []) (joined_stop_of stop) ≤ slots_at laid.lays stop)
     → Fits (with_token laid token.0 token.1)
@@ -79,7 +79,7 @@ one_more laid token fit names_one enough =
               | inl before ↦ named (with_homes laid) fit other
                   (among_first laid.tokens (homes_to_come laid.tokens) other before)
               | inr last ↦ elim last [
-                | inl is ↦ (names_one.0, ap (λ (t : Place × Company). stop_of t.0) (sym is) ∙ names_one.1)
+                | inl is ↦ (names_one.0, ap (λ (t : Place × Company). stop_of_place t.0) (sym is) ∙ names_one.1)
                 | inr none ↦ absurd none
               ]
             ]
@@ -101,7 +101,7 @@ pub token_keeps_fit : TokenKeepsFit
 unfolding is_no_free_slot
 token_keeps_fit laid asker place fit none =
     let kept = not_broken code_of_token_rule (slot_rules laid asker place) none in
-    let free : is_full_at laid (stop_of place) ≡ false = kept NoFreeSlot in
+    let free : is_full_at laid (stop_of_place place) ≡ false = kept NoFreeSlot in
     one_more laid (place, asker.company) fit (place_named laid place free) (λ stop.
     let pushed = taken_push laid.tokens (place, asker.company) stop in
     let before = room (with_homes laid) fit stop in
@@ -111,7 +111,7 @@ token_keeps_fit laid asker place fit none =
     → taken_at (laid.tokens ++ (place, asker.company) ∷ []) stop ≡ taken_at laid.tokens stop + cond b 1 0
     → taken_at (laid.tokens ++ (place, asker.company) ∷ []) stop
     + kept_at (laid.tokens ++ (place, asker.company) ∷ []) (joined_stop_of stop) ≤ slots_at laid.lays stop) [
-      | true ↦ λ here count. let low = free_where laid (stop_of place) stop here free in omega arith
+      | true ↦ λ here count. let low = free_where laid (stop_of_place place) stop here free in omega arith
       | false ↦ λ elsewhere count. omega arith
     ]) refl pushed)
 

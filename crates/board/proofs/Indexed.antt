@@ -12,7 +12,7 @@ use Rattle.board.specs.Index.{IsIndex, counting, holding, holder_order}
 use Rattle.map_tables.specs.Hex.{index_of, same_hex}
 use Rattle.map_tables.specs.Lay.{laid_links_of}
 use Rattle.map_tables.specs.OnMap.{by_tile, names, is_part_of, same_stop, tile_on}
-use Rattle.map_tables.specs.Place.{joined_stop_of, stop_of}
+use Rattle.map_tables.specs.Place.{joined_stop_of, stop_of_place}
 use Rattle.map_tables.specs.declared.hex.Hex.{Hex}
 use Rattle.map_tables.specs.declared.lay.Lay.{Lay}
 use Rattle.map_tables.specs.declared.place.Place.{Place}
@@ -173,8 +173,8 @@ holder_by_stop holders (Some part) of stop company low =
 pub index_with_token : (lays : List Lay) (laid : List (Place × Company)) (tiles : List (Option Lay))
     (links : List (List Link)) (counts : List ℕ) (holders : List Bool) (place : Place) (company : Company)
     → IsIndex lays laid tiles links counts holders → length counts ≡ 186 → length holders ≡ 1488
-    → IsIndex lays (laid ++ (place, company) ∷ []) tiles links (counting (stop_of place) counts)
-    (holding (stop_of place) company holders)
+    → IsIndex lays (laid ++ (place, company) ∷ []) tiles links (counting (stop_of_place place) counts)
+    (holding (stop_of_place place) company holders)
 index_with_token lays laid tiles links counts holders place of so_far many most =
     let token : Place × Company = (place, of) in
     record {
@@ -182,12 +182,12 @@ index_with_token lays laid tiles links counts holders place of so_far many most 
       link = so_far.link;
       count = λ stop.
           let p : (Place × Company) → Bool = λ t. names stop t.0 in
-          count_by_stop counts (stop_of place) stop (λ part. omega (arith, order_low (joined_stop_of part)))
+          count_by_stop counts (stop_of_place place) stop (λ part. omega (arith, order_low (joined_stop_of part)))
           ∙ ap (λ n. n + cond (names stop place) 1 0) (so_far.count stop)
           ∙ sym (count_last p laid token);
       holder = λ stop company.
           let p : (Place × Company) → Bool = λ t. names stop t.0 && same_company t.1 company in
-          holder_by_stop holders (stop_of place) of stop company
+          holder_by_stop holders (stop_of_place place) of stop company
           (λ part. omega (arith, order_low (joined_stop_of part), company_low of))
           ∙ ap (λ h. h || (names stop place && same_company of company)) (so_far.holder stop company)
           ∙ sym (list_any-append p laid (token ∷ []) ∙ ap (λ b. list_any p laid || b) (or_none (p token)));

@@ -11,7 +11,7 @@ use Rattle.map_tables.specs.Fit.{home_token, homes_to_come}
 use Rattle.board.specs.TokenRules.{is_full_at, is_kept_for, kept_at}
 use Rattle.board_state.proofs.Same.{or_true, stop_is_same}
 use Rattle.map_tables.specs.Home.{home_of}
-use Rattle.map_tables.specs.Place.{joined_stop_of, stop_of}
+use Rattle.map_tables.specs.Place.{joined_stop_of, stop_of_place}
 use Rattle.map_tables.specs.declared.place.Place.{Place}
 use Rattle.map_tables.specs.declared.place.Stop.{Stop}
 use Rattle.reach.specs.Position.{IsAmong}
@@ -217,11 +217,11 @@ home_takes_kept tokens company none =
 
 -- a home token names a stop
 pub home_named : (tokens : List (Place × Company)) (token : Place × Company) → IsAmong token (homes_to_come tokens)
-    → (stop : Stop) × (stop_of token.0 ≡ Some stop)
+    → (stop : Stop) × (stop_of_place token.0 ≡ Some stop)
 home_named tokens token among =
     let (company, is) = among_map home_token (filter (λ company. not (has_token tokens (home_of company) company))
     companies) token among in
-    (home_of company, ap (λ (t : Place × Company). stop_of t.0) (sym is))
+    (home_of company, ap (λ (t : Place × Company). stop_of_place t.0) (sym is))
 
 -- a place with a free slot names a stop
 free_named : (laid : MapState) (named : Option Stop) → is_full_at laid named ≡ false
@@ -229,9 +229,9 @@ free_named : (laid : MapState) (named : Option Stop) → is_full_at laid named �
 free_named laid None free = cc
 free_named laid (Some stop) free = (stop, refl)
 
-pub place_named : (laid : MapState) (place : Place) → is_full_at laid (stop_of place) ≡ false
-    → (stop : Stop) × (stop_of place ≡ Some stop)
-place_named laid place free = free_named laid (stop_of place) free
+pub place_named : (laid : MapState) (place : Place) → is_full_at laid (stop_of_place place) ≡ false
+    → (stop : Stop) × (stop_of_place place ≡ Some stop)
+place_named laid place free = free_named laid (stop_of_place place) free
 
 -- and that stop has room for one more beside those that are taken or kept
 pub free_where : (laid : MapState) (named : Option Stop) (stop : Stop) → is_part_of (joined_stop_of stop) named ≡ true

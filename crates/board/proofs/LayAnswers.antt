@@ -1,7 +1,7 @@
 -- The outcome of a lay that breaks a rule.
 use Rattle.std.proofs.Common.{◌≡◌, ◌∙◌, ap, sym, true, Some, None, Err}
 use Rattle.board_state.specs.MapState.{MapState}
-use Rattle.board.specs.LayRules.{IsLayAnswer, cost_or, map_rules, lay_cost_of, reach_rules}
+use Rattle.board.specs.LayRules.{IsLayAnswer, cost_or, map_rules, lay_cost_of, lay_reach_rules}
 use Rattle.board.specs.declared.turn.Asker.{Asker}
 use Rattle.board.proofs.RuleTables.{earlier}
 use Rattle.map_tables.specs.declared.lay.Lay.{Lay}
@@ -16,5 +16,5 @@ broken_before laid asker lay rule e =
       reached = true;
       exact = λ none. absurd (let wrong : Some rule ≡ None = e ∙ none in let no : ⊥ = cc in no);
       given = sym (ap (cost_or (lay_cost_of laid.lays lay.hex))
-          (earlier (map_rules laid asker lay) (reach_rules laid asker lay true) rule (sym e)));
+          (earlier (map_rules laid asker lay) (lay_reach_rules laid asker lay true) rule (sym e)));
     }

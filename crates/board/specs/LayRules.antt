@@ -126,15 +126,15 @@ map_rules laid asker lay =
     ∷ []
 
 -- the rules that are looked at once it is known whether some piece of the tile is reached
-abbrev pub reach_rules : MapState → Asker → Lay → Bool → List (Rule LayRule)
-reach_rules laid asker lay reached =
+abbrev pub lay_reach_rules : MapState → Asker → Lay → Bool → List (Rule LayRule)
+lay_reach_rules laid asker lay reached =
     record { code = rule.NotReached; broken = not (needs_no_track laid.lays asker lay || reached) }
     ∷ record { code = rule.CashTooSmall; broken = lt_z asker.cash (pos (lay_cost_of laid.lays lay.hex)) }
     ∷ []
 
 -- all rules of a lay
 abbrev pub lay_rules : MapState → Asker → Lay → Bool → List (Rule LayRule)
-lay_rules laid asker lay reached = map_rules laid asker lay ++ reach_rules laid asker lay reached
+lay_rules laid asker lay reached = map_rules laid asker lay ++ lay_reach_rules laid asker lay reached
 
 -- the cost, or the rule that is broken first
 abbrev pub cost_or : {Fault : Type 0} → ℕ → Option Fault → Result ℤ Fault

@@ -16,8 +16,8 @@ use Rattle.tables.specs.declared.roster.Private.{Private}
 use Rattle.tables.specs.declared.roster.Private.TheVariants.{ChamplainStLawrence, DelawareHudson}
 
 -- the company owns a private
-abbrev pub is_owner : Asker → Private → Bool
-is_owner asker private = slice_index_or asker.own_privates (index_of_private private) false
+abbrev pub owns_private : Asker → Private → Bool
+owns_private asker private = slice_index_or asker.own_privates (index_of_private private) false
 
 -- no tile lies on a hex
 abbrev pub has_no_tile : List Lay → Hex → Bool
@@ -25,12 +25,12 @@ has_no_tile lays hex = by_tile true (λ lay. false) (tile_on lays hex)
 
 -- a lay is CS's: its owner lays on B20, which has no tile
 unfoldable pub is_cs_lay : List Lay → Asker → Hex → Bool
-is_cs_lay lays asker hex = is_owner asker ChamplainStLawrence && (same_hex hex B20 && has_no_tile lays B20)
+is_cs_lay lays asker hex = owns_private asker ChamplainStLawrence && (same_hex hex B20 && has_no_tile lays B20)
 
 -- a lay is DH's: its owner lays 57 on F16
 unfoldable pub is_dh_lay : Asker → Lay → Bool
 is_dh_lay asker lay =
-    is_owner asker DelawareHudson && (same_hex lay.hex F16 && tile_index_of lay.tile == tile_index_of T57)
+    owns_private asker DelawareHudson && (same_hex lay.hex F16 && tile_index_of lay.tile == tile_index_of T57)
 
 -- a token is DH's: DH's lay was made in this turn, and the token is for its hex
 unfoldable pub is_dh_token : Asker → Hex → Bool

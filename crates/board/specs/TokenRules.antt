@@ -22,7 +22,7 @@ use Rattle.board.specs.declared.fault.TokenFault.{TokenFault}
 use Rattle.board.specs.declared.fault.TokenFault.TheVariants as fault
 use Rattle.map_tables.specs.Hex.{same_hex}
 use Rattle.map_tables.specs.Home.{home_of}
-use Rattle.map_tables.specs.Place.{joined_stop_of, stop_of}
+use Rattle.map_tables.specs.Place.{joined_stop_of, stop_of_place}
 use Rattle.map_tables.specs.declared.hex.Hex.{Hex}
 use Rattle.map_tables.specs.declared.place.Place.{Place}
 use Rattle.map_tables.specs.declared.place.Stop.{Stop}
@@ -62,7 +62,7 @@ is_full_at laid (Some stop) =
 
 -- a place is no stop of a city, or none of its slots is free
 unfoldable pub is_no_free_slot : MapState → Place → Bool
-is_no_free_slot laid place = is_full_at laid (stop_of place)
+is_no_free_slot laid place = is_full_at laid (stop_of_place place)
 
 -- whether a company has a token in a hex
 unfoldable pub has_token_in : List (Place × Company) → Hex → Company → Bool
@@ -75,7 +75,7 @@ token_cost_of tokens asker hex = if is_dh_token asker hex then 0 else token_pric
 -- a company reaches the stop that a place names
 pub record IsReachedPlace (position : Position) (company : Company) (place : Place) : Type 0 where
   pub stop : Stop
-  pub is : stop_of place ≡ Some stop
+  pub is : stop_of_place place ≡ Some stop
   pub reached : ReachesStop position company (joined_stop_of stop)
 
 -- the rules that do not depend on what is reached
@@ -88,15 +88,15 @@ slot_rules laid asker place =
     ∷ []
 
 -- the rules that are looked at once it is known whether the stop is reached
-abbrev pub reach_rules : MapState → Asker → Place → Bool → List (Rule TokenRule)
-reach_rules laid asker place reached =
+abbrev pub token_reach_rules : MapState → Asker → Place → Bool → List (Rule TokenRule)
+token_reach_rules laid asker place reached =
     record { code = rule.NotReached; broken = not (is_dh_token asker place.hex || reached) }
     ∷ record { code = rule.CashTooSmall; broken = lt_z asker.cash (pos (token_cost_of laid.tokens asker place.hex)) }
     ∷ []
 
 -- all rules of a token
 abbrev pub token_rules : MapState → Asker → Place → Bool → List (Rule TokenRule)
-token_rules laid asker place reached = slot_rules laid asker place ++ reach_rules laid asker place reached
+token_rules laid asker place reached = slot_rules laid asker place ++ token_reach_rules laid asker place reached
 
 -- the cost of a token, or the first rule that it breaks, given whether the stop is reached
 abbrev pub token_answer_of : MapState → Asker → Place → Bool → Result ℤ TokenRule

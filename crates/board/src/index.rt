@@ -4,7 +4,7 @@ ghost use Rattle.board.specs.Index.{IsIndex, counting, holding, holder_order};
 ghost use Rattle.board.specs.KeptLinks.{held};
 ghost use Rattle.map_tables.specs.Hex.{index_of};
 ghost use Rattle.map_tables.specs.Lay.{laid_links_of};
-ghost use Rattle.map_tables.specs.Place.{stop_of};
+ghost use Rattle.map_tables.specs.Place.{stop_of_place};
 ghost use Rattle.reach.specs.Reached.{stop_order};
 ghost use Rattle.map_tables.specs.declared.place.Stop.{Stop};
 
@@ -92,8 +92,9 @@ impl Index {
         requires { (stop : Stop) → slice_index_or self.old.counts (stop_order stop) 0 + 1 < 2 ^ 64 }
         ensures tiles { self.new.tiles ≡ self.old.tiles }
         ensures links { self.new.links ≡ self.old.links }
-        ensures counts { self.new.counts ≡ counting (stop_of place) self.old.counts }
-        ensures holders { self.new.holders ≡ holding (stop_of place) company self.old.holders }
+        ensures counts { self.new.counts ≡ counting (stop_of_place place) self.old.counts }
+        ensures holders { self.new.holders
+            ≡ holding (stop_of_place place) company self.old.holders }
     {
         let Some(part) = place.stop() else {
             return;

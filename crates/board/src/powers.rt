@@ -1,6 +1,6 @@
 //! The powers of CS and DH, used by a company that owns them.
 ghost use Rattle.std.specs.Prelude.{◌≡◌};
-ghost use Rattle.board.specs.Powers.{has_no_tile, is_cs_lay, is_dh_lay, is_dh_token, is_owner};
+ghost use Rattle.board.specs.Powers.{has_no_tile, is_cs_lay, is_dh_lay, is_dh_token, owns_private};
 
 use crate::board::Board;
 use crate::turn::Asker;
@@ -15,7 +15,7 @@ impl Board {
     pub fn is_cs_lay(&self, asker: &Asker, hex: Hex) -> bool
         ensures { result ≡ is_cs_lay self.now.lays asker.now hex }
     {
-        is_owner(asker, Private::ChamplainStLawrence)
+        owns_private(asker, Private::ChamplainStLawrence)
             && same_hex(hex, Hex::B20)
             && self.has_no_tile(Hex::B20)
     }
@@ -37,7 +37,7 @@ impl Board {
 pub fn is_dh_lay(asker: &Asker, lay: Lay) -> bool
     ensures { result ≡ is_dh_lay asker.now lay }
 {
-    is_owner(asker, Private::DelawareHudson)
+    owns_private(asker, Private::DelawareHudson)
         && same_hex(lay.hex, Hex::F16)
         && lay.tile.index() == TileNo::T57.index()
 }
@@ -51,8 +51,8 @@ pub(crate) fn is_dh_token(asker: &Asker, hex: Hex) -> bool
 }
 
 /// Returns whether the company owns a private.
-fn is_owner(asker: &Asker, private: Private) -> bool
-    ensures { result ≡ is_owner asker.now private }
+fn owns_private(asker: &Asker, private: Private) -> bool
+    ensures { result ≡ owns_private asker.now private }
 {
     asker.own_privates[private.index()]
 }

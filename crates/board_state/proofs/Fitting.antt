@@ -10,7 +10,7 @@ use Rattle.board_state.specs.MapState.{MapState}
 use Rattle.map_tables.specs.OnMap.{is_part_of, is_stop, names, slots_at, slots_on, taken_at}
 use Rattle.board_state.specs.declared.fault.BoardFault.{BoardFault}
 use Rattle.board_state.specs.declared.fault.BoardFault.TheVariants as fault
-use Rattle.map_tables.specs.Place.{joined_stop_of, stop_of}
+use Rattle.map_tables.specs.Place.{joined_stop_of, stop_of_place}
 use Rattle.map_tables.specs.declared.lay.Lay.{Lay}
 use Rattle.map_tables.specs.declared.place.Place.{Place}
 use Rattle.map_tables.specs.declared.place.Stop.{Stop}
@@ -90,8 +90,8 @@ names_stop laid None has = cc
 names_stop laid (Some stop) has = (stop, refl)
 
 pub named : (laid : MapState) → AreFit laid.lays laid.tokens → (token : Place × Company) → IsAmong token laid.tokens
-    → (stop : Stop) × (stop_of token.0 ≡ Some stop)
-named laid fit token among = names_stop laid (stop_of token.0)
+    → (stop : Stop) × (stop_of_place token.0 ≡ Some stop)
+named laid fit token among = names_stop laid (stop_of_place token.0)
     (none_of (has_no_slot laid.lays laid.tokens) laid.tokens fit.slots token among)
 
 -- the stop that a token names has slots for all
@@ -112,14 +112,14 @@ room laid fit stop =
     (elim (list_any here laid.tokens) as (λ b. list_any here laid.tokens ≡ b
     → taken_at laid.tokens stop ≤ slots_at laid.lays stop) [
       | true ↦ λ some. let (token, among, names_it) = some_of here laid.tokens some in
-          room_where laid (stop_of token.0) stop names_it
+          room_where laid (stop_of_place token.0) stop names_it
           (none_of (has_no_slot laid.lays laid.tokens) laid.tokens fit.slots token among)
       | false ↦ λ none. let zero_taken = count_none here laid.tokens none in omega arith
     ]) refl
 
 -- and where each stop has, each token that names one has a slot
 pub slots_for_all : (laid : MapState) → ((token : Place × Company) → IsAmong token laid.tokens
-    → (stop : Stop) × (stop_of token.0 ≡ Some stop))
+    → (stop : Stop) × (stop_of_place token.0 ≡ Some stop))
     → ((stop : Stop) → taken_at laid.tokens stop ≤ slots_at laid.lays stop)
     → list_any (has_no_slot laid.lays laid.tokens) laid.tokens ≡ false
 slots_for_all laid each enough =

@@ -5,7 +5,7 @@ ghost use Rattle.std.specs.List.{list_any};
 ghost use Rattle.board_state.specs.Fit.{board_fault_of};
 ghost use Rattle.map_tables.specs.Fit.{has_bad_side, has_no_slot, has_print_at, is_bad_end, is_open, is_over_full};
 ghost use Rattle.map_tables.specs.Fit.{is_shut, is_side, is_wrong_kind, place_of_tile_kind, takes};
-ghost use Rattle.map_tables.specs.Place.{stop_of};
+ghost use Rattle.map_tables.specs.Place.{stop_of_place};
 
 use crate::fault::BoardFault;
 use crate::stop_facts::{slots_at, taken_at};
@@ -39,7 +39,7 @@ fn lacks_slot(lays: &[Lay], tokens: &[(Place, Company)]) -> bool
 
 /// Returns whether more tokens name a place than it has slots.
 fn is_over_full(lays: &[Lay], tokens: &[(Place, Company)], place: Place) -> bool
-    ensures { result ≡ is_over_full lays.now tokens.now (stop_of place) }
+    ensures { result ≡ is_over_full lays.now tokens.now (stop_of_place place) }
 {
     match place.stop() {
         Some(stop) => slots_at(lays, stop) < taken_at(tokens, stop),

@@ -12,7 +12,7 @@ use Rattle.tables.specs.declared.rolling_stock.Kind.{Kind}
 use Rattle.tables.specs.declared.roster.Company.{Company}
 use Rattle.certificate.specs.Holding.{AreMarks, AreReached, Hold, HoldInTurn, Writes, cut, left_over, more, none, split}
 use Rattle.certificate.specs.HoldingLaws.{AcceptedIsGreatest, MarksAreRead, WrittenMarksHold}
-use Rattle.legal_runs.specs.Set.{IsLegalSet, TrainRun, revenue_of}
+use Rattle.legal_runs.specs.Set.{IsLegalSet, TrainRun, revenue_of_runs}
 use Rattle.certificate.specs.Tree.{IsBelow, IsLeaf, IsWayDown, Node, bound, children, may_come, root_of}
 use Rattle.certificate.proofs.Holding.{held_at, read_cut, read_split, read_whole}
 use Rattle.certificate.proofs.Leaves.{good_below, good_set, reached_named, root_good}
@@ -156,7 +156,7 @@ module _ (position : Position) (lawful : IsLawful position) (company : Company) 
       choice_good position lawful company reached named all node.assigned node.begun node.trains good child among in
       choice.good
 
-  leaf_bound : (node : Node) → IsLeaf node → bound position reached node ≡ revenue_of position node.assigned
+  leaf_bound : (node : Node) → IsLeaf node → bound position reached node ≡ revenue_of_runs position node.assigned
   leaf_bound node leaf =
       let nothing : may_come position reached node.begun node.trains ≡ 0 =
       ap (may_come position reached node.begun) leaf in omega arith
@@ -164,14 +164,14 @@ module _ (position : Position) (lawful : IsLawful position) (company : Company) 
   -- a leaf below a node at which marks hold earns no more
   abbrev IsCovered : Node → Type 0
   IsCovered node = (leaf : Node) → IsBelow position company reached node leaf → IsLeaf leaf
-      → revenue_of position leaf.assigned ≤ revenue
+      → revenue_of_runs position leaf.assigned ≤ revenue
 
   covered_by_cut : (node : Node) → bound position reached node ≤ revenue → IsGoodNode position company all node
       → IsCovered node
   covered_by_cut node within good leaf below is =
       let under = good_below position lawful company reached named all node leaf good below in
       let falls : bound position reached leaf ≤ bound position reached node = under.1 in
-      let earns : bound position reached leaf ≡ revenue_of position leaf.assigned = leaf_bound leaf is in
+      let earns : bound position reached leaf ≡ revenue_of_runs position leaf.assigned = leaf_bound leaf is in
       omega arith
 
   mutual
@@ -204,7 +204,7 @@ module _ (position : Position) (lawful : IsLawful position) (company : Company) 
       ]
 
   pub written_hold :
-      ((runs : List TrainRun) → IsLegalSet position company all runs → revenue_of position runs ≤ revenue) →
+      ((runs : List TrainRun) → IsLegalSet position company all runs → revenue_of_runs position runs ≤ revenue) →
       (nodes : List Node) (marks : List Bool) → AreGood nodes → Writes position company reached revenue nodes marks →
       left_over position company reached revenue nodes marks ≡ Some []
   written_hold most [] [] good writes = refl
@@ -220,8 +220,8 @@ module _ (position : Position) (lawful : IsLawful position) (company : Company) 
       no_leaf_there : (node : Node) → IsGoodNode position company all node → revenue < bound position reached node
           → ¬ IsLeaf node
       no_leaf_there node good over leaf =
-          let earns : bound position reached node ≡ revenue_of position node.assigned = leaf_bound node leaf in
-          let low : revenue_of position node.assigned ≤ revenue =
+          let earns : bound position reached node ≡ revenue_of_runs position node.assigned = leaf_bound node leaf in
+          let low : revenue_of_runs position node.assigned ≤ revenue =
           most node.assigned (good_set position company all node good) in
           absurd (omega arith)
 
@@ -234,12 +234,12 @@ module _ (position : Position) (lawful : IsLawful position) (company : Company) 
 
   pub most_by_marks :
       (revenue : ℕ) (bits : List Bool) → AreMarks position company trains revenue bits → (runs : List TrainRun) →
-      IsLegalSet position company trains runs → revenue_of position runs ≤ revenue
+      IsLegalSet position company trains runs → revenue_of_runs position runs ≤ revenue
   most_by_marks revenue bits are runs set =
       let named : AreNamed are.reached = stops_named are.reached are.are_reached in
       let found = set_is_leaf position lawful company trains are.reached (λ stop. (are.are_reached.exact stop).1) runs
       set in
-      let low : revenue_of position found.0.assigned ≤ revenue =
+      let low : revenue_of_runs position found.0.assigned ≤ revenue =
       covered position lawful company are.reached named trains revenue (root_of trains) are.marks are.hold
       (root_good position lawful company are.reached named trains) found.0 found.1 found.2 in
       omega (arith, found.3.earn_same)

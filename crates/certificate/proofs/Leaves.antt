@@ -13,7 +13,7 @@ use Rattle.tables.specs.Train.{same_kind}
 use Rattle.tables.specs.declared.rolling_stock.Kind.{Kind}
 use Rattle.tables.specs.declared.rolling_stock.Kind.TheVariants.{Two, Three, Four, Five, Six, Diesel}
 use Rattle.tables.specs.declared.roster.Company.{Company}
-use Rattle.legal_runs.specs.Set.{IsLegalSet, in_number, revenue_of}
+use Rattle.legal_runs.specs.Set.{IsLegalSet, in_number, revenue_of_runs}
 use Rattle.certificate.specs.Tree.{IsBelow, IsWayDown, Node, bound, end_of, for_each, greatest_first, may_come, root_of}
 use Rattle.certificate.specs.TreeLaws.{BoundsFall, IsInTree, LeavesAreLegalSets, LeavesEarnTheirBounds, NoLeafEarnsMore}
 use Rattle.certificate.proofs.Nodes.{IsGoodChoice, IsGoodNode, choice_good, none_begun}
@@ -134,7 +134,7 @@ no_leaf_more position company trains reach node leaf lawful is there below none 
     let good = good_in_tree position company trains reach node lawful is there in
     let under = good_below position lawful company reach.stops (all_named position company reach is) trains node leaf
     good below in
-    let earns : bound position reach.stops leaf ≡ revenue_of position leaf.assigned =
+    let earns : bound position reach.stops leaf ≡ revenue_of_runs position leaf.assigned =
     leaves_earn position reach leaf none in
     let falls = under.1 in omega arith
 

@@ -22,9 +22,10 @@ use Rattle.tables.specs.Train.{stops_of}
 use Rattle.tables.specs.declared.rolling_stock.Kind.{Kind}
 use Rattle.tables.specs.declared.rolling_stock.Kind.TheVariants.{Two, Three, Four, Five, Six, Diesel}
 use Rattle.tables.specs.declared.roster.Company.{Company}
-use Rattle.legal_runs.specs.Fault.{has_stop, has_token, is_full}
+use Rattle.legal_runs.specs.Fault.{has_stop, has_token_at_stop, is_full}
 use Rattle.legal_runs.specs.Legal.{AreAtMost, AreDistinct, border_at, border_of, crossed, listed, visited, worth}
-use Rattle.legal_runs.specs.Set.{AreApart, RunsLegally, ShareNoBorder, TrainRun, in_number, revenue_of, trains_that_run}
+use Rattle.legal_runs.specs.Set.{AreApart, RunsLegally, ShareNoBorder, TrainRun, in_number, revenue_of_runs}
+use Rattle.legal_runs.specs.Set.{trains_that_run}
 use Rattle.certificate.specs.Tree.{Node, bound, with_steps, choices_at, finishing, from_border, from_head, from_stop}
 use Rattle.certificate.specs.Tree.{goes_over, gone_over, is_finished, is_last_stop, is_new_stop, is_used_up, leads_on}
 use Rattle.certificate.specs.Tree.{may_all_earn, may_come, may_earn, node_of, run_borders, setting_out, taken_borders}
@@ -247,7 +248,7 @@ module _ (position : Position) (lawful : IsLawful position) (company : Company) 
             };
           };
           falls =
-              subst (λ (l : List Stop). revenue_of position assigned
+              subst (λ (l : List Stop). revenue_of_runs position assigned
               + (worth position l + (may_earn position reached kind l + may_all_earn position reached later))
               ≤ bound position reached (node_of assigned [] (kind ∷ later))) (sym stops)
               (omega (
@@ -322,7 +323,7 @@ module _ (position : Position) (lawful : IsLawful position) (company : Company) 
               };
             };
             falls =
-                subst (λ (l : List Stop). revenue_of position assigned
+                subst (λ (l : List Stop). revenue_of_runs position assigned
                 + (worth position l + (may_earn position reached kind l + may_all_earn position reached later))
                 ≤ bound position reached (node_of assigned run (kind ∷ later))) (sym stops)
                 (omega arith);
@@ -361,7 +362,7 @@ module _ (position : Position) (lawful : IsLawful position) (company : Company) 
               };
             };
             falls =
-                subst (λ (l : List Stop). revenue_of position assigned
+                subst (λ (l : List Stop). revenue_of_runs position assigned
                 + (worth position l + (may_earn position reached kind l + may_all_earn position reached later))
                 ≤ bound position reached (node_of assigned run (kind ∷ later))) (sym stops)
                 (omega (arith, one_stop_more position stop (visited run) kind reached new.no_other new.there on.room));
@@ -464,7 +465,7 @@ module _ (position : Position) (lawful : IsLawful position) (company : Company) 
           → is_finished position company reached (visited run) ≡ true →
           IsGoodChoice assigned run (kind ∷ later) (node_of (record { kind = kind; steps = run } ∷ assigned) [] later)
       done stop is finished =
-          let parts = and_parts (not (ltb (length (visited run)) 2)) (list_any (has_token position company) (visited run))
+          let parts = and_parts (not (ltb (length (visited run)) 2)) (list_any (has_token_at_stop position company) (visited run))
           finished in
           let gone : gone_over run ≡ crossed run = all_gone stop is in
           record {
@@ -478,7 +479,7 @@ module _ (position : Position) (lawful : IsLawful position) (company : Company) 
                   most = stop_had_room kind (length (visited run)) (left_at step).hex (left_at step).end stop is
                       so_far.room;
                   no_stop_twice = so_far.stops;
-                  own_token = has_such (λ s. HasToken position s company) (has_token position company)
+                  own_token = has_such (λ s. HasToken position s company) (has_token_at_stop position company)
                       (has_token_is position company) (visited run) parts.1;
                   no_border_twice = subst (λ (l : List ℕ). AreDistinct l) gone so_far.once;
                   no_used_border = none_used (crossed run);

@@ -21,9 +21,9 @@ use Rattle.reach.specs.declared.walk.WalkStep.{WalkStep}
 use Rattle.reach.proofs.Spots.{order_low}
 use Rattle.tables.specs.Train.{stops_of}
 use Rattle.tables.specs.declared.rolling_stock.Kind.{Kind}
-use Rattle.legal_runs.specs.Fault.{has_border, has_stop, has_token, is_full}
+use Rattle.legal_runs.specs.Fault.{has_border, has_stop, has_token_at_stop, is_full}
 use Rattle.legal_runs.specs.Legal.{border_at, border_of, crossed, listed, visited, worth}
-use Rattle.legal_runs.specs.Set.{TrainRun, revenue_of}
+use Rattle.legal_runs.specs.Set.{TrainRun, revenue_of_runs}
 use Rattle.legal_runs.proofs.TwoTrain.{no_border}
 use Rattle.certificate.specs.Tree.{Node, children, finishing, from_border, from_head, from_stop, goes_over, gone_over}
 use Rattle.certificate.specs.Tree.{is_free_end, is_last_stop, is_new_stop, may_all_earn, node_if, node_of, run_borders}
@@ -201,7 +201,7 @@ module _ (position : Position) (tree : Tree) (begun : Begun) (used marks : List 
       here.kind ≡ begun.kind → here.next ≡ begun.next → here.later ≡ begun.later
       → here.value ≡ capped (begun.value + value_of position stop) →
       here.left ≡ option_map (λ n. n - 1) begun.left
-      → here.own_token ≡ (has_token position tree.company stop || begun.own_token) →
+      → here.own_token ≡ (has_token_at_stop position tree.company stop || begun.own_token) →
       IsOnRun position tree here used (set marks (stop_order stop) true) assigned (step ∷ steps)
       (visited (step ∷ steps))
   on_run_at_stop step stop here continues is low kind next later value left own =
@@ -217,7 +217,7 @@ module _ (position : Position) (tree : Tree) (begun : Begun) (used marks : List 
         crossed = subst (λ (all : List ℕ). AreCrossed used (all ++ run_borders assigned)) (sym over) at_node.crossed;
         seen = visited_more marks stop stops low at_node.seen;
         some = omega arith;
-        value = value ∙ value_more begun.value (value_of position stop) (revenue_of position assigned)
+        value = value ∙ value_more begun.value (value_of position stop) (revenue_of_runs position assigned)
             (worth position stops) at_node.value;
         later = later ∙ (at_node.later ∙ ap (λ (n : ℕ). capped
             (may_all_earn position (reached_in tree) (drop n (trains_of_tree tree)))) (sym next));
@@ -226,7 +226,7 @@ module _ (position : Position) (tree : Tree) (begun : Begun) (used marks : List 
             left ∙ (ap (option_map (λ n. n - 1)) at_node.left
             ∙ (one_fewer (stops_of begun.kind) (length stops)
             ∙ ap (λ (k : Kind). still_left (stops_of k) (suc (length stops))) (sym kind)));
-        own = own ∙ ap (λ (b : Bool). has_token position tree.company stop || b) at_node.own;
+        own = own ∙ ap (λ (b : Bool). has_token_at_stop position tree.company stop || b) at_node.own;
       })
 
   pub two_stops : (step : WalkStep) (stop : Stop) → Continues steps stops step → stop_of (left_at step) ≡ Some stop
@@ -295,7 +295,7 @@ two_is count false is two = refl
 pub finishing_is :
     (position : Position) (tree : Tree) (begun : Begun) (assigned : List TrainRun) (steps : List WalkStep) (own : Bool)
     → 2 ≤ length (visited steps) →
-    own ≡ list_any (has_token position tree.company) (visited steps) →
+    own ≡ list_any (has_token_at_stop position tree.company) (visited steps) →
     finishing position tree.company (reached_in tree) (node_at tree begun assigned steps) begun.kind
     (drop begun.next (trains_of_tree tree))
     ≡ node_if own (node_from tree (with_run begun assigned steps) begun.next)
@@ -303,7 +303,7 @@ finishing_is position tree begun assigned steps own two is =
     let node : Node = node_from tree (with_run begun assigned steps) begun.next in
     let many : nat_lt (length (visited steps)) 2 ≡ false =
     two_is (length (visited steps)) (nat_lt (length (visited steps)) 2) refl two in
-    ap (λ (b : Bool). node_if (not b && list_any (has_token position tree.company) (visited steps)) node) many
+    ap (λ (b : Bool). node_if (not b && list_any (has_token_at_stop position tree.company) (visited steps)) node) many
     ∙ ap (λ (b : Bool). node_if b node) (sym is)
 
 module _ (position : Position) (tree : Tree) (begun : Begun) (used marks : List Bool) (assigned : List TrainRun)
@@ -320,7 +320,7 @@ module _ (position : Position) (tree : Tree) (begun : Begun) (used marks : List 
   finished_is_between = record {
     tree_is = at_node.tree_is;
     earns =
-        at_node.value ∙ ap capped (swapped (revenue_of position assigned) (worth position (visited (step ∷ before))));
+        at_node.value ∙ ap capped (swapped (revenue_of_runs position assigned) (worth position (visited (step ∷ before))));
   }
     where
       swapped : (a b : ℕ) → a + b ≡ b + a
@@ -340,7 +340,7 @@ pub on_run_from :
     begun.next ≡ capped (place + 1) → begun.later ≡ capped (earned_from tree.groups (capped (place + 1)))
     → begun.value ≡ capped (value + value_of position stop) →
     begun.left ≡ option_map (λ n. n - 1) (stops_of kind)
-    → begun.own_token ≡ (has_token position tree.company stop || false) →
+    → begun.own_token ≡ (has_token_at_stop position tree.company stop || false) →
     IsOnRun position tree begun used (set (replicate 186 false) (stop_order stop) true) assigned [] (stop ∷ [])
 on_run_from position tree value place used assigned kind stop begun at_node crossed low train next later amount left own
     =
@@ -351,8 +351,8 @@ on_run_from position tree value place used assigned kind stop begun at_node cros
       crossed = crossed;
       seen = visited_more (replicate 186 false) stop [] (omega (arith, order_low stop)) none_visited;
       some = omega arith;
-      value = amount ∙ value_more value (value_of position stop) (revenue_of position assigned) 0
-          (at_node.earns ∙ ap capped (plus_none (revenue_of position assigned)));
+      value = amount ∙ value_more value (value_of position stop) (revenue_of_runs position assigned) 0
+          (at_node.earns ∙ ap capped (plus_none (revenue_of_runs position assigned)));
       later =
           later ∙ ap capped (sym (earned_is position (reached_in tree) tree.groups at_node.tree_is.earnings
           (capped (place + 1)))

@@ -20,7 +20,7 @@ use Rattle.reach.proofs.Spots.{back}
 use Rattle.tables.specs.Train.{stops_of}
 use Rattle.tables.specs.declared.rolling_stock.Kind.{Kind}
 use Rattle.tables.specs.declared.roster.Company.{Company}
-use Rattle.legal_runs.specs.Fault.{has_stop, has_token, is_full}
+use Rattle.legal_runs.specs.Fault.{has_stop, has_token_at_stop, is_full}
 use Rattle.legal_runs.specs.Legal.{AreAtMost, AreDistinct, IsLegalRun, border_at, border_of, crossed, listed, visited}
 use Rattle.legal_runs.specs.Set.{TrainRun}
 use Rattle.certificate.specs.Tree.{IsBelow, Node, children, finishing, for_each, from_border, from_head, from_stop}
@@ -367,7 +367,7 @@ module _ (position : Position) (lawful : IsLawful position) (company : Company) 
         (from_stop position company reached (at (step ∷ before)) kind legal.ends.0)).1
         (inl (among_node_if (is_finished position company reached (visited (step ∷ before))) (done (step ∷ before))
         (and_from (not (ltb (length (visited (step ∷ before))) 2))
-        (list_any (has_token position company) (visited (step ∷ before)))
+        (list_any (has_token_at_stop position company) (visited (step ∷ before)))
         (ap not (not_less (length (visited (step ∷ before))) 2 legal.two))
-        (such_has (λ stop. HasToken position stop company) (has_token position company)
+        (such_has (λ stop. HasToken position stop company) (has_token_at_stop position company)
         (has_token_is position company) (visited (step ∷ before)) legal.own_token))))))

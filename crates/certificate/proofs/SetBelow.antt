@@ -13,8 +13,8 @@ use Rattle.tables.specs.declared.rolling_stock.Kind.{Kind}
 use Rattle.tables.specs.declared.rolling_stock.Kind.TheVariants.{Two, Three, Four, Five, Six, Diesel}
 use Rattle.tables.specs.declared.roster.Company.{Company}
 use Rattle.legal_runs.specs.Legal.{crossed, earned}
-use Rattle.legal_runs.specs.Set.{AreApart, IsLegalSet, RunsLegally, ShareNoBorder, TrainRun, in_number, revenue_of}
-use Rattle.legal_runs.specs.Set.{trains_that_run}
+use Rattle.legal_runs.specs.Set.{AreApart, IsLegalSet, RunsLegally, ShareNoBorder, TrainRun, in_number}
+use Rattle.legal_runs.specs.Set.{revenue_of_runs, trains_that_run}
 use Rattle.certificate.specs.Tree.{IsBelow, IsLeaf, Node, greatest_first, node_of, root_of, run_borders}
 use Rattle.certificate.specs.TreeLaws.{AreItsRuns, LegalSetsAreLeaves}
 use Rattle.certificate.proofs.Leaves.{same_number}
@@ -59,16 +59,16 @@ among_out other run (first ∷ others) rest (inr later) =
 
 earns_out :
     (position : Position) (run : TrainRun) (runs rest : List TrainRun) → TakenOut run runs rest →
-    revenue_of position runs ≡ earned position run.steps + revenue_of position rest
+    revenue_of_runs position runs ≡ earned position run.steps + revenue_of_runs position rest
 earns_out position run [] rest out = absurd out
 earns_out position run (first ∷ others) rest (inl is) =
-    subst (λ (l : List TrainRun). earned position first.steps + revenue_of position others
-    ≡ earned position run.steps + revenue_of position l) is.1
-    (ap (λ (r : TrainRun). earned position r.steps + revenue_of position others) is.0)
+    subst (λ (l : List TrainRun). earned position first.steps + revenue_of_runs position others
+    ≡ earned position run.steps + revenue_of_runs position l) is.1
+    (ap (λ (r : TrainRun). earned position r.steps + revenue_of_runs position others) is.0)
 earns_out position run (first ∷ others) rest (inr later) =
     let found = earns_out position run others later.0 later.1 in
-    subst (λ (l : List TrainRun). earned position first.steps + revenue_of position others
-    ≡ earned position run.steps + revenue_of position l) later.2
+    subst (λ (l : List TrainRun). earned position first.steps + revenue_of_runs position others
+    ≡ earned position run.steps + revenue_of_runs position l) later.2
     (omega (arith, found))
 
 number_out :
@@ -173,7 +173,7 @@ module _ (position : Position) (lawful : IsLawful position) (company : Company) 
     below : IsBelow position company reached start leaf
     is_leaf : IsLeaf leaf
     same : (run : TrainRun) → IsAmong run leaf.assigned ↔ (IsAmong run assigned ⊎ IsAmong run runs)
-    earns : revenue_of position leaf.assigned ≡ revenue_of position assigned + revenue_of position runs
+    earns : revenue_of_runs position leaf.assigned ≡ revenue_of_runs position assigned + revenue_of_runs position runs
 
   -- with one more run assigned
   still_free :

@@ -10,7 +10,7 @@ use Rattle.reach.specs.Walk.{entered_at, stop_of}
 use Rattle.reach.specs.declared.walk.WalkStep.{WalkStep}
 use Rattle.tables.specs.Train.{stops_of}
 use Rattle.tables.specs.declared.rolling_stock.Kind.{Kind}
-use Rattle.legal_runs.specs.Fault.{has_token}
+use Rattle.legal_runs.specs.Fault.{has_token_at_stop}
 use Rattle.legal_runs.specs.Set.{TrainRun}
 use Rattle.certificate.specs.Tree.{Node, goes_over, run_borders, steps_from, taken_borders, with_steps}
 use Rattle.certificate.specs.Walked.{capped}
@@ -35,7 +35,7 @@ module _ {S : Type 0} (decides : S → ℕ → Bool → Decision → S → Type 
       begun.next ≡ capped (place + 1) → begun.later ≡ capped (earned_from tree.groups (capped (place + 1)))
       → begun.value ≡ capped (value + value_of position stop) →
       begun.left ≡ option_map (λ n. n - 1) (stops_of kind)
-      → begun.own_token ≡ (has_token position tree.company stop || false) →
+      → begun.own_token ≡ (has_token_at_stop position tree.company stop || false) →
       marks ≡ set (replicate 186 false) (stop_order stop) true → IsAmong stop (reached_in tree)
       → ((steps : List WalkStep) (stops : List Stop) → IsOnRun position tree begun used marks assigned steps stops →
       ((step : WalkStep) → stop_of (entered_at step) ≡ Some stop → Continues steps stops step)

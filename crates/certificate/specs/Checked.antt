@@ -7,7 +7,7 @@ use Rattle.reach.specs.Position.{Position}
 use Rattle.tables.specs.declared.rolling_stock.Kind.{Kind}
 use Rattle.tables.specs.declared.roster.Company.{Company}
 use Rattle.tables.specs.declared.round.Round.{Round}
-use Rattle.certificate.specs.Holding.{IsAccepted}
+use Rattle.certificate.specs.Holding.{IsAcceptedClaim}
 use Rattle.certificate.specs.declared.group.Group.{Group}
 use Rattle.legal_runs.specs.declared.runner.RunnerFault.{RunnerFault}
 use Rattle.legal_runs.specs.declared.runner.RunnerFault.TheVariants.{Memory, Refused}
@@ -17,7 +17,7 @@ pub record Shows (position : Position) (round : Round) (company : Company) (trai
     0 where
   pub round_is : group.round ≡ round
   pub company_is : group.company ≡ company
-  pub accepted : IsAccepted position company trains group.claim group.bits
+  pub accepted : IsAcceptedClaim position company trains group.claim group.bits
 
 -- what a call returns by a group, which is malformed if there is none
 abbrev pub AnswersBy : Position → Round → Company → List Kind → Option Group → Result ℤ RunnerFault → Type 0

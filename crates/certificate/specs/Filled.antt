@@ -4,7 +4,7 @@ use Rattle.std.specs.Prelude.{ℕ, Bool, List, ◌++◌}
 use Rattle.reach.specs.Position.{Position}
 use Rattle.tables.specs.declared.rolling_stock.Kind.{Kind}
 use Rattle.tables.specs.declared.roster.Company.{Company}
-use Rattle.certificate.specs.Holding.{AreFilling, AreMarks, IsAccepted}
+use Rattle.certificate.specs.Holding.{AreFilling, AreMarks, IsAcceptedClaim}
 use Rattle.legal_runs.specs.declared.claim.Claim.{Claim}
 
 -- bits are marks for a revenue, whatever fills them up
@@ -15,4 +15,4 @@ AreMarksFilled position company trains revenue bits =
 -- a claim is accepted by bits, whatever fills them up
 abbrev pub IsAcceptedFilled : Position → Company → List Kind → Claim → List Bool → Type 0
 IsAcceptedFilled position company trains claim bits =
-    (filling : List Bool) → AreFilling filling → IsAccepted position company trains claim (bits ++ filling)
+    (filling : List Bool) → AreFilling filling → IsAcceptedClaim position company trains claim (bits ++ filling)

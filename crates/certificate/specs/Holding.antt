@@ -91,7 +91,7 @@ pub record AreReadAsMarks (position : Position) (company : Company) (trains : Li
   pub fill : AreFilling filling
 
 -- a claim is accepted by some bits: it holds, and they are marks for its revenue
-pub record IsAccepted (position : Position) (company : Company) (trains : List Kind) (claim : Claim)
+pub record IsAcceptedClaim (position : Position) (company : Company) (trains : List Kind) (claim : Claim)
     (bits : List Bool) : Type 0 where
   pub claim_holds : ClaimHolds position company trains claim
   pub are_marks : AreMarks position company trains claim.revenue bits

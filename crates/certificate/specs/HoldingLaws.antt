@@ -7,8 +7,8 @@ use Rattle.reach.specs.Lawful.{IsLawful}
 use Rattle.reach.specs.Position.{Position}
 use Rattle.tables.specs.declared.rolling_stock.Kind.{Kind}
 use Rattle.tables.specs.declared.roster.Company.{Company}
-use Rattle.certificate.specs.Holding.{AreFilling, AreMarks, AreReached, AreReadAsMarks, Hold, IsAccepted, Writes}
-use Rattle.certificate.specs.Holding.{left_over}
+use Rattle.certificate.specs.Holding.{AreFilling, AreMarks, AreReached, AreReadAsMarks, Hold, IsAcceptedClaim}
+use Rattle.certificate.specs.Holding.{Writes, left_over}
 use Rattle.legal_runs.specs.Set.{IsGreatest}
 use Rattle.certificate.specs.Tree.{Node, root_of}
 use Rattle.legal_runs.specs.declared.claim.Claim.{Claim}
@@ -17,7 +17,8 @@ use Rattle.legal_runs.specs.declared.claim.Claim.{Claim}
 abbrev pub AcceptedIsGreatest : Type 0
 AcceptedIsGreatest =
     (position : Position) (company : Company) (trains : List Kind) (claim : Claim) (bits : List Bool) →
-    IsLawful position → IsAccepted position company trains claim bits → IsGreatest position company trains claim.revenue
+    IsLawful position → IsAcceptedClaim position company trains claim bits
+    → IsGreatest position company trains claim.revenue
 
 -- marks hold at a node exactly if they are read over it, and none is left over
 abbrev pub MarksHoldWhereRead : Type 0

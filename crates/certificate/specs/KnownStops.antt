@@ -4,14 +4,14 @@ use Rattle.map_tables.specs.declared.place.Stop.{Stop}
 use Rattle.reach.specs.Position.{Position, is_red, value_of}
 use Rattle.reach.specs.Reached.{stop_order}
 use Rattle.tables.specs.declared.roster.Company.{Company}
-use Rattle.legal_runs.specs.Fault.{has_token, is_full}
+use Rattle.legal_runs.specs.Fault.{has_token_at_stop, is_full}
 use Rattle.certificate.specs.declared.known_stops.KnownStops.{KnownStops}
 use Rattle.certificate.specs.declared.known_stops.StopFacts.{StopFacts}
 
 -- these are the facts of a stop, for a company
 pub record IsOfStop (position : Position) (company : Company) (stop : Stop) (facts : StopFacts) : Type 0 where
   pub value : facts.value ≡ value_of position stop
-  pub own : facts.own_token ≡ has_token position company stop
+  pub own : facts.own_token ≡ has_token_at_stop position company stop
   pub ends : facts.ends ≡ (is_red position stop || is_full position company stop)
 
 -- what is known of a stop is so

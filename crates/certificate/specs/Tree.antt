@@ -32,9 +32,9 @@ use Rattle.tables.specs.Train.{same_kind, stops_of}
 use Rattle.tables.specs.declared.rolling_stock.Kind.{Kind}
 use Rattle.tables.specs.declared.rolling_stock.Kind.TheVariants.{Two, Three, Four, Five, Six, Diesel}
 use Rattle.tables.specs.declared.roster.Company.{Company}
-use Rattle.legal_runs.specs.Fault.{has_border, has_stop, has_token, is_full}
+use Rattle.legal_runs.specs.Fault.{has_border, has_stop, has_token_at_stop, is_full}
 use Rattle.legal_runs.specs.Legal.{border_at, border_of, crossed, visited, worth}
-use Rattle.legal_runs.specs.Set.{TrainRun, revenue_of}
+use Rattle.legal_runs.specs.Set.{TrainRun, revenue_of_runs}
 
 -- a node of the tree: the runs assigned, the run that is begun, latest step first, and the trains
 -- left
@@ -144,7 +144,7 @@ module _ (position : Position) (company : Company) (reached : List Stop) where
 
   -- the run is finished, if it has two stops and an own token
   abbrev pub is_finished : List Stop → Bool
-  is_finished stops = not (nat_lt (length stops) 2) && list_any (has_token position company) stops
+  is_finished stops = not (nat_lt (length stops) 2) && list_any (has_token_at_stop position company) stops
 
   -- the choice to finish the run that is begun, if it may be finished
   abbrev pub finishing : Node → Kind → List Kind → List Node
@@ -246,4 +246,4 @@ may_come position reached begun (kind ∷ later) =
 
 -- the bound of a node
 abbrev pub bound : Position → List Stop → Node → ℕ
-bound position reached node = revenue_of position node.assigned + may_come position reached node.begun node.trains
+bound position reached node = revenue_of_runs position node.assigned + may_come position reached node.begun node.trains

@@ -8,7 +8,7 @@ use Rattle.reach.specs.Position.{Position, IsAmong}
 use Rattle.reach.specs.Reached.{IsReach, Reaching}
 use Rattle.tables.specs.declared.rolling_stock.Kind.{Kind}
 use Rattle.tables.specs.declared.roster.Company.{Company}
-use Rattle.legal_runs.specs.Set.{IsLegalSet, TrainRun, revenue_of}
+use Rattle.legal_runs.specs.Set.{IsLegalSet, TrainRun, revenue_of_runs}
 use Rattle.certificate.specs.Tree.{IsBelow, IsLeaf, Node, bound, children, root_of}
 
 -- a node is in the tree of a company's trains, given what the company reaches
@@ -27,7 +27,7 @@ BoundsFall =
 abbrev pub LeavesEarnTheirBounds : Type 0
 LeavesEarnTheirBounds =
     (position : Position) (reach : Reaching) (node : Node) →
-    IsLeaf node → bound position reach.stops node ≡ revenue_of position node.assigned
+    IsLeaf node → bound position reach.stops node ≡ revenue_of_runs position node.assigned
 
 -- no leaf below a node earns more than the node's bound
 abbrev pub NoLeafEarnsMore : Type 0
@@ -35,7 +35,7 @@ NoLeafEarnsMore =
     (position : Position) (company : Company) (trains : List Kind) (reach : Reaching) (node leaf : Node) →
     IsLawful position → IsReach position company reach → IsInTree position company trains reach node →
     IsBelow position company reach.stops node leaf → IsLeaf leaf →
-    revenue_of position leaf.assigned ≤ bound position reach.stops node
+    revenue_of_runs position leaf.assigned ≤ bound position reach.stops node
 
 -- each leaf's assigned runs are a legal set
 abbrev pub LeavesAreLegalSets : Type 0
@@ -47,7 +47,7 @@ LeavesAreLegalSets =
 -- two lists of runs are the same runs, and earn as much
 pub record AreItsRuns (position : Position) (assigned runs : List TrainRun) : Type 0 where
   pub same : (run : TrainRun) → IsAmong run assigned ↔ IsAmong run runs
-  pub earn_same : revenue_of position assigned ≡ revenue_of position runs
+  pub earn_same : revenue_of_runs position assigned ≡ revenue_of_runs position runs
 
 -- each legal set is the assigned runs of a leaf
 abbrev pub LegalSetsAreLeaves : Type 0

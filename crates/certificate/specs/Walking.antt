@@ -16,10 +16,10 @@ use Rattle.reach.specs.Walk.{entered_at, left_at, stop_of}
 use Rattle.reach.specs.declared.walk.WalkStep.{WalkStep}
 use Rattle.tables.specs.Train.{stops_of}
 use Rattle.tables.specs.declared.rolling_stock.Kind.{Kind}
-use Rattle.legal_runs.specs.Fault.{has_border, has_stop, has_token}
+use Rattle.legal_runs.specs.Fault.{has_border, has_stop, has_token_at_stop}
 use Rattle.legal_runs.specs.Legal.{border_at, listed, map_borders, visited, worth}
 use Rattle.certificate.specs.Ranking.{ranked_of}
-use Rattle.legal_runs.specs.Set.{TrainRun, revenue_of}
+use Rattle.legal_runs.specs.Set.{TrainRun, revenue_of_runs}
 use Rattle.certificate.specs.HexLinks.{AreHexLinks}
 use Rattle.certificate.specs.KnownStops.{AreKnown}
 use Rattle.certificate.specs.Tree.{Node, goes_over, gone_over, leads_on, may_all_earn, may_earn, node_of, run_borders}
@@ -92,7 +92,7 @@ pub record IsTree (position : Position) (tree : Tree) : Type 0 where
 -- no run is begun, and the assigned runs earn this much
 pub record IsBetweenRuns (position : Position) (tree : Tree) (value : ℕ) (assigned : List TrainRun) : Type 0 where
   pub tree_is : IsTree position tree
-  pub earns : value ≡ capped (revenue_of position assigned)
+  pub earns : value ≡ capped (revenue_of_runs position assigned)
 
 -- a run is begun that has visited these stops, the first of them also before its first step
 pub record IsOnRun (position : Position) (tree : Tree) (begun : Begun) (used marks : List Bool)
@@ -101,11 +101,11 @@ pub record IsOnRun (position : Position) (tree : Tree) (begun : Begun) (used mar
   pub crossed : AreCrossed used (gone_over steps ++ run_borders assigned)
   pub seen : AreVisited marks stops
   pub some : 1 ≤ length stops
-  pub value : begun.value ≡ capped (revenue_of position assigned + worth position stops)
+  pub value : begun.value ≡ capped (revenue_of_runs position assigned + worth position stops)
   pub later : begun.later ≡ capped (may_all_earn position (reached_in tree) (drop begun.next (trains_of_tree tree)))
   pub within : begun.next ≤ length (trains_of_tree tree)
   pub left : begun.left ≡ still_left (stops_of begun.kind) (length stops)
-  pub own : begun.own_token ≡ list_any (has_token position tree.company) stops
+  pub own : begun.own_token ≡ list_any (has_token_at_stop position tree.company) stops
 
 -- a step goes on from these steps, which have visited these stops
 pub record Continues (steps : List WalkStep) (stops : List Stop) (step : WalkStep) : Type 0 where

@@ -1,7 +1,7 @@
 //! Whether marks hold, and the writing of marks for a revenue.
 ghost use Rattle.std.specs.Prelude.{◌≡◌, ◌↔◌, IsTrue, IfOk, List};
 ghost use Rattle.certificate.specs.Filled.{AreMarksFilled};
-ghost use Rattle.certificate.specs.Holding.{AreMarks, IsAccepted};
+ghost use Rattle.certificate.specs.Holding.{AreMarks, IsAcceptedClaim};
 ghost use Rattle.certificate.specs.Read.{AreZeros};
 ghost use Rattle.legal_runs.specs.Set.{IsGreatest};
 
@@ -26,7 +26,7 @@ pub fn accepts<N: Network>(
     marks: &[bool],
 ) -> bool
     ensures { let position = N.position network.now in
-        IsTrue result ↔ IsAccepted position company trains.now claim.now marks.now }
+        IsTrue result ↔ IsAcceptedClaim position company trains.now claim.now marks.now }
 {
     if !claim_holds(network, company, trains, claim) {
         return false;
@@ -49,7 +49,7 @@ pub fn accepts_bits<N: Network>(
     bits: &Bits,
 ) -> bool
     ensures { let position = N.position network.now in
-        IsTrue result ↔ IsAccepted position company trains.now claim.now bits.now }
+        IsTrue result ↔ IsAcceptedClaim position company trains.now claim.now bits.now }
 {
     if !claim_holds(network, company, trains, claim) {
         return false;

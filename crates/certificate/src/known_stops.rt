@@ -1,7 +1,7 @@
 //! What the reached stops are to a company, as a walk looks them up.
 ghost use Rattle.certificate.specs.KnownStops.{AreKnown, IsOfStop};
 
-use legal_runs::{has_token, is_full, worth};
+use legal_runs::{has_token_at_stop, is_full, worth};
 use map_tables::Stop;
 use reach::{Network, ReachedStops, STOPS, stop_order};
 use tables::Company;
@@ -24,7 +24,7 @@ impl StopFacts {
     {
         StopFacts {
             value: worth(network, stop) as u8,
-            own_token: has_token(network, company, stop),
+            own_token: has_token_at_stop(network, company, stop),
             ends: network.red(stop) || is_full(network, company, stop),
         }
     }

@@ -12,9 +12,9 @@ ghost use Rattle.reach.specs.Position.{IsAmong, Position, is_red, links_of, valu
 ghost use Rattle.reach.specs.Reached.{stop_order};
 ghost use Rattle.reach.specs.Walk.{across, entered_at, left_at, stop_of};
 ghost use Rattle.reach.specs.declared.walk.WalkStep.{WalkStep};
-ghost use Rattle.legal_runs.specs.Fault.{has_token, is_full};
+ghost use Rattle.legal_runs.specs.Fault.{has_token_at_stop, is_full};
 ghost use Rattle.legal_runs.specs.Legal.{listed, visited};
-ghost use Rattle.legal_runs.specs.Set.{TrainRun, revenue_of};
+ghost use Rattle.legal_runs.specs.Set.{TrainRun, revenue_of_runs};
 ghost use Rattle.certificate.specs.LinkEnds.{ends_of, place_left, way_into};
 ghost use Rattle.certificate.specs.Tree.{bound, from_stop, goes_over, leads_on, node_if, run_borders, setting_out};
 ghost use Rattle.certificate.specs.Tree.{taken_borders, with_step, with_steps, steps_at, steps_by, steps_from};
@@ -58,7 +58,8 @@ impl Begun {
             result.value ≡ capped (self.value + value_of position stop) }
         ensures left { result.left ≡ option_map (λ n. n - 1) self.left }
         ensures own { let position = N.position network.now in IsTree position tree.now →
-            result.own_token ≡ (has_token position tree.now.company stop || self.own_token) }
+            result.own_token
+            ≡ (has_token_at_stop position tree.now.company stop || self.own_token) }
     {
         let facts = tree.known.at(network, tree.company, stop);
         Begun {

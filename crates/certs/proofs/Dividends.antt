@@ -21,7 +21,7 @@ use Rattle.market.specs.Moves.{right_of}
 use Rattle.market.specs.Token.{with_move}
 use Rattle.history.proofs.NearlySound.{broken_quiet, quiet_sound}
 use Rattle.certs.proofs.Games.{moved_there}
-use Rattle.certs.specs.Dividend.{all_paid, paid_for, paid_out, paid_to, paid_to_seats}
+use Rattle.certs.specs.Dividend.{all_paid, dividend_paid_to, paid_for, paid_out, paid_to_seats}
 use Rattle.certs.specs.Games.{IsGame, token_moved}
 use Rattle.tables.specs.Seat.{all_seats, seat_at}
 use Rattle.tables.specs.declared.roster.Company.{Company}
@@ -91,7 +91,7 @@ dividend_recorded_game game paid new company to amount of_game is_paid is_new be
 
 -- a table keeps its seats
 pub paid_seats : (game : Game) (company : Company) (to : Holder) (amount : ℕ)
-    → (paid_to company to amount game).seats ≡ game.seats
+    → (dividend_paid_to company to amount game).seats ≡ game.seats
 paid_seats game company to amount =
     elim (amount == 0) as (λ (none : Bool). (if none then game else broken_recorded
     (with_event game (event.Dividend company to amount))).seats ≡ game.seats) [ true ↦ refl | false ↦ refl ]

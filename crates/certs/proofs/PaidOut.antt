@@ -18,7 +18,8 @@ use Rattle.totals.specs.Shares.{held_by, shares_of}
 use Rattle.history.specs.Sound.{SharesAreHeld}
 use Rattle.history.specs.Record.{broken_recorded}
 use Rattle.totals.specs.Trains.{at_least_zero}
-use Rattle.certs.specs.Dividend.{NoMoreIsPaid, all_paid, dividend_of, paid_for, paid_to, paid_to_seats, per_share}
+use Rattle.certs.specs.Dividend.{NoMoreIsPaid, all_paid, dividend_of, dividend_paid_to, paid_for, paid_to_seats}
+use Rattle.certs.specs.Dividend.{per_share}
 use Rattle.tables.specs.Seat.{all_seats}
 use Rattle.tables.specs.declared.roster.Company.{Company}
 use Rattle.tables.specs.declared.seat.Seat.{Seat}
@@ -31,7 +32,7 @@ as_many (negsuc n) least = absurd (omega (arith, ints))
 module _ (company : Company) where
   -- the bank has this much less after a dividend
   paid_cash : (table : ℕ) (game : Game) (to : Holder) (amount : ℕ)
-      → cash_of table (paid_to company to amount game).events party.Bank
+      → cash_of table (dividend_paid_to company to amount game).events party.Bank
       ≡ cash_of table game.events party.Bank -ℤ pos amount
   paid_cash table game to amount =
       let paid = with_event game (event.Dividend company to amount) in
@@ -51,7 +52,7 @@ module _ (company : Company) where
 
   -- and shares lie as before
   paid_shares : (game : Game) (to : Holder) (amount : ℕ) (place : Shareholder)
-      → shares_of (paid_to company to amount game).events company place ≡ shares_of game.events company place
+      → shares_of (dividend_paid_to company to amount game).events company place ≡ shares_of game.events company place
   paid_shares game to amount place =
       let paid = with_event game (event.Dividend company to amount) in
       elim (amount == 0) as (λ (none : Bool). shares_of (if none then game else broken_recorded paid).events company
@@ -117,7 +118,7 @@ module _ (company : Company) where
     seats_cash table game [] = omega (arith, ints)
     seats_cash table game (seat ∷ others) =
         let amount = dividend_of game.events company (OfSeat seat) revenue in
-        let next = paid_to company (holder.Seat seat) amount game in
+        let next = dividend_paid_to company (holder.Seat seat) amount game in
         omega (
           arith,
           ints,

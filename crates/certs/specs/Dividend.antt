@@ -30,14 +30,14 @@ abbrev pub dividend_of : List Event → Company → Shareholder → ℕ → ℕ
 dividend_of events company place revenue = at_least_zero (shares_of events company place) * per_share revenue
 
 -- after a dividend of the bank to a holder, if it is over 0; perhaps that breaks the bank
-abbrev pub paid_to : Company → Holder → ℕ → Game → Game
-paid_to company holder amount game =
+abbrev pub dividend_paid_to : Company → Holder → ℕ → Game → Game
+dividend_paid_to company holder amount game =
     if amount == 0 then game else broken_recorded (with_event game (event.Dividend company holder amount))
 
 -- after the dividend for the shares at a place goes to a holder
 abbrev pub paid_for : Company → Holder → Shareholder → ℕ → Game → Game
 paid_for company holder place revenue game =
-    paid_to company holder (dividend_of game.events company place revenue) game
+    dividend_paid_to company holder (dividend_of game.events company place revenue) game
 
 -- after some seats are paid, in order
 abbrev pub paid_to_seats : Company → ℕ → Game → List Seat → Game

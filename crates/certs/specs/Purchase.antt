@@ -75,9 +75,9 @@ allows_several Orange = false
 allows_several Brown = true
 
 -- something holds in the zone of a square; without a square it does not
-abbrev pub in_zone : (Zone → Bool) → Option Square → Bool
-in_zone holds None = false
-in_zone holds (Some square) = holds (zone_of square)
+abbrev pub holds_in_zone : (Zone → Bool) → Option Square → Bool
+holds_in_zone holds None = false
+holds_in_zone holds (Some square) = holds (zone_of square)
 
 -- no share is left where one is to be bought
 unfoldable pub is_sold_out_there : List Event → Purchase → Bool
@@ -107,13 +107,13 @@ is_at_limit seats events seat company =
 -- that limit
 unfoldable pub is_over_six : List Event → Seat → Company → ℕ → Bool
 is_over_six events seat company shares =
-    not (in_zone lifts_six (square_of events company))
+    not (holds_in_zone lifts_six (square_of events company))
     && lt_z (pos 6) (shares_of events company (OfSeat seat) +ℤ pos shares)
 
 -- a company is the one of which the seat has bought, and several of it may be bought
 abbrev pub is_one_of_several : List Event → Company → Company → Bool
 is_one_of_several events company bought =
-    same_company company bought && in_zone allows_several (square_of events company)
+    same_company company bought && holds_in_zone allows_several (square_of events company)
 
 -- the seat has bought already in this turn, and this is not one of several
 unfoldable pub is_second : List Event → Company → Option Company → Bool

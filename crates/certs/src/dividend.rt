@@ -1,6 +1,6 @@
 //! What a company pays out for its shares.
 ghost use Rattle.std.specs.Prelude.{◌≡◌, ◌≤◌, ◌≤ℤ◌, OnOk, pos};
-ghost use Rattle.certs.specs.Dividend.{all_paid, dividend_of, paid_for, paid_out, paid_to};
+ghost use Rattle.certs.specs.Dividend.{all_paid, dividend_of, dividend_paid_to, paid_for, paid_out};
 ghost use Rattle.certs.specs.Games.{IsGame};
 ghost use Rattle.events.specs.declared.event.Party.TheVariants as party;
 ghost use Rattle.history.specs.Money.{IsParty};
@@ -84,7 +84,7 @@ fn pay_to(
     requires party { IsParty history.old.seats (party.Holder holder) }
     requires small { amount ≤ 1000000 }
     requires game { IsGame history.old }
-    ensures after { OnOk result (history.new ≡ paid_to company holder amount history.old) }
+    ensures after { OnOk result (history.new ≡ dividend_paid_to company holder amount history.old) }
     ensures game { OnOk result (IsGame history.new) }
 {
     if amount == 0 {

@@ -2,7 +2,7 @@
 ghost use Rattle.std.specs.Prelude.{◌≡◌, ◌≤◌, ◌+ℤ◌, pos, unwrap_or};
 ghost use Rattle.std.specs.Int.Signed.{le_z};
 ghost use Rattle.certs.specs.Counted.{counted_of};
-ghost use Rattle.certs.specs.Purchase.{allowed, allows_several, cost_of, in_zone, is_at_limit, is_sold_out_there};
+ghost use Rattle.certs.specs.Purchase.{allowed, allows_several, cost_of, holds_in_zone, is_at_limit, is_sold_out_there};
 ghost use Rattle.certs.specs.Purchase.{is_no_par, is_over_six, is_second, is_short_of_cash, is_wrong_start, lifts_six};
 ghost use Rattle.certs.specs.Purchase.{market_price_of, purchase_judgement, share_price_of};
 ghost use Rattle.events.specs.declared.event.Shareholder.TheVariants.{Seat as OfSeat};
@@ -168,7 +168,7 @@ pub fn is_over_six(now: &GameView, seat: Seat, company: Company, shares: u8) -> 
 
 /// Returns whether the zone of a company's square lifts the limit of six shares.
 fn lifts_six(now: &GameView, company: Company) -> bool
-    ensures { result ≡ in_zone lifts_six (square_of now.now.events.now company) }
+    ensures { result ≡ holds_in_zone lifts_six (square_of now.now.events.now company) }
 {
     match now.square(company) {
         Some(square) => matches!(zone(square), Zone::Orange | Zone::Brown),
@@ -196,7 +196,7 @@ fn is_second(now: &GameView, company: Company, bought: Option<Company>) -> bool
 
 /// Returns whether several certificates of a company may be bought in a turn.
 fn allows_several(now: &GameView, company: Company) -> bool
-    ensures { result ≡ in_zone allows_several (square_of now.now.events.now company) }
+    ensures { result ≡ holds_in_zone allows_several (square_of now.now.events.now company) }
 {
     match now.square(company) {
         Some(square) => zone(square) == Zone::Brown,

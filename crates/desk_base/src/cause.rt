@@ -1,7 +1,7 @@
 //! Which of several causes it was for which a rule refused a line.
 ghost use Rattle.std.specs.Prelude.{◌≡◌};
 ghost use Rattle.desk_base.specs.Cause.{cause_of_slot, has_empty_slot};
-ghost use Rattle.map_tables.specs.Place.{stop_of};
+ghost use Rattle.map_tables.specs.Place.{stop_of_place};
 
 use board::Board;
 use board_state::{OnMap, slots};
@@ -106,7 +106,7 @@ impl Cause {
 
 /// Returns why a stop of a city has no free slot for a token.
 pub fn cause_of_slot(board: &Board, place: Place) -> Cause
-    ensures { result ≡ cause_of_slot board.now (stop_of place) }
+    ensures { result ≡ cause_of_slot board.now (stop_of_place place) }
 {
     if has_empty_slot(board, place) {
         Cause::SlotIsKept
@@ -118,7 +118,7 @@ pub fn cause_of_slot(board: &Board, place: Place) -> Cause
 /// Returns whether a place names a stop of a city with an empty slot, reserved for a home token or
 /// not.
 fn has_empty_slot(board: &Board, place: Place) -> bool
-    ensures { result ≡ has_empty_slot board.now (stop_of place) }
+    ensures { result ≡ has_empty_slot board.now (stop_of_place place) }
 {
     match place.stop() {
         Some(stop) => board.count_at(joined_stop(stop)) < slots(board, stop),

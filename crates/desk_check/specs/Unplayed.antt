@@ -3,14 +3,14 @@
 use Rattle.std.specs.Prelude.{ℕ, Bool, true, false, if◌then◌else◌, List, Result, Ok, Err}
 use Rattle.desk_check.specs.declared.check_reading.Look.{Look}
 use Rattle.desk_check.specs.declared.check_reading.Look.TheVariants.{Head, Good, Bad}
-use Rattle.purchases.specs.Standing.{has_place_before as is_before_orders}
+use Rattle.purchases.specs.Standing.{has_place_before_companies}
 use Rattle.order_grammar.specs.Version.{reading_in}
 use Rattle.order_grammar.specs.declared.condition.Version.{Version}
 use Rattle.order_grammar.specs.declared.fault.Fault.{Fault}
 use Rattle.order_grammar.specs.declared.fault.Fault.TheVariants.{OutOfPlace}
 use Rattle.order_grammar.specs.declared.order.Order.{Order}
 use Rattle.order_grammar.specs.declared.order.Order.TheVariants as order
-use Rattle.privates.specs.Standing.{has_place_before as is_before_turns}
+use Rattle.privates.specs.Standing.{has_place_before_turns}
 use Rattle.sheets.specs.Part.{numbered, opens_part}
 use Rattle.tables.specs.declared.round.Round.{Round}
 use Rattle.tables.specs.declared.round.Round.TheVariants.{Opening, Stock, Operating}
@@ -18,9 +18,9 @@ use Rattle.turns.specs.Ruling.{has_place_in_turn}
 
 -- the order has a place before the first head of a sheet for this round
 abbrev pub has_place_before : Round → Order → Bool
-has_place_before (Opening number) its = is_before_turns its
+has_place_before (Opening number) its = has_place_before_turns its
 has_place_before (Stock set) its = false
-has_place_before (Operating set number) its = is_before_orders its
+has_place_before (Operating set number) its = has_place_before_companies its
 
 -- the order has a place in a company's orders, as `operating: OrderLeads` has it
 abbrev pub has_place_in_orders : Order → Bool

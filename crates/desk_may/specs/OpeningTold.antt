@@ -18,7 +18,7 @@ use Rattle.moves.specs.declared.row.Answer.TheVariants.{Obeyed, WithConsent, Ref
 use Rattle.moves.specs.declared.row.Row.{Row}
 use Rattle.order_grammar.specs.declared.order.Order.{Order}
 use Rattle.order_grammar.specs.declared.order.Order.TheVariants.{Bid, BuyPrivate}
-use Rattle.privates.specs.Bank.{is_cheapest, price_of}
+use Rattle.privates.specs.Bank.{is_cheapest, price_of_private}
 use Rattle.tables.specs.declared.seat.Seat.{Seat}
 use Rattle.totals.specs.Bids.{free_for}
 use Rattle.totals.specs.LookBack.{is_sold}
@@ -37,7 +37,7 @@ note_on other = Nothing
 
 -- what an order costs
 abbrev pub price_on : List Event → Order → Option ℤ
-price_on events (BuyPrivate private) = Some (pos (price_of events private))
+price_on events (BuyPrivate private) = Some (pos (price_of_private events private))
 price_on events (Bid private amount) = Some (pos amount)
 price_on events other = None
 

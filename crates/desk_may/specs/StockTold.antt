@@ -32,7 +32,7 @@ use Rattle.moves.specs.declared.row.Row.{Row}
 use Rattle.order_grammar.specs.declared.order.Order.{Order}
 use Rattle.order_grammar.specs.declared.order.Order.TheVariants.{Par, BuyShare, Sell, ExchangeMohawk}
 use Rattle.order_grammar.specs.declared.order.ShareSource.{ShareSource}
-use Rattle.stock_round.specs.Exchange.{exchange_source, is_owner}
+use Rattle.stock_round.specs.Exchange.{exchange_source}
 use Rattle.tables.specs.Chart.{zone_of}
 use Rattle.tables.specs.declared.roster.Company.{Company}
 use Rattle.tables.specs.declared.roster.Private.TheVariants.{MohawkHudson}
@@ -41,7 +41,7 @@ use Rattle.tables.specs.declared.squares.Square.{Square}
 use Rattle.tables.specs.declared.squares.Zone.{Zone}
 use Rattle.tables.specs.declared.squares.Zone.TheVariants.{Brown}
 use Rattle.totals.specs.Bids.{free_cash_of}
-use Rattle.totals.specs.LookBack.{owner_of}
+use Rattle.totals.specs.LookBack.{is_owner, owner_of}
 use Rattle.totals.specs.Shares.{is_started, shares_of, square_of}
 
 -- a zone is the brown one

@@ -10,7 +10,7 @@ use crate::told::{Held, Note, Told, lacks_money, not_by};
 use history::{History, Refusal};
 use moves::{Answer, Row, least_bid};
 use order_grammar::Order;
-use privates::price_of;
+use privates::price_of_private;
 use tables::{Money, Private, Seat};
 
 /// A seat in an opening, at the head of its turn.
@@ -107,7 +107,7 @@ fn price_on(history: &History, order: &Order) -> Option<Money>
     ensures { result ≡ price_on history.now.events order.now }
 {
     match order {
-        Order::BuyPrivate(private) => Some(Money::from(price_of(&history.now(), *private))),
+        Order::BuyPrivate(private) => Some(Money::from(price_of_private(&history.now(), *private))),
         Order::Bid { amount, .. } => Some(Money::from(*amount)),
         _ => None,
     }

@@ -4,14 +4,14 @@ use Rattle.std.specs.List.{flat_map, range_with_len}
 use Rattle.std.proofs.lemmas.Grind.{common_steps}
 use Rattle.std.proofs.lemmas.List.{append-nil, map-append}
 use Rattle.report.proofs.Seats.{more_numbers}
-use Rattle.sheets.specs.Part.{Numbered, Parts, after_head, after_line}
+use Rattle.sheets.specs.Part.{Numbered, SheetParts, after_head, after_line}
 use Rattle.desk_round.specs.SheetLines.{PlacedLine, lines_left, lines_of_part, place_behind, placed, placed_at}
 use Rattle.desk_round.specs.declared.sheet_line.LinePlace.{LinePlace}
 use Rattle.desk_round.specs.declared.sheet_line.SheetLine.{SheetLine}
 use Rattle.tables.specs.declared.seat.Seat.{Seat}
 
 -- a line before the next head is the next one
-pub takes_line : (seat : Seat) (place : LinePlace) (old new : Parts) (line : Numbered) (kept : SheetLine)
+pub takes_line : (seat : Seat) (place : LinePlace) (old new : SheetParts) (line : Numbered) (kept : SheetLine)
     → old ≡ after_line line new → placed kept ≡ placed_at seat place false line → kept.place ≡ place
     → lines_left seat place old ≡ placed kept ∷ lines_left seat kept.place new
 takes_line seat place old new line kept is is_kept here =
@@ -20,7 +20,7 @@ takes_line seat place old new line kept is is_kept here =
     ∙ ap (λ (its : LinePlace). placed kept ∷ lines_left seat its new) (sym here)
 
 -- a head is the next one, where no line is before it
-pub takes_head : (seat : Seat) (place its : LinePlace) (old mid new : Parts) (head : Numbered) (kept : SheetLine)
+pub takes_head : (seat : Seat) (place its : LinePlace) (old mid new : SheetParts) (head : Numbered) (kept : SheetLine)
     → mid ≡ old → mid ≡ after_head head new → its ≡ place_behind head.reading
     → placed kept ≡ placed_at seat its true head → kept.place ≡ its
     → lines_left seat place old ≡ placed kept ∷ lines_left seat kept.place new
@@ -31,11 +31,11 @@ takes_head seat place its old mid new head kept same is behind is_kept here =
     ∙ ap (λ (one : LinePlace). placed kept ∷ lines_left seat one new) (sym here)
 
 -- where no line is before the next head, and there is none, no line is left
-pub none_left : (seat : Seat) (place : LinePlace) (old mid : Parts) → old.before ≡ [] → mid ≡ old → mid.opened ≡ []
+pub none_left : (seat : Seat) (place : LinePlace) (old mid : SheetParts) → old.before ≡ [] → mid ≡ old → mid.opened ≡ []
     → lines_left seat place old ≡ []
 none_left seat place old mid none same no_head =
     ap (λ (lines : List Numbered). map (placed_at seat place false) lines ++ flat_map (lines_of_part seat) old.opened) none
-    ∙ ap (flat_map (lines_of_part seat)) (ap (λ (parts : Parts). parts.opened) (sym same) ∙ no_head)
+    ∙ ap (flat_map (lines_of_part seat)) (ap (λ (parts : SheetParts). parts.opened) (sym same) ∙ no_head)
 
 -- the next line is kept, where fewer are kept so far
 pub keeps : (was now : List SheetLine) (line : SheetLine) (left more all : List PlacedLine) (most count : ℕ)

@@ -23,7 +23,7 @@ use Rattle.order_grammar.specs.declared.condition.Condition.TheVariants as condi
 use Rattle.order_grammar.specs.declared.order.Order.{Order}
 use Rattle.order_grammar.specs.declared.order.Order.TheVariants as order
 use Rattle.map_tables.specs.Print.{print_of}
-use Rattle.purchases.specs.Train.{cost_of, purchase_of, sells}
+use Rattle.purchases.specs.Train.{purchase_of, sells, train_purchase_cost}
 use Rattle.tables.specs.Roster.{certificate_limit_of, face_of, token_price_of}
 use Rattle.tables.specs.Train.{kinds, limit_of, stops_of}
 use Rattle.tables.specs.declared.rolling_stock.Kind.{Kind}
@@ -108,7 +108,7 @@ operating_figures events its other = None
 abbrev pub cost_in_turn : List Event → Company → Order → Option ℕ
 cost_in_turn events company (order.Lay lay) = Some ((print_of lay.hex).cost)
 cost_in_turn events company (order.Token place) = Some (token_price_of (tokens_placed events company))
-cost_in_turn events company (order.BuyTrain kind from) = Some (cost_of (purchase_of kind from))
+cost_in_turn events company (order.BuyTrain kind from) = Some (train_purchase_cost (purchase_of kind from))
 cost_in_turn events company (order.BuyOwnedPrivate private price) = Some price
 cost_in_turn events company other = None
 

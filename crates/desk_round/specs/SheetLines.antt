@@ -12,7 +12,7 @@ use Rattle.order_grammar.specs.declared.fault.Fault.{Fault}
 use Rattle.order_grammar.specs.declared.order.Order.{Order}
 use Rattle.order_grammar.specs.declared.order.Order.TheVariants as order
 use Rattle.sheets.specs.File.{players_of}
-use Rattle.sheets.specs.Part.{Numbered, Part, Parts, numbered, parts_for}
+use Rattle.sheets.specs.Part.{Numbered, Part, SheetParts, numbered, parts_for}
 use Rattle.tables.specs.Seat.{seat_at}
 use Rattle.tables.specs.declared.round.Round.{Round}
 use Rattle.tables.specs.declared.seat.Seat.{Seat}
@@ -45,11 +45,11 @@ lines_of_part seat part =
     ∷ map (placed_at seat (place_behind part.head.reading) false) part.lines
 
 -- the lines that are left of a seat's sheet, of which those before the next head are here
-abbrev pub lines_left : Seat → LinePlace → Parts → List PlacedLine
+abbrev pub lines_left : Seat → LinePlace → SheetParts → List PlacedLine
 lines_left seat place parts = map (placed_at seat place false) parts.before ++ flat_map (lines_of_part seat) parts.opened
 
 -- the next of them is taken, if there is one
-abbrev pub TakesNext : Seat → LinePlace → Parts → Option SheetLine → Parts → Type 0
+abbrev pub TakesNext : Seat → LinePlace → SheetParts → Option SheetLine → SheetParts → Type 0
 TakesNext seat place old None new = lines_left seat place old ≡ []
 TakesNext seat place old (Some line) new = lines_left seat place old ≡ placed line ∷ lines_left seat line.place new
 

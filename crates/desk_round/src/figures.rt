@@ -5,7 +5,7 @@ ghost use Rattle.desk_round.specs.Figures.{company_in, condition_figures, cost_o
 ghost use Rattle.desk_round.specs.Figures.{face_figures, figures_of, first_sold, offered};
 ghost use Rattle.desk_round.specs.Figures.{opening_figures, operating_figures, private_in};
 ghost use Rattle.desk_round.specs.Figures.{cost_in_turn, stock_figures, stops_figures};
-ghost use Rattle.purchases.specs.Train.{cost_of, purchase_of};
+ghost use Rattle.purchases.specs.Train.{purchase_of, train_purchase_cost};
 
 use certs::{Holdings, market_price, share_price};
 use desk_base::Piece::{Bytes, Count, Number, Words};
@@ -267,7 +267,7 @@ pub(crate) fn cost_in_turn(view: &GameView, company: Company, order: &Order) -> 
 
 /// Returns what a company pays for a train at its source, in dollars.
 fn cost_of_train(kind: Kind, from: TrainSource) -> Amount
-    ensures { result ≡ cost_of (purchase_of kind from) }
+    ensures { result ≡ train_purchase_cost (purchase_of kind from) }
 {
     match from {
         TrainSource::Company { price, .. } => price,

@@ -15,7 +15,7 @@ use Rattle.events.specs.Event.{party_at, party_of_company}
 use Rattle.events.specs.declared.event.Event.{Event}
 use Rattle.events.specs.declared.event.Shareholder.TheVariants.{BankPool, InitialOffering}
 use Rattle.market.specs.OperatingOrder.{operates}
-use Rattle.privates.specs.Bank.{price_of}
+use Rattle.privates.specs.Bank.{price_of_private}
 use Rattle.report.specs.EndWorth.{worth_of}
 use Rattle.tables.specs.Roster.{certificate_limit_of, face_of}
 use Rattle.tables.specs.Train.{limit_of, trains_of}
@@ -44,7 +44,7 @@ abbrev pub private_row : List Event → Private → PrivateRow
 private_row events private =
     record {
       face = face_of private;
-      price = price_of events private;
+      price = price_of_private events private;
       is_sold = is_sold events private;
       owner = owner_of events private;
     }

@@ -8,7 +8,7 @@ use crate::stack::before_in_stack;
 use desk_base::{tokens_left, trains_left};
 use history::{GameView, Holder, Party, ShareCount, Shareholder, TrainCount};
 use market::operates;
-use privates::price_of;
+use privates::price_of_private;
 use tables::{
     Amount, Company, Kind, Money, Private, Seat, Square, certificate_limit, face, limit, train,
 };
@@ -57,7 +57,7 @@ pub(crate) fn private_row(view: &GameView, private: Private) -> PrivateRow
 {
     PrivateRow {
         face: face(private),
-        price: price_of(view, private),
+        price: price_of_private(view, private),
         is_sold: view.is_sold(private),
         owner: view.owner(private),
     }

@@ -161,13 +161,13 @@ abbrev pub is_par_value : ℕ → Bool
 is_par_value price = is_some (par_square_of price)
 
 -- a company on a square
-abbrev pub placed : Company → Option Square → Option Placement
-placed company None = None
-placed company (Some square) = Some (record { company = company; square = square })
+abbrev pub placement_on : Company → Option Square → Option Placement
+placement_on company None = None
+placement_on company (Some square) = Some (record { company = company; square = square })
 
 -- the square that an event sets: that of a par value, or the one to which a token moves
 abbrev pub square_set : Event → Option Placement
-square_set (Par company price) = placed company (par_square_of price)
+square_set (Par company price) = placement_on company (par_square_of price)
 square_set (Moves company square) = Some (record { company = company; square = square })
 square_set other = None
 

@@ -18,7 +18,7 @@ use Rattle.forced_purchase.proofs.CheapestTrain.{cheapest_low, less_is, not_less
 use Rattle.forced_purchase.specs.Forced.{with_aid}
 use Rattle.forced_purchase.specs.Shortfall.{cheapest, falls_short, lack_of}
 use Rattle.forced_purchase.specs.ForcedLaws.{AidIsWhatLacks, NoAidWithoutLack}
-use Rattle.purchases.specs.Train.{cost_of}
+use Rattle.purchases.specs.Train.{train_purchase_cost}
 use Rattle.forced_purchase.specs.declared.operator.Operator.{Operator}
 use Rattle.tables.specs.Roster.{same_company}
 use Rattle.tables.specs.declared.roster.Company.{Company}
@@ -35,7 +35,7 @@ unfolding lack_of
 lack_small game company sound =
     let cash : ℤ = cash_of game.seats game.events (party_of_company company) in
     let some : pos 0 ≤ℤ cash = sound.companies company in
-    so_low (pos (cost_of (cheapest game.events)) -ℤ cash) 1100 (omega (arith, ints, some, cheapest_low game.events))
+    so_low (pos (train_purchase_cost (cheapest game.events)) -ℤ cash) 1100 (omega (arith, ints, some, cheapest_low game.events))
 
 -- nothing is paid where nothing is lacking
 over_none : (sum : ℤ) → at_least_zero sum ≡ 0 → lt_z (pos 0) sum ≡ false
@@ -94,7 +94,7 @@ paid_exactly cash (negsuc under) cost true is lacks more =
 pub aid_is_what_lacks : AidIsWhatLacks
 unfolding with_aid lack_of
 aid_is_what_lacks by game more =
-    let cost : ℕ = cost_of (cheapest game.events) in
+    let cost : ℕ = train_purchase_cost (cheapest game.events) in
     let cash : ℤ = cash_of game.seats game.events (party_of_company by.company) in
     let its : Event = event.Aid by.president by.company (at_least_zero (pos cost -ℤ cash)) in
     ap (λ (b : Bool). let paid : Game = if b then with_event game its else game in cash_of paid.seats paid.events

@@ -19,10 +19,10 @@ use Rattle.history.proofs.Rolling.{sold_at_end}
 use Rattle.totals.specs.LookBack.{Game, cash_of, with_event}
 use Rattle.totals.specs.Trains.{one_if, phase_of, at_least_zero, train_count, train_goes, trains_held, trains_sold}
 use Rattle.forced_purchase.specs.Forced.{with_aid}
-use Rattle.forced_purchase.specs.Shortfall.{cheapest, first_on_sale, lack_of, plain}
-use Rattle.purchases.specs.Train.{are_left, cost_of, first_left, first_left_of, has_trains, is_at_train_limit, is_kind}
-use Rattle.purchases.specs.Train.{is_left, is_not_sellers, is_on_sale, is_too_dear, lacks_consent, numbered_kinds}
-use Rattle.purchases.specs.Train.{sells, sells_diesels, train_judgement, train_purchase_rules}
+use Rattle.forced_purchase.specs.Shortfall.{cheapest, first_on_sale, lack_of, purchase_without_trade_in}
+use Rattle.purchases.specs.Train.{are_left, first_left, first_left_of, has_trains, is_at_train_limit, is_kind, is_left}
+use Rattle.purchases.specs.Train.{is_not_sellers, is_on_sale, lacks_consent, numbered_kinds, sells, sells_diesels}
+use Rattle.purchases.specs.Train.{train_costs_too_much, train_judgement, train_purchase_cost, train_purchase_rules}
 use Rattle.forced_purchase.specs.declared.operator.Operator.{Operator}
 use Rattle.purchases.specs.declared.train.TrainPurchase.{TrainPurchase}
 use Rattle.forced_purchase.proofs.TrainCounts.{size_before}
@@ -118,15 +118,15 @@ module _ (events : List Event) where
   on_sale [] (inr one) = absurd one.1
   on_sale (kind ∷ others) one =
       elim (sells events kind) as (λ (b : Bool). sells events kind ≡ b
-      → is_on_sale events (if b then plain kind seller.Bank else (if is_pooled kind then plain kind
+      → is_on_sale events (if b then purchase_without_trade_in kind seller.Bank else (if is_pooled kind then purchase_without_trade_in kind
       seller.BankPool else first_on_sale events others)).from
-      (if b then plain kind seller.Bank else (if is_pooled kind then plain kind seller.BankPool else first_on_sale
+      (if b then purchase_without_trade_in kind seller.Bank else (if is_pooled kind then purchase_without_trade_in kind seller.BankPool else first_on_sale
       events others)).kind ≡ true) [
         | true ↦ λ is. is
         | false ↦ λ not_it.
             elim (is_pooled kind) as (λ (b : Bool). is_pooled kind ≡ b
-            → is_on_sale events (if b then plain kind seller.BankPool else first_on_sale events others).from
-            (if b then plain kind seller.BankPool else first_on_sale events others).kind ≡ true) [
+            → is_on_sale events (if b then purchase_without_trade_in kind seller.BankPool else first_on_sale events others).from
+            (if b then purchase_without_trade_in kind seller.BankPool else first_on_sale events others).kind ≡ true) [
               | true ↦ λ is. is
               | false ↦ λ none. on_sale others (sells_other kind others not_it one)
             ]
@@ -140,19 +140,19 @@ module _ (events : List Event) where
 
   -- it is the bank's or the pool's, and none is traded in for it
   abbrev pub IsPlain : TrainPurchase → Type 0
-  IsPlain purchase = (kind : Kind) × ((purchase ≡ plain kind seller.Bank) ⊎ (purchase ≡ plain kind seller.BankPool))
+  IsPlain purchase = (kind : Kind) × ((purchase ≡ purchase_without_trade_in kind seller.Bank) ⊎ (purchase ≡ purchase_without_trade_in kind seller.BankPool))
 
   first_plain : (some : List Kind) → IsPlain (first_on_sale events some)
   unfolding first_on_sale
   first_plain [] = (Diesel, inl refl)
   first_plain (kind ∷ others) =
       elim (sells events kind) as (λ (b : Bool). IsPlain
-      (if b then plain kind seller.Bank else (if is_pooled kind then plain kind seller.BankPool else first_on_sale
+      (if b then purchase_without_trade_in kind seller.Bank else (if is_pooled kind then purchase_without_trade_in kind seller.BankPool else first_on_sale
       events others))) [
         | true ↦ (kind, inl refl)
         | false ↦
             elim (is_pooled kind) as (λ (b : Bool). IsPlain
-            (if b then plain kind seller.BankPool else first_on_sale events others)) [
+            (if b then purchase_without_trade_in kind seller.BankPool else first_on_sale events others)) [
               | true ↦ (kind, inr refl)
               | false ↦ first_plain others
             ]
@@ -233,19 +233,20 @@ all_kept (rule ∷ rules) kept =
 
 module _ (game : Game) (company : Company) (none : has_trains game.events company ≡ false) where
   -- a purchase of the bank or of the pool, for which no company has to consent
-  from_there : (from : TrainSeller) (kind : Kind) → lacks_consent game.events company (plain kind from) ≡ false
+  from_there : (from : TrainSeller) (kind : Kind) → lacks_consent game.events company (purchase_without_trade_in kind from) ≡ false
       → is_not_sellers game.events company kind from ≡ false → is_on_sale game.events from kind ≡ true
-      → is_too_dear game company (plain kind from) ≡ false → train_judgement game company (plain kind from) ≡ None
+      → train_costs_too_much game company (purchase_without_trade_in kind from) ≡ false
+      → train_judgement game company (purchase_without_trade_in kind from) ≡ None
   from_there from kind given theirs sale enough =
       let has_room : is_at_train_limit game.events company None ≡ false =
       room (train_count game.events (Some company)) (limit_of (phase_of game.events)) none
       (limit_low (phase_of game.events)) in
-      all_kept (train_purchase_rules game company (plain kind from))
+      all_kept (train_purchase_rules game company (purchase_without_trade_in kind from))
       (not_so (is_on_sale game.events from kind) sale, (has_room, (enough, (given, (theirs, (refl, tt))))))
 
   abbrev Allows : TrainPurchase → Type 0
   Allows purchase = is_on_sale game.events purchase.from purchase.kind ≡ true
-      → is_too_dear game company purchase ≡ false → train_judgement game company purchase ≡ None
+      → train_costs_too_much game company purchase ≡ false → train_judgement game company purchase ≡ None
 
   -- of what is for sale, by a company without trains that has the price, breaks no rule
   plain_allowed : (events : List Event) (purchase : TrainPurchase) → IsPlain events purchase → Allows purchase
@@ -271,16 +272,16 @@ enough_before cash lack cost lacks none =
     not_less_is cash (pos cost) (omega (arith, ints, lacks, few))
 
 -- once the president has paid what the company lacks, it has the price
-aided : (by : Operator) (game : Game) → is_too_dear (with_aid by game) by.company (cheapest game.events) ≡ false
+aided : (by : Operator) (game : Game) → train_costs_too_much (with_aid by game) by.company (cheapest game.events) ≡ false
 unfolding with_aid lack_of
 aided by game =
     let purchase : TrainPurchase = cheapest game.events in
-    let cost : ℕ = cost_of purchase in
+    let cost : ℕ = train_purchase_cost purchase in
     let cash : ℤ = cash_of game.seats game.events (party_of_company by.company) in
     let lack : ℤ = pos cost -ℤ cash in
     let its : Event = event.Aid by.president by.company (at_least_zero lack) in
     elim (lt_z (pos 0) lack) as (λ (b : Bool). lt_z (pos 0) lack ≡ b
-    → is_too_dear (if b then with_event game its else game) by.company purchase ≡ false) [
+    → train_costs_too_much (if b then with_event game its else game) by.company purchase ≡ false) [
       | true ↦ λ more.
           ap (λ (has : ℤ). lt_z has (pos cost)) (cash_of_at_end game.seats game.events its
           (party_of_company by.company))
@@ -325,10 +326,10 @@ price_low Five = omega arith
 price_low Six = omega arith
 price_low Diesel = omega arith
 
-pub cheapest_low : (events : List Event) → cost_of (cheapest events) ≤ 1100
+pub cheapest_low : (events : List Event) → train_purchase_cost (cheapest events) ≤ 1100
 cheapest_low events =
     let its = cheapest_plain events in
     elim its.1 [
-      | inl is ↦ subst (λ (purchase : TrainPurchase). cost_of purchase ≤ 1100) (sym is) (price_low its.0)
-      | inr is ↦ subst (λ (purchase : TrainPurchase). cost_of purchase ≤ 1100) (sym is) (price_low its.0)
+      | inl is ↦ subst (λ (purchase : TrainPurchase). train_purchase_cost purchase ≤ 1100) (sym is) (price_low its.0)
+      | inr is ↦ subst (λ (purchase : TrainPurchase). train_purchase_cost purchase ≤ 1100) (sym is) (price_low its.0)
     ]

@@ -22,8 +22,8 @@ use Rattle.purchases.proofs.Rust.{all_go, by_train_owner, has}
 use Rattle.purchases.proofs.TrainSteps.{IsPassedOn, of_bop, of_fold, of_iterate, of_kind, of_privates}
 use Rattle.purchases.specs.Discard.{next_discard, with_discarded, with_next_discarded}
 use Rattle.forced_purchase.specs.Forced.{with_aid}
-use Rattle.forced_purchase.specs.Shortfall.{cheapest, lack_of, plain}
-use Rattle.purchases.specs.Train.{after_train, begins_phase, bought, cost_of, has_trains}
+use Rattle.forced_purchase.specs.Shortfall.{cheapest, lack_of, purchase_without_trade_in}
+use Rattle.purchases.specs.Train.{after_train, begins_phase, has_trains, train_bought, train_purchase_cost}
 use Rattle.purchases.specs.Phases.{excess_of, rusts_at, with_kind_rusted, with_kind_rusted_at, with_limit_kept}
 use Rattle.purchases.specs.Phases.{with_limits_kept, with_one_rusted, with_phase, with_privates_closed, with_rusted}
 use Rattle.purchases.specs.Phases.{with_trains_rusted}
@@ -223,12 +223,12 @@ module _ (company : Company) (own : Kind) where
   by_purchase : (game : Game) (from : TrainSeller)
       → ((kind : Kind) → trains_held game.events (Some company) kind ≡ pos 0) →
       same_train_place (place_of_seller from) (train_owner_place (Some company)) ≡ false
-      → HasOne (after_train game company (plain own from))
+      → HasOne (after_train game company (purchase_without_trade_in own from))
   by_purchase game from none apart =
-      let came : Game = with_event game (event.Train company own from (cost_of (plain own from))) in
-      let all : Game = bought game company (plain own from) in
+      let came : Game = with_event game (event.Train company own from (train_purchase_cost (purchase_without_trade_in own from))) in
+      let all : Game = train_bought game company (purchase_without_trade_in own from) in
       let first : HasOne all = of_bop Stays on (λ now private. by_other now (event.Closed private) refl) came company
-      (by_train game from (cost_of (plain own from)) none apart) in
+      (by_train game from (train_purchase_cost (purchase_without_trade_in own from)) none apart) in
       elim (begins_phase game.events from own) as (λ (b : Bool). HasOne (if b then with_phase all own else all)) [
         | true ↦ by_phase all first
         | false ↦ first
@@ -281,9 +281,9 @@ has_bought by game held none =
     λ kind. none_with_aid by game kind (none_of_any game company held none kind) in
     let Has : TrainPurchase → Type 0 = λ purchase. has_trains (after_train aided company purchase).events company ≡ true in
     let from_there : (kind : Kind) (from : TrainSeller)
-    → same_train_place (place_of_seller from) (train_owner_place (Some company)) ≡ false → Has (plain kind from) =
+    → same_train_place (place_of_seller from) (train_owner_place (Some company)) ≡ false → Has (purchase_without_trade_in kind from) =
     λ kind from apart.
-    ap (lt_z (pos 0)) (one_in_all company kind (after_train aided company (plain kind from))
+    ap (lt_z (pos 0)) (one_in_all company kind (after_train aided company (purchase_without_trade_in kind from))
     (by_purchase company kind aided from nothing apart))
     in
     let its = cheapest_plain game.events in

@@ -24,7 +24,7 @@ use Rattle.history.specs.Record.{breaks}
 use Rattle.market.specs.Moves.{fallen}
 use Rattle.market.specs.Token.{moved_from, same_square}
 use Rattle.forced_purchase.proofs.CheapestTrain.{not_less_is}
-use Rattle.forced_purchase.specs.Raise.{sale_rule, with_sale}
+use Rattle.forced_purchase.specs.Raise.{after_presidents_sale, sale_rule}
 use Rattle.forced_purchase.specs.declared.operator.Operator.{Operator}
 use Rattle.tables.proofs.Rules.{not_broken}
 use Rattle.tables.specs.Roster.{same_company}
@@ -212,7 +212,7 @@ token_leaves move events moved its (Some square) =
 -- after the whole sale
 pub sale_leaves : (by : Operator) (game : Game) (sale : Sale) → sale_rule by game sale ≡ None
     → president_of game.events by.company ≡ Some by.president →
-    president_of (with_sale by game sale).events by.company ≡ Some by.president
+    president_of (after_presidents_sale by game sale).events by.company ≡ Some by.president
 sale_leaves by game sale none leads =
     let paid : Game = sold game by.president sale.company sale.shares in
     let led : List Event = (with_president paid sale.company).events in

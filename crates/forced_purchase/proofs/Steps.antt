@@ -19,8 +19,8 @@ use Rattle.history.specs.Conditions.{is_met}
 use Rattle.totals.specs.LookBack.{Game, with_event}
 use Rattle.forced_purchase.specs.Forced.{after_forced, concluded, next_to_sell, one_share, sold_further, sold_singly}
 use Rattle.forced_purchase.specs.Forced.{with_aid, with_one_sold}
-use Rattle.forced_purchase.specs.Raise.{after_raise, after_raises, needed_rule, raise_rule, raise_ruled, sale_rule}
-use Rattle.forced_purchase.specs.Raise.{with_ruling, with_sale}
+use Rattle.forced_purchase.specs.Raise.{after_presidents_sale, after_raise, after_raises, needed_rule, raise_rule}
+use Rattle.forced_purchase.specs.Raise.{raise_ruled, sale_rule, with_ruling}
 use Rattle.forced_purchase.specs.Shortfall.{cheapest, falls_short}
 use Rattle.purchases.specs.Train.{after_train}
 use Rattle.forced_purchase.specs.declared.operator.Operator.{Operator}
@@ -68,9 +68,9 @@ raise_obeyed due by game condition sale none =
 pub raised : (due : Bool) (by : Operator) (old recorded new : Game) (line : Numbered) (sale : Sale)
     → raise_rule due by old line.condition sale ≡ None
     → recorded ≡ with_ruling by old line (Obeyed line.condition (order.Raise sale.company sale.shares))
-    → new ≡ with_sale by recorded sale → new ≡ after_raise due by old line sale
+    → new ≡ after_presidents_sale by recorded sale → new ≡ after_raise due by old line sale
 raised due by old recorded new line sale none is_recorded sold =
-    sold ∙ ap (λ (game : Game). with_sale by game sale) is_recorded ∙ ap (raise_ruled by old line sale) (sym none)
+    sold ∙ ap (λ (game : Game). after_presidents_sale by game sale) is_recorded ∙ ap (raise_ruled by old line sale) (sym none)
 
 -- one that breaks a rule is recorded, and sells nothing
 pub raise_refused : (due : Bool) (by : Operator) (old new : Game) (line : Numbered) (sale : Sale)
@@ -149,10 +149,10 @@ next_allowed by game company found =
 
 -- one is sold
 pub one_sold : (by : Operator) (old new : Game) (company : Company) (sale : Sale) → sale ≡ one_share company
-    → next_to_sell by old ≡ Some company → new ≡ with_sale by old sale
+    → next_to_sell by old ≡ Some company → new ≡ after_presidents_sale by old sale
     → new ≡ with_one_sold by old (next_to_sell by old)
 one_sold by old new company sale is found sold =
-    sold ∙ ap (λ (its : Sale). with_sale by old its) is ∙ ap (with_one_sold by old) (sym found)
+    sold ∙ ap (λ (its : Sale). after_presidents_sale by old its) is ∙ ap (with_one_sold by old) (sym found)
 
 -- or none
 pub none_sold : (by : Operator) (game : Game) → next_to_sell by game ≡ None

@@ -12,7 +12,7 @@ use Rattle.events.specs.declared.event.Event.TheVariants as event
 use Rattle.totals.specs.LookBack.{Game, with_event}
 use Rattle.totals.specs.Trains.{at_least_zero}
 use Rattle.purchases.specs.Train.{after_train}
-use Rattle.forced_purchase.specs.Raise.{after_raises, sale_rule, with_sale}
+use Rattle.forced_purchase.specs.Raise.{after_presidents_sale, after_raises, sale_rule}
 use Rattle.forced_purchase.specs.Shortfall.{cheapest, falls_short, lack_of}
 use Rattle.forced_purchase.specs.declared.operator.Operator.{Operator}
 use Rattle.sheets.specs.Part.{Numbered}
@@ -35,7 +35,7 @@ next_to_sell by game = first_to_sell by game companies
 -- after they have sold a share of this company, if of any
 abbrev pub with_one_sold : Operator → Game → Option Company → Game
 with_one_sold by game None = game
-with_one_sold by game (Some company) = with_sale by game (one_share company)
+with_one_sold by game (Some company) = after_presidents_sale by game (one_share company)
 
 -- after they have sold one more share, if they fall short and may
 unfoldable pub sold_further : Operator → Game → Game

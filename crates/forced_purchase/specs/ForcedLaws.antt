@@ -6,7 +6,7 @@ use Rattle.totals.specs.LookBack.{Game, cash_of}
 use Rattle.forced_purchase.specs.Forced.{with_aid}
 use Rattle.forced_purchase.specs.Shortfall.{cheapest, lack_of}
 use Rattle.forced_purchase.specs.declared.operator.Operator.{Operator}
-use Rattle.purchases.specs.Train.{cost_of}
+use Rattle.purchases.specs.Train.{train_purchase_cost}
 
 -- once the president has paid what the company lacks for the cheapest train that is for sale, it
 -- has exactly its price
@@ -14,7 +14,7 @@ abbrev pub AidIsWhatLacks : Type 0
 AidIsWhatLacks =
     (by : Operator) (game : Game) → lt_z (pos 0) (lack_of game by.company) ≡ true →
     cash_of (with_aid by game).seats (with_aid by game).events (party_of_company by.company)
-    ≡ pos (cost_of (cheapest game.events))
+    ≡ pos (train_purchase_cost (cheapest game.events))
 
 -- if the company lacks nothing the president pays nothing
 abbrev pub NoAidWithoutLack : Type 0

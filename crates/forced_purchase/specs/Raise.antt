@@ -22,7 +22,7 @@ use Rattle.order_grammar.specs.declared.fault.Fault.{Fault}
 use Rattle.order_grammar.specs.declared.order.Order.{Order}
 use Rattle.order_grammar.specs.declared.order.Order.TheVariants as order
 use Rattle.sheets.specs.Part.{Numbered}
-use Rattle.turns.specs.Ruling.{done, judged, obeyed_by}
+use Rattle.turns.specs.Ruling.{done, judged, obeyed_order}
 
 -- the first rule that a sale to raise money for the company breaks
 unfoldable pub sale_rule : Operator → Game → Sale → Option StockRule
@@ -40,8 +40,8 @@ raise_rule due by game condition sale =
     if due && falls_short by game then needed_rule by game condition sale else Some (refusal.Stock NotOfStock)
 
 -- the list after a sale of the president
-abbrev pub with_sale : Operator → Game → Sale → Game
-with_sale by game sale = after_sale game by.president sale.company sale.shares
+abbrev pub after_presidents_sale : Operator → Game → Sale → Game
+after_presidents_sale by game sale = after_sale game by.president sale.company sale.shares
 
 -- after the ruling of this line
 abbrev pub with_ruling : Operator → Game → Numbered → Ruling → Game
@@ -51,7 +51,8 @@ with_ruling by game line ruling = with_event game (event.Ruled by.president line
 abbrev pub raise_ruled : Operator → Game → Numbered → Sale → Option Refusal → Game
 raise_ruled by game line sale broken =
     let ruling = judged line.condition (order.Raise sale.company sale.shares) broken in
-    done (λ (after : Game) (its : Order). with_sale by after sale) (with_ruling by game line ruling) (obeyed_by ruling)
+    done (λ (after : Game) (its : Order). after_presidents_sale by after sale) (with_ruling by game line ruling)
+    (obeyed_order ruling)
 
 -- after a sale of a RAISE in this line
 abbrev pub after_raise : Bool → Operator → Game → Numbered → Sale → Game

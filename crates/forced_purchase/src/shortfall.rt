@@ -1,6 +1,7 @@
 //! What a company that must buy a train lacks, and whether its president falls short of that.
 ghost use Rattle.std.specs.Prelude.{◌≡◌};
-ghost use Rattle.forced_purchase.specs.Shortfall.{cheapest, falls_short, first_on_sale, lack_of, plain};
+ghost use Rattle.forced_purchase.specs.Shortfall.{cheapest, falls_short, first_on_sale, lack_of};
+ghost use Rattle.forced_purchase.specs.Shortfall.{purchase_without_trade_in};
 ghost use Rattle.purchases.specs.Train.{IsSmallPurchase};
 
 use crate::operator::Operator;
@@ -45,18 +46,18 @@ fn first_on_sale(view: &GameView, kinds: &[Kind]) -> TrainPurchase
 {
     for kind in kinds {
         if sells(view, *kind) {
-            return plain(*kind, TrainSeller::Bank);
+            return purchase_without_trade_in(*kind, TrainSeller::Bank);
         }
         if view.trains(None, *kind) > 0 {
-            return plain(*kind, TrainSeller::BankPool);
+            return purchase_without_trade_in(*kind, TrainSeller::BankPool);
         }
     }
-    plain(Kind::Diesel, TrainSeller::Bank)
+    purchase_without_trade_in(Kind::Diesel, TrainSeller::Bank)
 }
 
 /// Returns the purchase of a train without a trade-in.
-fn plain(kind: Kind, from: TrainSeller) -> TrainPurchase
-    ensures { result ≡ plain kind from }
+fn purchase_without_trade_in(kind: Kind, from: TrainSeller) -> TrainPurchase
+    ensures { result ≡ purchase_without_trade_in kind from }
 {
     TrainPurchase {
         kind,

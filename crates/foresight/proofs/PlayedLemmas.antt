@@ -18,9 +18,9 @@ use Rattle.operating.specs.Pay.{withheld_if_unpaid}
 use Rattle.operating.specs.TurnEnd.{EndLeads}
 use Rattle.operating.specs.TurnState.{TurnState}
 use Rattle.purchases.specs.Discard.{is_president}
-use Rattle.purchases.specs.Standing.{after_standing, after_standing_line}
+use Rattle.purchases.specs.Standing.{after_all_standing_lines, after_operating_standing_line}
 use Rattle.sheets.specs.CompanyOrders.{company_orders_for, company_orders_in}
-use Rattle.sheets.specs.Part.{Numbered, Parts, parts_for}
+use Rattle.sheets.specs.Part.{Numbered, SheetParts, parts_for}
 use Rattle.tables.specs.Seat.{seat_at}
 use Rattle.tables.specs.declared.roster.Company.{Company}
 use Rattle.tables.specs.declared.round.Round.{Round}
@@ -31,13 +31,13 @@ use Rattle.totals.specs.Shares.{president_of}
 -- the standing lines that are looked at are all that there are
 same_standing : (file : List ℕ) (round : Round) (drafter : Option Seat) (seats : ℕ) (events : List Event)
     → IfSome drafter (λ seat. seat.0 < seats) → IsAllLookedAt file round drafter
-    → after_standing_of file drafter round events ≡ after_standing seats file round events
+    → after_standing_of file drafter round events ≡ after_all_standing_lines seats file round events
 same_standing file round None seats events at_table all =
-    sym (none_standing after_standing_line file round events 0 seats
-    (λ k from within. ap (λ (parts : Parts). parts.before) (all k refl)))
+    sym (none_standing after_operating_standing_line file round events 0 seats
+    (λ k from within. ap (λ (parts : SheetParts). parts.before) (all k refl)))
 same_standing file round (Some seat) seats events at_table all =
-    sym (one_standing after_standing_line file round events seat.0 0 seats (omega arith) (omega (arith, at_table))
-    (λ k other within. ap (λ (parts : Parts). parts.before) (all k (grind (arith, nat_tests, other)))))
+    sym (one_standing after_operating_standing_line file round events seat.0 0 seats (omega arith) (omega (arith, at_table))
+    (λ k other within. ap (λ (parts : SheetParts). parts.before) (all k (grind (arith, nat_tests, other)))))
 
 -- so the round begins as it is told
 pub rounds_begin_so : RoundsBeginSo
@@ -48,7 +48,7 @@ rounds_begin_so file round drafter old at_table all =
 -- a seat without lines has no orders for a company
 no_orders_there : (file : List ℕ) (round : Round) (seat : ℕ) (company : Company) → HasNoLine file round seat
     → company_orders_for file round seat company ≡ []
-no_orders_there file round seat company none = ap (λ (parts : Parts). company_orders_in company parts.opened) none
+no_orders_there file round seat company none = ap (λ (parts : SheetParts). company_orders_in company parts.opened) none
 
 -- nothing, where there is nothing
 nothing_else : (test : Bool) (lines : List Numbered) → (test ≡ false → lines ≡ []) → (if test then lines else []) ≡ lines

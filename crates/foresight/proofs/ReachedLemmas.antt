@@ -14,7 +14,7 @@ use Rattle.foresight.specs.FirstTurn.{after_passes, begun_for, seat_after}
 use Rattle.foresight.specs.Reached.{ComesToTurn, FirstTurnsAreReached, HeadsAreReached, IsAlone}
 use Rattle.privates.specs.Closing.{all_sold}
 use Rattle.privates.specs.Turn.{opening_rules}
-use Rattle.sheets.specs.Part.{Numbered, Parts, parts_for, written_turns_of}
+use Rattle.sheets.specs.Part.{Numbered, SheetParts, parts_for, written_turns_of}
 use Rattle.sheets.specs.Taken.{after_all_before, after_each, after_lines_before, in_play, written_turns_for}
 use Rattle.tables.specs.Roster.{privates}
 use Rattle.tables.specs.Seat.{left_of, seat_at}
@@ -182,7 +182,7 @@ first_turns_reached rules idle ends file round seat old before few its_at alone 
     let opens : opened rules seats file round old.events ≡ in_play begun first.0 0 (written_turns_for seats file round) =
     ap (λ (events : List Event). in_play events first.0 0 (written_turns_for seats file round))
     (one_standing rules.standing file round (old.events ++ event.Round round ∷ []) seat.0 0 seats (omega arith)
-    (omega (arith, its_at)) (λ k other within. ap (λ (parts : Parts). parts.before) (alone k other)))
+    (omega (arith, its_at)) (λ k other within. ap (λ (parts : SheetParts). parts.before) (alone k other)))
     in
     let stands = standing rules idle file round seats first seat few at_table alone begun in
     let goes : (k : ℕ) → k ≤ their.count

@@ -7,7 +7,7 @@ use Rattle.events.specs.declared.event.Event.TheVariants as event
 use Rattle.forced_purchase.specs.declared.operator.Operator.{Operator}
 use Rattle.history.specs.Record.{revenues_recorded}
 use Rattle.purchases.specs.Discard.{is_president}
-use Rattle.purchases.specs.Standing.{after_standing_line}
+use Rattle.purchases.specs.Standing.{after_operating_standing_line}
 use Rattle.sheets.specs.CompanyOrders.{company_orders_for}
 use Rattle.sheets.specs.Part.{Numbered}
 use Rattle.sheets.specs.Taken.{after_lines_before}
@@ -33,7 +33,8 @@ orders_of file drafter round by =
 -- after the standing lines of the sheet that is looked at, if one is
 abbrev pub after_standing_of : List ℕ → Option Seat → Round → List Event → List Event
 after_standing_of file None round events = events
-after_standing_of file (Some seat) round events = after_lines_before after_standing_line file round events seat.0
+after_standing_of file (Some seat) round events =
+    after_lines_before after_operating_standing_line file round events seat.0
 
 -- an operating round before its first company: the standing lines are ruled, and the privates have paid
 abbrev pub opened_ahead : List ℕ → Option Seat → Round → Game → Game

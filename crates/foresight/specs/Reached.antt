@@ -12,7 +12,7 @@ use Rattle.foresight.specs.FirstTurn.{IsTheirTurn, begun_for}
 use Rattle.history.specs.Record.{revenues_recorded}
 use Rattle.operating.specs.Turn.{IsCompanyTurn}
 use Rattle.purchases.specs.Discard.{is_president}
-use Rattle.purchases.specs.Standing.{after_standing}
+use Rattle.purchases.specs.Standing.{after_all_standing_lines}
 use Rattle.sheets.specs.CompanyOrders.{company_orders_for}
 use Rattle.sheets.specs.Part.{parts_for}
 use Rattle.sheets.specs.Taken.{in_play, written_turns_for}
@@ -73,7 +73,7 @@ RoundsBeginSo =
     → opened_ahead file drafter round old
     ≡ revenues_recorded (record {
       seats = old.seats;
-      events = after_standing old.seats file round (old.events ++ event.Round round ∷ []);
+      events = after_all_standing_lines old.seats file round (old.events ++ event.Round round ∷ []);
     })
 
 -- a company's turn that is told is its turn in play

@@ -5,8 +5,8 @@ use Rattle.std.proofs.Common.{None, pos, ◌≤ℤ◌, refl, sym, ap, ◌∙◌,
 use Rattle.std.proofs.lemmas.Bool.Decides.{Decides-eqb, nat_tests}
 use Rattle.std.proofs.lemmas.Int.{ints}
 use Rattle.std.specs.Option.{option_or}
-use Rattle.events.specs.Event.{floated_by, is_par_value, office_of, par_set, placed, square_set}
-use Rattle.events.specs.Event.{sv_price_set, transfer_of}
+use Rattle.events.specs.Event.{floated_by, is_par_value, office_of, par_set, placement_on}
+use Rattle.events.specs.Event.{square_set, sv_price_set, transfer_of}
 use Rattle.events.specs.declared.event.Event.{Event}
 use Rattle.events.specs.declared.event.Event.TheVariants.{Given, Par, President}
 use Rattle.events.specs.declared.event.Shareholder.TheVariants.{InitialOffering, Seat as OfSeat}
@@ -45,7 +45,7 @@ square_after : (events : List Event) (started : Company) (price : ℕ) (square :
     ≡ option_or (if same_company started company then Some square else None) (square_of events company)
 square_after events started price square company par =
     last_said_at_end (λ e. square_said company (square_set e)) events (Par started price)
-    ∙ ap (λ at. option_or (square_said company (placed started at)) (square_of events company)) par
+    ∙ ap (λ at. option_or (square_said company (placement_on started at)) (square_of events company)) par
 
 -- its president after one was named
 president_after : (events : List Event) (started : Company) (seat : Seat) (company : Company)

@@ -9,7 +9,8 @@ use Rattle.tables.specs.declared.rolling_stock.Kind.{Kind}
 use Rattle.tables.specs.declared.roster.Company.{Company}
 use Rattle.legal_runs.specs.Greatest.{AGreatestExists, MoreTrainsEarnNoLess, OneGreatest, OrderOfTrainsChangesNothing}
 use Rattle.legal_runs.specs.Legal.{AreDistinct, crossed, earned}
-use Rattle.legal_runs.specs.Set.{AreApart, IsGreatest, IsLegalSet, RunsLegally, ShareNoBorder, TrainRun, revenue_of}
+use Rattle.legal_runs.specs.Set.{AreApart, IsGreatest, IsLegalSet, RunsLegally, ShareNoBorder, TrainRun}
+use Rattle.legal_runs.specs.Set.{revenue_of_runs}
 use Rattle.legal_runs.proofs.Choosing.{choices, set_decided, set_there}
 use Rattle.legal_runs.proofs.Counting.{no_more}
 use Rattle.legal_runs.proofs.Earning.{few_visited, worth_low}
@@ -65,12 +66,12 @@ module _ (position : Position) (company : Company) where
 
   runs_earn :
       IsLawful position → (runs : List TrainRun) → AllByRecursion (RunsLegally position company) runs →
-      revenue_of position runs ≤ 160 * length (borders_of_runs runs)
+      revenue_of_runs position runs ≤ 160 * length (borders_of_runs runs)
   runs_earn lawful [] legal = omega arith
   runs_earn lawful (run ∷ runs) legal = grind (arith, run_earns, length-append, runs_earn lawful runs legal.1)
 
   pub set_earns : IsLawful position → (trains : List Kind) (runs : List TrainRun)
-      → IsLegalSet position company trains runs → revenue_of position runs ≤ 44640
+      → IsLegalSet position company trains runs → revenue_of_runs position runs ≤ 44640
   set_earns lawful trains runs set =
       omega (
         arith,
@@ -85,10 +86,10 @@ module _ (position : Position) (company : Company) where
 
 pub a_greatest_exists : AGreatestExists
 a_greatest_exists position company trains lawful =
-    let best : IsTop (IsLegalSet position company trains) (revenue_of position) (choices position company trains) =
-    top_of (IsLegalSet position company trains) (revenue_of position) (choices position company trains)
+    let best : IsTop (IsLegalSet position company trains) (revenue_of_runs position) (choices position company trains) =
+    top_of (IsLegalSet position company trains) (revenue_of_runs position) (choices position company trains)
     (set_decided position company trains) [] (none_runs position company trains) in (
-      revenue_of position best.top,
+      revenue_of_runs position best.top,
       record {
         earned = (best.top, best.such, refl);
         most = λ runs set. best.most runs (set_there position company lawful trains runs set) set;

@@ -21,7 +21,7 @@ use Rattle.legal_runs.specs.InTurn.{AreLegalInTurn, ClaimHoldsInTurn, has_enough
 use Rattle.legal_runs.specs.Legal.{IsLegalRun, crossed, earned}
 use Rattle.legal_runs.specs.Marks.{MarksAre, borders_used, marked}
 use Rattle.legal_runs.specs.Set.{AreApart, AreTakenFrom, IsLegalSet, RunsLegally, ShareNoBorder, TrainRun, in_number}
-use Rattle.legal_runs.specs.Set.{revenue_of, trains_that_run}
+use Rattle.legal_runs.specs.Set.{revenue_of_runs, trains_that_run}
 use Rattle.legal_runs.specs.TwoTrain.{none_used}
 use Rattle.legal_runs.specs.declared.claim.Claim.{Claim}
 use Rattle.legal_runs.specs.declared.claim.ClaimedRun.{ClaimedRun}
@@ -90,7 +90,7 @@ module _ (position : Position) (company : Company) where
     legal : AllByRecursion (RunsLegally position company) runs
     apart : AreApart runs
     free : AllByRecursion (IsFreeOf used) runs
-    earn : revenue_of position runs ≡ left
+    earn : revenue_of_runs position runs ≡ left
 
   one_more :
       (first : ClaimedRun) (later : List ClaimedRun) (used : List ℕ) (left : ℕ) (steps : List WalkStep) →
@@ -135,7 +135,7 @@ module _ (position : Position) (company : Company) where
       → MarksAre used marks →
       NameRuns position claimed runs → AllByRecursion (RunsLegally position company) runs → AreApart runs
       → AllByRecursion (IsFreeOf used) runs →
-      revenue_of position runs ≡ left → AreLegalInTurn position company marks left claimed
+      revenue_of_runs position runs ≡ left → AreLegalInTurn position company marks left claimed
   in_turn [] [] used marks left are named legal apart free earn = sym earn
   in_turn [] (run ∷ runs) used marks left are named legal apart free earn = absurd named
   in_turn (first ∷ later) [] used marks left are named legal apart free earn = absurd named
@@ -146,7 +146,7 @@ module _ (position : Position) (company : Company) where
       subst (λ (k : Kind). IsLegalRun position company k (borders_used marks) run.steps) (sym named.0)
       ((legal_by_marks position company run.kind used marks run.steps are).1 (over used run legal.0 free.0)) in
       let worth : earned position steps ≡ earned position run.steps = ap (earned position) same in
-      let all : earned position run.steps + revenue_of position runs ≡ left = earn in
+      let all : earned position run.steps + revenue_of_runs position runs ≡ left = earn in
       let free_later : AllByRecursion (IsFreeOf (crossed steps ++ used)) runs =
       both_each (λ other. ShareNoBorder run.steps other.steps) (IsFreeOf used) (IsFreeOf (crossed steps ++ used)) runs
       (λ other apart_from free_from border there among. elim ((among_both border (crossed steps) used).0 among) [

@@ -12,7 +12,7 @@ use Rattle.tables.proofs.Rules.{not_broken}
 use Rattle.tables.specs.Rules.{AreKept, Rule, first_broken}
 use Rattle.tables.specs.declared.rolling_stock.Kind.{Kind}
 use Rattle.tables.specs.declared.roster.Company.{Company}
-use Rattle.legal_runs.specs.Fault.{has_token, is_full, rules_of_walk, run_fault}
+use Rattle.legal_runs.specs.Fault.{has_token_at_stop, is_full, rules_of_walk, run_fault}
 use Rattle.legal_runs.specs.Law.{LegalWhereNoRuleIsBroken, NameLegalRun}
 use Rattle.legal_runs.specs.Legal.{IsLegalRun, crossed, visited}
 use Rattle.legal_runs.specs.Named.{walk_named}
@@ -55,9 +55,9 @@ module _ (position : Position) (company : Company) (kind : Kind) (used : List �
         two = number.0;
         most = number.1;
         no_stop_twice = stops_distinct (visited steps) (kept StopTwice);
-        own_token = has_such (λ stop. HasToken position stop company) (has_token position company)
+        own_token = has_such (λ stop. HasToken position stop company) (has_token_at_stop position company)
             (has_token_is position company) (visited steps)
-            (not-false (list_any (has_token position company) (visited steps)) (kept NoToken));
+            (not-false (list_any (has_token_at_stop position company) (visited steps)) (kept NoToken));
         no_border_twice = borders.0;
         no_used_border = borders.1;
         no_red_inside = passes_none (λ stop. is_red position stop ≡ true) (is_red position) (red_is_red position)
@@ -80,7 +80,7 @@ module _ (position : Position) (company : Company) (kind : Kind) (used : List �
               none_passes (λ stop. IsFull position stop company) (is_full position company) (is_full_is position company)
                   steps run.no_full_inside,
               (
-                ap not (such_has (λ stop. HasToken position stop company) (has_token position company)
+                ap not (such_has (λ stop. HasToken position stop company) (has_token_at_stop position company)
                     (has_token_is position company) (visited steps) run.own_token),
                 (
                   none_passes (λ stop. is_red position stop ≡ true) (is_red position) (red_is_red position) steps

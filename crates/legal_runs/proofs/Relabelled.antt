@@ -11,7 +11,7 @@ use Rattle.tables.specs.declared.roster.Company.{Company}
 use Rattle.legal_runs.specs.Greatest.{GreaterTrainsEarnNoLess, VisitsAsMany}
 use Rattle.legal_runs.specs.Legal.{earned}
 use Rattle.legal_runs.specs.Set.{AreApart, AreTakenFrom, IsLegalSet, RunsLegally, ShareNoBorder, TrainRun, in_number}
-use Rattle.legal_runs.specs.Set.{revenue_of, trains_that_run}
+use Rattle.legal_runs.specs.Set.{revenue_of_runs, trains_that_run}
 
 -- how many trains of a kind one train is
 abbrev pub of_kind : Kind → Kind → ℕ
@@ -31,14 +31,14 @@ relabelled kind other [] = []
 relabelled kind other (run ∷ runs) = replaced (same_kind run.kind kind) other run runs (relabelled kind other runs)
 
 earns_same : (position : Position) (kind other : Kind) (runs : List TrainRun)
-    → revenue_of position (relabelled kind other runs) ≡ revenue_of position runs
+    → revenue_of_runs position (relabelled kind other runs) ≡ revenue_of_runs position runs
 earns_same position kind other [] = refl
 earns_same position kind other (run ∷ runs) = by_test (same_kind run.kind kind) (earns_same position kind other runs)
   where
     by_test :
-        (b : Bool) → revenue_of position (relabelled kind other runs) ≡ revenue_of position runs →
-        revenue_of position (replaced b other run runs (relabelled kind other runs))
-        ≡ earned position run.steps + revenue_of position runs
+        (b : Bool) → revenue_of_runs position (relabelled kind other runs) ≡ revenue_of_runs position runs →
+        revenue_of_runs position (replaced b other run runs (relabelled kind other runs))
+        ≡ earned position run.steps + revenue_of_runs position runs
     by_test true same = refl
     by_test false same = ap (λ n. earned position run.steps + n) same
 

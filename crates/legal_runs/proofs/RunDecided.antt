@@ -30,7 +30,7 @@ use Rattle.legal_runs.proofs.Named.{same_end}
 use Rattle.legal_runs.proofs.Tests.{has_token_is}
 use Rattle.legal_runs.proofs.TwoTrain.{leads_nowhere, leads_over, leads_over_none, leads_to_stop, over_leads}
 use Rattle.legal_runs.proofs.TwoTrain.{run_begins, run_found}
-use Rattle.legal_runs.specs.Fault.{has_token}
+use Rattle.legal_runs.specs.Fault.{has_token_at_stop}
 use Rattle.legal_runs.specs.Legal.{border_of}
 use Rattle.legal_runs.specs.TwoTrain.{CanRun, LeadsFrom, LeadsOn, LeavesToken, crossing, crossing_end, none_used}
 
@@ -170,9 +170,9 @@ none_whole = refl
 module _ (position : Position) (lawful : IsLawful position) (company : Company) where
   -- whether a stop has a token of the company
   token_decided : (stop : Stop) → Decided (HasToken position stop company)
-  token_decided stop = by_test (has_token position company stop) refl
+  token_decided stop = by_test (has_token_at_stop position company stop) refl
     where
-      by_test : (b : Bool) → has_token position company stop ≡ b → Decided (HasToken position stop company)
+      by_test : (b : Bool) → has_token_at_stop position company stop ≡ b → Decided (HasToken position stop company)
       by_test true is = inl ((has_token_is position company stop).0 is)
       by_test false is = inr (λ has. let wrong : true ≡ false =
           sym ((has_token_is position company stop).1 has) ∙ is in cc)

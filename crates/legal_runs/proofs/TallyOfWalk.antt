@@ -22,8 +22,8 @@ use Rattle.reach.proofs.Hexes.{index_low, side_low}
 use Rattle.reach.proofs.Collected.{none_marked}
 use Rattle.reach.proofs.Spots.{order_low}
 use Rattle.tables.specs.declared.roster.Company.{Company}
-use Rattle.legal_runs.specs.Fault.{has_border_twice, has_stop, has_stop_twice, has_token, is_full}
-use Rattle.legal_runs.specs.Fault.{passes}
+use Rattle.legal_runs.specs.Fault.{has_border_twice, has_stop, has_stop_twice, has_token_at_stop}
+use Rattle.legal_runs.specs.Fault.{is_full, passes}
 use Rattle.legal_runs.specs.Law.{CrossedBordersAreUsed}
 use Rattle.legal_runs.specs.Legal.{border_at, border_beyond, border_of, crossed, first_stop, listed, visited, worth}
 use Rattle.legal_runs.specs.Marks.{AreAdded, IsUsed, MarksAre, borders_used, marked}
@@ -103,7 +103,7 @@ module _ (position : Position) (company : Company) (used : List Bool) where
     pub borders_low : AllByRecursion (λ b. b < length used) borders
     pub border_twice_is : tally.border_twice ≡ has_border_twice (borders_used used) borders
     pub full_is : tally.passes_full ≡ full
-    pub own_is : tally.own_token ≡ list_any (has_token position company) stops
+    pub own_is : tally.own_token ≡ list_any (has_token_at_stop position company) stops
     pub red_is : tally.red_inside ≡ red
 
   -- a stop is visited

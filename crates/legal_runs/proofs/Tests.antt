@@ -7,7 +7,7 @@ use Rattle.reach.proofs.Lists.{among_found, found_among}
 use Rattle.tables.proofs.Companies.{company_is, company_is_same}
 use Rattle.tables.specs.Roster.{same_company}
 use Rattle.tables.specs.declared.roster.Company.{Company}
-use Rattle.legal_runs.specs.Fault.{has_token, is_full}
+use Rattle.legal_runs.specs.Fault.{has_token_at_stop, is_full}
 
 -- two tests of one fact agree
 pub tests_agree : {P : Type 0} (a b : Bool) → (a ≡ true) ↔ P → (b ≡ true) ↔ P → a ≡ b
@@ -18,7 +18,7 @@ tests_agree false true first second = first.1 (second.0 refl)
 
 -- the test of a token is exact
 pub has_token_is : (position : Position) (company : Company) (stop : Stop)
-    → (has_token position company stop ≡ true) ↔ HasToken position stop company
+    → (has_token_at_stop position company stop ≡ true) ↔ HasToken position stop company
 has_token_is position company stop = (
   among_found same_company company_is (at_stop position stop).tokens company,
   found_among same_company company_is_same (at_stop position stop).tokens company,
@@ -50,7 +50,7 @@ pub is_full_is : (position : Position) (company : Company) (stop : Stop)
 is_full_is position company stop =
     let slots : ℕ = (at_stop position stop).slots in
     let tokens : List Company = (at_stop position stop).tokens in
-    let own : Bool = has_token position company stop in (
+    let own : Bool = has_token_at_stop position company stop in (
       λ h.
           let parts : (ltb 0 slots ≡ true) × (not (ltb (length tokens) slots) ≡ true) × (not own ≡ true) =
           three (ltb 0 slots) (not (ltb (length tokens) slots)) (not own) h in

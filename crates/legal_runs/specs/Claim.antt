@@ -6,7 +6,7 @@ use Rattle.reach.specs.Position.{Position}
 use Rattle.tables.specs.declared.rolling_stock.Kind.{Kind}
 use Rattle.tables.specs.declared.roster.Company.{Company}
 use Rattle.legal_runs.specs.Named.{walk_named}
-use Rattle.legal_runs.specs.Set.{IsLegalSet, TrainRun, revenue_of}
+use Rattle.legal_runs.specs.Set.{IsLegalSet, TrainRun, revenue_of_runs}
 use Rattle.legal_runs.specs.declared.claim.Claim.{Claim}
 use Rattle.legal_runs.specs.declared.claim.ClaimedRun.{ClaimedRun}
 
@@ -22,4 +22,4 @@ NameRuns position (claimed ∷ others) (run ∷ runs) =
 abbrev pub ClaimHolds : Position → Company → List Kind → Claim → Type 0
 ClaimHolds position company trains claim =
     (runs : List TrainRun) × NameRuns position claim.runs runs × IsLegalSet position company trains runs
-    × (revenue_of position runs ≡ claim.revenue)
+    × (revenue_of_runs position runs ≡ claim.revenue)

@@ -23,14 +23,15 @@ use Rattle.map_tables.specs.declared.rules.RunRule.TheVariants.{NoTrack, WrongNu
 use Rattle.map_tables.specs.declared.rules.RunRule.TheVariants.{PassesFull, NoToken, RedInside}
 
 -- whether a company has a token at a stop
-abbrev pub has_token : Position → Company → Stop → Bool
-has_token position company stop = list_any (λ other. same_company other company) (at_stop position stop).tokens
+abbrev pub has_token_at_stop : Position → Company → Stop → Bool
+has_token_at_stop position company stop = list_any (λ other. same_company other company) (at_stop position stop).tokens
 
 -- whether a stop is a city that is full for a company
 abbrev pub is_full : Position → Company → Stop → Bool
 is_full position company stop =
     let here = at_stop position stop in
-    nat_lt 0 here.slots && (not (nat_lt (length here.tokens) here.slots) && not (has_token position company stop))
+    nat_lt 0 here.slots
+    && (not (nat_lt (length here.tokens) here.slots) && not (has_token_at_stop position company stop))
 
 -- a train visits under two stops, or more than its kind may
 abbrev pub is_wrong_number : Kind → ℕ → Bool
@@ -67,8 +68,8 @@ passes test [] = false
 passes test (step ∷ before) = passes test before || goes_through test before step
 
 -- a rule of runs, and whether it is broken
-abbrev rule : RunRule → Bool → Rule RunRule
-rule code broken = record { code = code; broken = broken }
+abbrev pub tested_run_rule : RunRule → Bool → Rule RunRule
+tested_run_rule code broken = record { code = code; broken = broken }
 
 -- the steps of the walk that some places name; none if they name no walk
 abbrev pub named_steps : Position → List Place → List WalkStep
@@ -77,18 +78,18 @@ named_steps position places = unwrap_or (walk_named position places) []
 -- the rules of a walk
 abbrev pub rules_of_walk : Position → Company → Kind → List ℕ → List WalkStep → List (Rule RunRule)
 rules_of_walk position company kind used steps =
-    rule WrongNumber (is_wrong_number kind (length (visited steps))) ∷
-    rule StopTwice (has_stop_twice (visited steps)) ∷
-    rule BorderTwice (has_border_twice used (crossed steps)) ∷
-    rule PassesFull (passes (is_full position company) steps) ∷
-    rule NoToken (not (list_any (has_token position company) (visited steps))) ∷
-    rule RedInside (passes (is_red position) steps) ∷ []
+    tested_run_rule WrongNumber (is_wrong_number kind (length (visited steps))) ∷
+    tested_run_rule StopTwice (has_stop_twice (visited steps)) ∷
+    tested_run_rule BorderTwice (has_border_twice used (crossed steps)) ∷
+    tested_run_rule PassesFull (passes (is_full position company) steps) ∷
+    tested_run_rule NoToken (not (list_any (has_token_at_stop position company) (visited steps))) ∷
+    tested_run_rule RedInside (passes (is_red position) steps) ∷ []
 
 -- the rules of a run: that there is a walk, and those of the walk
 abbrev pub rules_of_run : Position → Company → Kind → List ℕ → List Place → List (Rule RunRule)
 rules_of_run position company kind used places =
     let walk = walk_named position places in
-    rule NoTrack (is_none walk) ∷ rules_of_walk position company kind used (unwrap_or walk [])
+    tested_run_rule NoTrack (is_none walk) ∷ rules_of_walk position company kind used (unwrap_or walk [])
 
 -- the first rule that a run breaks
 abbrev pub run_fault : Position → Company → Kind → List ℕ → List Place → Option RunRule

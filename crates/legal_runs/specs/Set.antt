@@ -52,14 +52,15 @@ pub record IsLegalSet (position : Position) (company : Company) (trains : List K
   pub apart : AreApart runs
 
 -- what a set of runs earns, in dollars
-abbrev pub revenue_of : Position → List TrainRun → ℕ
-revenue_of position [] = 0
-revenue_of position (run ∷ runs) = earned position run.steps + revenue_of position runs
+abbrev pub revenue_of_runs : Position → List TrainRun → ℕ
+revenue_of_runs position [] = 0
+revenue_of_runs position (run ∷ runs) = earned position run.steps + revenue_of_runs position runs
 
 -- the greatest revenue: some legal set earns it, and none earns more
 pub record IsGreatest (position : Position) (company : Company) (trains : List Kind) (revenue : ℕ) : Type 0 where
-  pub earned : (runs : List TrainRun) × IsLegalSet position company trains runs × (revenue_of position runs ≡ revenue)
-  pub most : (runs : List TrainRun) → IsLegalSet position company trains runs → revenue_of position runs ≤ revenue
+  pub earned : (runs : List TrainRun)
+      × IsLegalSet position company trains runs × (revenue_of_runs position runs ≡ revenue)
+  pub most : (runs : List TrainRun) → IsLegalSet position company trains runs → revenue_of_runs position runs ≤ revenue
 
 -- a sum of money is the greatest revenue
 abbrev pub IsGreatestMoney : Position → Company → List Kind → ℤ → Type 0

@@ -13,7 +13,7 @@ use Rattle.reach.specs.declared.walk.WalkStep.{WalkStep}
 use Rattle.tables.specs.Rules.{Rule, first_broken}
 use Rattle.tables.specs.declared.rolling_stock.Kind.{Kind}
 use Rattle.tables.specs.declared.roster.Company.{Company}
-use Rattle.legal_runs.specs.Fault.{has_token, is_full, is_wrong_number}
+use Rattle.legal_runs.specs.Fault.{has_token_at_stop, is_full, is_wrong_number, tested_run_rule}
 use Rattle.legal_runs.specs.Legal.{border_of}
 use Rattle.map_tables.specs.declared.rules.RunRule.{RunRule}
 use Rattle.map_tables.specs.declared.rules.RunRule.TheVariants.{WrongNumber, StopTwice, BorderTwice, PassesFull}
@@ -42,7 +42,7 @@ visiting position company tally stop = record tally {
   value = tally.value + value_of position stop;
   stop_twice = tally.stop_twice || get_or tally.seen (stop_order stop) false;
   seen = set tally.seen (stop_order stop) true;
-  own_token = tally.own_token || has_token position company stop;
+  own_token = tally.own_token || has_token_at_stop position company stop;
 }
 
 -- a stop is passed
@@ -93,18 +93,15 @@ tally_of position company used [] = no_steps used
 tally_of position company used (step ∷ before) =
     counted position company (tally_of position company used before) step
 
-abbrev rule : RunRule → Bool → Rule RunRule
-rule code broken = record { code = code; broken = broken }
-
 -- the rules that a walk breaks, by what was kept of it
 abbrev pub rules_of_tally : Kind → Tally → List (Rule RunRule)
 rules_of_tally kind tally =
-    rule WrongNumber (is_wrong_number kind tally.stops) ∷
-    rule StopTwice tally.stop_twice ∷
-    rule BorderTwice tally.border_twice ∷
-    rule PassesFull tally.passes_full ∷
-    rule NoToken (not tally.own_token) ∷
-    rule RedInside tally.red_inside ∷ []
+    tested_run_rule WrongNumber (is_wrong_number kind tally.stops) ∷
+    tested_run_rule StopTwice tally.stop_twice ∷
+    tested_run_rule BorderTwice tally.border_twice ∷
+    tested_run_rule PassesFull tally.passes_full ∷
+    tested_run_rule NoToken (not tally.own_token) ∷
+    tested_run_rule RedInside tally.red_inside ∷ []
 
 abbrev pub tally_fault : Kind → Tally → Option RunRule
 tally_fault kind tally = first_broken (rules_of_tally kind tally)

@@ -40,7 +40,7 @@ pub use check::{RunFault, check_run};
 pub use claim::{Claim, ClaimedRun, ClaimedRuns};
 pub use in_turn::claim_holds;
 pub use runner::{Runner, RunnerFault};
-pub use tally::{has_token, is_full, worth};
+pub use tally::{has_token_at_stop, is_full, worth};
 pub use two_train::can_run;
 pub use used::Used;
 pub use write::write_run;

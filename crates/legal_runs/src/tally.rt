@@ -1,7 +1,7 @@
 //! The tally of a run, kept step by step: the stops that it visits, what they are worth, and the
 //! borders that it crosses. At the end it gives the first rule that the run breaks.
 ghost use Rattle.std.specs.Prelude.{◌≡◌, ◌+◌, ◌*◌, ◌<◌, ◌≤◌};
-ghost use Rattle.legal_runs.specs.Fault.{has_token, is_full, is_wrong_number};
+ghost use Rattle.legal_runs.specs.Fault.{has_token_at_stop, is_full, is_wrong_number};
 ghost use Rattle.legal_runs.specs.Legal.{map_borders};
 ghost use Rattle.legal_runs.specs.Named.{with_leg};
 ghost use Rattle.legal_runs.specs.Tally.{counted, crossing, entering, leaving, no_steps, passing, tally_fault};
@@ -68,7 +68,7 @@ impl Tally {
         self.value += worth(network, stop);
         self.stop_twice |= self.seen[number];
         self.seen[number] = true;
-        self.own_token = self.own_token || has_token(network, company, stop);
+        self.own_token = self.own_token || has_token_at_stop(network, company, stop);
     }
 
     /// Passes a stop.
@@ -183,8 +183,8 @@ pub fn worth<N: Network>(network: &N, stop: Stop) -> Amount
 
 /// Returns whether a company has a token at a stop.
 #[tactic(auto, using(crate::proofs::Tests::tests_agree, crate::proofs::Tests::has_token_is))]
-pub fn has_token<N: Network>(network: &N, company: Company, stop: Stop) -> bool
-    ensures { result ≡ has_token (N.position network.now) company stop }
+pub fn has_token_at_stop<N: Network>(network: &N, company: Company, stop: Stop) -> bool
+    ensures { result ≡ has_token_at_stop (N.position network.now) company stop }
 {
     network.token(stop, company)
 }

@@ -19,7 +19,7 @@ use Rattle.map_tables.specs.declared.tiles.TileNo.{TileNo}
 use Rattle.map_tables.specs.declared.tiles.TileNo.TheVariants.{T1}
 use Rattle.map_tables.specs.Hex.{hex_at, site_of, row_of, column_of}
 use Rattle.map_tables.specs.Place.{stop_index_of}
-use Rattle.map_tables.specs.Side.{rotation_of, turns_of}
+use Rattle.map_tables.specs.Side.{rotation_of, sixths_turned}
 use Rattle.map_tables.specs.Text.{text_of_hex, stop_text, text_of_place, text_of_tile, text_of_rotation, is_digit}
 use Rattle.map_tables.specs.Text.{short_number, hex_of_text, stop_of_text, place_from, place_of_text, tile_of_text}
 use Rattle.map_tables.specs.Text.{rotation_of_text, TextsAreRead}
@@ -303,18 +303,18 @@ rotation_text Four = ap (option_and_then rotation_of) (short_number-decimal 4 (o
 rotation_text Five = ap (option_and_then rotation_of) (short_number-decimal 5 (omega arith))
 
 -- the first of some rotations, or one of the others
-first_of : (turns k : ℕ) (first : Rotation) (others : Option Rotation) (rotation : Rotation) → turns_of first ≡ k
-    → cond (turns == k) (Some first) others ≡ Some rotation → (others ≡ Some rotation → turns_of rotation ≡ turns)
-    → turns_of rotation ≡ turns
+first_of : (turns k : ℕ) (first : Rotation) (others : Option Rotation) (rotation : Rotation) → sixths_turned first ≡ k
+    → cond (turns == k) (Some first) others ≡ Some rotation → (others ≡ Some rotation → sixths_turned rotation ≡ turns)
+    → sixths_turned rotation ≡ turns
 first_of turns k first others rotation is e later =
     elim (cases_Bool (turns == k)) [
       | inl same ↦
           let found : first ≡ rotation = same_Some first rotation (rw same at e) in
-          ap turns_of (sym found) ∙ is ∙ sym (eqb-true turns k same)
+          ap sixths_turned (sym found) ∙ is ∙ sym (eqb-true turns k same)
       | inr other ↦ later (rw other at e)
     ]
 
-rotation_is : (turns : ℕ) (rotation : Rotation) → rotation_of turns ≡ Some rotation → turns_of rotation ≡ turns
+rotation_is : (turns : ℕ) (rotation : Rotation) → rotation_of turns ≡ Some rotation → sixths_turned rotation ≡ turns
 rotation_is turns rotation e =
     first_of turns 0 Zero _ rotation refl e
     (λ e1. first_of turns 1 One _ rotation refl e1

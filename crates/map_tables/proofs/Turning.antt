@@ -4,11 +4,11 @@ use Rattle.map_tables.specs.declared.side.Side.{Side}
 use Rattle.map_tables.specs.declared.side.Side.TheVariants.{SouthWest, West, NorthWest, NorthEast, East, SouthEast}
 use Rattle.map_tables.specs.declared.side.Rotation.{Rotation}
 use Rattle.map_tables.specs.declared.side.Rotation.TheVariants.{Zero}
-use Rattle.map_tables.specs.Side.{sides, number_of, turns_of, turned_side}
+use Rattle.map_tables.specs.Side.{sides, number_of, sixths_turned, turned_side}
 
 -- the numbers add up, modulo six
 pub side_turned : (s : Side) (rotation : Rotation)
-    → get_or sides ((number_of s + turns_of rotation) % 6) SouthWest ≡ turned_side rotation s
+    → get_or sides ((number_of s + sixths_turned rotation) % 6) SouthWest ≡ turned_side rotation s
 side_turned SouthWest Zero = refl
 side_turned SouthWest _ = refl
 side_turned West Zero = refl

@@ -12,7 +12,7 @@ use Rattle.map_tables.specs.Border.{neighbour_of}
 use Rattle.map_tables.specs.Home.{home_of}
 use Rattle.map_tables.specs.Lay.{laid_links_of}
 use Rattle.map_tables.specs.OnMap.{has_token, slots_at, taken_at}
-use Rattle.map_tables.specs.Place.{place_of, stop_of}
+use Rattle.map_tables.specs.Place.{place_of, stop_of_place}
 use Rattle.map_tables.specs.Print.{print_of, printed_links_of}
 use Rattle.map_tables.specs.Side.{facing_of, number_of}
 use Rattle.map_tables.specs.Tile.{entry_of}
@@ -86,7 +86,7 @@ is_over_full lays tokens (Some stop) = nat_lt (slots_at lays stop) (taken_at tok
 
 -- whether a token, with the others that lie there, has no slot
 abbrev pub has_no_slot : List Lay → List (Place × Company) → Place × Company → Bool
-has_no_slot lays tokens token = is_over_full lays tokens (stop_of token.0)
+has_no_slot lays tokens token = is_over_full lays tokens (stop_of_place token.0)
 
 -- these tiles and tokens may lie: they break none of the three rules
 pub record AreFit (lays : List Lay) (tokens : List (Place × Company)) : Type 0 where

@@ -13,7 +13,7 @@ use Rattle.map_tables.specs.declared.tiles.TileNo.{TileNo}
 use Rattle.map_tables.specs.declared.lay.Lay.{Lay}
 use Rattle.map_tables.specs.declared.track.Link.{Link}
 use Rattle.map_tables.specs.Hex.{hexes, index_of, row_of, column_of, same_hex, hex_at}
-use Rattle.map_tables.specs.Side.{facing_of, turns_of}
+use Rattle.map_tables.specs.Side.{facing_of, sixths_turned}
 use Rattle.map_tables.specs.Border.{neighbour_of}
 use Rattle.map_tables.specs.Place.{joined_stop_of}
 use Rattle.map_tables.specs.Track.{end_order, turned_track}
@@ -64,7 +64,7 @@ SixTurnsAreNone = (tile : TileNo) → iterate (turned_track One) 6 (tile_track_o
 abbrev pub TurnsAddUp : Type 0
 TurnsAddUp =
     (tile : TileNo) (rotation : Rotation) → turned_track rotation (tile_track_of tile)
-    ≡ iterate (turned_track One) (turns_of rotation) (tile_track_of tile)
+    ≡ iterate (turned_track One) (sixths_turned rotation) (tile_track_of tile)
 
 -- the place of a link in the order of a hex's links
 abbrev pub link_order : Link → ℕ

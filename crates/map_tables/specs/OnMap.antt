@@ -5,7 +5,7 @@ use Rattle.std.specs.Prelude.{ℕ, ◌==◌, ◌&&◌, Bool, false, nat_lt, if�
 use Rattle.std.specs.List.{count_by, filter, find, list_any}
 use Rattle.map_tables.specs.Hex.{same_hex}
 use Rattle.map_tables.specs.Lay.{laid_links_of}
-use Rattle.map_tables.specs.Place.{joined_stop_of, stop_index_of, stop_of}
+use Rattle.map_tables.specs.Place.{joined_stop_of, stop_index_of, stop_of_place}
 use Rattle.map_tables.specs.Print.{print_of, printed_links_of}
 use Rattle.map_tables.specs.Tile.{entry_of}
 use Rattle.map_tables.specs.declared.hex.Hex.{Hex}
@@ -58,7 +58,7 @@ is_part_of stop (Some part) = same_stop (joined_stop_of part) stop
 
 -- whether a place names a stop, or a part of it
 abbrev pub names : Stop → Place → Bool
-names stop place = is_part_of stop (stop_of place)
+names stop place = is_part_of stop (stop_of_place place)
 
 -- the companies whose tokens lie at a stop
 abbrev pub tokens_at : List (Place × Company) → Stop → List Company

@@ -27,8 +27,8 @@ abbrev pub place_of : Stop → Place
 place_of stop = record { hex = stop.hex; stop = Some stop.number }
 
 -- the stop that a place names, if it names one
-abbrev pub stop_of : Place → Option Stop
-stop_of place = option_map (stop_at place.hex) place.stop
+abbrev pub stop_of_place : Place → Option Stop
+stop_of_place place = option_map (stop_at place.hex) place.stop
 
 -- The Gulf lies in J2 and I1 and is one stop, J2.0; the Canadian West lies in A11 and A9 and is
 -- A11.0.

@@ -42,13 +42,13 @@ abbrev pub facing_of : Side → Side
 facing_of s = sides_on 3 s
 
 -- by how many sixths of a turn a tile is turned
-abbrev pub turns_of : Rotation → ℕ
-turns_of Zero = 0
-turns_of One = 1
-turns_of Two = 2
-turns_of Three = 3
-turns_of Four = 4
-turns_of Five = 5
+abbrev pub sixths_turned : Rotation → ℕ
+sixths_turned Zero = 0
+sixths_turned One = 1
+sixths_turned Two = 2
+sixths_turned Three = 3
+sixths_turned Four = 4
+sixths_turned Five = 5
 
 -- the rotations, in order
 abbrev pub rotations : List Rotation
@@ -62,4 +62,4 @@ rotation_of turns =
 
 -- a side of a tile that is turned: each turn adds one to its number, modulo six
 abbrev pub turned_side : Rotation → Side → Side
-turned_side rotation s = sides_on (turns_of rotation) s
+turned_side rotation s = sides_on (sixths_turned rotation) s

@@ -4,7 +4,7 @@ use Rattle.std.specs.Prelude.{◌≡◌, ◌↔◌, ℕ, ◌+◌, ◌*◌, ◌-�
 use Rattle.std.specs.Prelude.{◌∷◌, ◌++◌, length, take, drop, decimal, Option, Some, None, option_and_then}
 use Rattle.map_tables.specs.Hex.{column_of, hex_at, row_of}
 use Rattle.map_tables.specs.Place.{stop_index_of}
-use Rattle.map_tables.specs.Side.{rotation_of, turns_of}
+use Rattle.map_tables.specs.Side.{rotation_of, sixths_turned}
 use Rattle.map_tables.specs.Tile.{number_of_tile, tile_numbered}
 use Rattle.map_tables.specs.declared.hex.Hex.{Hex}
 use Rattle.map_tables.specs.declared.place.Place.{Place}
@@ -32,7 +32,7 @@ text_of_tile tile = decimal (number_of_tile tile)
 
 -- a rotation: how many sixths of a turn it is
 abbrev pub text_of_rotation : Rotation → List ℕ
-text_of_rotation rotation = decimal (turns_of rotation)
+text_of_rotation rotation = decimal (sixths_turned rotation)
 
 -- a byte is a digit
 abbrev pub is_digit : ℕ → Bool

@@ -140,25 +140,25 @@ entry count colour kind value slots =
     record { count = count; colour = colour; kind = kind; value = value; slots = slots }
 
 -- an entry with the tile's track
-pub record Printed : Type 0 where
+pub record PrintedTile : Type 0 where
   pub entry : TileEntry
   pub track : List TrackSegment
 
 -- track alone
-abbrev plain : Colour → ℕ → List TrackSegment → Printed
+abbrev plain : Colour → ℕ → List TrackSegment → PrintedTile
 plain colour count track = record { entry = entry count colour Plain 0 0; track = in_order track }
 
 -- two stops: colour, kind, count, value and slots of each, and the sides of each
-abbrev two_stops : Colour → TileKind → ℕ → ℕ → ℕ → List ℕ → List ℕ → Printed
+abbrev two_stops : Colour → TileKind → ℕ → ℕ → ℕ → List ℕ → List ℕ → PrintedTile
 two_stops colour kind count value slots first second =
     record { entry = entry count colour kind value slots; track = in_order (stop_track first second) }
 
 -- one stop: colour, kind, count, value, slots and sides
-abbrev one_stop : Colour → TileKind → ℕ → ℕ → ℕ → List ℕ → Printed
+abbrev one_stop : Colour → TileKind → ℕ → ℕ → ℕ → List ℕ → PrintedTile
 one_stop colour kind count value slots sides = two_stops colour kind count value slots sides []
 
 -- the manifest
-unfoldable pub printed : TileNo → Printed
+unfoldable pub printed : TileNo → PrintedTile
 printed T7 = plain Yellow 4 (through 0 1 ∷ [])
 printed T8 = plain Yellow 8 (through 0 2 ∷ [])
 printed T9 = plain Yellow 7 (through 0 3 ∷ [])

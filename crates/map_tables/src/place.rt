@@ -1,7 +1,7 @@
 //! Stops, and places as orders name them. A stop that lies in two hexes has one name.
 ghost use Rattle.std.specs.Prelude.{◌≡◌, ◌<◌, None};
 ghost use Rattle.map_tables.specs.declared.hex.Hex.TheVariants.{A9};
-ghost use Rattle.map_tables.specs.Place.{joined_stop_of, other_stop, place_of, stop_index_of, stop_of};
+ghost use Rattle.map_tables.specs.Place.{joined_stop_of, other_stop, place_of, stop_index_of, stop_of_place};
 
 use crate::hex::Hex;
 
@@ -63,7 +63,7 @@ pub struct Place {
 impl Place {
     /// Returns the stop that the place names; `None` for a hex.
     pub fn stop(self) -> Option<Stop>
-        ensures { result ≡ stop_of self }
+        ensures { result ≡ stop_of_place self }
     {
         let number = self.stop?;
         Some(Stop {

@@ -1,6 +1,6 @@
 //! The six sides of a hex, and how far a tile is turned.
 ghost use Rattle.std.specs.Prelude.{◌≡◌, ◌<◌};
-ghost use Rattle.map_tables.specs.Side.{facing_of, number_of, rotation_of, turned_side, turns_of};
+ghost use Rattle.map_tables.specs.Side.{facing_of, number_of, rotation_of, sixths_turned, turned_side};
 
 /// How many sides a hex has.
 pub const SIDES: usize = 6;
@@ -84,7 +84,7 @@ impl Rotation {
 
     /// Returns how many sixths of a turn it is, from 0 to 5.
     pub fn turns(self) -> usize
-        ensures value { result ≡ turns_of self }
+        ensures value { result ≡ sixths_turned self }
         ensures bound { result < 6 }
     {
         self as usize

@@ -11,13 +11,13 @@ abbrev pub at_right : Square → Option Square
 at_right square = square_at square.row (square.column + 1)
 
 -- the square of a row before a column
-abbrev before : ℕ → ℕ → Option Square
-before row zero = None
-before row (suc column) = square_at row column
+abbrev square_before : ℕ → ℕ → Option Square
+square_before row zero = None
+square_before row (suc column) = square_at row column
 
 -- the square before it in the row
 abbrev pub at_left : Square → Option Square
-at_left square = before square.row square.column
+at_left square = square_before square.row square.column
 
 -- the square of a column in the row above a row
 abbrev over : ℕ → ℕ → Option Square

@@ -45,10 +45,10 @@ use Rattle.order_grammar.specs.declared.order.TrainSource.TheVariants as source
 use Rattle.purchases.proofs.TrainLemmas.{so}
 use Rattle.purchases.specs.Private.{is_given_by, is_too_early, is_wrong_price, owner_agrees_by, private_bought}
 use Rattle.purchases.specs.Private.{private_judgement_by, private_rules_by}
-use Rattle.purchases.specs.Private.{is_too_dear as is_dear}
-use Rattle.purchases.specs.Train.{after_train, is_at_train_limit, is_not_sellers, is_too_dear, lacks_consent_by}
-use Rattle.purchases.specs.Train.{presidents_agree_by, purchase_of}
-use Rattle.purchases.specs.Train.{train_judgement_by, train_purchase_rules_by}
+use Rattle.purchases.specs.Private.{private_costs_too_much}
+use Rattle.purchases.specs.Train.{after_train, is_at_train_limit, is_not_sellers, lacks_consent_by}
+use Rattle.purchases.specs.Train.{presidents_agree_by, purchase_of, train_costs_too_much, train_judgement_by}
+use Rattle.purchases.specs.Train.{train_purchase_rules_by}
 use Rattle.purchases.specs.declared.consents.Consents.TheVariants.{All, OfGame}
 use Rattle.purchases.specs.declared.train.TrainPurchase.{TrainPurchase}
 use Rattle.tables.proofs.Rules.{not_broken}
@@ -259,8 +259,8 @@ train_kept seats before after giver number condition buyer seller kind price non
     let lacks : lacks_consent_by OfGame new buyer purchase ≡ lacks_consent_by All old buyer purchase =
     ap (λ (b : Bool). price == 0 || not b) agreed ∙ ap (λ (b : Bool). b || false) parts.0 ∙ sym row in
     let full_now : Bool = is_at_train_limit old buyer None in
-    let dear_then : Bool = is_too_dear offered buyer purchase in
-    let dear_now : Bool = is_too_dear game buyer purchase in
+    let dear_then : Bool = train_costs_too_much offered buyer purchase in
+    let dear_now : Bool = train_costs_too_much game buyer purchase in
     let others_then : Bool = is_not_sellers new buyer kind purchase.from in
     let lacks_then : Bool = lacks_consent_by OfGame new buyer purchase in
     let lacks_now : Bool = lacks_consent_by All old buyer purchase in
@@ -305,7 +305,7 @@ private_kept seats before after giver number condition buyer private price none 
     let lacks : not (is_given_by OfGame new buyer private price) ≡ not (is_given_by All old buyer private price) =
     ap not agreed ∙ sym row in
     let early_now : Bool = is_too_early old in
-    let dear_then : Bool = is_dear offered buyer price in
+    let dear_then : Bool = private_costs_too_much offered buyer price in
     let lacks_then : Bool = not (is_given_by OfGame new buyer private price) in
     let lacks_now : Bool = not (is_given_by All old buyer private price) in
     ap (λ (phase : Kind).

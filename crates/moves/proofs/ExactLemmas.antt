@@ -7,10 +7,9 @@ use Rattle.operating.proofs.Outcome.{same_break, same_tests}
 use Rattle.board.proofs.KeptHomes.{among_first}
 use Rattle.moves.proofs.RowRulings.{none_is_not}
 use Rattle.board.proofs.RuleTables.{earlier}
-use Rattle.board.specs.LayRules.{IsConnected, IsLayAnswer, cost_or, lay_cost_of, map_rules}
-use Rattle.board.specs.LayRules.{reach_rules as lay_reach_rules}
-use Rattle.board.specs.TokenRules.{IsReachedPlace, IsTokenAnswer, reach_rules as token_reach_rules, slot_rules}
-use Rattle.board.specs.TokenRules.{token_cost_of}
+use Rattle.board.specs.LayRules.{IsConnected, IsLayAnswer, cost_or, lay_cost_of, lay_reach_rules}
+use Rattle.board.specs.LayRules.{map_rules}
+use Rattle.board.specs.TokenRules.{IsReachedPlace, IsTokenAnswer, slot_rules, token_cost_of, token_reach_rules}
 use Rattle.board.specs.declared.turn.Asker.{Asker}
 use Rattle.board_state.specs.MapState.{MapState, position_of, with_lay}
 use Rattle.map_tables.specs.Hex.{hexes, index_of}

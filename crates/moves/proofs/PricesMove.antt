@@ -50,29 +50,28 @@ use Rattle.order_grammar.specs.declared.order.ShareSource.{ShareSource}
 use Rattle.order_grammar.specs.declared.order.ShareSource.TheVariants.{InitialOffering, BankPool}
 use Rattle.order_grammar.specs.declared.order.TrainSource.{TrainSource}
 use Rattle.order_grammar.specs.declared.order.TrainSource.TheVariants as source
-use Rattle.privates.specs.Bank.{price_of}
+use Rattle.privates.specs.Bank.{price_of_private}
 use Rattle.privates.specs.Bid.{after_bid}
 use Rattle.privates.specs.ParOfBo.{par_set_by}
-use Rattle.privates.specs.Sale.{after_sale as private_sold, gifts, settled}
-use Rattle.privates.specs.Turn.{after_act as act_of_opening, after_ruling as opening_after, refusal_of as opening_refusal}
-use Rattle.privates.specs.Turn.{ruling_in as opening_ruling}
+use Rattle.privates.specs.Sale.{after_private_sale, gifts, settled}
+use Rattle.privates.specs.Turn.{after_opening_order, after_opening_ruling, opening_line_ruling, opening_refusal}
 use Rattle.purchases.proofs.ConsentLemmas.{companies_agree, owners_agree}
 use Rattle.purchases.specs.Discard.{next_discard, with_discarded, with_next_discarded}
 use Rattle.purchases.specs.Phases.{excess_of, rusts_at, with_all_closed, with_closed, with_company_rusted, with_kind_rusted}
 use Rattle.purchases.specs.Phases.{with_kind_rusted_at, with_limit_kept, with_limits_kept, with_one_rusted, with_phase}
 use Rattle.purchases.specs.Phases.{with_privates_closed, with_rusted, with_trains_rusted}
 use Rattle.purchases.specs.Private.{private_bought, private_judgement, sold_by}
-use Rattle.purchases.specs.Train.{after_train, begins_phase, bought, cost_of, purchase_of, train_judgement, with_bop_closed}
-use Rattle.purchases.specs.Train.{with_trade}
+use Rattle.purchases.specs.Train.{after_train, begins_phase, purchase_of, train_bought, train_judgement}
+use Rattle.purchases.specs.Train.{train_purchase_cost, with_bop_closed, with_trade}
 use Rattle.purchases.specs.declared.consents.Consents.TheVariants.{All, OfGame}
 use Rattle.purchases.specs.declared.train.TrainPurchase.{TrainPurchase}
 use Rattle.sheets.specs.Part.{Numbered}
-use Rattle.stock_round.specs.Buy.{bought as share_bought}
+use Rattle.stock_round.specs.Buy.{share_bought}
 use Rattle.stock_round.specs.Exchange.{exchange_source, exchanged}
 use Rattle.stock_round.specs.Float.{floated_at, is_to_float, with_float}
-use Rattle.stock_round.specs.Orders.{after_act, refusal_of as stock_refusal}
+use Rattle.stock_round.specs.Orders.{after_stock_order, stock_refusal}
 use Rattle.stock_round.specs.Par.{president_shares}
-use Rattle.stock_round.specs.Turn.{after_ruling as stock_after, ruling_in as stock_ruling}
+use Rattle.stock_round.specs.Turn.{after_stock_ruling, stock_line_ruling}
 use Rattle.stock_round.specs.declared.deals.ShareDeals.{ShareDeals}
 use Rattle.tables.specs.Roster.{companies, privates, same_company, same_private}
 use Rattle.tables.specs.Steps.{iterate}
@@ -193,7 +192,7 @@ buyer_pays seat its shares from price = ap (λ (b : Bool). if b then price else 
 
 -- what is left of a seat's cash once an order of its turn is done
 left_by_act : (game : Game) (seat : Seat) (its : Order)
-    → cash_of game.seats (after_act game seat its).events (party_at seat)
+    → cash_of game.seats (after_stock_order game seat its).events (party_at seat)
     ≡ left_after its (pos (stock_cost game.events its)) (cash_of game.seats game.events (party_at seat))
 left_by_act game seat (order.Par its price) =
     let seats = game.seats in
@@ -264,10 +263,10 @@ stock_prices_move game seat deals line its price has orders told =
     let events = game.events in
     let done : Ruling = ruling.Obeyed line.condition its in
     let after : Game = with_event game (event.Ruled seat line.number done) in
-    let is_done : stock_ruling seats seat (in_turn events deals) line ≡ done =
+    let is_done : stock_line_ruling seats seat (in_turn events deals) line ≡ done =
     stock_ruled game seat deals line its has orders
     ∙ ap (λ (answer : Answer). judged line.condition its (rule_told answer)) told in
-    ap (λ (r : Ruling). cash_of seats (stock_after seats seat (in_turn events deals) line.number r).events (party_at seat))
+    ap (λ (r : Ruling). cash_of seats (after_stock_ruling seats seat (in_turn events deals) line.number r).events (party_at seat))
     is_done
     ∙ left_by_act after seat its
     ∙ ap (λ (cash : ℤ). left_after its (pos (stock_cost after.events its)) cash)
@@ -293,7 +292,7 @@ gifts_move_none seats events so_far other seat party =
 
 -- a private is paid for
 private_paid : (seats : ℕ) (events : List Event) (its : Private) (seat : Seat) (price : ℕ)
-    → cash_of seats (private_sold events its seat price) (party_at seat)
+    → cash_of seats (after_private_sale events its seat price) (party_at seat)
     ≡ cash_of seats events (party_at seat) -ℤ pos price
 private_paid seats events its seat price =
     let pay : Event = event.Sold its seat price in
@@ -304,7 +303,7 @@ private_paid seats events its seat price =
 
 -- a ruling changes no private's price
 same_private_price : (events : List Event) (its : Private) (seat : Seat) (number : ℕ) (done : Ruling)
-    → price_of (events ++ event.Ruled seat number done ∷ []) its ≡ price_of events its
+    → price_of_private (events ++ event.Ruled seat number done ∷ []) its ≡ price_of_private events its
 same_private_price events SchuylkillValley seat number done =
     sv_price_of_before events (event.Ruled seat number done) refl
 same_private_price events other seat number done = refl
@@ -313,13 +312,13 @@ same_private_price events other seat number done = refl
 moves_in_opening : (seats : ℕ) (events : List Event) (seat : Seat) (number : ℕ) (done : Ruling) (its : Order) (price : ℤ)
     → pos (opening_cost events its) ≡ price
     → MovesInOpening seats seat its price events
-    (act_of_opening seats seat (events ++ event.Ruled seat number done ∷ []) its)
+    (after_opening_order seats seat (events ++ event.Ruled seat number done ∷ []) its)
 moves_in_opening seats events seat number done (order.BuyPrivate its) price costs =
     let ruled_list : List Event = events ++ event.Ruled seat number done ∷ [] in
     record {
-      paid = private_sold ruled_list its seat (price_of ruled_list its);
-      pays = private_paid seats ruled_list its seat (price_of ruled_list its)
-          ∙ ap (λ (cash : ℤ). cash -ℤ pos (price_of ruled_list its))
+      paid = after_private_sale ruled_list its seat (price_of_private ruled_list its);
+      pays = private_paid seats ruled_list its seat (price_of_private ruled_list its)
+          ∙ ap (λ (cash : ℤ). cash -ℤ pos (price_of_private ruled_list its))
           (cash_of_before seats events (event.Ruled seat number done) (party_at seat) refl)
           ∙ ap (λ (sum : ℤ). cash_of seats events (party_at seat) -ℤ sum)
           (ap pos (same_private_price events its seat number done) ∙ costs);
@@ -344,11 +343,11 @@ moves_in_opening seats events seat number done other price costs = tt
 pub opening_prices_move : OpeningPricesMove
 opening_prices_move seats events seat used line its price has orders told =
     let done : Ruling = ruling.Obeyed line.condition its in
-    let is_done : opening_ruling seats seat (in_turn events used) line ≡ done =
+    let is_done : opening_line_ruling seats seat (in_turn events used) line ≡ done =
     opening_ruled seats events seat used line its has orders
     ∙ ap (λ (answer : Answer). judged line.condition its (rule_told answer)) told in
     subst (λ (r : Ruling). MovesInOpening seats seat its price events
-    (opening_after seats seat (in_turn events used) line.number r).events) (sym is_done)
+    (after_opening_ruling seats seat (in_turn events used) line.number r).events) (sym is_done)
     (moves_in_opening seats events seat line.number done its price
     (price_told (pos (opening_cost events its)) price (opening_refusal seats events seat used its) told))
 
@@ -420,20 +419,20 @@ module _ (buyer : Company) where
   -- a train is paid for
   train_paid : (game : Game) (purchase : TrainPurchase)
       → paid_to (party_of_company buyer)
-      (payment_of (event.Train buyer purchase.kind purchase.from (cost_of purchase))) ≡ 0
-      → has (after_train game buyer purchase) ≡ has game -ℤ pos (cost_of purchase)
+      (payment_of (event.Train buyer purchase.kind purchase.from (train_purchase_cost purchase))) ≡ 0
+      → has (after_train game buyer purchase) ≡ has game -ℤ pos (train_purchase_cost purchase)
   train_paid game purchase others =
       let traded : Game = with_trade game buyer purchase.trade_in in
-      let pay : Event = event.Train buyer purchase.kind purchase.from (cost_of purchase) in
+      let pay : Event = event.Train buyer purchase.kind purchase.from (train_purchase_cost purchase) in
       let paid : Game = with_event traded pay in
       same_either (begins_phase game.events purchase.from purchase.kind) has
-      (with_phase (bought game buyer purchase) purchase.kind) (bought game buyer purchase)
-      (phase_keeps (bought game buyer purchase) purchase.kind)
+      (with_phase (train_bought game buyer purchase) purchase.kind) (train_bought game buyer purchase)
+      (phase_keeps (train_bought game buyer purchase) purchase.kind)
       ∙ same_either (same_company buyer company.BaltimoreOhio) has (with_closed paid private.BaltimoreOhio) paid
       (closed_keeps paid private.BaltimoreOhio)
-      ∙ pays traded.seats traded.events pay (party_of_company buyer) (cost_of purchase) others
-      (ap (λ (b : Bool). if b then cost_of purchase else 0) (company_itself buyer))
-      ∙ ap (λ (cash : ℤ). cash -ℤ pos (cost_of purchase)) (trade_keeps game purchase.trade_in)
+      ∙ pays traded.seats traded.events pay (party_of_company buyer) (train_purchase_cost purchase) others
+      (ap (λ (b : Bool). if b then train_purchase_cost purchase else 0) (company_itself buyer))
+      ∙ ap (λ (cash : ℤ). cash -ℤ pos (train_purchase_cost purchase)) (trade_keeps game purchase.trade_in)
     where
       trade_keeps : (game : Game) (trade_in : Option Kind) → has (with_trade game buyer trade_in) ≡ has game
       trade_keeps game None = refl
@@ -442,7 +441,7 @@ module _ (buyer : Company) where
   -- the company pays others
   pays_others : (game : Game) (kind : Kind) (from : TrainSource) → train_judgement game buyer (purchase_of kind from) ≡ None
       → paid_to (party_of_company buyer) (payment_of (event.Train buyer (purchase_of kind from).kind
-      (purchase_of kind from).from (cost_of (purchase_of kind from)))) ≡ 0
+      (purchase_of kind from).from (train_purchase_cost (purchase_of kind from)))) ≡ 0
   pays_others game kind source.Bank kept = refl
   pays_others game kind (source.Trade other) kept = refl
   pays_others game kind source.BankPool kept = refl
@@ -480,7 +479,7 @@ train_prices_move by turn line kind from price new past told leads =
     ∙ ap (λ (rule : Option Refusal). ruled_by turn rule) parts.0 in
     ap (λ (t : TurnState). cash_in t.game by.company) is
     ∙ train_paid by.company recorded purchase (pays_others by.company turn.game kind from kept)
-    ∙ ap (λ (cash : ℤ). cash -ℤ pos (cost_of purchase))
+    ∙ ap (λ (cash : ℤ). cash -ℤ pos (train_purchase_cost purchase))
     (cash_of_before turn.game.seats turn.game.events its (party_of_company by.company) refl)
     ∙ ap (λ (sum : ℤ). cash_in turn.game by.company -ℤ sum) parts.1
 

@@ -32,17 +32,17 @@ use Rattle.order_grammar.specs.declared.order.Order.{Order}
 use Rattle.order_grammar.specs.declared.order.Order.TheVariants.{BuyOwnedPrivate, BuyTrain}
 use Rattle.order_grammar.specs.declared.order.TrainSource.{TrainSource}
 use Rattle.order_grammar.specs.declared.order.TrainSource.TheVariants as source
-use Rattle.privates.specs.Standing.{has_place_before as may_stand_before, standing_refusal}
-use Rattle.privates.specs.Turn.{refusal_of as opening_refusal}
-use Rattle.purchases.specs.Private.{is_given_by, is_too_dear as is_dear, is_too_early, is_wrong_price, private_bought}
+use Rattle.privates.specs.Standing.{has_place_before_turns, opening_standing_refusal}
+use Rattle.privates.specs.Turn.{opening_refusal}
+use Rattle.purchases.specs.Private.{is_given_by, is_too_early, is_wrong_price, private_bought, private_costs_too_much}
 use Rattle.purchases.specs.Private.{private_judgement_by}
-use Rattle.purchases.specs.Standing.{has_place_before, standing_judgement}
+use Rattle.purchases.specs.Standing.{has_place_before_companies, operating_standing_judgement}
 use Rattle.purchases.specs.Train.{after_train, is_at_train_limit, is_no_trade_in, is_not_sellers, is_on_sale}
-use Rattle.purchases.specs.Train.{is_too_dear, lacks_consent_by, purchase_of, train_judgement_by}
+use Rattle.purchases.specs.Train.{lacks_consent_by, purchase_of, train_costs_too_much, train_judgement_by}
 use Rattle.purchases.specs.declared.consents.Consents.TheVariants.{All, OfGame}
 use Rattle.purchases.specs.declared.train.TrainPurchase.{TrainPurchase}
 use Rattle.sheets.specs.Part.{Numbered}
-use Rattle.stock_round.specs.Orders.{refusal_of as stock_refusal}
+use Rattle.stock_round.specs.Orders.{stock_refusal}
 use Rattle.tables.specs.Roster.{same_private}
 use Rattle.tables.specs.Rules.{Rule, first_broken}
 use Rattle.tables.specs.declared.rolling_stock.Kind.{Kind}
@@ -52,7 +52,7 @@ use Rattle.tables.specs.declared.roster.Private.TheVariants.{BaltimoreOhio}
 use Rattle.tables.specs.declared.seat.Seat.{Seat}
 use Rattle.totals.specs.LookBack.{Game, owner_of}
 use Rattle.totals.specs.Shares.{president_of}
-use Rattle.turns.specs.Ruling.{has_place_in_turn, judged, line_ruling, placed_ruling, ruling_of, under}
+use Rattle.turns.specs.Ruling.{has_place_in_turn, judged, line_ruling, placed_ruling, refusal_under, ruling_of}
 
 -- a line that orders this where it has a place is ruled by the rules alone
 ruled_by_rules : (has_place : Order → Bool) (judgement : Order → Option Refusal) (events : List Event)
@@ -60,9 +60,9 @@ ruled_by_rules : (has_place : Order → Bool) (judgement : Order → Option Refu
     → line_ruling has_place judgement events line ≡ judged line.condition order (judgement order)
 ruled_by_rules has_place judgement events line order has its =
     let good : Result Order Fault = Ok order in
-    ap (λ (reading : Result Order Fault). ruling_of has_place (under events line.condition judgement) line.condition reading)
+    ap (λ (reading : Result Order Fault). ruling_of has_place (refusal_under events line.condition judgement) line.condition reading)
     its.read
-    ∙ ap (λ (b : Bool). placed_ruling (under events line.condition judgement) line.condition
+    ∙ ap (λ (b : Bool). placed_ruling (refusal_under events line.condition judgement) line.condition
     (if b then good else Err OutOfPlace)) has
     ∙ ap (λ (b : Bool). judged line.condition order (if b then judgement order else Some refusal.Condition)) its.met
 
@@ -92,11 +92,11 @@ stock_ruled game seat deals line order has its =
 
 pub before_ruled : RowsBeforeAreRuled
 before_ruled events line order has its =
-    ruled_as_told may_stand_before (standing_refusal events) events line order (pos (before_cost order)) has its
+    ruled_as_told has_place_before_turns (opening_standing_refusal events) events line order (pos (before_cost order)) has its
 
 pub standing_ruled : StandingRowsAreRuled
 standing_ruled events seat line order has its =
-    ruled_as_told has_place_before (standing_judgement events seat) events line order (pos 0) has its
+    ruled_as_told has_place_before_companies (operating_standing_judgement events seat) events line order (pos 0) has its
 
 -- nothing is not something
 pub none_is_not : {A : Type 0} (x : A) → None ≡ Some x → ⊥
@@ -177,7 +177,7 @@ only_train game company purchase rule none broken =
     only_row
     (record { code = train_rule.NotOnSale; broken = not (is_on_sale game.events purchase.from purchase.kind) }
     ∷ record { code = train_rule.TrainLimit; broken = is_at_train_limit game.events company purchase.trade_in }
-    ∷ record { code = train_rule.CashTooSmall; broken = is_too_dear game company purchase }
+    ∷ record { code = train_rule.CashTooSmall; broken = train_costs_too_much game company purchase }
     ∷ [])
     (record {
       code = train_rule.NotSellers;
@@ -201,7 +201,7 @@ only_private game company private price rule none broken =
     ∷ record { code = private_rule.WrongPrice; broken = is_wrong_price private price }
     ∷ [])
     (record { code = private_rule.NeverSold; broken = same_private private BaltimoreOhio }
-    ∷ record { code = private_rule.CashTooSmall; broken = is_dear game company price }
+    ∷ record { code = private_rule.CashTooSmall; broken = private_costs_too_much game company price }
     ∷ [])
     private_rule.NoConsent (not (is_given_by All game.events company private price))
     (not (is_given_by OfGame game.events company private price)) rule none broken

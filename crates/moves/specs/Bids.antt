@@ -3,7 +3,7 @@
 use Rattle.std.specs.Prelude.{◌≡◌, ◌≤◌, ℕ, ◌+◌, min, max, false, List, Option, Some, None}
 use Rattle.events.specs.declared.event.Event.{Event}
 use Rattle.order_grammar.specs.declared.order.Order.TheVariants.{Bid}
-use Rattle.privates.specs.Turn.{judgement_of}
+use Rattle.privates.specs.Turn.{opening_judgement}
 use Rattle.tables.specs.Roster.{face_of}
 use Rattle.tables.specs.declared.roster.Private.{Private}
 use Rattle.tables.specs.declared.seat.Seat.{Seat}
@@ -26,6 +26,6 @@ least_bid_of events private = least_over (step_over (face_of private)) (greatest
 abbrev pub LeastBidIsLeast : Type 0
 LeastBidIsLeast =
     (seats : ℕ) (events : List Event) (seat : Seat) (private : Private) (amount : ℕ) → amount ≤ 4294967295
-    → judgement_of seats events seat false (Bid private amount) ≡ None
+    → opening_judgement seats events seat false (Bid private amount) ≡ None
     → (least_bid_of events private ≤ amount)
-    × (judgement_of seats events seat false (Bid private (least_bid_of events private)) ≡ None)
+    × (opening_judgement seats events seat false (Bid private (least_bid_of events private)) ≡ None)

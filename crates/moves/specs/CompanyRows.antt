@@ -21,7 +21,7 @@ use Rattle.order_grammar.specs.declared.order.TrainSource.{TrainSource}
 use Rattle.order_grammar.specs.declared.order.TrainSource.TheVariants as source
 use Rattle.purchases.specs.Discard.{has_train}
 use Rattle.purchases.specs.Private.{private_judgement_by}
-use Rattle.purchases.specs.Train.{cost_of, purchase_of, train_judgement_by}
+use Rattle.purchases.specs.Train.{purchase_of, train_judgement_by, train_purchase_cost}
 use Rattle.purchases.specs.declared.consents.Consents.{Consents}
 use Rattle.purchases.specs.declared.consents.Consents.TheVariants.{All, OfGame}
 use Rattle.tables.specs.Roster.{companies, face_of, privates}
@@ -83,7 +83,7 @@ asked_for_train events buyer kind other = None
 
 -- what a train costs
 abbrev pub train_cost : Kind → TrainSource → ℕ
-train_cost kind from = cost_of (purchase_of kind from)
+train_cost kind from = train_purchase_cost (purchase_of kind from)
 
 -- the first rule that the order to buy a train breaks, by these consents
 unfoldable pub train_refusal_by : Consents → Game → Company → Kind → TrainSource → Option Refusal

@@ -7,7 +7,7 @@ use Rattle.events.specs.Event.{is_par_value}
 use Rattle.events.specs.declared.event.Shareholder.TheVariants.{Seat as OfSeat}
 use Rattle.order_grammar.specs.declared.order.Order.TheVariants.{Par, Sell}
 use Rattle.purchases.specs.Private.{private_judgement}
-use Rattle.stock_round.specs.Orders.{judgement_of}
+use Rattle.stock_round.specs.Orders.{stock_judgement}
 use Rattle.tables.specs.Roster.{face_of}
 use Rattle.tables.specs.declared.roster.Company.{Company}
 use Rattle.tables.specs.declared.roster.Private.{Private}
@@ -19,14 +19,14 @@ use Rattle.totals.specs.Shares.{shares_of}
 abbrev pub SalesAreOfWhatIsHeld : Type 0
 SalesAreOfWhatIsHeld =
     (game : Game) (seat : Seat) (company : Company) (shares : ℕ)
-    → judgement_of game seat None (Sell company shares) ≡ None
+    → stock_judgement game seat None (Sell company shares) ≡ None
     → pos shares ≤ℤ shares_of game.events company (OfSeat seat)
 
 -- a company is started at one of the six par values
 abbrev pub StartsAreAtParValues : Type 0
 StartsAreAtParValues =
     (game : Game) (seat : Seat) (company : Company) (price : ℕ)
-    → judgement_of game seat None (Par company price) ≡ None → is_par_value price ≡ true
+    → stock_judgement game seat None (Par company price) ≡ None → is_par_value price ≡ true
 
 -- a company pays for a private from half of the face value to twice that
 abbrev pub PrivatesHaveTheirPrice : Type 0

@@ -11,8 +11,8 @@ use Rattle.moves.specs.declared.row.Answer.{Answer}
 use Rattle.moves.specs.declared.row.Row.{Row}
 use Rattle.order_grammar.specs.declared.order.Order.{Order}
 use Rattle.order_grammar.specs.declared.order.Order.TheVariants.{Bid, BuyPrivate}
-use Rattle.privates.specs.Bank.{price_of}
-use Rattle.privates.specs.Turn.{refusal_of}
+use Rattle.privates.specs.Bank.{price_of_private}
+use Rattle.privates.specs.Turn.{opening_refusal}
 use Rattle.tables.specs.Roster.{privates}
 use Rattle.tables.specs.declared.roster.Private.{Private}
 use Rattle.tables.specs.declared.seat.Seat.{Seat}
@@ -28,14 +28,14 @@ opening_orders events = flat_map (orders_on events) privates
 
 -- what an order costs: a private its price, a bid its sum
 abbrev pub opening_cost : List Event → Order → ℕ
-opening_cost events (BuyPrivate private) = price_of events private
+opening_cost events (BuyPrivate private) = price_of_private events private
 opening_cost events (Bid private amount) = amount
 opening_cost events other = 0
 
 -- what becomes of an order as the next line of a seat's turn, in which it has bought or bid, or has not
 abbrev pub opening_answer : ℕ → List Event → Seat → Bool → Order → Answer
 opening_answer seats events seat used order =
-    answer_of (pos (opening_cost events order)) (refusal_of seats events seat used order)
+    answer_of (pos (opening_cost events order)) (opening_refusal seats events seat used order)
 
 -- the row of an order
 abbrev pub opening_row : ℕ → List Event → Seat → Bool → Order → Row

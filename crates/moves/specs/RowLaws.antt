@@ -25,13 +25,13 @@ use Rattle.order_grammar.specs.declared.order.Offer.TheVariants as offer
 use Rattle.order_grammar.specs.declared.order.Order.{Order}
 use Rattle.order_grammar.specs.declared.order.Order.TheVariants.{BuyOwnedPrivate, BuyTrain}
 use Rattle.order_grammar.specs.declared.order.TrainSource.{TrainSource}
-use Rattle.privates.specs.Standing.{has_place_before as may_stand_before, standing_ruling as ruling_before}
-use Rattle.privates.specs.Turn.{ruling_in as opening_ruling}
+use Rattle.privates.specs.Standing.{has_place_before_turns, opening_standing_ruling}
+use Rattle.privates.specs.Turn.{opening_line_ruling}
 use Rattle.purchases.specs.Private.{private_bought}
-use Rattle.purchases.specs.Standing.{has_place_before, standing_ruling}
+use Rattle.purchases.specs.Standing.{has_place_before_companies, operating_standing_ruling}
 use Rattle.purchases.specs.Train.{after_train, purchase_of}
 use Rattle.sheets.specs.Part.{Numbered}
-use Rattle.stock_round.specs.Turn.{ruling_in as stock_ruling}
+use Rattle.stock_round.specs.Turn.{stock_line_ruling}
 use Rattle.stock_round.specs.declared.deals.ShareDeals.{ShareDeals}
 use Rattle.tables.specs.declared.rolling_stock.Kind.{Kind}
 use Rattle.tables.specs.declared.roster.Private.{Private}
@@ -61,7 +61,7 @@ abbrev pub OpeningRowsAreRuled : Type 0
 OpeningRowsAreRuled =
     (seats : ℕ) (events : List Event) (seat : Seat) (used : Bool) (line : Numbered) (order : Order) →
     has_place_in_turn order ≡ true → Orders events line order
-    → opening_ruling seats seat (in_turn events used) line
+    → opening_line_ruling seats seat (in_turn events used) line
     ≡ judged line.condition order (rule_told (opening_answer seats events seat used order))
 
 -- so does that of a stock round
@@ -69,22 +69,23 @@ abbrev pub StockRowsAreRuled : Type 0
 StockRowsAreRuled =
     (game : Game) (seat : Seat) (deals : ShareDeals) (line : Numbered) (order : Order) →
     has_place_in_turn order ≡ true → Orders game.events line order
-    → stock_ruling game.seats seat (in_turn game.events deals) line
+    → stock_line_ruling game.seats seat (in_turn game.events deals) line
     ≡ judged line.condition order (rule_told (stock_answer game seat deals.bought order))
 
 -- and that of a standing line of an opening
 abbrev pub RowsBeforeAreRuled : Type 0
 RowsBeforeAreRuled =
     (events : List Event) (line : Numbered) (order : Order) →
-    may_stand_before order ≡ true → Orders events line order
-    → ruling_before events line ≡ judged line.condition order (rule_told (before_answer events order))
+    has_place_before_turns order ≡ true → Orders events line order
+    → opening_standing_ruling events line ≡ judged line.condition order (rule_told (before_answer events order))
 
 -- and that of a standing line of an operating round
 abbrev pub StandingRowsAreRuled : Type 0
 StandingRowsAreRuled =
     (events : List Event) (seat : Seat) (line : Numbered) (order : Order) →
-    has_place_before order ≡ true → Orders events line order
-    → standing_ruling events seat line ≡ judged line.condition order (rule_told (standing_answer events seat order))
+    has_place_before_companies order ≡ true → Orders events line order
+    → operating_standing_ruling events seat line
+    ≡ judged line.condition order (rule_told (standing_answer events seat order))
 
 -- after the order to buy a private in this line, of which this is told: it is bought if that tells
 -- no rule

@@ -16,10 +16,9 @@ use Rattle.moves.specs.declared.row.Row.{Row}
 use Rattle.order_grammar.specs.declared.order.Offer.TheVariants as offer
 use Rattle.order_grammar.specs.declared.order.Order.{Order}
 use Rattle.order_grammar.specs.declared.order.Order.TheVariants.{Discard, Limit, Offer as OfferLine}
-use Rattle.privates.specs.Standing.{standing_refusal}
+use Rattle.privates.specs.Standing.{opening_standing_refusal}
 use Rattle.purchases.specs.Discard.{has_train, is_president}
-use Rattle.purchases.specs.Offer.{is_seats}
-use Rattle.purchases.specs.Standing.{standing_judgement}
+use Rattle.purchases.specs.Standing.{operating_standing_judgement}
 use Rattle.tables.specs.Roster.{companies, face_of, privates, same_company}
 use Rattle.tables.specs.Train.{kinds, trains_of}
 use Rattle.tables.specs.declared.rolling_stock.Kind.{Kind}
@@ -29,7 +28,7 @@ use Rattle.tables.specs.declared.round.Round.{Round}
 use Rattle.tables.specs.declared.round.Round.TheVariants.{Opening, Stock, Operating}
 use Rattle.tables.specs.declared.seat.Seat.{Seat}
 use Rattle.totals.specs.Bids.{bid_of}
-use Rattle.totals.specs.LookBack.{owner_of}
+use Rattle.totals.specs.LookBack.{is_owner, owner_of}
 use Rattle.totals.specs.Shares.{is_started, president_of}
 
 -- LIMIT on a private at this bid, if there is one
@@ -52,7 +51,7 @@ before_cost other = 0
 
 -- what becomes of an order as a standing line of an opening
 abbrev pub before_answer : List Event → Order → Answer
-before_answer events order = answer_of (pos (before_cost order)) (standing_refusal events order)
+before_answer events order = answer_of (pos (before_cost order)) (opening_standing_refusal events order)
 
 -- its row
 abbrev pub before_row : List Event → Order → Row
@@ -100,7 +99,7 @@ train_offers events seat = flat_map (train_offers_of events seat) companies
 -- OFFER of a private to a company at its face value, if the seat owns it and the company is started
 abbrev pub private_offer : List Event → Seat → Private → Company → List Order
 private_offer events seat private buyer =
-    only_if (is_seats seat (owner_of events private) && is_started events buyer)
+    only_if (is_owner seat (owner_of events private) && is_started events buyer)
     (OfferLine (offer.Private private buyer (face_of private)) ∷ [])
 
 -- to all companies
@@ -117,7 +116,7 @@ standing_orders events seat = discards events seat ++ (train_offers events seat 
 
 -- what becomes of an order as a standing line of an operating round
 abbrev pub standing_answer : List Event → Seat → Order → Answer
-standing_answer events seat order = answer_of (pos 0) (standing_judgement events seat order)
+standing_answer events seat order = answer_of (pos 0) (operating_standing_judgement events seat order)
 
 -- its row
 abbrev pub standing_row : List Event → Seat → Order → Row

@@ -16,7 +16,7 @@ use Rattle.moves.specs.declared.row.Answer.{Answer}
 use Rattle.moves.specs.declared.row.Row.{Row}
 use Rattle.order_grammar.specs.declared.order.Order.{Order}
 use Rattle.order_grammar.specs.declared.order.Order.TheVariants.{Par, BuyShare, Sell, ExchangeMohawk}
-use Rattle.stock_round.specs.Orders.{refusal_of}
+use Rattle.stock_round.specs.Orders.{stock_refusal}
 use Rattle.tables.specs.Chart.{par_values}
 use Rattle.tables.specs.Roster.{companies}
 use Rattle.tables.specs.declared.roster.Company.{Company}
@@ -77,7 +77,7 @@ stock_cost events other = 0
 -- of none
 abbrev pub stock_answer : Game → Seat → Option Company → Order → Answer
 stock_answer game seat bought order =
-    answer_of (pos (stock_cost game.events order)) (refusal_of game seat bought order)
+    answer_of (pos (stock_cost game.events order)) (stock_refusal game seat bought order)
 
 -- the row of an order
 abbrev pub stock_row : Game → Seat → Option Company → Order → Row

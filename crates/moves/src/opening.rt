@@ -7,7 +7,7 @@ ghost use Rattle.moves.specs.OpeningRows.{opening_answer, opening_cost, opening_
 use crate::row::{Answer, Row, answer_of, push_row};
 use history::{History, Refusal};
 use order_grammar::Order;
-use privates::{judge, price_of};
+use privates::{judge, price_of_private};
 use std::alloc::{AllocError, Global};
 use tables::{Amount, BID_STEP, Money, Private, Seat, face};
 
@@ -101,7 +101,7 @@ fn cost(history: &History, order: &Order) -> Money
     ensures { result ≡ pos (opening_cost history.now.events order.now) }
 {
     match order {
-        Order::BuyPrivate(private) => Money::from(price_of(&history.now(), *private)),
+        Order::BuyPrivate(private) => Money::from(price_of_private(&history.now(), *private)),
         Order::Bid { amount, .. } => Money::from(*amount),
         _ => 0,
     }

@@ -4,8 +4,7 @@ ghost use Rattle.moves.specs.StandingRows.{before_answer, before_cost, before_ro
 ghost use Rattle.moves.specs.StandingRows.{limit_on, limits, may_give, may_take_train, offers_of_kind};
 ghost use Rattle.moves.specs.StandingRows.{private_offer, private_offers, private_offers_of, standing_orders};
 ghost use Rattle.moves.specs.StandingRows.{standing_row, standing_rows, train_offer, train_offers, train_offers_of};
-ghost use Rattle.purchases.specs.Offer.{is_seats};
-ghost use Rattle.totals.specs.LookBack.{owner_of};
+ghost use Rattle.totals.specs.LookBack.{is_owner, owner_of};
 
 use crate::row::{Answer, Row, answer_of, push_row};
 use history::{History, Holder, Refusal};
@@ -294,7 +293,7 @@ fn push_private_offer(
 
 /// Returns whether a seat owns a private.
 fn owns(history: &History, seat: Seat, private: Private) -> bool
-    ensures { result ≡ is_seats seat (owner_of history.now.events private) }
+    ensures { result ≡ is_owner seat (owner_of history.now.events private) }
 {
     matches!(history.owner(private), Some(Holder::Seat(owner)) if owner == seat)
 }

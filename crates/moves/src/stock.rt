@@ -4,7 +4,7 @@ ghost use Rattle.moves.specs.Deals.{brought_by};
 ghost use Rattle.moves.specs.StockRows.{is_number_asked, orders_of, orders_of_companies, orders_of_sale};
 ghost use Rattle.moves.specs.StockRows.{sales_of, shares_from, starts_of, stock_answer, stock_cost, stock_orders, stock_row};
 ghost use Rattle.stock_round.specs.Exchange.{exchange_judgement};
-ghost use Rattle.stock_round.specs.Orders.{judgement_of};
+ghost use Rattle.stock_round.specs.Orders.{stock_judgement};
 
 use crate::row::{Answer, Row, answer_of, push_row};
 use certs::{Purchase, Sale, market_price, may_buy, may_sell, purchase_cost};
@@ -201,7 +201,7 @@ fn answer_to(history: &History, seat: Seat, bought: Option<Company>, order: &Ord
 /// Returns the first rule that an order of a seat breaks in its turn, in which it has bought of
 /// this company or of none; `None` if it breaks none.
 fn judge(history: &History, seat: Seat, bought: Option<Company>, order: &Order) -> Option<StockRule>
-    ensures { result ≡ judgement_of history.now seat bought order.now }
+    ensures { result ≡ stock_judgement history.now seat bought order.now }
 {
     match order {
         Order::Par { company, price } => {

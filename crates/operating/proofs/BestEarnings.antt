@@ -15,8 +15,8 @@ use Rattle.legal_runs.proofs.Relabelled.{kind_is}
 use Rattle.legal_runs.proofs.Sharing.{legal_by_marks, legal_over}
 use Rattle.legal_runs.specs.Legal.{IsLegalRun, all_crossed, crossed, earned}
 use Rattle.legal_runs.specs.Marks.{MarksAre}
-use Rattle.legal_runs.specs.Set.{IsGreatest, IsLegalSet, ShareNoBorder, TrainRun, in_number, revenue_of}
-use Rattle.legal_runs.specs.Set.{trains_that_run}
+use Rattle.legal_runs.specs.Set.{IsGreatest, IsLegalSet, ShareNoBorder, TrainRun, in_number}
+use Rattle.legal_runs.specs.Set.{revenue_of_runs, trains_that_run}
 use Rattle.events.specs.Event.{train_owner_place}
 use Rattle.events.specs.declared.event.Event.{Event}
 use Rattle.events.specs.declared.event.Event.TheVariants as event
@@ -178,7 +178,7 @@ module _ (by : Operator) (first : TurnState) where
     pub marks : MarksAre (all_crossed (walks_of runs)) now.progress.runs.borders
     pub for_each : length now.progress.runs.trains ≡ 6
     pub counted : (kind : Kind) → has_run now.progress.runs kind ≡ pos (in_number kind (trains_that_run runs))
-    pub sum : now.progress.runs.revenue ≡ revenue_of there runs
+    pub sum : now.progress.runs.revenue ≡ revenue_of_runs there runs
 
   -- before them none has run
   none_yet : first.progress.runs ≡ no_runs → HaveRun [] first

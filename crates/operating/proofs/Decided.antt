@@ -5,7 +5,7 @@ use Rattle.std.proofs.lemmas.Bool.{cases_eq}
 use Rattle.board.specs.LayRules.{IsConnected}
 use Rattle.board.specs.TokenRules.{IsReachedPlace}
 use Rattle.map_tables.specs.Lay.{laid_links_of}
-use Rattle.map_tables.specs.Place.{joined_stop_of, stop_at, stop_of}
+use Rattle.map_tables.specs.Place.{joined_stop_of, stop_at, stop_of_place}
 use Rattle.map_tables.specs.contracts.track.LinkPartialEq.TheImpl.{ghosts as link_ghosts}
 use Rattle.map_tables.specs.declared.lay.Lay.{Lay}
 use Rattle.map_tables.specs.declared.place.Place.{Place}
@@ -87,7 +87,7 @@ module _ (position : Position) (company : Company) (lawful : IsLawful position) 
       (λ number. stop_decided (stop_at lay.hex number)))))
 
   -- the stop of a place is reached
-  named_decided : (place : Place) (found : Option Stop) → stop_of place ≡ found
+  named_decided : (place : Place) (found : Option Stop) → stop_of_place place ≡ found
       → Decided (IsReachedPlace position company place)
   named_decided place None none = inr (λ reached. let wrong : None ≡ Some reached.stop =
       sym none ∙ reached.is in let no : ⊥ = cc in no)
@@ -101,4 +101,4 @@ module _ (position : Position) (company : Company) (lawful : IsLawful position) 
 
   -- so is that of a place
   pub place_tested : (place : Place) → IsTested (IsReachedPlace position company place)
-  place_tested place = tested (IsReachedPlace position company place) (named_decided place (stop_of place) refl)
+  place_tested place = tested (IsReachedPlace position company place) (named_decided place (stop_of_place place) refl)

@@ -35,7 +35,7 @@ use Rattle.forced_purchase.specs.Shortfall.{lack_of}
 use Rattle.forced_purchase.specs.Forced.{next_to_sell, one_share}
 use Rattle.forced_purchase.specs.Raise.{raise_rule, raise_ruled, sale_rule}
 use Rattle.forced_purchase.specs.Forced.{sold_further, sold_singly, with_aid, with_one_sold}
-use Rattle.forced_purchase.specs.Raise.{with_ruling, with_sale}
+use Rattle.forced_purchase.specs.Raise.{after_presidents_sale, with_ruling}
 use Rattle.purchases.specs.Train.{has_trains, train_judgement}
 use Rattle.purchases.specs.Train.{after_train}
 use Rattle.purchases.specs.PrivateLaws.{names_owner}
@@ -103,7 +103,7 @@ OfPresidents R = (game : Game) (company : Company) (seat : Seat)
 
 -- it holds of the sales by the rules by which money is raised
 abbrev pub OfSales : Operator → (Game → Game → Type 0) → Type 0
-OfSales by R = (game : Game) (sale : Sale) → sale_rule by game sale ≡ None → R game (with_sale by game sale)
+OfSales by R = (game : Game) (sale : Sale) → sale_rule by game sale ≡ None → R game (after_presidents_sale by game sale)
 
 -- it holds of the president's bankruptcy
 abbrev pub OfBankruptcies : Operator → (Game → Game → Type 0) → Type 0
@@ -153,7 +153,7 @@ module _ (by : Operator) (R : Game → Game → Type 0) (of : OfEvents by.compan
       let led : Game = with_president paid company in
       let first : R game paid = of_break game recorded.events (of.others game sells tt refl refl refl) in
       let second : R paid led = of_succession paid company (president_of paid.events company) in
-      of.on.both game led (with_sale by game sale) (of.on.both game paid led first second)
+      of.on.both game led (after_presidents_sale by game sale) (of.on.both game paid led first second)
       (of_token_moved (fallen sale.shares) led company (square_of led.events company))
 
 -- once the purchase is recorded and the money is raised
@@ -176,7 +176,7 @@ module _ (by : Operator) (R : Game → Game → Type 0) (of : OfEvents by.compan
   of_raise_ruled due game line sale None none =
       let obeyed : Ruling = Obeyed line.condition (order.Raise sale.company sale.shares) in
       let ruled : Game = with_ruling by game line obeyed in
-      of.on.both game ruled (with_sale by ruled sale)
+      of.on.both game ruled (after_presidents_sale by ruled sale)
       (of.others game (event.Ruled by.president line.number obeyed) tt refl refl refl)
       (sales ruled sale (still_allowed by game line obeyed sale (raise_obeyed due by game line.condition sale none)))
   of_raise_ruled due game line sale (Some rule) some =

@@ -4,7 +4,7 @@ use Rattle.std.proofs.Common.{subst, ap, ℕ, Err, pos, ◌≤ℤ◌}
 use Rattle.std.proofs.lemmas.Bool.{leb-true}
 use Rattle.std.specs.Int.RustNames.{unsigned_abs}
 use Rattle.board.proofs.RuleTables.{kept}
-use Rattle.board.specs.LayRules.{IsLayAnswer, lay_cost_of, map_rules, reach_rules as lay_reach_rules}
+use Rattle.board.specs.LayRules.{IsLayAnswer, lay_cost_of, lay_reach_rules, map_rules}
 use Rattle.board.specs.declared.turn.Asker.{Asker}
 use Rattle.board_state.specs.MapState.{MapState}
 use Rattle.events.specs.Event.{party_of_company}

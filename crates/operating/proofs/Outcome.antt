@@ -5,9 +5,9 @@ use Rattle.std.proofs.Common.{Ok, Err, inl, inr, refl, sym, ap, subst, ◌∙◌
 use Rattle.board.proofs.RuleTables.{earlier}
 use Rattle.board_state.specs.MapState.{MapState, position_of, with_lay}
 use Rattle.board.specs.LayRules.{IsConnected, IsLayAnswer, cost_or, map_rules, lay_cost_of, lay_rules}
-use Rattle.board.specs.LayRules.{reach_rules as lay_reach_rules}
-use Rattle.board.specs.TokenRules.{IsReachedPlace, IsTokenAnswer, reach_rules as token_reach_rules, slot_rules}
-use Rattle.board.specs.TokenRules.{token_cost_of, token_rules}
+use Rattle.board.specs.LayRules.{lay_reach_rules}
+use Rattle.board.specs.TokenRules.{IsReachedPlace, IsTokenAnswer, slot_rules, token_cost_of, token_reach_rules}
+use Rattle.board.specs.TokenRules.{token_rules}
 use Rattle.board.specs.declared.turn.Asker.{Asker}
 use Rattle.legal_runs.proofs.Greatest.{a_greatest_exists, one_greatest}
 use Rattle.legal_runs.proofs.RunDecided.{can_run_decided}

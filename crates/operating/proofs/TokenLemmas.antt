@@ -4,7 +4,7 @@ use Rattle.std.proofs.Common.{Result, subst, ℕ, ap, Err, pos, ◌≤ℤ◌}
 use Rattle.std.specs.Int.RustNames.{unsigned_abs}
 use Rattle.board.proofs.RuleTables.{kept}
 use Rattle.board.specs.Powers.{is_dh_token}
-use Rattle.board.specs.TokenRules.{IsTokenAnswer, laid_by, reach_rules as token_reach_rules, slot_rules, token_cost_of}
+use Rattle.board.specs.TokenRules.{IsTokenAnswer, laid_by, slot_rules, token_cost_of, token_reach_rules}
 use Rattle.board.specs.declared.turn.Asker.{Asker}
 use Rattle.board_state.specs.MapState.{MapState}
 use Rattle.events.specs.Event.{party_of_company}

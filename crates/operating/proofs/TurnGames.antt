@@ -24,13 +24,13 @@ use Rattle.operating.proofs.TurnEvents.{IsOfTurn}
 use Rattle.operating.proofs.TurnSteps.{OfSteps, of_turn}
 use Rattle.operating.specs.HomeToken.{has_home_token, with_home}
 use Rattle.operating.specs.Pay.{withheld}
-use Rattle.certs.specs.Dividend.{all_paid, paid_for, paid_out, paid_to, paid_to_seats}
+use Rattle.certs.specs.Dividend.{all_paid, dividend_paid_to, paid_for, paid_out, paid_to_seats}
 use Rattle.operating.specs.MapState.{map_state_now}
 use Rattle.operating.specs.TurnState.{TurnState}
-use Rattle.purchases.specs.Train.{after_train, begins_phase, bought, with_trade}
+use Rattle.purchases.specs.Train.{after_train, begins_phase, train_bought, with_trade}
 use Rattle.purchases.specs.Phases.{with_phase}
 use Rattle.purchases.specs.SaleLaws.{IsAgreed}
-use Rattle.purchases.specs.Train.{cost_of, purchase_of, train_judgement}
+use Rattle.purchases.specs.Train.{purchase_of, train_judgement, train_purchase_cost}
 use Rattle.operating.specs.Pay.{withheld_if_unpaid}
 use Rattle.operating.specs.Turn.{IsCompanyTurn, begun}
 use Rattle.purchases.specs.declared.train.TrainPurchase.{TrainPurchase}
@@ -65,14 +65,14 @@ pub of_purchase : (company : Company) (R : Game → Game → Type 0) → IsPasse
     ((game : Game) (its : Event) → IsOfTurn company game its → tile_laid its ≡ None → R game (with_event game its)) →
     (game : Game) (purchase : TrainPurchase) →
     IsAgreed (with_trade game company purchase.trade_in).events
-    (event.Train company purchase.kind purchase.from (cost_of purchase)) →
+    (event.Train company purchase.kind purchase.from (train_purchase_cost purchase)) →
     R game (after_train game company purchase)
 of_purchase company R on each game purchase agreed =
     let closes : OfClosings R = λ now private. each now (event.Closed private) tt refl in
     let traded = with_trade game company purchase.trade_in in
-    let train = event.Train company purchase.kind purchase.from (cost_of purchase) in
+    let train = event.Train company purchase.kind purchase.from (train_purchase_cost purchase) in
     let came = with_event traded train in
-    let all = bought game company purchase in
+    let all = train_bought game company purchase in
     let phase = event.Phase purchase.kind in
     let followed = with_phase all purchase.kind in
     let trade : R game traded = of_trade R on (λ now its kind. each now (event.Traded its kind) tt refl) game company
@@ -142,7 +142,7 @@ module _ (company : Company) (R : Game → Game → Type 0) (of : OfEvents compa
       (after_withheld game amount)
 
   -- of a dividend
-  of_dividend : (to : Holder) (amount : ℕ) (game : Game) → R game (paid_to company to amount game)
+  of_dividend : (to : Holder) (amount : ℕ) (game : Game) → R game (dividend_paid_to company to amount game)
   of_dividend to amount game =
       let its = event.Dividend company to amount in
       let paid = with_event game its in

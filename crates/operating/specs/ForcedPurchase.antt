@@ -4,6 +4,6 @@ unfoldable pub use Rattle.forced_purchase.specs.Forced.{with_aid}
 unfoldable pub use Rattle.forced_purchase.specs.Raise.{raise_rule, sale_rule}
 unfoldable pub use Rattle.forced_purchase.specs.Shortfall.{cheapest, falls_short, lack_of}
 pub use Rattle.forced_purchase.specs.Forced.{one_share, with_one_sold}
-pub use Rattle.forced_purchase.specs.Raise.{after_raise_line, after_raises, needed_rule, raise_ruled, with_ruling}
-pub use Rattle.forced_purchase.specs.Raise.{with_sale}
+pub use Rattle.forced_purchase.specs.Raise.{after_presidents_sale, after_raise_line, after_raises, needed_rule}
+pub use Rattle.forced_purchase.specs.Raise.{raise_ruled, with_ruling}
 pub use Rattle.forced_purchase.specs.declared.operator.Operator.{Operator}

@@ -23,12 +23,12 @@ use Rattle.tables.specs.declared.roster.Company.{Company}
 use Rattle.totals.specs.LookBack.{Game, with_event}
 
 -- a rule of PAY and WITHHOLD, and whether it is broken
-abbrev rule : PayRule → Bool → Rule PayRule
-rule code broken = record { code = code; broken = broken }
+abbrev tested_pay_rule : PayRule → Bool → Rule PayRule
+tested_pay_rule code broken = record { code = code; broken = broken }
 
 -- the rules of PAY
 abbrev pub pay_rules : Progress → List (Rule PayRule)
-pay_rules progress = rule NothingToPay (is_past_pay progress || (progress.runs.revenue == 0)) ∷ []
+pay_rules progress = tested_pay_rule NothingToPay (is_past_pay progress || (progress.runs.revenue == 0)) ∷ []
 
 -- the first one that is broken
 abbrev pub pay_judgement : Progress → Option PayRule
@@ -36,7 +36,7 @@ pay_judgement progress = first_broken (pay_rules progress)
 
 -- the rules of WITHHOLD
 abbrev pub withhold_rules : Progress → List (Rule PayRule)
-withhold_rules progress = rule NothingToPay (is_past_pay progress) ∷ []
+withhold_rules progress = tested_pay_rule NothingToPay (is_past_pay progress) ∷ []
 
 -- the first one that is broken
 abbrev pub withhold_judgement : Progress → Option PayRule

@@ -11,7 +11,7 @@ use Rattle.events.specs.declared.event.Event.TheVariants as event
 use Rattle.events.specs.declared.ruling.Refusal.TheVariants as refusal
 use Rattle.events.specs.declared.ruling.Ruling.TheVariants.{Obeyed, Refused}
 use Rattle.forced_purchase.specs.declared.operator.Operator.{Operator}
-use Rattle.legal_runs.specs.Fault.{named_steps, run_fault}
+use Rattle.legal_runs.specs.Fault.{named_steps, run_fault, tested_run_rule}
 use Rattle.legal_runs.specs.Legal.{crossed, earned}
 use Rattle.legal_runs.specs.Marks.{borders_used, marked}
 use Rattle.map_tables.specs.declared.place.Place.{Place}
@@ -32,10 +32,6 @@ use Rattle.tables.specs.declared.roster.Company.{Company}
 use Rattle.totals.specs.LookBack.{Game, with_event}
 use Rattle.totals.specs.Trains.{trains_held}
 
--- a rule of runs, and whether it is broken
-abbrev pub rule : RunRule → Bool → Rule RunRule
-rule code broken = record { code = code; broken = broken }
-
 -- each train of the kind that the company has, if any, has run
 abbrev pub have_all_run : Game → Company → Progress → Kind → Bool
 have_all_run game company progress kind =
@@ -44,8 +40,8 @@ have_all_run game company progress kind =
 -- the rules of the turn
 abbrev pub rules_of_turn : Game → Company → Progress → Kind → List (Rule RunRule)
 rules_of_turn game company progress kind =
-    rule run_rule.StepUsed (is_past_runs progress) ∷ rule run_rule.NoTrain (have_all_run game company progress kind)
-    ∷ []
+    tested_run_rule run_rule.StepUsed (is_past_runs progress)
+    ∷ tested_run_rule run_rule.NoTrain (have_all_run game company progress kind) ∷ []
 
 -- what a run over a position does, with the borders used that are marked so: what it earns, and the
 -- borders that are used once it is run

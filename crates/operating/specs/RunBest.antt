@@ -9,12 +9,12 @@ use Rattle.events.specs.declared.event.Event.TheVariants as event
 use Rattle.events.specs.declared.ruling.Refusal.TheVariants as refusal
 use Rattle.events.specs.declared.ruling.Ruling.TheVariants.{Obeyed, Refused}
 use Rattle.forced_purchase.specs.declared.operator.Operator.{Operator}
+use Rattle.legal_runs.specs.Fault.{tested_run_rule}
 use Rattle.legal_runs.specs.Set.{IsGreatest}
 use Rattle.map_tables.specs.declared.rules.RunRule.{RunRule}
 use Rattle.map_tables.specs.declared.rules.RunRule.TheVariants as run_rule
 use Rattle.operating.specs.MapState.{position_now}
 use Rattle.operating.specs.Progress.{best_done, has_any_run, is_past_runs}
-use Rattle.operating.specs.Run.{rule}
 use Rattle.operating.specs.TurnState.{TurnState, turn_state, line_recorded}
 use Rattle.operating.specs.declared.progress.Progress.{Progress}
 use Rattle.order_grammar.specs.declared.order.Order.TheVariants as order
@@ -43,8 +43,8 @@ has_none_to_run events company progress = not (has_trains events company) || has
 -- the rules of a RUN BEST
 abbrev pub rules_of_best : Game → Company → Progress → List (Rule RunRule)
 rules_of_best game company progress =
-    rule run_rule.StepUsed (is_past_runs progress)
-    ∷ rule run_rule.NoTrain (has_none_to_run game.events company progress) ∷ []
+    tested_run_rule run_rule.StepUsed (is_past_runs progress)
+    ∷ tested_run_rule run_rule.NoTrain (has_none_to_run game.events company progress) ∷ []
 
 -- the first one that is broken
 abbrev pub best_judgement : TurnState → Company → Option RunRule

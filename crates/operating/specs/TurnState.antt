@@ -8,7 +8,7 @@ use Rattle.operating.specs.declared.progress.Progress.{Progress}
 use Rattle.order_grammar.specs.declared.order.Order.{Order}
 use Rattle.sheets.specs.Part.{Numbered}
 use Rattle.totals.specs.LookBack.{Game, with_event}
-use Rattle.turns.specs.Ruling.{done, judged, obeyed_by}
+use Rattle.turns.specs.Ruling.{done, judged, obeyed_order}
 
 -- the game so far, and how far the turn has come
 pub record TurnState : Type 0 where
@@ -29,4 +29,4 @@ abbrev pub ruled : Operator → TurnState → Numbered → Order → Option Refu
 ruled by turn line order broken act =
     done (λ (after : TurnState) (its : Order). act after)
     (line_recorded by turn line (judged line.condition order broken))
-    (obeyed_by (judged line.condition order broken))
+    (obeyed_order (judged line.condition order broken))

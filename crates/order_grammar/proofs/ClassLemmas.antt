@@ -6,9 +6,9 @@ use Rattle.std.proofs.lemmas.Bool.{cases_Bool, le-leb, lt-leb, and_parts}
 use Rattle.std.proofs.lemmas.Bool.Decides.{nat_tests}
 use Rattle.std.proofs.lemmas.List.{drop_more}
 use Rattle.std.specs.Char.{to_ascii_uppercase, is_ascii_hexdigit}
+use Rattle.map_tables.specs.Text.{is_digit}
 use Rattle.order_grammar.specs.Class.{is_hex_digit, are_digits, value_of_digits, capped_value, digits_reading}
 use Rattle.order_grammar.specs.Class.{round_of_series, round_number_reading, code_reading}
-use Rattle.order_grammar.specs.Name.{is_digit}
 use Rattle.order_grammar.specs.Words.{raised, same_word}
 use Rattle.order_grammar.specs.declared.class.Reading.TheVariants.{Value, TooLarge, Wrong}
 use Rattle.order_grammar.specs.declared.order.Value as values

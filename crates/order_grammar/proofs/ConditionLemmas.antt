@@ -6,7 +6,8 @@ use Rattle.tables.specs.Round.{number_most}
 use Rattle.tables.specs.declared.rolling_stock.Kind.{Kind}
 use Rattle.tables.specs.declared.roster.Company.{Company}
 use Rattle.order_grammar.specs.Class.{class_reading, is_of_class}
-use Rattle.order_grammar.specs.Condition.{Ordered, ordered, price_of, condition_of, play_reading, under, price_reading}
+use Rattle.order_grammar.specs.Condition.{Ordered, ordered, price_condition, condition_of, play_reading, under}
+use Rattle.order_grammar.specs.Condition.{price_reading}
 use Rattle.order_grammar.specs.Condition.{reading_of_one, conditional_reading, put_conditional, condition_if_read}
 use Rattle.order_grammar.specs.Form.{play_forms, put_reading}
 use Rattle.order_grammar.specs.Order.{parts_of}
@@ -77,7 +78,7 @@ play_for_read (first ∷ rest) order are =
 -- the words of a condition are read as it
 price_for_read : (company : Company) (price : ℕ) (word number : List ℕ) → IsCompany company word →
     IsNumber price number →
-    price_of (class_reading class.Company word) (class_reading class.Number number)
+    price_condition (class_reading class.Company word) (class_reading class.Number number)
     ≡ condition_as (Price company price) (nat_le price number_most)
 price_for_read company price word number named counted =
     let first = value_read class.Company (value.Company company) word refl named refl in
@@ -194,7 +195,7 @@ a_number other of = absurd (false≢true of)
 price_says : (first name least number : List ℕ) (rest : List (List ℕ)) (company price : Reading) →
     first ≡ codes "PRICE" → least ≡ codes ">=" →
     ReadAs class.Company name company → ReadAs class.Number number price →
-    PrefixSays (first ∷ name ∷ least ∷ number ∷ rest) rest (price_of company price)
+    PrefixSays (first ∷ name ∷ least ∷ number ∷ rest) rest (price_condition company price)
 price_says first name least number rest (Value (value.Company company)) (Value (value.Number price)) begins sign named
     counted =
     ((λ order are. (begins, (named.0.text_of, (sign, (counted.0.text_of, are))))), leb-true price number_most counted.1)

@@ -8,7 +8,7 @@ use Rattle.std.proofs.lemmas.List.{drop_more, length-map, get_or-map}
 use Rattle.order_grammar.specs.Form.{Row, forms, values_reading, row_reading, rows_reading}
 use Rattle.order_grammar.specs.Form.{words_reading, nearness, nearer, order_of_values, values_by_row}
 use Rattle.order_grammar.specs.Keyword.{keyword_of, text_of_keyword}
-use Rattle.order_grammar.specs.Row.{has_forms, is_short_row, joined_values, row_of, rows_of, rows_with}
+use Rattle.order_grammar.specs.Row.{has_forms, is_short_row, joined_values, row_of_form, rows_of, rows_with}
 use Rattle.order_grammar.specs.Token.{GivesFirst}
 use Rattle.order_grammar.specs.Words.{Placed, raised, same_word, texts_of}
 use Rattle.order_grammar.specs.declared.class.Class.{Class}
@@ -141,15 +141,15 @@ with_first k (row ∷ rows) =
 
 -- so the first word of a line whose keyword that is is its
 pub first_of_row : (k : Keyword) (rows : List Row) (forms : List Form) (i : ℕ) (d : Form) (first : List ℕ)
-    → map row_of forms ≡ rows_with k rows → i < length forms → keyword_of first ≡ Some k
+    → map row_of_form forms ≡ rows_with k rows → i < length forms → keyword_of first ≡ Some k
     → same_word first (text_of_keyword (get_or forms i d).keyword) ≡ true
 first_of_row k rows forms i d first are lt is =
     let test : Row → Bool = λ row. same_word (text_of_keyword row.keyword) (text_of_keyword k) in
-    let all : list_all test (map row_of forms) ≡ true = ap (list_all test) are ∙ with_first k rows in
-    let size : i < length (map row_of forms) = omega (arith, length-map forms row_of) in
-    let here : test (row_of (get_or forms i d)) ≡ true =
-    ap test (sym (get_or-map row_of forms i d (row_of d) lt))
-    ∙ and_at (list_all test) test refl (λ _ _. refl) (map row_of forms) i (row_of d) size all in
+    let all : list_all test (map row_of_form forms) ≡ true = ap (list_all test) are ∙ with_first k rows in
+    let size : i < length (map row_of_form forms) = omega (arith, length-map forms row_of_form) in
+    let here : test (row_of_form (get_or forms i d)) ≡ true =
+    ap test (sym (get_or-map row_of_form forms i d (row_of_form d) lt))
+    ∙ and_at (list_all test) test refl (λ _ _. refl) (map row_of_form forms) i (row_of_form d) size all in
     let one : (get_or forms i d).keyword ≡ k = same_keyword (get_or forms i d).keyword k here in
     ap (λ o. same_word first (text_of_keyword o)) one ∙ same-keyword_of first k is
 
@@ -166,21 +166,21 @@ rows_with-grammar grammar.Certificate other = refl
 -- one more row, and what the words are by it
 pub rows-next : (first : List ℕ) (rest : List (List ℕ)) (nearest : Result Order Fault) (forms : List Form) (i : ℕ)
     (d : Form) → i < length forms →
-    (reading : Result Order Fault) → reading ≡ row_reading (row_of (get_or forms i d)) first rest →
-    fold (with_row first rest) nearest (drop i (map row_of forms))
-    ≡ fold (with_row first rest) (nearer nearest reading) (drop (i + 1) (map row_of forms))
+    (reading : Result Order Fault) → reading ≡ row_reading (row_of_form (get_or forms i d)) first rest →
+    fold (with_row first rest) nearest (drop i (map row_of_form forms))
+    ≡ fold (with_row first rest) (nearer nearest reading) (drop (i + 1) (map row_of_form forms))
 rows-next first rest nearest forms i d lt reading is =
-    let size : i < length (map row_of forms) = omega (arith, length-map forms row_of) in
-    rw (drop_more (map row_of forms) i (row_of d) size, get_or-map row_of forms i d (row_of d) lt, is) refl
+    let size : i < length (map row_of_form forms) = omega (arith, length-map forms row_of_form) in
+    rw (drop_more (map row_of_form forms) i (row_of_form d) size, get_or-map row_of_form forms i d (row_of_form d) lt, is) refl
 
 -- a form among short ones is short
-pub short_form : (forms : List Form) (i : ℕ) (d : Form) → list_all is_short_row (map row_of forms) ≡ true
+pub short_form : (forms : List Form) (i : ℕ) (d : Form) → list_all is_short_row (map row_of_form forms) ≡ true
     → i < length forms →
-    is_short_row (row_of (get_or forms i d)) ≡ true
+    is_short_row (row_of_form (get_or forms i d)) ≡ true
 short_form forms i d short lt =
-    let size : i < length (map row_of forms) = omega (arith, length-map forms row_of) in
-    ap is_short_row (sym (get_or-map row_of forms i d (row_of d) lt))
-    ∙ and_at (list_all is_short_row) is_short_row refl (λ _ _. refl) (map row_of forms) i (row_of d) size short
+    let size : i < length (map row_of_form forms) = omega (arith, length-map forms row_of_form) in
+    ap is_short_row (sym (get_or-map row_of_form forms i d (row_of_form d) lt))
+    ∙ and_at (list_all is_short_row) is_short_row refl (λ _ _. refl) (map row_of_form forms) i (row_of_form d) size short
 
 -- no word is left for a class
 pub values_reading-none : (prefix : List Value) (too_large : Bool) (classes : List Class) (r : TrailingClass) (i : ℕ)

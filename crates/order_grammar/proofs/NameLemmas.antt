@@ -6,7 +6,8 @@ use Rattle.std.specs.List.{list_all}
 use Rattle.std.proofs.lemmas.Bool.{le-leb}
 use Rattle.std.proofs.lemmas.Bool.Decides.{nat_tests}
 use Rattle.std.proofs.lemmas.List.{length-map, take_rest}
-use Rattle.order_grammar.specs.Name.{is_name, is_capital, is_digit, is_letter_or_digit}
+use Rattle.map_tables.specs.Text.{is_digit}
+use Rattle.order_grammar.specs.Name.{is_name, is_capital, is_letter_or_digit}
 use Rattle.order_grammar.specs.Words.{raised}
 
 pub is_capital-raised : (byte : ℕ) → is_capital (to_ascii_uppercase byte) ≡ is_ascii_alphabetic byte

@@ -13,8 +13,8 @@ use Rattle.std.proofs.lemmas.List.Concat.{flat_map-cons}
 use Rattle.std.proofs.lemmas.List.Folds.{list_all-append}
 use Rattle.std.proofs.lemmas.List.Sums.{fold_push}
 use Rattle.map_tables.specs.Hex.{column_of, row_of}
-use Rattle.map_tables.specs.Side.{turns_of}
-use Rattle.map_tables.specs.Text.{stop_text, text_of_hex, text_of_place}
+use Rattle.map_tables.specs.Side.{sixths_turned}
+use Rattle.map_tables.specs.Text.{is_digit, stop_text, text_of_hex, text_of_place}
 use Rattle.map_tables.specs.Tile.{number_of_tile}
 use Rattle.map_tables.specs.declared.hex.Hex.{Hex}
 use Rattle.map_tables.specs.declared.place.Place.{Place}
@@ -39,7 +39,7 @@ use Rattle.order_grammar.specs.Form.{is_of_trailing_class}
 use Rattle.order_grammar.specs.Keyword.{text_of_keyword}
 use Rattle.tables.specs.Round.{number_most, operating_most}
 use Rattle.order_grammar.specs.Line.{reading_by}
-use Rattle.order_grammar.specs.Name.{is_name, is_capital, is_digit, is_letter_or_digit}
+use Rattle.order_grammar.specs.Name.{is_name, is_capital, is_letter_or_digit}
 use Rattle.order_grammar.specs.Order.{made_of, parts_of, Parts}
 use Rattle.order_grammar.specs.Print.{spaced, joined, text_of_value, words_of_trailing, words_of_parts, spelling_of}
 use Rattle.order_grammar.specs.Row.{has_room, is_short_row}
@@ -448,7 +448,7 @@ place_plain_from hex (Some Second) =
     (omega (arith, hex_text-le hex, ap length (decimal_digit 1 (omega arith))))
     (decimal_plain 1 (omega arith)).plain
 
-turns_small : (rotation : Rotation) → nat_le (turns_of rotation) number_most ≡ true
+turns_small : (rotation : Rotation) → nat_le (sixths_turned rotation) number_most ≡ true
 turns_small Zero = refl
 turns_small other = refl
 
@@ -488,8 +488,8 @@ value_spelt (value.Rotation rotation) has =
     record {
       text = refl;
       small = refl;
-      plain = decimal_plain (turns_of rotation)
-          (leb-true (turns_of rotation) number_most (turns_small rotation));
+      plain = decimal_plain (sixths_turned rotation)
+          (leb-true (sixths_turned rotation) number_most (turns_small rotation));
     }
 value_spelt (value.Place place) has = record {
   text = refl;

@@ -1,7 +1,8 @@
 -- The words of a line of version 2 as the code takes them, one after another.
 use Rattle.std.proofs.Common.{◌≡◌, ℕ, true, false, List, ◌∷◌, Option, Some, Result, refl, sym, ap, ◌∙◌}
 use Rattle.order_grammar.specs.Class.{class_reading}
-use Rattle.order_grammar.specs.Condition.{price_of, condition_of, play_reading, under, price_reading, reading_of_one}
+use Rattle.order_grammar.specs.Condition.{price_condition, condition_of, play_reading, under, price_reading}
+use Rattle.order_grammar.specs.Condition.{reading_of_one}
 use Rattle.order_grammar.specs.Condition.{conditional_reading, ordered_reading, unconditional, put_conditional}
 use Rattle.order_grammar.specs.Condition.{condition_if_read}
 use Rattle.order_grammar.specs.Form.{Row, order_forms, play_forms, rows_reading, put_reading}
@@ -58,7 +59,7 @@ floated_next words rest first is other neither floated =
 pub price_words : (words after_name after_sign rest : List (List ℕ)) (name sign price : List ℕ) →
     words ≡ name ∷ after_name → after_name ≡ sign ∷ after_sign →
     after_sign ≡ price ∷ rest → same_word sign (text_of_keyword keyword.AtLeast) ≡ true →
-    under (price_of (class_reading class.Company name) (class_reading class.Number price)) (play_reading rest)
+    under (price_condition (class_reading class.Company name) (class_reading class.Number price)) (play_reading rest)
     ≡ price_reading words
 price_words words after_name after_sign rest name sign price a b d same =
     sym

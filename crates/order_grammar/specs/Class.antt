@@ -5,13 +5,13 @@ use Rattle.std.specs.Prelude.{◌∷◌, length, codes, take, drop, fold, min, O
 use Rattle.std.specs.List.{list_all}
 use Rattle.tables.specs.declared.round.Round.{Round}
 use Rattle.tables.specs.declared.round.Round.TheVariants.{Opening, Stock, Operating}
-use Rattle.map_tables.specs.Text.{hex_of_text, place_of_text, rotation_of_text, tile_of_text}
+use Rattle.map_tables.specs.Text.{hex_of_text, is_digit, place_of_text, rotation_of_text, tile_of_text}
 use Rattle.tables.specs.Train.{code_of_kind, kinds}
 use Rattle.tables.specs.Roster.{companies, code_of_company, privates, code_of_private}
 use Rattle.order_grammar.specs.Keyword.{text_of_keyword}
 use Rattle.tables.specs.Round.{number_most, operating_most}
 use Rattle.order_grammar.specs.Limits.{marks_digits_most}
-use Rattle.order_grammar.specs.Name.{is_name, is_digit}
+use Rattle.order_grammar.specs.Name.{is_name}
 use Rattle.order_grammar.specs.Words.{same_word}
 use Rattle.order_grammar.specs.declared.class.Class.{Class}
 use Rattle.order_grammar.specs.declared.class.Class.TheVariants as class

@@ -41,10 +41,10 @@ condition_values (Phase kind) = value.Word keyword.Phase ∷ value.Kind kind ∷
 condition_values (Floated company) = value.Word keyword.Floated ∷ value.Company company ∷ []
 
 -- the condition on a company's price: of the words for the company and for the price
-abbrev pub price_of : Reading → Reading → Result Condition Fault
-price_of (Value (value.Company company)) (Value (value.Number price)) = Ok (Price company price)
-price_of (Value (value.Company company)) TooLarge = Err NumberTooLarge
-price_of company price = Err WrongWords
+abbrev pub price_condition : Reading → Reading → Result Condition Fault
+price_condition (Value (value.Company company)) (Value (value.Number price)) = Ok (Price company price)
+price_condition (Value (value.Company company)) TooLarge = Err NumberTooLarge
+price_condition company price = Err WrongWords
 
 -- the condition that one word gives: a kind of train gives the phase, and a company that it has
 -- floated
@@ -71,7 +71,8 @@ under condition order = Err WrongWords
 abbrev pub price_reading : List (List ℕ) → Result Ordered Fault
 price_reading (company ∷ at_least ∷ price ∷ words) =
     if same_word at_least (text_of_keyword keyword.AtLeast)
-    then under (price_of (class_reading class.Company company) (class_reading class.Number price)) (play_reading words)
+    then under (price_condition (class_reading class.Company company) (class_reading class.Number price))
+    (play_reading words)
     else Err WrongWords
 price_reading other = Err WrongWords
 

@@ -4,14 +4,11 @@ use Rattle.std.specs.Prelude.{◌≡◌, ℕ, ◌-◌, ◌≤◌, Bool, false, �
 use Rattle.std.specs.Prelude.{drop, replicate}
 use Rattle.std.proofs.Common.{sym, ap, subst, ◌∙◌, length-take-le, take-append-drop}
 use Rattle.std.specs.List.{list_all}
+use Rattle.map_tables.specs.Text.{is_digit}
 
--- a capital letter, a digit
+-- a byte is a capital letter
 abbrev pub is_capital : ℕ → Bool
 is_capital byte = nat_le 65 byte && nat_le byte 90
-
--- a byte is a digit
-abbrev pub is_digit : ℕ → Bool
-is_digit byte = nat_le 48 byte && nat_le byte 57
 
 -- a byte is a capital letter or a digit
 abbrev pub is_letter_or_digit : ℕ → Bool

@@ -21,8 +21,8 @@ use Rattle.order_grammar.specs.declared.order.Trailing.{Trailing}
 use Rattle.order_grammar.specs.declared.order.Value.{Value}
 
 -- the row that a form of the code is
-abbrev pub row_of : Form → Row
-row_of form = row form.keyword form.classes.now form.trailing_class
+abbrev pub row_of_form : Form → Row
+row_of_form form = row form.keyword form.classes.now form.trailing_class
 
 -- the rows of a grammar
 abbrev pub rows_of : Grammar → List Row

@@ -6,7 +6,7 @@ ghost use Rattle.order_grammar.specs.Condition.{
   condition_of,
   conditional_reading,
   ordered_reading,
-  price_of,
+  price_condition,
   price_reading,
   put_conditional,
   put_ordered,
@@ -98,7 +98,7 @@ fn read_price(words: &mut Words, order: &mut Order) -> Result<Condition, Fault>
     }
     let company = Class::Company.read(company.text);
     let price = Class::Number.read(price.text);
-    read_under(price_of(company, price), words, order)
+    read_under(price_condition(company, price), words, order)
 }
 
 /// Overwrites `order` with the order that the words after PHASE or FLOATED spell, and returns its
@@ -114,8 +114,8 @@ fn read_of_one(class: Class, words: &mut Words, order: &mut Order) -> Result<Con
 
 /// Returns the condition on the price of a company. The error is `NumberTooLarge` if only the price
 /// does not fit.
-fn price_of(company: Reading, price: Reading) -> Result<Condition, Fault>
-    ensures { result ≡ price_of company price }
+fn price_condition(company: Reading, price: Reading) -> Result<Condition, Fault>
+    ensures { result ≡ price_condition company price }
 {
     match (company, price) {
         (Reading::Value(Value::Company(company)), Reading::Value(Value::Number(price))) => {

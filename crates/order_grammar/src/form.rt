@@ -13,7 +13,7 @@ ghost use Rattle.order_grammar.specs.Form.{
   words_reading,
 };
 ghost use Rattle.order_grammar.specs.Row.{AreRead, has_forms, has_room, is_short_row};
-ghost use Rattle.order_grammar.specs.Row.{names_reading, row_of, rows_of, rows_with};
+ghost use Rattle.order_grammar.specs.Row.{names_reading, row_of_form, rows_of, rows_with};
 ghost use Rattle.order_grammar.specs.Words.{raised, texts_of};
 ghost use Rattle.order_grammar.specs.declared.form.TrailingClass.TheVariants.{Nothing};
 
@@ -58,8 +58,8 @@ pub(crate) enum Grammar {
 impl Grammar {
     /// Returns the forms whose first word is a keyword.
     fn forms(self, keyword: Keyword) -> &'static [Form]
-        ensures rows { map row_of result.now ≡ rows_with keyword (rows_of self) }
-        ensures short { IsTrue (list_all is_short_row (map row_of result.now)) }
+        ensures rows { map row_of_form result.now ≡ rows_with keyword (rows_of self) }
+        ensures short { IsTrue (list_all is_short_row (map row_of_form result.now)) }
     {
         if self.has(keyword) {
             forms_with(keyword)
@@ -116,8 +116,8 @@ macro_rules! form {
 /// its parts, orders, CERT and CLAIM, and then the lines that only a certificate's text has. A line
 /// spells an order if its words fit a form.
 fn forms_with(keyword: Keyword) -> &'static [Form]
-    ensures rows { map row_of result.now ≡ rows_with keyword forms }
-    ensures short { IsTrue (list_all is_short_row (map row_of result.now)) }
+    ensures rows { map row_of_form result.now ≡ rows_with keyword forms }
+    ensures short { IsTrue (list_all is_short_row (map row_of_form result.now)) }
 {
     match keyword {
         Keyword::Game => &[form!(Game: Class::Number, Class::Number)],
@@ -236,8 +236,8 @@ impl Form {
     /// Overwrites `order` with the order that the words after its first word spell by this form.
     /// The error is `WrongWords` if they do not fit, and `NumberTooLarge` if only numbers do not.
     fn read(&self, rest: &Words, order: &mut Order) -> Result<(), Fault>
-        requires { IsTrue (is_short_row (row_of self.now)) }
-        ensures { let row = row_of self.now in
+        requires { IsTrue (is_short_row (row_of_form self.now)) }
+        ensures { let row = row_of_form self.now in
             put_reading result order.new
             ≡ order_of_values row.keyword (values_by_row row (texts_of rest.now)) }
     {
@@ -250,8 +250,8 @@ impl Form {
     /// Reads words as texts of the form's classes, and takes them off `rest`; `None` if they do not
     /// fit.
     fn read_values(&self, rest: &mut Words) -> Option<Prefix>
-        requires { IsTrue (is_short_row (row_of self.now)) }
-        ensures { AreRead (row_of self.now) (texts_of rest.old) (texts_of rest.new) result }
+        requires { IsTrue (is_short_row (row_of_form self.now)) }
+        ensures { AreRead (row_of_form self.now) (texts_of rest.old) (texts_of rest.new) result }
     {
         let mut values = Values::new();
         let mut too_large = false;
@@ -270,9 +270,9 @@ impl Form {
 
     /// Overwrites `order` with the order that words spell by a form in which no class is repeated.
     fn read_plain(&self, words: &Words, order: &mut Order) -> Result<(), Fault>
-        requires short { IsTrue (is_short_row (row_of self.now)) }
+        requires short { IsTrue (is_short_row (row_of_form self.now)) }
         requires plain { self.now.trailing_class ≡ Nothing }
-        ensures { let row = row_of self.now in
+        ensures { let row = row_of_form self.now in
             put_reading result order.new
             ≡ order_of_values row.keyword (values_by_row row (texts_of words.now)) }
     {
@@ -297,8 +297,8 @@ impl Form {
     /// for the repeated part, so that other forms do not pay for it.
     #[inline(never)]
     fn read_with_trailing(&self, words: &Words, order: &mut Order) -> Result<(), Fault>
-        requires { IsTrue (is_short_row (row_of self.now)) }
-        ensures { let row = row_of self.now in
+        requires { IsTrue (is_short_row (row_of_form self.now)) }
+        ensures { let row = row_of_form self.now in
             put_reading result order.new
             ≡ order_of_values row.keyword (values_by_row row (texts_of words.now)) }
     {

@@ -12,7 +12,7 @@ use markup::{
 };
 use page_map::Scene;
 use picture::city_name;
-use privates::price_of;
+use privates::price_of_private;
 use tables::{Company, Kind, Money, Private, Seat, Square, face, price, revenue, rusts, train};
 
 /// Adds what each company has, in this order.
@@ -229,7 +229,11 @@ pub fn put_owner(out: &mut Writer, scene: &Scene, private: Private) {
     begin_row(out, "");
     put_row_head(out, &[Words(private.code())]);
     put_number(out, Money::from(face(private)));
-    let price = if is_sold { 0 } else { price_of(&view, private) };
+    let price = if is_sold {
+        0
+    } else {
+        price_of_private(&view, private)
+    };
     put_number(out, Money::from(price));
     put_number(out, Money::from(revenue(private)));
     put_hexes(out, private);

@@ -6,7 +6,7 @@ use Rattle.events.specs.declared.event.Event.{Event}
 use Rattle.events.specs.declared.event.Placement.{Placement}
 use Rattle.map_tables.specs.Hex.{same_hex}
 use Rattle.map_tables.specs.OnMap.{same_stop}
-use Rattle.map_tables.specs.Place.{stop_of}
+use Rattle.map_tables.specs.Place.{stop_of_place}
 use Rattle.map_tables.specs.declared.hex.Hex.{Hex}
 use Rattle.map_tables.specs.declared.lay.Lay.{Lay}
 use Rattle.map_tables.specs.declared.place.Place.{Place}
@@ -41,7 +41,7 @@ names_stop stop (Some other) = same_stop other stop
 -- whether a token is a company's, and at a stop
 abbrev pub stands_at : Stop → Company → Option (Place × Company) → Bool
 stands_at stop company None = false
-stands_at stop company (Some token) = names_stop stop (stop_of token.0) && same_company token.1 company
+stands_at stop company (Some token) = names_stop stop (stop_of_place token.0) && same_company token.1 company
 
 -- whether an event places a token of a company at a stop
 abbrev pub is_token_at : Stop → Company → Event → Bool

@@ -8,7 +8,7 @@ use Rattle.totals.proofs.Standing.{bids_split}
 use Rattle.totals.specs.Bids.{bids_elsewhere_of, free_for, tied_on}
 use Rattle.totals.specs.AtEnd.{SaysTheSame}
 use Rattle.totals.specs.LookBack.{cash_of}
-use Rattle.privates.specs.Bank.{MayPay, is_short, price_of}
+use Rattle.privates.specs.Bank.{MayPay, is_short, price_of_private}
 use Rattle.tables.specs.declared.roster.Private.{Private}
 use Rattle.tables.specs.declared.roster.Private.TheVariants.{SchuylkillValley}
 use Rattle.tables.specs.declared.seat.Seat.{Seat}
@@ -37,7 +37,7 @@ same_free seats before after seat private same =
 
 -- the price of the bank stays where SV's price does
 pub same_price : (before after : List Event) (private : Private) → SaysTheSame before after
-    → price_of after private ≡ price_of before private
+    → price_of_private after private ≡ price_of_private before private
 same_price before after SchuylkillValley same = same.sv_price
 same_price before after other same = refl
 

@@ -15,7 +15,7 @@ use Rattle.privates.proofs.StandingBids.{AmountsDiffer, EachBid, IsStandingBid, 
 use Rattle.privates.proofs.StandingBids.{cheapest_unsold}
 use Rattle.privates.specs.Bank.{MayPay}
 use Rattle.privates.specs.Auction.{Bidder, BidsDiffer, EachBidder, IsAmong, LimitsHold, auction_of, bid_by, limit_by}
-use Rattle.privates.specs.Sale.{after_auction, after_sale, bidder_of, settled_by}
+use Rattle.privates.specs.Sale.{after_auction, after_private_sale, bidder_of, settled_by}
 use Rattle.privates.specs.Underway.{IsUnderway}
 use Rattle.tables.specs.declared.roster.Private.{Private}
 use Rattle.tables.specs.declared.seat.Seat.{Seat}
@@ -166,8 +166,8 @@ payable game private bids bidders won made is_won are two cheapest underway =
 pub auction_settles : (game : Game) (private : Private) (bids : List Bid) (bidders : List Bidder) (won : Seat × ℤ)
     (price : ℕ) → bidders ≡ map (bidder_of game.seats game.events private) bids → won ≡ auction_of bidders
     → price ≡ unsigned_abs won.1 → 2 ≤ length bids
-    → after_sale game.events private won.0 price ≡ settled_by game.seats game.events private bids
+    → after_private_sale game.events private won.0 price ≡ settled_by game.seats game.events private bids
 auction_settles game private bids bidders won price made is_won is_price two =
-    ap (λ (n : ℕ). after_sale game.events private won.0 n) is_price
+    ap (λ (n : ℕ). after_private_sale game.events private won.0 n) is_price
     ∙ ap (λ (w : Seat × ℤ). after_auction game.events private w) (is_won ∙ ap auction_of made)
     ∙ sym (by_auction game.seats game.events private bids two)

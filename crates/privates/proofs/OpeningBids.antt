@@ -30,11 +30,12 @@ use Rattle.privates.proofs.RulesAtTable.{by_rules, is_under, rules_at}
 use Rattle.privates.proofs.TurnLemmas.{may_act_after}
 use Rattle.privates.specs.Bid.{MayBid, is_near_some}
 use Rattle.privates.specs.BidsRise.{BidsRise, OpeningBidsRise, is_near_earlier}
-use Rattle.privates.specs.Closing.{after_fall, after_passing, all_sold, closed, given_away}
-use Rattle.privates.specs.Bank.{price_of}
-use Rattle.privates.specs.Sale.{after_sale, gifts, settle_auctions, settled, settled_by, settled_of}
-use Rattle.privates.specs.Standing.{standing_ruling}
-use Rattle.privates.specs.Turn.{InTurn, acted, after_opening_line, after_ruling, judgement_of, refusal_of}
+use Rattle.privates.specs.Closing.{after_fall, after_passing, all_sold, given_away, opening_round_closed}
+use Rattle.privates.specs.Bank.{price_of_private}
+use Rattle.privates.specs.Sale.{after_private_sale, gifts, settle_auctions, settled, settled_by, settled_of}
+use Rattle.privates.specs.Standing.{opening_standing_ruling}
+use Rattle.privates.specs.Turn.{InOpeningTurn, after_opening_line, after_opening_ruling, opening_judgement}
+use Rattle.privates.specs.Turn.{opening_refusal, turn_after_opening_order}
 use Rattle.sheets.specs.Part.{Numbered}
 use Rattle.tables.specs.Roster.{face_of, privates, revenue_of, same_private}
 use Rattle.tables.specs.Steps.{iterate}
@@ -43,7 +44,7 @@ use Rattle.tables.specs.declared.roster.Private.TheVariants as private
 use Rattle.tables.specs.declared.seat.Seat.{Seat}
 use Rattle.turns.proofs.RoundLeads.{round_leads}
 use Rattle.turns.proofs.Ruled.{none_as_refusal, of_ruled}
-use Rattle.turns.specs.Ruling.{has_place_in_turn, obeyed_by}
+use Rattle.turns.specs.Ruling.{has_place_in_turn, obeyed_order}
 
 -- bids rise, and those that stand are of seats at the table
 record RiseAt (seats : ℕ) (events : List Event) : Type 0 where
@@ -135,7 +136,7 @@ sale_bids_nothing events private.BaltimoreOhio buyer price = refl
 -- after a sale
 after_sale_rise : (seats : ℕ) (events : List Event) (private : Private) (buyer : Seat) (price : ℕ)
     → RiseAt seats events →
-    RiseAt seats (after_sale events private buyer price)
+    RiseAt seats (after_private_sale events private buyer price)
 after_sale_rise seats events private buyer price before =
     with_others seats events (event.Sold private buyer price ∷ gifts events private buyer)
     (sale_bids_nothing events private buyer price) before
@@ -200,7 +201,7 @@ fall_rise seats events price holder before =
     (with_other seats events (event.Price price) refl before)
 
 -- after the close
-closed_rise : (seats : ℕ) (events : List Event) → RiseAt seats events → RiseAt seats (closed seats events)
+closed_rise : (seats : ℕ) (events : List Event) → RiseAt seats events → RiseAt seats (opening_round_closed seats events)
 closed_rise seats events before =
     in_either seats (all_sold events) events (after_passing seats events) before
     (in_either seats (is_sold events private.SchuylkillValley) (after_revenues seats events privates)
@@ -222,20 +223,20 @@ bid_rise seats events seat private amount may under before =
     }
 
 -- after a line whose order is done
-order_rise : (seats : ℕ) (seat : Seat) (turn : InTurn) (number : ℕ) → seat.0 < seats → RiseAt seats turn.events
+order_rise : (seats : ℕ) (seat : Seat) (turn : InOpeningTurn) (number : ℕ) → seat.0 < seats → RiseAt seats turn.events
     → (condition : Option Condition) (done : Order) →
-    refusal_of seats turn.events seat turn.actions done ≡ None
-    → RiseAt seats (after_ruling seats seat turn number (Obeyed condition done)).events
+    opening_refusal seats turn.events seat turn.actions done ≡ None
+    → RiseAt seats (after_opening_ruling seats seat turn number (Obeyed condition done)).events
 order_rise seats seat turn number under before condition (order.BuyPrivate private) kept =
     let recorded : Event = event.Ruled seat number (Obeyed condition (order.BuyPrivate private)) in
     let ruled : List Event = turn.events ++ recorded ∷ [] in
-    settled_rise seats (after_sale ruled private seat (price_of ruled private))
-    (after_sale_rise seats ruled private seat (price_of ruled private) (with_other seats turn.events recorded refl
+    settled_rise seats (after_private_sale ruled private seat (price_of_private ruled private))
+    (after_sale_rise seats ruled private seat (price_of_private ruled private) (with_other seats turn.events recorded refl
     before))
 order_rise seats seat turn number under before condition (order.Bid private amount) kept =
     let recorded : Event = event.Ruled seat number (Obeyed condition (order.Bid private amount)) in
     let ruled : List Event = turn.events ++ recorded ∷ [] in
-    let none = none_as_refusal Opening (judgement_of seats turn.events seat turn.actions (order.Bid private amount))
+    let none = none_as_refusal Opening (opening_judgement seats turn.events seat turn.actions (order.Bid private amount))
     kept in
     bid_rise seats ruled seat private amount
     (may_act_after (record { seats = seats; events = turn.events }) (record { seats = seats; events = ruled }) recorded
@@ -245,17 +246,17 @@ order_rise seats seat turn number under before condition (order.Bid private amou
 order_rise seats seat turn number under before condition other kept = absurd (cc)
 
 -- after a line
-line_rise : (seats : ℕ) (seat : Seat) (turn : InTurn) (line : Numbered) → seat.0 < seats → RiseAt seats turn.events →
+line_rise : (seats : ℕ) (seat : Seat) (turn : InOpeningTurn) (line : Numbered) → seat.0 < seats → RiseAt seats turn.events →
     RiseAt seats (after_opening_line seats seat turn line).events
 line_rise seats seat turn line under before =
-    of_ruled (acted seats seat) (refusal_of seats turn.events seat turn.actions) seat turn line.number
-    (λ (after : InTurn). RiseAt seats after.events)
-    (λ (ruling : Ruling) (none : obeyed_by ruling ≡ None). with_other seats turn.events
+    of_ruled (turn_after_opening_order seats seat) (opening_refusal seats turn.events seat turn.actions) seat turn line.number
+    (λ (after : InOpeningTurn). RiseAt seats after.events)
+    (λ (ruling : Ruling) (none : obeyed_order ruling ≡ None). with_other seats turn.events
     (event.Ruled seat line.number ruling) refl before)
     (order_rise seats seat turn line.number under before) has_place_in_turn turn.events line
 
 -- after a line where the test of its seat passes
-tested_rise : (seats : ℕ) (seat : Seat) (turn : InTurn) (line : Numbered) (b : Bool) → (b ≡ true → seat.0 < seats)
+tested_rise : (seats : ℕ) (seat : Seat) (turn : InOpeningTurn) (line : Numbered) (b : Bool) → (b ≡ true → seat.0 < seats)
     → RiseAt seats turn.events →
     RiseAt seats (if b then after_opening_line seats seat turn line else turn).events
 tested_rise seats seat turn line true under before =
@@ -275,7 +276,7 @@ opening_bids_rise file round old new played some seated rise =
       stays = λ events before. before;
       further = λ a b c first second before. second (first before);
       standing = λ seat events line before. with_other seats events
-          (event.Ruled seat line.number (standing_ruling events line)) refl before;
+          (event.Ruled seat line.number (opening_standing_ruling events line)) refl before;
       line = λ any seat turn line before. tested_rise seats seat turn line (nat_lt seat.0 seats)
           (λ under. is_under seat.0 seats under) before;
       passes = λ events seat before. with_other seats events (event.Passes seat) refl before;

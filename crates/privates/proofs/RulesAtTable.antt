@@ -5,10 +5,10 @@ use Rattle.std.proofs.Common.{arith}
 use Rattle.std.proofs.lemmas.Bool.Decides.{nat_tests}
 use Rattle.events.specs.declared.event.Event.{Event}
 use Rattle.totals.specs.LookBack.{Game}
-use Rattle.privates.specs.Closing.{all_sold, closed}
+use Rattle.privates.specs.Closing.{all_sold, opening_round_closed}
 use Rattle.privates.specs.Opening.{IsOpeningRound}
-use Rattle.privates.specs.Standing.{after_standing_line}
-use Rattle.privates.specs.Turn.{InTurn, after_opening_line, opening_rules}
+use Rattle.privates.specs.Standing.{after_opening_standing_line}
+use Rattle.privates.specs.Turn.{InOpeningTurn, after_opening_line, opening_rules}
 use Rattle.sheets.specs.Part.{Numbered}
 use Rattle.sheets.specs.Taken.{after_each}
 use Rattle.tables.specs.Seat.{seat_at}
@@ -24,12 +24,12 @@ use Rattle.turns.specs.RoundOfTurns.{IsRoundOfTurns, RoundRules, in_turn, opened
 abbrev pub rules_at : ℕ → RoundRules Bool
 rules_at seats =
     record {
-      standing = after_standing_line;
+      standing = after_opening_standing_line;
       nothing = false;
       line = λ any seat turn line. if nat_lt seat.0 seats then after_opening_line seats seat turn line else turn;
       has_acted = λ acted. acted;
       over = all_sold;
-      closed = λ any events. closed seats events;
+      closed = λ any events. opening_round_closed seats events;
     }
 
 -- a number is under another where a test says so
@@ -55,7 +55,7 @@ module _ (seats : ℕ) (some : 0 < seats) (start : InPlay (List Event) Numbered)
       let written : List Numbered = next_written_turn (written_turns_at at.written_turns at.seat) in
       ap (λ (b : Bool).
       turn_over (turns_of opening_rules seats) at
-      (turned opening_rules (after_each (λ (turn : InTurn) (line : Numbered). if b then after_opening_line seats seat
+      (turned opening_rules (after_each (λ (turn : InOpeningTurn) (line : Numbered). if b then after_opening_line seats seat
       turn line else turn) (in_turn at.now false) written)))
       (sym (says_under at.seat seats under))
 

@@ -2,7 +2,7 @@
 use Rattle.std.proofs.Common.{◌≡◌, ◌≢◌, ℕ, ◌-◌, ◌<◌, true, false, List, []}
 use Rattle.std.proofs.Common.{◌∷◌, ◌++◌, Option, Some, None, is_some, append_assoc, inl, inr, refl, sym, subst, ap, ◌∙◌}
 use Rattle.std.proofs.Common.{arith}
-use Rattle.events.specs.Event.{is_par_value, ownership_of, placed, square_set}
+use Rattle.events.specs.Event.{is_par_value, ownership_of, placement_on, square_set}
 use Rattle.events.specs.declared.event.Event.{Event}
 use Rattle.events.specs.declared.event.Event.TheVariants as event
 use Rattle.history.proofs.Acts.{gift_sound, price_sound, sale_sound}
@@ -100,7 +100,7 @@ sold_now events buyer price =
     (event.Sold BaltimoreOhio buyer price))
 
 -- BO's par places no other company
-places_baltimore : (square : Option Square) → square_said company.Pennsylvania (placed company.BaltimoreOhio square)
+places_baltimore : (square : Option Square) → square_said company.Pennsylvania (placement_on company.BaltimoreOhio square)
     ≡ None
 places_baltimore None = refl
 places_baltimore (Some square) = refl

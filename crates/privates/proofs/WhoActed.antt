@@ -10,9 +10,10 @@ use Rattle.totals.specs.LookBack.{cheapest_of, last_said}
 use Rattle.order_grammar.specs.declared.condition.Condition.{Condition}
 use Rattle.order_grammar.specs.declared.order.Order.{Order}
 use Rattle.order_grammar.specs.declared.order.Order.TheVariants as order
-use Rattle.privates.specs.Bank.{price_of}
-use Rattle.privates.specs.Sale.{after_sale, gifts, settle_auctions, settled, settled_by, settled_of}
-use Rattle.privates.specs.Turn.{InTurn, acted, after_ruling, opening_rules, refusal_of}
+use Rattle.privates.specs.Bank.{price_of_private}
+use Rattle.privates.specs.Sale.{after_private_sale, gifts, settle_auctions, settled, settled_by, settled_of}
+use Rattle.privates.specs.Turn.{InOpeningTurn, after_opening_ruling, opening_refusal, opening_rules}
+use Rattle.privates.specs.Turn.{turn_after_opening_order}
 use Rattle.sheets.specs.Part.{Numbered}
 use Rattle.tables.specs.declared.roster.Private.{Private}
 use Rattle.tables.specs.declared.roster.Private.TheVariants as private
@@ -39,7 +40,7 @@ no_giver events private.BaltimoreOhio buyer = refl
 
 -- nor by the sale itself, since its line has recorded it
 in_sale : (seat : Seat) (events : List Event) (private : Private) (buyer : Seat) (price : ℕ) →
-    SaysWhoActed seat false events (after_sale events private buyer price)
+    SaysWhoActed seat false events (after_private_sale events private buyer price)
 in_sale seat events private buyer price =
     record {
       more = event.Sold private buyer price ∷ gifts events private buyer;
@@ -68,12 +69,12 @@ in_settled seat seats events = nobody_in_steps seat (settle_auctions seats)
     (λ list. in_cheapest seat seats list (cheapest_of list)) 6 events
 
 -- by a line whose order is done
-order_says : (seats : ℕ) (seat : Seat) (turn : InTurn) (number : ℕ) (condition : Option Condition) (done : Order)
-    → refusal_of seats turn.events seat turn.actions done ≡ None →
-    LineSaysWhoActed opening_rules seat turn (after_ruling seats seat turn number (Obeyed condition done))
+order_says : (seats : ℕ) (seat : Seat) (turn : InOpeningTurn) (number : ℕ) (condition : Option Condition) (done : Order)
+    → opening_refusal seats turn.events seat turn.actions done ≡ None →
+    LineSaysWhoActed opening_rules seat turn (after_opening_ruling seats seat turn number (Obeyed condition done))
 order_says seats seat turn number condition (order.BuyPrivate private) kept =
     let ruled : List Event = recorded seat number (Obeyed condition (order.BuyPrivate private)) turn.events in
-    let sold : List Event = after_sale ruled private seat (price_of ruled private) in
+    let sold : List Event = after_private_sale ruled private seat (price_of_private ruled private) in
     record {
       acts = true;
       says_who =
@@ -81,7 +82,7 @@ order_says seats seat turn number condition (order.BuyPrivate private) kept =
           (one_more seat true turn.events (event.Ruled seat number (Obeyed condition (order.BuyPrivate private)))
           refl)
           (in_both seat false false ruled sold (settled seats sold)
-          (in_sale seat ruled private seat (price_of ruled private)) (in_settled seat seats sold));
+          (in_sale seat ruled private seat (price_of_private ruled private)) (in_settled seat seats sold));
       acted = now_acted turn.actions;
     }
 order_says seats seat turn number condition (order.Bid private amount) kept =
@@ -101,8 +102,8 @@ order_says seats seat turn number condition other kept = absurd (cc)
 pub opening_turns_say : TurnsSayWhoActed opening_rules
 opening_turns_say =
     turns_say opening_rules refl
-    (λ (seats : ℕ) (seat : Seat) (turn : InTurn) (line : Numbered).
-    of_ruled (acted seats seat) (refusal_of seats turn.events seat turn.actions) seat turn line.number
+    (λ (seats : ℕ) (seat : Seat) (turn : InOpeningTurn) (line : Numbered).
+    of_ruled (turn_after_opening_order seats seat) (opening_refusal seats turn.events seat turn.actions) seat turn line.number
     (LineSaysWhoActed opening_rules seat turn)
     (nobody_ruled opening_rules seat turn line.number) (order_says seats seat turn line.number) has_place_in_turn
     turn.events line)

@@ -11,9 +11,9 @@ use Rattle.tables.specs.declared.roster.Private.TheVariants.{SchuylkillValley}
 use Rattle.tables.specs.declared.seat.Seat.{Seat}
 
 -- the bank's price of a private: SV's price may have fallen
-abbrev pub price_of : List Event → Private → ℕ
-price_of events SchuylkillValley = sv_price_of events
-price_of events private = face_of private
+abbrev pub price_of_private : List Event → Private → ℕ
+price_of_private events SchuylkillValley = sv_price_of events
+price_of_private events private = face_of private
 
 -- there is such a private, and it is this one
 abbrev pub is_the : Private → Option Private → Bool

@@ -5,8 +5,8 @@ use Rattle.events.specs.declared.event.Event.{Event}
 use Rattle.events.specs.declared.ruling.OpeningRule.{OpeningRule}
 use Rattle.events.specs.declared.ruling.OpeningRule.TheVariants.{Sold, NotCheapest, CashTooSmall, TurnUsed}
 use Rattle.totals.specs.LookBack.{is_sold}
-use Rattle.privates.specs.Bank.{is_cheapest, is_short, price_of}
-use Rattle.privates.specs.Sale.{after_sale, settled}
+use Rattle.privates.specs.Bank.{is_cheapest, is_short, price_of_private}
+use Rattle.privates.specs.Sale.{after_private_sale, settled}
 use Rattle.tables.specs.Rules.{Rule}
 use Rattle.tables.specs.declared.roster.Private.{Private}
 use Rattle.tables.specs.declared.seat.Seat.{Seat}
@@ -21,10 +21,11 @@ abbrev pub private_purchase_rules : ℕ → List Event → Seat → Bool → Pri
 private_purchase_rules seats events seat used private =
     record { code = Sold; broken = is_sold events private }
     ∷ record { code = NotCheapest; broken = not (is_cheapest events private) }
-    ∷ record { code = CashTooSmall; broken = is_short seats events seat private (price_of events private) }
+    ∷ record { code = CashTooSmall; broken = is_short seats events seat private (price_of_private events private) }
     ∷ record { code = TurnUsed; broken = used }
     ∷ []
 
 -- after the purchase of a private by a seat
-abbrev pub after_purchase : ℕ → Seat → List Event → Private → List Event
-after_purchase seats seat events private = settled seats (after_sale events private seat (price_of events private))
+abbrev pub after_private_purchase : ℕ → Seat → List Event → Private → List Event
+after_private_purchase seats seat events private =
+    settled seats (after_private_sale events private seat (price_of_private events private))

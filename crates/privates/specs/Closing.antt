@@ -7,7 +7,7 @@ use Rattle.events.specs.declared.event.Event.{Event}
 use Rattle.events.specs.declared.event.Event.TheVariants as event
 use Rattle.totals.specs.LookBack.{cheapest_of, is_sold, priority_of, sv_price_of}
 use Rattle.history.specs.Record.{after_revenues}
-use Rattle.privates.specs.Sale.{after_sale, settled}
+use Rattle.privates.specs.Sale.{after_private_sale, settled}
 use Rattle.tables.specs.Roster.{privates}
 use Rattle.tables.specs.declared.roster.Private.TheVariants.{SchuylkillValley}
 use Rattle.tables.specs.declared.seat.Seat.{Seat}
@@ -18,7 +18,7 @@ all_sold events = is_none (cheapest_of events)
 
 -- after SV's price has fallen to 0, and SV has gone to a seat for nothing
 abbrev pub given_away : List Event → Seat → List Event
-given_away events seat = after_sale (events ++ event.Price 0 ∷ []) SchuylkillValley seat 0
+given_away events seat = after_private_sale (events ++ event.Price 0 ∷ []) SchuylkillValley seat 0
 
 -- after SV's price has fallen to this; at 0 SV goes to this holder of priority, with the sales that
 -- follow
@@ -34,5 +34,5 @@ after_passing seats events =
     else after_fall seats events (sv_price_of events - 5) (priority_of seats events)
 
 -- after the turns: once all privates are sold nothing falls and nothing is paid
-abbrev pub closed : ℕ → List Event → List Event
-closed seats events = if all_sold events then events else after_passing seats events
+abbrev pub opening_round_closed : ℕ → List Event → List Event
+opening_round_closed seats events = if all_sold events then events else after_passing seats events

@@ -18,9 +18,9 @@ begins game round may sound =
     begun_underway game (with_event game (event.Round round)) round refl may.pennsylvania may.baltimore sound
 
 -- a pass keeps it
-pub passes : (game : Game) (seat : Seat) → IsUnderway game → IsSound (with_event game (event.Passes seat))
+pub pass_keeps_underway : (game : Game) (seat : Seat) → IsUnderway game → IsSound (with_event game (event.Passes seat))
     → IsUnderway (with_event game (event.Passes seat))
-passes game seat underway sound =
+pass_keeps_underway game seat underway sound =
     event_underway game (with_event game (event.Passes seat)) (event.Passes seat) refl (λ its other. refl) refl sound
     underway
 

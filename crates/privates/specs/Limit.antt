@@ -25,6 +25,6 @@ limit_from bid None free = bid
 limit_from bid (Some ordered) free = int_max bid (int_min (pos ordered) free)
 
 -- how far a bidder goes in the auction of a private
-abbrev pub limit_of : ℕ → List Event → Private → Bid → ℤ
-limit_of seats events private bid =
+abbrev pub auction_limit : ℕ → List Event → Private → Bid → ℤ
+auction_limit seats events private bid =
     limit_from (pos bid.amount) (bid_limit_of events private bid.seat) (free_for seats events bid.seat private)

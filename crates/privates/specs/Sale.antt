@@ -11,7 +11,7 @@ use Rattle.events.specs.declared.event.Event.TheVariants.{Given, Par, President,
 use Rattle.totals.specs.Bids.{bids_on}
 use Rattle.totals.specs.LookBack.{cheapest_of}
 use Rattle.privates.specs.Auction.{Bidder, auction_of}
-use Rattle.privates.specs.Limit.{limit_of}
+use Rattle.privates.specs.Limit.{auction_limit}
 use Rattle.privates.specs.ParOfBo.{par_set_by}
 use Rattle.tables.specs.Steps.{iterate}
 use Rattle.tables.specs.declared.roster.Company.TheVariants as company
@@ -32,21 +32,21 @@ gifts events BaltimoreOhio buyer = started_at buyer (par_set_by events buyer)
 gifts events other buyer = []
 
 -- after the sale of a private to a buyer at this price
-abbrev pub after_sale : List Event → Private → Seat → ℕ → List Event
-after_sale events private buyer price = events ++ Sold private buyer price ∷ gifts events private buyer
+abbrev pub after_private_sale : List Event → Private → Seat → ℕ → List Event
+after_private_sale events private buyer price = events ++ Sold private buyer price ∷ gifts events private buyer
 
 -- a bidder in the auction of a private, with a bid and a limit
 abbrev pub bidder_of : ℕ → List Event → Private → Bid → Bidder
-bidder_of seats events private bid = (bid.seat, pos bid.amount, limit_of seats events private bid)
+bidder_of seats events private bid = (bid.seat, pos bid.amount, auction_limit seats events private bid)
 
 -- after a sale to the winner of an auction, who pays this; no price is under 0
 abbrev pub after_auction : List Event → Private → Seat × ℤ → List Event
-after_auction events private won = after_sale events private won.0 (unsigned_abs won.1)
+after_auction events private won = after_private_sale events private won.0 (unsigned_abs won.1)
 
 -- after the bids on the cheapest private are settled, which are these
 abbrev pub settled_by : ℕ → List Event → Private → List Bid → List Event
 settled_by seats events private [] = events
-settled_by seats events private (bid ∷ []) = after_sale events private bid.seat bid.amount
+settled_by seats events private (bid ∷ []) = after_private_sale events private bid.seat bid.amount
 settled_by seats events private bids = after_auction events private
     (auction_of (map (bidder_of seats events private) bids))
 

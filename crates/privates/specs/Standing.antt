@@ -17,25 +17,25 @@ use Rattle.tables.specs.declared.seat.Seat.{Seat}
 use Rattle.turns.specs.Ruling.{line_ruling, recorded}
 
 -- the orders that may be before the first written turn
-abbrev pub has_place_before : Order → Bool
-has_place_before (Limit private amount) = true
-has_place_before (Par company price) = true
-has_place_before other = false
+abbrev pub has_place_before_turns : Order → Bool
+has_place_before_turns (Limit private amount) = true
+has_place_before_turns (Par company price) = true
+has_place_before_turns other = false
 
 -- the first rule that a standing order breaks; any order but a LIMIT or a PAR breaks the first
-abbrev pub standing_judgement : List Event → Order → Option OpeningRule
-standing_judgement events (Limit private amount) = first_broken (limit_rules events private)
-standing_judgement events (Par company price) = first_broken (par_rules company price)
-standing_judgement events other = Some NotOfOpening
+abbrev pub opening_standing_judgement : List Event → Order → Option OpeningRule
+opening_standing_judgement events (Limit private amount) = first_broken (limit_rules events private)
+opening_standing_judgement events (Par company price) = first_broken (par_rules company price)
+opening_standing_judgement events other = Some NotOfOpening
 
 -- the rule that a standing order breaks, as a ruling refuses an order
-abbrev pub standing_refusal : List Event → Order → Option Refusal
-standing_refusal events order = option_map Opening (standing_judgement events order)
+abbrev pub opening_standing_refusal : List Event → Order → Option Refusal
+opening_standing_refusal events order = option_map Opening (opening_standing_judgement events order)
 
 -- what becomes of a standing line
-abbrev pub standing_ruling : List Event → Numbered → Ruling
-standing_ruling events line = line_ruling has_place_before (standing_refusal events) events line
+abbrev pub opening_standing_ruling : List Event → Numbered → Ruling
+opening_standing_ruling events line = line_ruling has_place_before_turns (opening_standing_refusal events) events line
 
 -- after a standing line of a seat
-abbrev pub after_standing_line : Seat → List Event → Numbered → List Event
-after_standing_line seat events line = recorded seat line.number (standing_ruling events line) events
+abbrev pub after_opening_standing_line : Seat → List Event → Numbered → List Event
+after_opening_standing_line seat events line = recorded seat line.number (opening_standing_ruling events line) events

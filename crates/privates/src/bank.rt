@@ -2,15 +2,15 @@
 //! pay.
 ghost use Rattle.std.specs.Prelude.{◌≡◌};
 ghost use Rattle.totals.specs.LookBack.{cheapest_in};
-ghost use Rattle.privates.specs.Bank.{is_short, is_the, price_of};
+ghost use Rattle.privates.specs.Bank.{is_short, is_the, price_of_private};
 
 use history::{GameView, Owners};
 use tables::{Amount, Money, Private, Seat, face};
 
 /// Returns the price of a private at the bank, in dollars: SV's price may have fallen; that of the
 /// others is their face value.
-pub fn price_of(view: &GameView, private: Private) -> Amount
-    ensures { result ≡ price_of view.now.events.now private }
+pub fn price_of_private(view: &GameView, private: Private) -> Amount
+    ensures { result ≡ price_of_private view.now.events.now private }
 {
     match private {
         Private::SchuylkillValley => view.sv_price(),

@@ -1,12 +1,12 @@
 //! A purchase: in a turn a seat buys the cheapest unsold private, at the bank's price. What comes
 //! with the private follows, and the bids on the next one are settled at once.
 ghost use Rattle.std.specs.Prelude.{◌≡◌, ◌≤◌, ◌<◌, OnOk};
-ghost use Rattle.privates.specs.Bank.{MayPay, price_of as price_asked};
-ghost use Rattle.privates.specs.Buy.{after_purchase, private_purchase_rules};
+ghost use Rattle.privates.specs.Bank.{MayPay, price_of_private};
+ghost use Rattle.privates.specs.Buy.{after_private_purchase, private_purchase_rules};
 ghost use Rattle.privates.specs.Underway.{IsUnderway};
 ghost use Rattle.tables.specs.Rules.{first_broken};
 
-use crate::bank::{is_cheapest, is_short, price_of};
+use crate::bank::{is_cheapest, is_short, price_of_private};
 use crate::sale::{sell, settle_all};
 use history::{GameView, History, OpeningRule};
 use std::alloc::AllocError;
@@ -26,7 +26,7 @@ pub(crate) fn judge_purchase(
     rules! { OpeningRule
         Sold: owners.is_sold(private),
         NotCheapest: !is_cheapest(&owners, private),
-        CashTooSmall: is_short(view, seat, private, price_of(view, private)),
+        CashTooSmall: is_short(view, seat, private, price_of_private(view, private)),
         TurnUsed: turn_used,
     }
 }
@@ -36,14 +36,14 @@ pub(crate) fn buy(history: &mut History, seat: Seat, private: Private) -> Result
     requires few { history.old.seats ≤ 6 }
     requires at_table { seat.0 < history.old.seats }
     requires may { MayPay history.old.seats history.old.events seat private
-        (price_asked history.old.events private) }
+        (price_of_private history.old.events private) }
     requires underway { IsUnderway history.old }
     ensures seats { OnOk result (history.new.seats ≡ history.old.seats) }
     ensures events { OnOk result (history.new.events
-        ≡ after_purchase history.old.seats seat history.old.events private) }
+        ≡ after_private_purchase history.old.seats seat history.old.events private) }
     ensures underway { OnOk result (IsUnderway history.new) }
 {
-    let price = price_of(&history.now(), private);
+    let price = price_of_private(&history.now(), private);
     sell(history, private, seat, price)?;
     settle_all(history)
 }

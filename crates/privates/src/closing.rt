@@ -4,7 +4,7 @@ ghost use Rattle.std.specs.Prelude.{◌≡◌, ◌≢◌, ◌<◌, ◌≤◌, �
 ghost use Rattle.events.specs.declared.event.Event.TheVariants as event;
 ghost use Rattle.totals.specs.LookBack.{is_sold, priority_of, sv_price_of, with_event};
 ghost use Rattle.history.specs.Record.{revenues_recorded};
-ghost use Rattle.privates.specs.Closing.{after_fall, closed, given_away};
+ghost use Rattle.privates.specs.Closing.{after_fall, given_away, opening_round_closed};
 ghost use Rattle.privates.specs.Underway.{IsUnderway};
 ghost use Rattle.tables.specs.declared.roster.Private.TheVariants.{SchuylkillValley};
 
@@ -23,7 +23,7 @@ pub(crate) fn close(history: &mut History) -> Result<(), AllocError>
     requires underway { IsUnderway history.old }
     ensures seats { OnOk result (history.new.seats ≡ history.old.seats) }
     ensures events { OnOk result (history.new.events
-        ≡ closed history.old.seats history.old.events) }
+        ≡ opening_round_closed history.old.seats history.old.events) }
     ensures underway { OnOk result (IsUnderway history.new) }
 {
     let owners = history.now().owners();

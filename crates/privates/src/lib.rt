@@ -28,7 +28,7 @@ mod sale;
 mod standing;
 mod turn;
 
-pub use bank::price_of;
+pub use bank::price_of_private;
 pub use bidding::auction;
 pub use opening::{OpeningTurns, play_opening};
 pub use standing::judge_standing;

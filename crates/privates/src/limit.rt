@@ -1,7 +1,7 @@
 //! A LIMIT: a standing line that says how far a seat goes in an auction of a private, which must be
 //! unsold.
 ghost use Rattle.std.specs.Prelude.{◌≡◌};
-ghost use Rattle.privates.specs.Limit.{limit_of, limit_rules};
+ghost use Rattle.privates.specs.Limit.{auction_limit, limit_rules};
 ghost use Rattle.tables.specs.Rules.{first_broken};
 
 use history::{Bid, GameView, OpeningRule};
@@ -19,8 +19,8 @@ pub(crate) fn judge_limit(view: &GameView, private: Private) -> Option<OpeningRu
 /// Returns how far a bidder goes in the auction of a private, in dollars: to the limit that they
 /// ordered, or to what they can spend if that is less; without a limit only to their bid. It is at
 /// least their bid.
-pub(crate) fn limit_of(view: &GameView, private: Private, bid: Bid) -> Money
-    ensures { result ≡ limit_of view.now.seats view.now.events.now private bid }
+pub(crate) fn auction_limit(view: &GameView, private: Private, bid: Bid) -> Money
+    ensures { result ≡ auction_limit view.now.seats view.now.events.now private bid }
 {
     let amount = Money::from(bid.amount);
     match view.limit(private, bid.seat) {

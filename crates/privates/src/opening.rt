@@ -2,7 +2,7 @@
 ghost use Rattle.std.specs.Prelude.{◌≡◌, IfOk, false, length, refl};
 ghost use Rattle.history.specs.Sound.{IsSound};
 ghost use Rattle.privates.specs.Keeping.{begins as begins_underway, leaves as leaves_underway};
-ghost use Rattle.privates.specs.Keeping.{passes as passes_underway};
+ghost use Rattle.privates.specs.Keeping.{pass_keeps_underway};
 ghost use Rattle.privates.specs.Opening.{IsOpeningRound};
 ghost use Rattle.privates.specs.Turn.{opening_rules};
 ghost use Rattle.privates.specs.Underway.{BaltimoreWaits, IsUnderway, MayBegin, PennsylvaniaWaits};
@@ -69,7 +69,7 @@ impl TurnRules for OpeningTurns {
 
     ghost begins = { begins_underway };
 
-    ghost passes = { passes_underway };
+    ghost passes = { pass_keeps_underway };
 
     ghost leaves = { leaves_underway };
 

@@ -5,12 +5,12 @@ ghost use Rattle.events.specs.declared.event.Event.TheVariants as event;
 ghost use Rattle.totals.specs.Bids.{bids_on};
 ghost use Rattle.totals.specs.LookBack.{cheapest_of, with_event};
 ghost use Rattle.privates.specs.Bank.{MayPay};
-ghost use Rattle.privates.specs.Sale.{after_sale, bidder_of, settle_auctions, settled, settled_by};
+ghost use Rattle.privates.specs.Sale.{after_private_sale, bidder_of, settle_auctions, settled, settled_by};
 ghost use Rattle.tables.specs.declared.roster.Private.TheVariants.{BaltimoreOhio, CamdenAmboy};
 ghost use Rattle.privates.specs.Underway.{IsUnderway};
 
 use crate::bidding::auction;
-use crate::limit::limit_of;
+use crate::limit::auction_limit;
 use crate::par_of_bo::par_set_by;
 use arrayvec::ArrayVec;
 use history::{Bid, Event, GameView, History};
@@ -30,7 +30,7 @@ pub(crate) fn sell(
     requires underway { IsUnderway history.old }
     ensures seats { OnOk result (history.new.seats ≡ history.old.seats) }
     ensures events { OnOk result (history.new.events
-        ≡ after_sale history.old.events private buyer price) }
+        ≡ after_private_sale history.old.events private buyer price) }
     ensures underway { OnOk result (IsUnderway history.new) }
 {
     match private {
@@ -74,7 +74,7 @@ fn sell_camden(history: &mut History, buyer: Seat, price: Amount) -> Result<(), 
     requires underway { IsUnderway history.old }
     ensures seats { OnOk result (history.new.seats ≡ history.old.seats) }
     ensures events { OnOk result (history.new.events
-        ≡ after_sale history.old.events CamdenAmboy buyer price) }
+        ≡ after_private_sale history.old.events CamdenAmboy buyer price) }
     ensures underway { OnOk result (IsUnderway history.new) }
 {
     history.append(Event::Sold {
@@ -98,7 +98,7 @@ fn sell_baltimore(history: &mut History, buyer: Seat, price: Amount) -> Result<(
     requires underway { IsUnderway history.old }
     ensures seats { OnOk result (history.new.seats ≡ history.old.seats) }
     ensures events { OnOk result (history.new.events
-        ≡ after_sale history.old.events BaltimoreOhio buyer price) }
+        ≡ after_private_sale history.old.events BaltimoreOhio buyer price) }
     ensures underway { OnOk result (IsUnderway history.new) }
 {
     let company = Company::BaltimoreOhio;
@@ -221,6 +221,6 @@ fn bidders_of(
 fn bidder_of(view: &GameView, private: Private, bid: Bid) -> (Seat, Money, Money)
     ensures { result ≡ bidder_of view.now.seats view.now.events.now private bid }
 {
-    let limit = limit_of(view, private, bid);
+    let limit = auction_limit(view, private, bid);
     (bid.seat, Money::from(bid.amount), limit)
 }

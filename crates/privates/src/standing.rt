@@ -1,8 +1,8 @@
 //! The standing lines of an opening sheet, the lines before its first written turn: LIMIT and PAR.
 ghost use Rattle.std.specs.Prelude.{◌≡◌, OnOk};
 ghost use Rattle.turns.specs.Small.{IsSmallReading};
-ghost use Rattle.privates.specs.Standing.{after_standing_line, has_place_before as may_stand_before};
-ghost use Rattle.privates.specs.Standing.{standing_judgement, standing_refusal};
+ghost use Rattle.privates.specs.Standing.{after_opening_standing_line, has_place_before_turns};
+ghost use Rattle.privates.specs.Standing.{opening_standing_judgement, opening_standing_refusal};
 ghost use Rattle.privates.specs.Underway.{IsUnderway};
 ghost use Rattle.sheets.specs.Part.{line_unread};
 
@@ -19,14 +19,14 @@ use turns::Family;
 struct StandingLines;
 
 impl Family for StandingLines {
-    ghost place = { may_stand_before };
+    ghost place = { has_place_before_turns };
 
-    ghost judgement = { λ lines game seat. standing_refusal game.events };
+    ghost judgement = { λ lines game seat. opening_standing_refusal game.events };
 
     ghost may_judge = { λ game seat. Unit {0} };
 
     fn has_place(&self, order: &Order) -> bool {
-        may_stand_before(order)
+        has_place_before_turns(order)
     }
 
     fn judge(&self, history: &History, _seat: Seat, order: &Order) -> Option<Refusal> {
@@ -45,7 +45,7 @@ pub(crate) fn rule_standing_line(
     requires underway { IsUnderway history.old }
     ensures seats { OnOk result (history.new.seats ≡ history.old.seats) }
     ensures events { OnOk result (history.new.events
-        ≡ after_standing_line seat history.old.events (line_unread line.entry)) }
+        ≡ after_opening_standing_line seat history.old.events (line_unread line.entry)) }
     ensures underway { OnOk result (IsUnderway history.new) }
 {
     turns::rule_line(&StandingLines, history, seat, line, order)?;
@@ -53,8 +53,8 @@ pub(crate) fn rule_standing_line(
 }
 
 /// Returns whether an order may be before the first written turn, as LIMIT and PAR may.
-fn may_stand_before(order: &Order) -> bool
-    ensures { result ≡ may_stand_before order.now }
+fn has_place_before_turns(order: &Order) -> bool
+    ensures { result ≡ has_place_before_turns order.now }
 {
     matches!(order, Order::Limit { .. } | Order::Par { .. })
 }
@@ -63,7 +63,7 @@ fn may_stand_before(order: &Order) -> bool
 /// breaks A2 if its private is sold. A PAR breaks A1 if it is not for BO or sets no par value, and
 /// so does every other order.
 pub fn judge_standing(history: &History, order: &Order) -> Option<OpeningRule>
-    ensures { result ≡ standing_judgement history.now.events order.now }
+    ensures { result ≡ opening_standing_judgement history.now.events order.now }
 {
     match order {
         Order::Limit { private, .. } => judge_limit(&history.now(), *private),

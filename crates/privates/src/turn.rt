@@ -1,6 +1,7 @@
 //! The lines of a written turn: in a turn a seat may buy or bid, once.
 ghost use Rattle.std.specs.Prelude.{◌≡◌, ◌≤◌, ◌<◌, OnOk, IfOk};
-ghost use Rattle.privates.specs.Turn.{MayAct, after_act, after_opening_line, judgement_of, refusal_of};
+ghost use Rattle.privates.specs.Turn.{MayAct, after_opening_line, after_opening_order, opening_judgement};
+ghost use Rattle.privates.specs.Turn.{opening_refusal};
 ghost use Rattle.privates.specs.Underway.{IsUnderway};
 ghost use Rattle.sheets.specs.Part.{line_unread};
 ghost use Rattle.turns.specs.RoundOfTurns.{in_turn};
@@ -25,7 +26,8 @@ struct TurnLines {
 impl Family for TurnLines {
     ghost place = { has_place_in_turn };
 
-    ghost judgement = { λ lines game seat. refusal_of game.seats game.events seat lines.turn_used };
+    ghost judgement = { λ lines game seat.
+        opening_refusal game.seats game.events seat lines.turn_used };
 
     ghost may_judge = { λ game seat. Unit {0} };
 
@@ -67,7 +69,8 @@ pub(crate) fn rule_line(
 /// Returns the first rule that an order of a seat breaks in its turn, given whether it has used the
 /// turn; `None` if it breaks none. `judge_standing` judges standing lines.
 pub fn judge(history: &History, seat: Seat, order: &Order, turn_used: bool) -> Option<OpeningRule>
-    ensures { result ≡ judgement_of history.now.seats history.now.events seat turn_used order.now }
+    ensures { result
+        ≡ opening_judgement history.now.seats history.now.events seat turn_used order.now }
 {
     let now = history.now();
     match order {
@@ -86,7 +89,7 @@ fn act(history: &mut History, seat: Seat, order: &Order) -> Result<(), AllocErro
     requires underway { IsUnderway history.old }
     ensures seats { OnOk result (history.new.seats ≡ history.old.seats) }
     ensures events { OnOk result (history.new.events
-        ≡ after_act history.old.seats seat history.old.events order.now) }
+        ≡ after_opening_order history.old.seats seat history.old.events order.now) }
     ensures underway { OnOk result (IsUnderway history.new) }
 {
     match order {

@@ -5,7 +5,7 @@ use Rattle.events.specs.declared.event.Holder.TheVariants as holder
 use Rattle.totals.specs.LookBack.{Game, owner_of}
 use Rattle.purchases.proofs.ConsentLemmas.{companies_agree, owners_agree}
 use Rattle.purchases.specs.ConsentLaws.{CompanyAgrees, OwnerAgrees}
-use Rattle.purchases.specs.Train.{cost_of, purchase_of, train_judgement, with_trade}
+use Rattle.purchases.specs.Train.{purchase_of, train_judgement, train_purchase_cost, with_trade}
 use Rattle.purchases.specs.Private.{private_judgement}
 use Rattle.purchases.specs.SaleLaws.{IsAgreed, IsGiven}
 use Rattle.order_grammar.specs.declared.order.TrainSource.{TrainSource}
@@ -40,7 +40,7 @@ owner_agrees game buyer private price by seats =
 pub train_agreed : (company : Company) (game : Game) (kind : Kind) (from : TrainSource) →
     train_judgement game company (purchase_of kind from) ≡ None →
     IsAgreed (with_trade game company (purchase_of kind from).trade_in).events
-    (event.Train company (purchase_of kind from).kind (purchase_of kind from).from (cost_of (purchase_of kind from)))
+    (event.Train company (purchase_of kind from).kind (purchase_of kind from).from (train_purchase_cost (purchase_of kind from)))
 train_agreed company game kind source.Bank none = tt
 train_agreed company game kind (source.Trade trade_in) none = tt
 train_agreed company game kind source.BankPool none = tt

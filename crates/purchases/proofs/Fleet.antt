@@ -27,7 +27,7 @@ use Rattle.purchases.proofs.TrainSteps.{IsPassedOn, later_begins, of_choice, of_
 use Rattle.purchases.proofs.TrainSteps.{of_phase, of_privates, of_train_owner, phase_bought, phase_then}
 use Rattle.purchases.specs.Phases.{rusts_at, with_kind_rusted, with_kind_rusted_at, with_limits_kept, with_phase}
 use Rattle.purchases.specs.Phases.{with_privates_closed, with_rusted}
-use Rattle.purchases.specs.Train.{begins_phase, bought, is_on_sale, train_judgement, train_purchase_rules}
+use Rattle.purchases.specs.Train.{begins_phase, is_on_sale, train_bought, train_judgement, train_purchase_rules}
 use Rattle.purchases.specs.TrainLaws.{PurchasesKeepAll, TrainsAreAll, has_come, trains_there}
 use Rattle.purchases.specs.declared.train.TrainPurchase.{TrainPurchase}
 use Rattle.tables.proofs.Rules.{not_broken}
@@ -174,8 +174,8 @@ had_left game buyer purchase kind number fair bank is there =
 -- the kinds are sold in their order after a purchase
 in_order_then : (game : Game) (buyer : Company) (purchase : TrainPurchase) → IsFair game buyer purchase
     → (earlier later : Kind) (number : ℕ) → (trains_of earlier).number ≡ Some number → index_of_kind earlier < 4
-    → index_of_kind earlier < index_of_kind later → 0 < trains_sold (bought game buyer purchase).events later
-    → trains_sold (bought game buyer purchase).events earlier ≡ number
+    → index_of_kind earlier < index_of_kind later → 0 < trains_sold (train_bought game buyer purchase).events later
+    → trains_sold (train_bought game buyer purchase).events earlier ≡ number
 in_order_then game buyer purchase fair earlier later number there numbered before sold =
     let early = (is_bought game buyer purchase earlier).sold in
     let late = (is_bought game buyer purchase later).sold in
@@ -227,7 +227,7 @@ not_later sold phase kind none begins = grind (arith, nat_tests, none, begins)
 -- a kind that is sold after a purchase by which no phase begins
 latest_then : (game : Game) (buyer : Company) (purchase : TrainPurchase)
     → begins_phase game.events purchase.from purchase.kind ≡ false → IsFair game buyer purchase → (kind : Kind)
-    → 0 < trains_sold (bought game buyer purchase).events kind
+    → 0 < trains_sold (train_bought game buyer purchase).events kind
     → index_of_kind kind ≤ index_of_kind (phase_of game.events)
 latest_then game buyer purchase begins fair kind sold =
     let now = (is_bought game buyer purchase kind).sold in
@@ -247,16 +247,16 @@ latest_then game buyer purchase begins fair kind sold =
 
 -- a purchase takes none out of play
 there_as_before : (game : Game) (buyer : Company) (purchase : TrainPurchase) (kind : Kind) (number : ℕ)
-    → trains_there (bought game buyer purchase).events kind number ≡ trains_there game.events kind number
+    → trains_there (train_bought game buyer purchase).events kind number ≡ trains_there game.events kind number
 there_as_before game buyer purchase kind number =
-    as_many game.events (bought game buyer purchase).events kind number (is_bought game buyer purchase kind).out
+    as_many game.events (train_bought game buyer purchase).events kind number (is_bought game buyer purchase kind).out
 
 -- where no phase begins
 no_phase : (game : Game) (buyer : Company) (purchase : TrainPurchase)
     → begins_phase game.events purchase.from purchase.kind ≡ false → IsFair game buyer purchase
-    → TrainsAreAll (bought game buyer purchase).events
+    → TrainsAreAll (train_bought game buyer purchase).events
 no_phase game buyer purchase begins fair =
-    let after = bought game buyer purchase in
+    let after = train_bought game buyer purchase in
     let phase = phase_bought game buyer purchase in
     let still = there_as_before game buyer purchase in
     record {
@@ -315,9 +315,9 @@ rusts_early phase Diesel rusts = absurd (cc)
 -- where one does
 new_phase : (game : Game) (buyer : Company) (purchase : TrainPurchase)
     → begins_phase game.events purchase.from purchase.kind ≡ true → IsFair game buyer purchase
-    → TrainsAreAll (with_phase (bought game buyer purchase) purchase.kind).events
+    → TrainsAreAll (with_phase (train_bought game buyer purchase) purchase.kind).events
 new_phase game buyer purchase begins fair =
-    let there = bought game buyer purchase in
+    let there = train_bought game buyer purchase in
     let kind = purchase.kind in
     let after = with_phase there kind in
     let phase : phase_of after.events ≡ kind = phase_then there kind in
@@ -374,7 +374,7 @@ new_phase game buyer purchase begins fair =
 
 by_phase : (game : Game) (buyer : Company) (purchase : TrainPurchase) (begins : Bool)
     → begins_phase game.events purchase.from purchase.kind ≡ begins → IsFair game buyer purchase
-    → TrainsAreAll (if begins then with_phase (bought game buyer purchase) purchase.kind else bought game buyer
+    → TrainsAreAll (if begins then with_phase (train_bought game buyer purchase) purchase.kind else train_bought game buyer
     purchase).events
 by_phase game buyer purchase true begins fair = new_phase game buyer purchase begins fair
 by_phase game buyer purchase false begins fair = no_phase game buyer purchase begins fair

@@ -14,7 +14,8 @@ use Rattle.purchases.proofs.Rust.{so_many_less}
 use Rattle.purchases.proofs.TrainSteps.{IsPassedOn, OfClosings, OfNextDiscards, OfStables, of_bop, of_choice, of_phase}
 use Rattle.purchases.specs.Discard.{next_discard, with_discarded}
 use Rattle.purchases.specs.Phases.{with_one_rusted, with_phase}
-use Rattle.purchases.specs.Train.{after_train, begins_phase, bought, cost_of, train_judgement, with_trade}
+use Rattle.purchases.specs.Train.{after_train, begins_phase, train_bought, train_judgement, train_purchase_cost}
+use Rattle.purchases.specs.Train.{with_trade}
 use Rattle.purchases.specs.declared.train.TrainPurchase.{TrainPurchase}
 use Rattle.tables.specs.Steps.{iterate}
 use Rattle.tables.specs.Train.{kinds}
@@ -84,11 +85,11 @@ traded_held game company (Some kind) has held =
 
 -- after the company has bought
 pub bought_held : (game : Game) (buyer : Company) (purchase : TrainPurchase) → train_judgement game buyer purchase ≡ None
-    → StillHeld game (bought game buyer purchase)
+    → StillHeld game (train_bought game buyer purchase)
 bought_held game buyer purchase none held =
     let may = may_buy game buyer purchase none in
     let traded = with_trade game buyer purchase.trade_in in
-    let price = cost_of purchase in
+    let price = train_purchase_cost purchase in
     let there = there_traded game buyer purchase.trade_in purchase.from purchase.kind may.another may.there in
     of_bop StillHeld held_on closing_held (with_event traded (event.Train buyer purchase.kind purchase.from price))
     buyer
@@ -99,7 +100,7 @@ bought_held game buyer purchase none held =
 pub purchase_held : (game : Game) (buyer : Company) (purchase : TrainPurchase) → train_judgement game buyer purchase ≡ None
     → StillHeld game (after_train game buyer purchase)
 purchase_held game buyer purchase none =
-    let came = bought game buyer purchase in
+    let came = train_bought game buyer purchase in
     let first : StillHeld game came = bought_held game buyer purchase none in
     of_choice StillHeld (begins_phase game.events purchase.from purchase.kind) game (with_phase came purchase.kind)
     came (λ held. phase_held came purchase.kind (first held)) first

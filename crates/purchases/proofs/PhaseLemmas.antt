@@ -19,7 +19,7 @@ use Rattle.purchases.specs.Discard.{first_held, has_train, next_discard}
 use Rattle.history.specs.Sound.{IsSound}
 use Rattle.purchases.specs.Phases.{excess_of, with_limits_kept, with_one_rusted, with_phase, with_privates_closed}
 use Rattle.purchases.specs.Phases.{with_rusted}
-use Rattle.purchases.specs.Train.{after_train, begins_phase, bought, traded_count}
+use Rattle.purchases.specs.Train.{after_train, begins_phase, traded_count, train_bought}
 use Rattle.purchases.specs.declared.train.TrainPurchase.{TrainPurchase}
 use Rattle.tables.specs.Train.{kinds, limit_of}
 use Rattle.tables.specs.declared.rolling_stock.Kind.{Kind}
@@ -37,10 +37,10 @@ phase_begins game recorded rusted closed new phase is_recorded is_rusted is_clos
 
 -- a train that is the first of a phase
 pub train_begins : (game has new : Game) (company : Company) (purchase : TrainPurchase)
-    → begins_phase game.events purchase.from purchase.kind ≡ true → has ≡ bought game company purchase
+    → begins_phase game.events purchase.from purchase.kind ≡ true → has ≡ train_bought game company purchase
     → new ≡ with_phase has purchase.kind → new ≡ after_train game company purchase
 train_begins game has new company purchase begins is_bought is_new =
-    let after : Game = bought game company purchase in
+    let after : Game = train_bought game company purchase in
     is_new
     ∙ ap (λ (now : Game). with_phase now purchase.kind) is_bought
     ∙ sym (ap (λ (b : Bool). if b then with_phase after purchase.kind else after) begins)

@@ -19,8 +19,8 @@ use Rattle.totals.specs.LookBack.{Game, with_event}
 use Rattle.totals.specs.Trains.{TrainsAreHeld, one_if, train_goes, trains_at, trains_sold}
 use Rattle.purchases.proofs.Complete.{Alike, alike_closed, alike_on, alike_traded, never}
 use Rattle.purchases.proofs.TrainSteps.{of_bop, of_trade}
-use Rattle.purchases.specs.Train.{are_left, bought, cost_of, first_left, is_kind, is_left, is_on_sale, with_bop_closed}
-use Rattle.purchases.specs.Train.{with_trade}
+use Rattle.purchases.specs.Train.{are_left, first_left, is_kind, is_left, is_on_sale, train_bought}
+use Rattle.purchases.specs.Train.{train_purchase_cost, with_bop_closed, with_trade}
 use Rattle.purchases.specs.TrainLaws.{TrainsAreAll}
 use Rattle.purchases.specs.declared.train.TrainPurchase.{TrainPurchase}
 use Rattle.tables.specs.Train.{index_of_kind, same_kind, trains_of}
@@ -51,10 +51,10 @@ from_play (seller.Company owner) kind of buyer = never (same_kind of kind)
 
 -- so it is
 pub is_bought : (game : Game) (buyer : Company) (purchase : TrainPurchase) (kind : Kind)
-    → IsBought buyer purchase kind game (bought game buyer purchase)
+    → IsBought buyer purchase kind game (train_bought game buyer purchase)
 is_bought game buyer purchase kind =
     let traded = with_trade game buyer purchase.trade_in in
-    let train = event.Train buyer purchase.kind purchase.from (cost_of purchase) in
+    let train = event.Train buyer purchase.kind purchase.from (train_purchase_cost purchase) in
     let came = with_event traded train in
     let trade : Alike kind game traded = of_trade (Alike kind) (alike_on kind) (alike_traded kind) game buyer
     purchase.trade_in in

@@ -22,10 +22,10 @@ use Rattle.totals.specs.Offers.{has_consent}
 use Rattle.totals.specs.Shares.{president_of}
 use Rattle.totals.specs.Trains.{one_if, phase_of, train_count, train_comes, train_goes, trains_held, trains_of_kinds}
 use Rattle.totals.specs.Trains.{trains_sold}
-use Rattle.purchases.specs.Train.{are_left, cost_of, first_left, first_left_of, is_at_train_limit, is_kind, is_left}
-use Rattle.purchases.specs.Train.{is_no_trade_in, is_not_given, is_not_sellers, is_on_sale}
-use Rattle.purchases.specs.Train.{may_be_traded, numbered_kinds, presidents_agree, sells_diesels, traded_count}
-use Rattle.purchases.specs.Train.{train_judgement, train_purchase_rules}
+use Rattle.purchases.specs.Train.{are_left, first_left, first_left_of, is_at_train_limit, is_kind, is_left}
+use Rattle.purchases.specs.Train.{is_no_trade_in, is_not_given, is_not_sellers, is_on_sale, may_be_traded}
+use Rattle.purchases.specs.Train.{numbered_kinds, presidents_agree, sells_diesels, traded_count, train_judgement}
+use Rattle.purchases.specs.Train.{train_purchase_cost, train_purchase_rules}
 use Rattle.purchases.specs.declared.train.TrainPurchase.{TrainPurchase}
 use Rattle.order_grammar.specs.declared.order.Offer.{Offer}
 use Rattle.order_grammar.specs.declared.order.Offer.TheVariants as offer
@@ -156,9 +156,9 @@ module _ (events : List Event) (seat : Seat) (line : Numbered) (kind : Kind) (fr
   same_lack buyer purchase seller.Bank = refl
   same_lack buyer purchase seller.BankPool = refl
   same_lack buyer purchase (seller.Company company) =
-      let sale : Offer = offer.Train purchase.kind company buyer (cost_of purchase) in
+      let sale : Offer = offer.Train purchase.kind company buyer (train_purchase_cost purchase) in
       let ruling : Ruling = Obeyed line.condition (BuyTrain kind from) in
-      ap (λ (agree : Bool). cost_of purchase == 0 || not agree)
+      ap (λ (agree : Bool). train_purchase_cost purchase == 0 || not agree)
       (same_agreement (president_of (events ++ obeyed ∷ []) company) (president_of (events ++ obeyed ∷ []) buyer) sale
       ∙ ap (λ (giver : Option Seat). presidents_agree events giver (president_of (events ++ obeyed ∷ []) buyer) sale)
       (same_president events seat line ruling company)

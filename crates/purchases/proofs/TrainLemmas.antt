@@ -22,9 +22,9 @@ use Rattle.totals.specs.LookBack.{Game, cash_of, with_event}
 use Rattle.history.specs.Sound.{IsSound}
 use Rattle.totals.specs.Trains.{IsThere, one_if, train_goes, trains_held, trains_sold}
 use Rattle.purchases.specs.Discard.{has_train}
-use Rattle.purchases.specs.Train.{are_left, cost_of, first_left_of, is_kind, is_left, is_no_trade_in, is_not_sellers}
+use Rattle.purchases.specs.Train.{are_left, first_left_of, is_kind, is_left, is_no_trade_in, is_not_sellers}
 use Rattle.purchases.specs.Train.{is_on_sale, may_be_traded, may_trade, numbered_kinds, train_judgement}
-use Rattle.purchases.specs.Train.{train_purchase_rules, with_trade}
+use Rattle.purchases.specs.Train.{train_purchase_cost, train_purchase_rules, with_trade}
 use Rattle.purchases.specs.declared.train.TrainPurchase.{TrainPurchase}
 use Rattle.tables.proofs.Rules.{not_broken}
 use Rattle.tables.specs.Roster.{same_company}
@@ -115,7 +115,7 @@ is_another events buyer (seller.Company company) kind has =
 pub record MayBuy (game : Game) (company : Company) (purchase : TrainPurchase) : Type 0 where
   pub there : IsThere game.events purchase.from purchase.kind
   pub another : IsAnother company purchase.from
-  pub pays : pos (cost_of purchase) ≤ℤ cash_of game.seats game.events (party_of_company company)
+  pub pays : pos (train_purchase_cost purchase) ≤ℤ cash_of game.seats game.events (party_of_company company)
   pub trades : (old : Kind) → purchase.trade_in ≡ Some old → pos 1 ≤ℤ trains_held game.events (Some company) old
 
 pub may_buy : (game : Game) (company : Company) (purchase : TrainPurchase) → train_judgement game company purchase ≡ None
@@ -126,7 +126,7 @@ may_buy game company purchase none =
       there = on_sale_there game.events company purchase.from purchase.kind
           (so (is_on_sale game.events purchase.from purchase.kind) (kept rule.NotOnSale)) (kept rule.NotSellers);
       another = is_another game.events company purchase.from purchase.kind (kept rule.NotSellers);
-      pays = not_less (cash_of game.seats game.events (party_of_company company)) (pos (cost_of purchase))
+      pays = not_less (cash_of game.seats game.events (party_of_company company)) (pos (train_purchase_cost purchase))
           (kept rule.CashTooSmall);
       trades = λ old is. traded_is_held game.events company purchase.kind purchase.trade_in old
           (kept rule.NoTradeIn) is;
@@ -200,11 +200,11 @@ cash_traded game company (Some old) party = cash_of_before game.seats game.event
 pub train_sound : (game : Game) (company : Company) (purchase : TrainPurchase)
     → train_judgement game company purchase ≡ None → IsSound game
     → IsSound (with_event (with_trade game company purchase.trade_in)
-    (event.Train company purchase.kind purchase.from (cost_of purchase)))
+    (event.Train company purchase.kind purchase.from (train_purchase_cost purchase)))
 train_sound game company purchase none sound =
     let may = may_buy game company purchase none in
     let traded = with_trade game company purchase.trade_in in
-    let price = cost_of purchase in
+    let price = train_purchase_cost purchase in
     let enough : pos price ≤ℤ cash_of traded.seats traded.events (party_of_company company) =
     subst (λ cash. pos price ≤ℤ cash) (sym (cash_traded game company purchase.trade_in
     (party_of_company company))) may.pays in

@@ -17,7 +17,7 @@ use Rattle.purchases.specs.Discard.{next_discard, with_discarded, with_next_disc
 use Rattle.purchases.specs.Phases.{excess_of, rusts_at, with_all_closed, with_closed, with_company_rusted}
 use Rattle.purchases.specs.Phases.{with_kind_rusted, with_kind_rusted_at, with_limit_kept, with_limits_kept}
 use Rattle.purchases.specs.Phases.{with_one_rusted, with_phase, with_privates_closed, with_rusted, with_trains_rusted}
-use Rattle.purchases.specs.Train.{begins_phase, bought, cost_of, with_bop_closed, with_trade}
+use Rattle.purchases.specs.Train.{begins_phase, train_bought, train_purchase_cost, with_bop_closed, with_trade}
 use Rattle.purchases.specs.TrainLaws.{PhasesGoOn}
 use Rattle.purchases.specs.declared.train.TrainPurchase.{TrainPurchase}
 use Rattle.tables.specs.Roster.{companies, privates, same_company}
@@ -168,10 +168,10 @@ same_phase_on : IsPassedOn SamePhase
 same_phase_on = record { same = λ game. refl; both = λ a b c first second. second ∙ first }
 
 -- a purchase by itself begins none
-pub phase_bought : (game : Game) (buyer : Company) (purchase : TrainPurchase) → SamePhase game (bought game buyer purchase)
+pub phase_bought : (game : Game) (buyer : Company) (purchase : TrainPurchase) → SamePhase game (train_bought game buyer purchase)
 phase_bought game buyer purchase =
     let traded = with_trade game buyer purchase.trade_in in
-    let price = cost_of purchase in
+    let price = train_purchase_cost purchase in
     let came = with_event traded (event.Train buyer purchase.kind purchase.from price) in
     of_bop SamePhase same_phase_on (λ now private. phase_before now (event.Closed private) refl) came buyer
     ∙ phase_before traded (event.Train buyer purchase.kind purchase.from price) refl
@@ -207,10 +207,10 @@ later_begins events (seller.Company owner) kind begins = absurd (cc)
 phase_after : (game : Game) (buyer : Company) (purchase : TrainPurchase) (begins : Bool)
     → begins_phase game.events purchase.from purchase.kind ≡ begins
     → index_of_kind (phase_of game.events) ≤ index_of_kind
-    (phase_of (if begins then with_phase (bought game buyer purchase) purchase.kind else bought game buyer
+    (phase_of (if begins then with_phase (train_bought game buyer purchase) purchase.kind else train_bought game buyer
     purchase).events)
 phase_after game buyer purchase true begins =
-    let there = bought game buyer purchase in
+    let there = train_bought game buyer purchase in
     let is = phase_then there purchase.kind in
     let later = later_begins game.events purchase.from purchase.kind begins in
     omega (arith, ap index_of_kind is)

@@ -60,9 +60,10 @@ pub record Lines : Type 0 where
   pub kinds : List Kind
 
 -- the kind that a seat's obeyed order says, if it is one
-abbrev pub line_of : Seat → Company → Option Obeyance → Option Kind
-line_of seat company None = None
-line_of seat company (Some obeyed) = if obeyed.seat.0 == seat.0 then discard_in company obeyed.order else None
+abbrev pub discard_ordered_by : Seat → Company → Option Obeyance → Option Kind
+discard_ordered_by seat company None = None
+discard_ordered_by seat company (Some obeyed) =
+    if obeyed.seat.0 == seat.0 then discard_in company obeyed.order else None
 
 -- without the first of a kind
 abbrev pub without_first : Kind → List Kind → List Kind
@@ -85,7 +86,8 @@ abbrev pub kinds_then : Seat → Company → Lines → Event → List Kind
 kinds_then seat company lines event =
     if is_some (round_begun_by event)
     then []
-    else without (option_map_or (λ kind. lines.kinds ++ kind ∷ []) (line_of seat company (obeyed_of event)) lines.kinds)
+    else without
+    (option_map_or (λ kind. lines.kinds ++ kind ∷ []) (discard_ordered_by seat company (obeyed_of event)) lines.kinds)
     (if lines.presides then discarded_by company event else None)
 
 -- whether the seat presides after an event
@@ -102,9 +104,9 @@ lines_then seat company lines event =
     }
 
 -- the kinds of a seat's lines for a company that are still to be used in this round, in order
-abbrev pub lines_of : List Event → Company → Option Seat → List Kind
-lines_of events company None = []
-lines_of events company (Some seat) =
+abbrev pub discard_lines_left : List Event → Company → Option Seat → List Kind
+discard_lines_left events company None = []
+discard_lines_left events company (Some seat) =
     (fold (lines_then seat company) (record { presides = false; kinds = [] }) events).kinds
 
 -- the first of these kinds that the company has a train of
@@ -117,7 +119,7 @@ first_held events company (kind ∷ others) = if has_train events company kind t
 -- has
 abbrev pub next_discard : List Event → Company → Option Kind
 next_discard events company =
-    option_or (first_held events company (lines_of events company (president_of events company)))
+    option_or (first_held events company (discard_lines_left events company (president_of events company)))
     (first_held events company kinds)
 
 -- with DISCARDED of a train of this kind, if of any

@@ -2,27 +2,19 @@
 -- refused if the seat is not the president of the company that sells, or at price 0. An offer of a
 -- private is refused if the seat does not own it. No other is refused: what a sale needs besides
 -- consent is checked at the sale.
-use Rattle.std.specs.Prelude.{◌==◌, Bool, false, not, ◌||◌, List, [], ◌∷◌, Option, Some, None}
+use Rattle.std.specs.Prelude.{◌==◌, not, ◌||◌, List, [], ◌∷◌, Option}
 use Rattle.events.specs.declared.event.Event.{Event}
-use Rattle.events.specs.declared.event.Holder.{Holder}
-use Rattle.events.specs.declared.event.Holder.TheVariants as holder
 use Rattle.events.specs.declared.ruling.PrivateRule.TheVariants as private_rule
 use Rattle.events.specs.declared.ruling.Refusal.{Refusal}
 use Rattle.events.specs.declared.ruling.Refusal.TheVariants as refusal
 use Rattle.events.specs.declared.ruling.TrainRule.TheVariants as train_rule
-use Rattle.totals.specs.LookBack.{owner_of}
+use Rattle.totals.specs.LookBack.{is_owner, owner_of}
 use Rattle.totals.specs.Shares.{president_of}
 use Rattle.purchases.specs.Discard.{is_president}
 use Rattle.order_grammar.specs.declared.order.Offer.{Offer}
 use Rattle.order_grammar.specs.declared.order.Offer.TheVariants as offer
 use Rattle.tables.specs.Rules.{Rule, first_broken}
 use Rattle.tables.specs.declared.seat.Seat.{Seat}
-
--- the seat is this owner
-abbrev pub is_seats : Seat → Option Holder → Bool
-is_seats seat None = false
-is_seats seat (Some (holder.Seat owner)) = owner.0 == seat.0
-is_seats seat (Some (holder.Company owner)) = false
 
 -- the rule of an offer of a seat
 abbrev pub offer_rules : List Event → Seat → Offer → List (Rule Refusal)
@@ -34,7 +26,7 @@ offer_rules events seat (offer.Train kind seller buyer price) =
     }
     ∷ []
 offer_rules events seat (offer.Private private buyer price) =
-    record { code = refusal.Private private_rule.NoConsent; broken = not (is_seats seat (owner_of events private)) }
+    record { code = refusal.Private private_rule.NoConsent; broken = not (is_owner seat (owner_of events private)) }
     ∷ []
 
 -- the rule that an offer of a seat breaks, if it breaks it

@@ -63,8 +63,8 @@ abbrev pub is_given : List Event → Company → Private → ℕ → Bool
 is_given events company private price = is_given_by OfGame events company private price
 
 -- the company has less than the price
-abbrev pub is_too_dear : Game → Company → ℕ → Bool
-is_too_dear game company price = lt_z (cash_of game.seats game.events (party_of_company company)) (pos price)
+abbrev pub private_costs_too_much : Game → Company → ℕ → Bool
+private_costs_too_much game company price = lt_z (cash_of game.seats game.events (party_of_company company)) (pos price)
 
 -- the rules of the purchase of a private by a company, by these consents
 abbrev pub private_rules_by : Consents → Game → Company → Private → ℕ → List (Rule PrivateRule)
@@ -73,7 +73,7 @@ private_rules_by consents game company private price =
     ∷ record { code = WrongPrice; broken = is_wrong_price private price }
     ∷ record { code = NoConsent; broken = not (is_given_by consents game.events company private price) }
     ∷ record { code = NeverSold; broken = same_private private BaltimoreOhio }
-    ∷ record { code = CashTooSmall; broken = is_too_dear game company price }
+    ∷ record { code = CashTooSmall; broken = private_costs_too_much game company price }
     ∷ []
 
 -- the rules of the purchase of a private by a company

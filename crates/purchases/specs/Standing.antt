@@ -20,26 +20,29 @@ use Rattle.tables.specs.declared.seat.Seat.{Seat}
 use Rattle.turns.specs.Ruling.{line_ruling, recorded}
 
 -- the orders that may be before the first head
-abbrev pub has_place_before : Order → Bool
-has_place_before (order.Discard company kind) = true
-has_place_before (order.Offer sale) = true
-has_place_before other = false
+abbrev pub has_place_before_companies : Order → Bool
+has_place_before_companies (order.Discard company kind) = true
+has_place_before_companies (order.Offer sale) = true
+has_place_before_companies other = false
 
 -- the rule that a standing order of a seat breaks, if it breaks one
-abbrev pub standing_judgement : List Event → Seat → Order → Option Refusal
-standing_judgement events seat (order.Discard company kind) =
+abbrev pub operating_standing_judgement : List Event → Seat → Order → Option Refusal
+operating_standing_judgement events seat (order.Discard company kind) =
     option_map refusal.Train (discard_judgement events seat company kind)
-standing_judgement events seat (order.Offer sale) = offer_judgement events seat sale
-standing_judgement events seat other = None
+operating_standing_judgement events seat (order.Offer sale) = offer_judgement events seat sale
+operating_standing_judgement events seat other = None
 
 -- what becomes of a standing line of a seat
-abbrev pub standing_ruling : List Event → Seat → Numbered → Ruling
-standing_ruling events seat line = line_ruling has_place_before (standing_judgement events seat) events line
+abbrev pub operating_standing_ruling : List Event → Seat → Numbered → Ruling
+operating_standing_ruling events seat line =
+    line_ruling has_place_before_companies (operating_standing_judgement events seat) events line
 
 -- after a standing line of a seat
-abbrev pub after_standing_line : Seat → List Event → Numbered → List Event
-after_standing_line seat events line = recorded seat line.number (standing_ruling events seat line) events
+abbrev pub after_operating_standing_line : Seat → List Event → Numbered → List Event
+after_operating_standing_line seat events line =
+    recorded seat line.number (operating_standing_ruling events seat line) events
 
 -- after the standing lines of all sheets for a round, seat by seat
-abbrev pub after_standing : ℕ → List ℕ → Round → List Event → List Event
-after_standing seats file round events = after_all_before after_standing_line file round events (range_with_len 0 seats)
+abbrev pub after_all_standing_lines : ℕ → List ℕ → Round → List Event → List Event
+after_all_standing_lines seats file round events =
+    after_all_before after_operating_standing_line file round events (range_with_len 0 seats)

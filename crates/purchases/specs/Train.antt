@@ -125,13 +125,13 @@ abbrev pub IsSmallPurchase : TrainPurchase → Type 0
 IsSmallPurchase purchase = unwrap_or purchase.asked 0 ≤ 99999
 
 -- what a train costs; one of a company costs what the order names
-abbrev pub cost_of : TrainPurchase → ℕ
-cost_of purchase = unwrap_or purchase.asked (price_of_train purchase.kind purchase.trade_in)
+abbrev pub train_purchase_cost : TrainPurchase → ℕ
+train_purchase_cost purchase = unwrap_or purchase.asked (price_of_train purchase.kind purchase.trade_in)
 
 -- a train costs more than the company has
-abbrev pub is_too_dear : Game → Company → TrainPurchase → Bool
-is_too_dear game company purchase =
-    lt_z (cash_of game.seats game.events (party_of_company company)) (pos (cost_of purchase))
+abbrev pub train_costs_too_much : Game → Company → TrainPurchase → Bool
+train_costs_too_much game company purchase =
+    lt_z (cash_of game.seats game.events (party_of_company company)) (pos (train_purchase_cost purchase))
 
 -- a train that the company has may be traded in for one of this kind
 abbrev pub may_trade : List Event → Company → Kind → Kind → Bool
@@ -157,9 +157,9 @@ abbrev pub is_not_given_by : Consents → List Event → Company → TrainPurcha
 is_not_given_by consents events buyer purchase seller.Bank = false
 is_not_given_by consents events buyer purchase seller.BankPool = false
 is_not_given_by consents events buyer purchase (seller.Company company) =
-    cost_of purchase == 0
+    train_purchase_cost purchase == 0
     || not (presidents_agree_by consents events (president_of events company) (president_of events buyer)
-    (offer.Train purchase.kind company buyer (cost_of purchase)))
+    (offer.Train purchase.kind company buyer (train_purchase_cost purchase)))
 
 -- a company that is to sell a train has not consented in the game, or the price is 0
 abbrev pub is_not_given : List Event → Company → TrainPurchase → TrainSeller → Bool
@@ -185,7 +185,7 @@ abbrev pub train_purchase_rules_by : Consents → Game → Company → TrainPurc
 train_purchase_rules_by consents game company purchase =
     record { code = NotOnSale; broken = not (is_on_sale game.events purchase.from purchase.kind) }
     ∷ record { code = TrainLimit; broken = is_at_train_limit game.events company purchase.trade_in }
-    ∷ record { code = CashTooSmall; broken = is_too_dear game company purchase }
+    ∷ record { code = CashTooSmall; broken = train_costs_too_much game company purchase }
     ∷ record { code = NoConsent; broken = lacks_consent_by consents game.events company purchase }
     ∷ record { code = NotSellers; broken = is_not_sellers game.events company purchase.kind purchase.from }
     ∷ record { code = NoTradeIn; broken = is_no_trade_in game.events company purchase.kind purchase.trade_in }
@@ -219,11 +219,11 @@ with_bop_closed game buyer = if same_company buyer company.BaltimoreOhio then wi
     private.BaltimoreOhio else game
 
 -- after the train has gone to the company
-abbrev pub bought : Game → Company → TrainPurchase → Game
-bought game company purchase =
+abbrev pub train_bought : Game → Company → TrainPurchase → Game
+train_bought game company purchase =
     with_bop_closed
     (with_event (with_trade game company purchase.trade_in)
-    (event.Train company purchase.kind purchase.from (cost_of purchase)))
+    (event.Train company purchase.kind purchase.from (train_purchase_cost purchase)))
     company
 
 -- the purchase is that of the first train of a later kind from the bank
@@ -236,5 +236,5 @@ begins_phase events (seller.Company company) kind = false
 -- after a purchase by a company, and what follows from it
 abbrev pub after_train : Game → Company → TrainPurchase → Game
 after_train game company purchase =
-    if begins_phase game.events purchase.from purchase.kind then with_phase (bought game company purchase)
-    purchase.kind else bought game company purchase
+    if begins_phase game.events purchase.from purchase.kind then with_phase (train_bought game company purchase)
+    purchase.kind else train_bought game company purchase

@@ -8,9 +8,10 @@
 ghost use Rattle.std.specs.Prelude.{◌≡◌, OnOk, IfOk, Some};
 ghost use Rattle.events.specs.Event.{obeyed_of, office_of};
 ghost use Rattle.history.specs.Sound.{IsSound};
-ghost use Rattle.purchases.specs.Discard.{discard_in, discard_judgement, discarded_by, first_held, has_train};
-ghost use Rattle.purchases.specs.Discard.{is_no_discard, is_president, kinds_then, line_of, lines_of, next_discard};
-ghost use Rattle.purchases.specs.Discard.{presides_then, with_next_discarded, without_first};
+ghost use Rattle.purchases.specs.Discard.{discard_in, discard_judgement, discard_lines_left, discard_ordered_by};
+ghost use Rattle.purchases.specs.Discard.{discarded_by, first_held, has_train, is_no_discard, is_president};
+ghost use Rattle.purchases.specs.Discard.{kinds_then, next_discard, presides_then, with_next_discarded};
+ghost use Rattle.purchases.specs.Discard.{without_first};
 ghost use Rattle.totals.specs.Shares.{president_said};
 
 use history::{Event, GameView, History, Ruling, TrainRule};
@@ -80,7 +81,7 @@ fn next_discard(
     ensures { IfOk result (λ kind. kind ≡ next_discard history.now.events company) }
 {
     let now = history.now();
-    let lines = lines_of(alloc, &now, company, now.president(company))?;
+    let lines = discard_lines_left(alloc, &now, company, now.president(company))?;
     match first_held(&now, company, lines.as_slice()) {
         Some(kind) => Ok(Some(kind)),
         None => Ok(first_held(&now, company, &Kind::ALL)),
@@ -101,14 +102,14 @@ fn first_held(view: &GameView, company: Company, kinds: &[Kind]) -> Option<Kind>
 
 /// Returns the kinds of a president's lines for a company that are still unused in this round, in
 /// order. Fails only if allocation fails.
-fn lines_of(
+fn discard_lines_left(
     alloc: Global,
     view: &GameView,
     company: Company,
     president: Option<Seat>,
 ) -> Result<Vec<Kind>, AllocError>
     ensures { IfOk result (λ lines. lines.items
-        ≡ lines_of view.now.events.now company president) }
+        ≡ discard_lines_left view.now.events.now company president) }
 {
     match president {
         Some(seat) => lines_in(alloc, view.events, company, seat),
@@ -124,7 +125,8 @@ fn lines_in(
     company: Company,
     seat: Seat,
 ) -> Result<Vec<Kind>, AllocError>
-    ensures { IfOk result (λ lines. lines.items ≡ lines_of events.now company (Some seat)) }
+    ensures { IfOk result (λ lines. lines.items
+        ≡ discard_lines_left events.now company (Some seat)) }
 {
     let mut lines = Vec::new(alloc);
     let mut presides = false;
@@ -173,7 +175,7 @@ fn presides_after(presides: bool, event: &Event, seat: Seat, company: Company) -
 
 /// Returns the kind that a company must discard by this obeyed line of a seat.
 fn kind_ordered(event: &Event, seat: Seat, company: Company) -> Option<Kind>
-    ensures { result ≡ line_of seat company (obeyed_of event.now) }
+    ensures { result ≡ discard_ordered_by seat company (obeyed_of event.now) }
 {
     match event {
         Event::Ruled {

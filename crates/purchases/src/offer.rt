@@ -4,7 +4,8 @@
 //! the price is 0. An offer of a private is refused if the seat does not own it. All other offers
 //! are obeyed: what a sale needs besides consent is checked at the sale.
 ghost use Rattle.std.specs.Prelude.{◌≡◌};
-ghost use Rattle.purchases.specs.Offer.{is_seats, offer_judgement};
+ghost use Rattle.purchases.specs.Offer.{offer_judgement};
+ghost use Rattle.totals.specs.LookBack.{is_owner};
 
 use crate::discard::is_president;
 use history::{History, Holder, PrivateRule, Refusal, TrainRule};
@@ -25,7 +26,7 @@ pub(crate) fn judge_offer(history: &History, seat: Seat, sale: Offer) -> Option<
         }
         Offer::Private { private, .. } => {
             let broken = tables::rules! { PrivateRule
-                NoConsent: !is_seats(seat, history.owner(private)),
+                NoConsent: !is_owner(seat, history.owner(private)),
             };
             broken.map(Refusal::Private)
         }
@@ -33,8 +34,8 @@ pub(crate) fn judge_offer(history: &History, seat: Seat, sale: Offer) -> Option<
 }
 
 /// Returns whether a seat is this owner.
-fn is_seats(seat: Seat, owner: Option<Holder>) -> bool
-    ensures { result ≡ is_seats seat owner }
+fn is_owner(seat: Seat, owner: Option<Holder>) -> bool
+    ensures { result ≡ is_owner seat owner }
 {
     matches!(owner, Some(Holder::Seat(owner)) if owner == seat)
 }

@@ -5,9 +5,9 @@
 ghost use Rattle.std.specs.Prelude.{◌≡◌, OnOk, None, Some};
 ghost use Rattle.totals.specs.LookBack.{owner_of};
 ghost use Rattle.history.specs.Sound.{IsSound};
-ghost use Rattle.purchases.specs.Private.{is_given_by, is_too_dear, is_too_early, is_wrong_price};
-ghost use Rattle.purchases.specs.Private.{owner_agrees_by, private_bought, private_judgement, private_judgement_by};
-ghost use Rattle.purchases.specs.Private.{sold_by};
+ghost use Rattle.purchases.specs.Private.{is_given_by, is_too_early, is_wrong_price, owner_agrees_by};
+ghost use Rattle.purchases.specs.Private.{private_bought, private_costs_too_much, private_judgement};
+ghost use Rattle.purchases.specs.Private.{private_judgement_by, sold_by};
 
 use crate::consents::Consents;
 use history::{Event, GameView, History, Holder, Party, PrivateRule};
@@ -45,13 +45,13 @@ fn judge_terms(
         WrongPrice: is_wrong_price(private, price),
         NoConsent: !is_given(view, company, private, price, consents),
         NeverSold: private == Private::BaltimoreOhio,
-        CashTooSmall: is_too_dear(view, company, price),
+        CashTooSmall: private_costs_too_much(view, company, price),
     }
 }
 
 /// Returns whether a company has less cash than a price.
-fn is_too_dear(view: &GameView, company: Company, price: Amount) -> bool
-    ensures { result ≡ is_too_dear
+fn private_costs_too_much(view: &GameView, company: Company, price: Amount) -> bool
+    ensures { result ≡ private_costs_too_much
         (record { seats = view.now.seats; events = view.now.events.now }) company price }
 {
     view.cash(Party::of_company(company)) < Money::from(price)

@@ -3,7 +3,8 @@
 //! of its order. Only DISCARD and OFFER are allowed there.
 ghost use Rattle.std.specs.Prelude.{◌≡◌, OnOk, length};
 ghost use Rattle.history.specs.Sound.{IsSound};
-ghost use Rattle.purchases.specs.Standing.{after_standing, after_standing_line, has_place_before, standing_judgement};
+ghost use Rattle.purchases.specs.Standing.{after_all_standing_lines, after_operating_standing_line};
+ghost use Rattle.purchases.specs.Standing.{has_place_before_companies, operating_standing_judgement};
 ghost use Rattle.sheets.specs.File.{players_of};
 ghost use Rattle.sheets.specs.Taken.{after_each, after_lines_before};
 
@@ -26,7 +27,8 @@ pub fn rule_standing_lines(
     requires { IsSound history.old }
     ensures seats { OnOk result (history.new.seats ≡ history.old.seats) }
     ensures events { OnOk result (history.new.events
-        ≡ after_standing (length (players_of sheets.now)) sheets.now round history.old.events) }
+        ≡ after_all_standing_lines (length (players_of sheets.now)) sheets.now round
+        history.old.events) }
     ensures sound { OnOk result (IsSound history.new) }
 {
     for seat in 0..sheets.seats() {
@@ -47,7 +49,8 @@ pub fn rule_standing_lines_of(
     requires { IsSound history.old }
     ensures seats { OnOk result (history.new.seats ≡ history.old.seats) }
     ensures events { OnOk result (history.new.events
-        ≡ after_lines_before after_standing_line sheets.now round history.old.events seat.0) }
+        ≡ after_lines_before after_operating_standing_line sheets.now round history.old.events
+        seat.0) }
     ensures sound { OnOk result (IsSound history.new) }
 {
     rule_standing(history, seat, &mut sheets.parts(seat, round))
@@ -58,7 +61,7 @@ fn rule_standing(history: &mut History, seat: Seat, sheet: &mut PartsLeft) -> Re
     requires { IsSound history.old }
     ensures seats { OnOk result (history.new.seats ≡ history.old.seats) }
     ensures events { OnOk result (history.new.events
-        ≡ after_each (after_standing_line seat) history.old.events sheet.old.before) }
+        ≡ after_each (after_operating_standing_line seat) history.old.events sheet.old.before) }
     ensures sound { OnOk result (IsSound history.new) }
 {
     let mut order = Order::Blank;
@@ -73,9 +76,9 @@ fn rule_standing(history: &mut History, seat: Seat, sheet: &mut PartsLeft) -> Re
 struct StandingLines;
 
 impl Family for StandingLines {
-    ghost place = { has_place_before };
+    ghost place = { has_place_before_companies };
 
-    ghost judgement = { λ lines game seat. standing_judgement game.events seat };
+    ghost judgement = { λ lines game seat. operating_standing_judgement game.events seat };
 
     ghost may_judge = { λ game seat. Unit {0} };
 
@@ -91,7 +94,7 @@ impl Family for StandingLines {
 /// Returns the rule that an order of a seat breaks as a standing line of an operating round; `None`
 /// if it breaks none. Only DISCARD and OFFER have rules there.
 pub fn judge_standing(history: &History, seat: Seat, order: &Order) -> Option<Refusal>
-    ensures { result ≡ standing_judgement history.now.events seat order.now }
+    ensures { result ≡ operating_standing_judgement history.now.events seat order.now }
 {
     match order {
         Order::Discard { company, kind } => {

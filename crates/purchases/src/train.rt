@@ -9,12 +9,12 @@
 //! when BO buys a train. The first train of a later kind from the bank begins its phase.
 ghost use Rattle.std.specs.Prelude.{◌≡◌, ◌≤◌, OnOk, None, pos};
 ghost use Rattle.history.specs.Sound.{IsSound};
-ghost use Rattle.purchases.specs.Train.{IsSmallPurchase, after_train, begins_phase, bought, cost_of, first_left};
-ghost use Rattle.purchases.specs.Train.{first_left_of, has_trains, is_at_train_limit, is_left, is_no_trade_in};
-ghost use Rattle.purchases.specs.Train.{is_not_sellers, is_on_sale, is_too_dear, lacks_consent_by, may_be_traded};
-ghost use Rattle.purchases.specs.Train.{may_trade, presidents_agree_by, price_for_trade, price_of_train, purchase_of};
-ghost use Rattle.purchases.specs.Train.{sells, sells_diesels, traded_count, train_judgement, train_judgement_by};
-ghost use Rattle.purchases.specs.Train.{with_bop_closed, with_trade};
+ghost use Rattle.purchases.specs.Train.{IsSmallPurchase, after_train, begins_phase, first_left, first_left_of};
+ghost use Rattle.purchases.specs.Train.{has_trains, is_at_train_limit, is_left, is_no_trade_in, is_not_sellers};
+ghost use Rattle.purchases.specs.Train.{is_on_sale, lacks_consent_by, may_be_traded, may_trade, presidents_agree_by};
+ghost use Rattle.purchases.specs.Train.{price_for_trade, price_of_train, purchase_of, sells, sells_diesels};
+ghost use Rattle.purchases.specs.Train.{traded_count, train_bought, train_costs_too_much, train_judgement};
+ghost use Rattle.purchases.specs.Train.{train_judgement_by, train_purchase_cost, with_bop_closed, with_trade};
 ghost use Rattle.order_grammar.specs.declared.order.Order.TheVariants.{BuyTrain};
 ghost use Rattle.turns.specs.Small.{IsSmallOrder};
 
@@ -43,7 +43,7 @@ impl TrainPurchase {
     /// Returns what it costs, in dollars.
     pub fn price(&self) -> Amount
         requires { IsSmallPurchase self.now }
-        ensures price { result ≡ cost_of self.now }
+        ensures price { result ≡ train_purchase_cost self.now }
         ensures small { result ≤ 99999 }
     {
         match self.asked {
@@ -102,7 +102,7 @@ fn judge_terms(
     tables::rules! { TrainRule
         NotOnSale: !is_on_sale(view, from, kind),
         TrainLimit: is_full(view, company, trade_in),
-        CashTooSmall: is_too_dear(view, company, purchase),
+        CashTooSmall: train_costs_too_much(view, company, purchase),
         NoConsent: lacks_consent(view, company, purchase, consents),
         NotSellers: is_not_sellers(view, company, kind, from),
         NoTradeIn: is_no_trade_in(view, company, kind, trade_in),
@@ -186,9 +186,9 @@ fn traded_count(trade_in: Option<Kind>) -> Money
 }
 
 /// Returns whether a train costs more than the company has.
-fn is_too_dear(view: &GameView, company: Company, purchase: TrainPurchase) -> bool
+fn train_costs_too_much(view: &GameView, company: Company, purchase: TrainPurchase) -> bool
     requires { IsSmallPurchase purchase }
-    ensures { result ≡ is_too_dear
+    ensures { result ≡ train_costs_too_much
         (record { seats = view.now.seats; events = view.now.events.now }) company purchase }
 {
     view.cash(Party::of_company(company)) < Money::from(purchase.price())
@@ -341,7 +341,7 @@ fn take_train(
     requires small { IsSmallPurchase purchase }
     requires may { train_judgement history.old company purchase ≡ None }
     requires sound { IsSound history.old }
-    ensures after { OnOk result (history.new ≡ bought history.old company purchase) }
+    ensures after { OnOk result (history.new ≡ train_bought history.old company purchase) }
     ensures sound { OnOk result (IsSound history.new) }
 {
     trade_in(history, company, purchase.trade_in)?;

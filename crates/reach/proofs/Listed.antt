@@ -6,7 +6,7 @@ use Rattle.std.specs.Prelude.{◌==◌}
 use Rattle.map_tables.proofs.HexTables.{same_hex-true}
 use Rattle.map_tables.specs.Hex.{index_of, same_hex}
 use Rattle.map_tables.specs.OnMap.{has_token, is_part_of, names, same_stop}
-use Rattle.map_tables.specs.Place.{joined_stop_of, stop_at, stop_index_of, stop_of}
+use Rattle.map_tables.specs.Place.{joined_stop_of, stop_at, stop_index_of, stop_of_place}
 use Rattle.map_tables.specs.declared.hex.Hex.{Hex}
 use Rattle.map_tables.specs.declared.place.Place.{Place}
 use Rattle.map_tables.specs.declared.place.Stop.{Stop}
@@ -80,7 +80,7 @@ module _ (token : Place × Company) (tokens : List (Place × Company)) (stop : S
   -- a token that names no stop for the company
   names_none : stop_of_token company token ≡ None → (names stop token.0 && same_company token.1 company) ≡ false
   names_none none =
-      (elim (same_company token.1 company) as (λ same. cond same (stop_of token.0) None ≡ None
+      (elim (same_company token.1 company) as (λ same. cond same (stop_of_place token.0) None ≡ None
       → (names stop token.0 && same) ≡ false) [
         | true ↦ λ is. ap (λ part. is_part_of stop part && true) is
         | false ↦ λ is. and_false (names stop token.0)
@@ -96,7 +96,7 @@ module _ (token : Place × Company) (tokens : List (Place × Company)) (stop : S
       → (names stop token.0 && same_company token.1 company) ≡ true → joined_stop_of part ≡ stop
   named_is part some is =
       let parts = and_parts (names stop token.0) (same_company token.1 company) is in
-      let named : stop_of token.0 ≡ Some part = sym (ap (λ b. cond b (stop_of token.0) None) parts.1) ∙ some in
+      let named : stop_of_place token.0 ≡ Some part = sym (ap (λ b. cond b (stop_of_place token.0) None) parts.1) ∙ some in
       stop_is (joined_stop_of part) stop (sym (ap (is_part_of stop) named) ∙ parts.0)
 
   -- a token names the stop, or one of the others does

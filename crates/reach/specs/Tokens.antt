@@ -1,7 +1,7 @@
 -- Tokens as a list of places with companies, in which a search finds where walks begin.
 use Rattle.std.specs.Prelude.{◌≡◌, Bool, true, if◌then◌else◌, List, Option, Some, None}
 use Rattle.map_tables.specs.OnMap.{has_token}
-use Rattle.map_tables.specs.Place.{joined_stop_of, stop_of}
+use Rattle.map_tables.specs.Place.{joined_stop_of, stop_of_place}
 use Rattle.map_tables.specs.declared.place.Place.{Place}
 use Rattle.map_tables.specs.declared.place.Stop.{Stop}
 use Rattle.reach.specs.Position.{HasToken, Position}
@@ -17,7 +17,7 @@ AreNamed position company tokens =
 
 -- the stop that a token names, if it is one of the company
 abbrev pub stop_of_token : Company → Place × Company → Option Stop
-stop_of_token company token = if same_company token.1 company then stop_of token.0 else None
+stop_of_token company token = if same_company token.1 company then stop_of_place token.0 else None
 
 -- the stop that a token names is marked if the company has a token there
 abbrev pub IsListed : Position → Company → Option Stop → List Bool → List Spot → List Bool → List Spot → Type 0

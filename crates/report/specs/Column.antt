@@ -3,12 +3,12 @@ use Rattle.std.specs.Global.{Global}
 use Rattle.std.specs.Prelude.{◌≡◌, ℕ, ◌-◌, List, ◌++◌, Vec, length, replicate}
 
 -- a text at the left of a column
-unfoldable pub at_left : ℕ → List ℕ → List ℕ
-at_left width text = text ++ replicate (width - length text) 32
+unfoldable pub left_aligned : ℕ → List ℕ → List ℕ
+left_aligned width text = text ++ replicate (width - length text) 32
 
 -- digits at the right of a column
-unfoldable pub at_right : ℕ → List ℕ → List ℕ
-at_right width digits = replicate (width - length digits) 32 ++ digits
+unfoldable pub right_aligned : ℕ → List ℕ → List ℕ
+right_aligned width digits = replicate (width - length digits) 32 ++ digits
 
 -- a text is added at the end of what was written
 abbrev pub Adds : Vec ℕ Global → Vec ℕ Global → List ℕ → Type 0

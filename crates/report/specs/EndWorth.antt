@@ -5,12 +5,11 @@ use Rattle.certs.specs.Purchase.{market_price_of}
 use Rattle.events.specs.Event.{party_at}
 use Rattle.events.specs.declared.event.Event.{Event}
 use Rattle.events.specs.declared.event.Shareholder.TheVariants.{Seat as OfSeat}
-use Rattle.totals.specs.LookBack.{cash_of, owner_of}
+use Rattle.totals.specs.LookBack.{cash_of, is_owner, owner_of}
 use Rattle.totals.specs.Shares.{shares_of}
 use Rattle.totals.specs.Trains.{at_least_zero}
 use Rattle.totals.specs.declared.look_back.GameView.{GameView}
 use Rattle.report.specs.Line.{line_of, name_of}
-use Rattle.report.specs.Statement.{is_seat}
 use Rattle.std.specs.Fmt.{signed_decimal}
 use Rattle.std.specs.List.{flat_map, range_with_len}
 use Rattle.tables.specs.Roster.{companies, face_of, privates}
@@ -24,7 +23,7 @@ worth_of_shares events seat company = at_least_zero (shares_of events company (O
 
 -- what a private is worth to a seat: nothing if another owns it
 abbrev pub worth_of_private : List Event → Seat → Private → ℕ
-worth_of_private events seat private = if is_seat seat (owner_of events private) then face_of private else 0
+worth_of_private events seat private = if is_owner seat (owner_of events private) then face_of private else 0
 
 -- what all shares that a seat has are worth
 abbrev pub worth_of_all_shares : List Event → Seat → ℕ

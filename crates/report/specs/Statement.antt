@@ -1,25 +1,24 @@
 -- The statement after a round: what each player holds, what each started company has, and the
 -- bank's cash.
-use Rattle.std.specs.Prelude.{◌≡◌, ℕ, zero, suc, Bool, false, if◌then◌else◌, List, [], ◌∷◌, ◌++◌, codes, decimal}
+use Rattle.std.specs.Prelude.{◌≡◌, ℕ, zero, suc, if◌then◌else◌, List, [], ◌∷◌, ◌++◌, codes, decimal}
 use Rattle.std.specs.Prelude.{Option, Some, None}
 use Rattle.certs.specs.Counted.{counted_of}
 use Rattle.std.specs.List.{flat_map, range_with_len}
 use Rattle.std.specs.Fmt.{signed_decimal}
 use Rattle.events.specs.Event.{party_at}
 use Rattle.events.specs.declared.event.Event.{Event}
-use Rattle.events.specs.declared.event.Holder.{Holder}
 use Rattle.events.specs.declared.event.Holder.TheVariants as holder
 use Rattle.events.specs.declared.event.Party.{Party}
 use Rattle.events.specs.declared.event.Party.TheVariants as party
 use Rattle.events.specs.declared.event.Shareholder.{Shareholder}
 use Rattle.events.specs.declared.event.Shareholder.TheVariants.{InitialOffering, BankPool, Seat as OfSeat}
-use Rattle.totals.specs.LookBack.{cash_of, owner_in, owner_of, same_holder}
+use Rattle.totals.specs.LookBack.{cash_of, is_owner, owner_in, owner_of}
 use Rattle.totals.specs.Operating.{tokens_placed}
 use Rattle.totals.specs.Shares.{president_of, shares_of, square_of}
 use Rattle.totals.specs.Trains.{at_least_zero, trains_held}
 use Rattle.totals.specs.declared.look_back.GameView.{GameView}
 use Rattle.totals.specs.declared.owners.Owners.{Owners}
-use Rattle.report.specs.Column.{at_left, at_right}
+use Rattle.report.specs.Column.{left_aligned, right_aligned}
 use Rattle.report.specs.Line.{name_of}
 use Rattle.tables.specs.Chart.{price_of}
 use Rattle.tables.specs.Roster.{code_of_company, code_of_private, companies, privates}
@@ -30,18 +29,13 @@ use Rattle.tables.specs.declared.roster.Private.{Private}
 use Rattle.tables.specs.declared.seat.Seat.{Seat}
 use Rattle.tables.specs.declared.squares.Square.{Square}
 
--- an owner is this seat
-abbrev pub is_seat : Seat → Option Holder → Bool
-is_seat seat None = false
-is_seat seat (Some owner) = same_holder owner (holder.Seat seat)
-
 -- the owners of the privates, looked up before
 abbrev pub AreOwnersIn : List Event → Owners → Type 0
 AreOwnersIn events owners = (private : Private) → owner_in owners private ≡ owner_of events private
 
 -- the code of a private after a space, if the seat owns it
 abbrev pub code_owned : List Event → Seat → Private → List ℕ
-code_owned events seat private = if is_seat seat (owner_of events private) then 32 ∷ code_of_private private else []
+code_owned events seat private = if is_owner seat (owner_of events private) then 32 ∷ code_of_private private else []
 
 -- the codes of the privates that a seat owns, in roster order
 unfoldable pub codes_owned : List Event → Seat → List ℕ
@@ -49,11 +43,11 @@ codes_owned events seat = flat_map (λ private. code_owned events seat private) 
 
 -- the shares of a company at a place, in their column
 unfoldable pub shares_column : List Event → Company → Shareholder → List ℕ
-shares_column events company place = at_right 3 (signed_decimal (shares_of events company place))
+shares_column events company place = right_aligned 3 (signed_decimal (shares_of events company place))
 
 -- what a party has, in its column
 unfoldable pub cash_column : ℕ → List Event → Party → List ℕ
-cash_column seats events party = at_right 6 (signed_decimal (cash_of seats events party))
+cash_column seats events party = right_aligned 6 (signed_decimal (cash_of seats events party))
 
 -- what a party has in a game as it stood, in its column
 abbrev pub cash_column_at : GameView → Party → List ℕ
@@ -61,7 +55,7 @@ cash_column_at view party = cash_column view.seats view.events.now party
 
 -- how many of a seat's certificates count, in their column
 unfoldable pub counted_column : List Event → Seat → List ℕ
-counted_column events seat = at_right 3 (signed_decimal (counted_of events seat))
+counted_column events seat = right_aligned 3 (signed_decimal (counted_of events seat))
 
 -- the shares of the eight companies that a seat holds
 unfoldable pub holdings : List Event → Seat → List ℕ
@@ -70,7 +64,7 @@ holdings events seat = flat_map (λ company. shares_column events company (OfSea
 -- a player's line
 unfoldable pub player_line : List ℕ → ℕ → List Event → Seat → List ℕ
 player_line file seats events seat =
-    codes "PLAYER " ++ at_left 8 (name_of file seat) ++ cash_column seats events (party_at seat)
+    codes "PLAYER " ++ left_aligned 8 (name_of file seat) ++ cash_column seats events (party_at seat)
     ++ counted_column events seat ++ holdings events seat
     ++ codes_owned events seat ++ 10 ∷ []
 
@@ -88,9 +82,9 @@ president_name file (Some seat) = name_of file seat
 unfoldable pub company_figures : ℕ → List Event → Company → Square → List ℕ
 company_figures seats events company square =
     cash_column seats events (party.Holder (holder.Company company))
-    ++ at_right 4 (decimal (price_of square))
+    ++ right_aligned 4 (decimal (price_of square))
     ++ shares_column events company InitialOffering ++ shares_column events company BankPool
-    ++ at_right 2 (decimal (tokens_placed events company))
+    ++ right_aligned 2 (decimal (tokens_placed events company))
 
 -- a company's figures in a game as it stood
 abbrev pub company_figures_at : GameView → Company → Square → List ℕ
@@ -112,7 +106,7 @@ trains_text events company = flat_map (λ kind. codes_of_trains events company k
 -- the line of a company on this square
 unfoldable pub company_line : List ℕ → ℕ → List Event → Company → Square → List ℕ
 company_line file seats events company square =
-    codes "COMPANY " ++ at_left 4 (code_of_company company) ++ company_figures seats events company square
+    codes "COMPANY " ++ left_aligned 4 (code_of_company company) ++ company_figures seats events company square
     ++ 32 ∷ president_name file (president_of events company) ++ trains_text events company ++ 10 ∷ []
 
 -- the line of a company on this square in a game as it stood

@@ -3,11 +3,11 @@ ghost use Rattle.std.specs.Prelude.{◌≡◌, ◌∷◌, ◌++◌, [], OnOk, le
 ghost use Rattle.std.specs.Fmt.{signed_decimal};
 ghost use Rattle.std.specs.Option.{ForSome};
 ghost use Rattle.events.specs.declared.event.Shareholder.TheVariants.{Seat as OfSeat};
-ghost use Rattle.totals.specs.LookBack.{owner_in};
-ghost use Rattle.report.specs.Column.{Adds, at_right};
+ghost use Rattle.totals.specs.LookBack.{is_owner, owner_in};
+ghost use Rattle.report.specs.Column.{Adds, right_aligned};
 ghost use Rattle.report.specs.Statement.{AreOwnersIn, bank_line_at, cash_column_at, code_owned, codes_owned};
 ghost use Rattle.report.specs.Statement.{company_figures_at, company_line_at, company_lines_at, counted_column};
-ghost use Rattle.report.specs.Statement.{holdings, codes_of_kind, codes_of_trains, is_seat, player_line_at};
+ghost use Rattle.report.specs.Statement.{holdings, codes_of_kind, codes_of_trains, player_line_at};
 ghost use Rattle.report.specs.Statement.{player_lines_at, president_name, started_line_at, statement_at, shares_column};
 ghost use Rattle.report.specs.Statement.{trains_text};
 ghost use Rattle.sheets.specs.File.{players_of};
@@ -193,7 +193,7 @@ fn push_private(
 
 /// Returns whether the seat owns the private.
 pub(crate) fn owns(owners: &Owners, seat: Seat, private: Private) -> bool
-    ensures { result ≡ is_seat seat (owner_in owners.now private) }
+    ensures { result ≡ is_owner seat (owner_in owners.now private) }
 {
     match owners.owner(private) {
         Some(Holder::Seat(owner)) => owner.0 == seat.0,
@@ -291,7 +291,7 @@ fn push_counted(out: &mut Vec<u8>, view: &GameView, seat: Seat) -> Result<(), Al
 
 /// Adds a number of certificates or shares in its column. Nearly all have one digit.
 fn push_count(out: &mut Vec<u8>, count: ShareCount) -> Result<(), AllocError>
-    ensures { OnOk result (Adds out.old out.new (at_right 3 (signed_decimal count))) }
+    ensures { OnOk result (Adds out.old out.new (right_aligned 3 (signed_decimal count))) }
 {
     match digit_of(count) {
         Some(digit) => push_digit(out, digit),
@@ -308,8 +308,8 @@ fn push_counts(
     fourth: ShareCount,
 ) -> Result<(), AllocError>
     ensures { OnOk result (Adds out.old out.new
-        (at_right 3 (signed_decimal first) ++ at_right 3 (signed_decimal second)
-        ++ at_right 3 (signed_decimal third) ++ at_right 3 (signed_decimal fourth))) }
+        (right_aligned 3 (signed_decimal first) ++ right_aligned 3 (signed_decimal second)
+        ++ right_aligned 3 (signed_decimal third) ++ right_aligned 3 (signed_decimal fourth))) }
 {
     let digits = (
         digit_of(first),
@@ -332,8 +332,8 @@ fn push_each(
     fourth: ShareCount,
 ) -> Result<(), AllocError>
     ensures { OnOk result (Adds out.old out.new
-        (at_right 3 (signed_decimal first) ++ at_right 3 (signed_decimal second)
-        ++ at_right 3 (signed_decimal third) ++ at_right 3 (signed_decimal fourth))) }
+        (right_aligned 3 (signed_decimal first) ++ right_aligned 3 (signed_decimal second)
+        ++ right_aligned 3 (signed_decimal third) ++ right_aligned 3 (signed_decimal fourth))) }
 {
     push_triple(out, first, second, third)?;
     push_count(out, fourth)?;
@@ -348,8 +348,8 @@ fn push_triple(
     third: ShareCount,
 ) -> Result<(), AllocError>
     ensures { OnOk result (Adds out.old out.new
-        (at_right 3 (signed_decimal first) ++ at_right 3 (signed_decimal second)
-        ++ at_right 3 (signed_decimal third))) }
+        (right_aligned 3 (signed_decimal first) ++ right_aligned 3 (signed_decimal second)
+        ++ right_aligned 3 (signed_decimal third))) }
 {
     push_pair(out, first, second)?;
     push_count(out, third)?;
@@ -359,14 +359,14 @@ fn push_triple(
 /// Adds two numbers of shares, of any number of digits.
 fn push_pair(out: &mut Vec<u8>, first: ShareCount, second: ShareCount) -> Result<(), AllocError>
     ensures { OnOk result (Adds out.old out.new
-        (at_right 3 (signed_decimal first) ++ at_right 3 (signed_decimal second))) }
+        (right_aligned 3 (signed_decimal first) ++ right_aligned 3 (signed_decimal second))) }
 {
     push_count(out, first)?;
     push_count(out, second)
 }
 
 /// Adds four digits, each at the right of a column of certificates or shares.
-#[tactic(auto, unfolding(crate::specs::Column::at_right))]
+#[tactic(auto, unfolding(crate::specs::Column::right_aligned))]
 fn push_digits(
     out: &mut Vec<u8>,
     first: u8,
@@ -375,8 +375,8 @@ fn push_digits(
     fourth: u8,
 ) -> Result<(), AllocError>
     ensures { OnOk result (Adds out.old out.new
-        (at_right 3 (first ∷ []) ++ at_right 3 (second ∷ [])
-        ++ at_right 3 (third ∷ []) ++ at_right 3 (fourth ∷ []))) }
+        (right_aligned 3 (first ∷ []) ++ right_aligned 3 (second ∷ [])
+        ++ right_aligned 3 (third ∷ []) ++ right_aligned 3 (fourth ∷ []))) }
 {
     out.extend_from_slice(&[
         b' ', b' ', first, b' ', b' ', second, b' ', b' ', third, b' ', b' ', fourth,
@@ -395,9 +395,9 @@ fn digit_of(number: ShareCount) -> Option<u8>
 }
 
 /// Adds a digit at the right of a column of certificates or shares.
-#[tactic(auto, unfolding(crate::specs::Column::at_right))]
+#[tactic(auto, unfolding(crate::specs::Column::right_aligned))]
 fn push_digit(out: &mut Vec<u8>, digit: u8) -> Result<(), AllocError>
-    ensures { OnOk result (Adds out.old out.new (at_right 3 (digit ∷ []))) }
+    ensures { OnOk result (Adds out.old out.new (right_aligned 3 (digit ∷ []))) }
 {
     out.extend_from_slice(&[b' ', b' ', digit])
 }

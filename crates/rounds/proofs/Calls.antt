@@ -15,10 +15,10 @@ use Rattle.operating.specs.TurnCalls.{SomeTurnCalls, asked, OneListOfTurnCalls}
 use Rattle.operating.specs.TurnCalls.{RefusedTurnCallsAreAPrefix}
 use Rattle.rounds.specs.GameCalls.{AreOver, CallsAreOfTheGame, CompanyCalls, EachGameCalls}
 use Rattle.rounds.specs.GameCalls.{IsFinished, IsOpened, NextCalls, OperatingCalls, PlayedCalls}
-use Rattle.rounds.specs.GameCalls.{RoundCalls, SomeCalls, Stops, TurnsCall, between_after}
+use Rattle.rounds.specs.GameCalls.{PlayStops, RoundCalls, SomeCalls, TurnsCall, between_after}
 use Rattle.rounds.specs.GameCalls.{ArePrefix, OneListOfCalls, RefusedCallsAreAPrefix}
-use Rattle.rounds.specs.OperatingRound.{IsOperatingRound, TakeTurns, TakesTurn, TurnsLead, finished}
-use Rattle.rounds.specs.OperatingRound.{opened}
+use Rattle.rounds.specs.OperatingRound.{IsOperatingRound, TakeTurns, TakesTurn, TurnsLead}
+use Rattle.rounds.specs.OperatingRound.{operating_round_finished, operating_round_opened}
 use Rattle.rounds.specs.Play.{AreRounds, Between, IsPlayed, IsRound, IsTheGame, IsToPlay, Played}
 use Rattle.rounds.specs.Play.{SomeGame, before_play, coming, end_of, in_set_before, goes_on}
 use Rattle.rounds.specs.declared.fault.PlayFault.{PlayFault}
@@ -73,7 +73,7 @@ module _ {Runner : Type 0} (earns : Earns Runner) where
   -- the turns of a round that was opened, and what follows them
   pub turns_of_round :
       (file : List ℕ) (round : Round) (old paid : Game) (outcome : Result Game PlayFault) (before after : Runner)
-      → paid ≡ opened file round old →
+      → paid ≡ operating_round_opened file round old →
       Makes earns before (Then (TurnsCall file round) (Unasked Memory (IsFinished file round)) paid outcome) after →
       Makes earns before (OperatingCalls file round old outcome) after
   turns_of_round file round old paid outcome before after is_opened made =
@@ -165,7 +165,7 @@ operating_played file round old new calls course =
               turns = subst (λ (game : Game). TurnsLead file round game rest.between) first.leads.0 led.0;
               after =
                   rest.goes_on.0
-                  ∙ ap (λ (n : ℕ). record { seats = n; events = finished file round n rest.between.events }) seats;
+                  ∙ ap (λ (n : ℕ). record { seats = n; events = operating_round_finished file round n rest.between.events }) seats;
             }
       ]
     ]
@@ -233,15 +233,15 @@ module _ (some : SomeTurnCalls) (file : List ℕ) where
   operating_called : (round : Round) (old new : Game) → IsOperatingRound file round old new →
       AreSome (OperatingCalls file round old (Ok new))
   operating_called round old new played =
-      let start : Game = opened file round old in
+      let start : Game = operating_round_opened file round old in
       let turned : Game = played.turned in
       let turns = turns_called round played.turns.companies start turned played.turns.turns
       played.turns.over_then in
       let seats : turned.seats ≡ old.seats =
       (turns_lead file round turns.1.0 start turned turns.0 turns.1.1).1 in
-      let after : new ≡ record { seats = turned.seats; events = finished file round turned.seats turned.events } =
+      let after : new ≡ record { seats = turned.seats; events = operating_round_finished file round turned.seats turned.events } =
       played.after ∙ ap (λ (n : ℕ). record
-      { seats = n; events = finished file round n turned.events }) (sym seats) in
+      { seats = n; events = operating_round_finished file round n turned.events }) (sym seats) in
       turns_of_round AnyRunner file round old start (Ok new) tt tt refl
       (turns_followed AnyRunner file round start turned (Ok new) tt tt turns (after, refl))
 
@@ -256,11 +256,11 @@ module _ (some : SomeTurnCalls) (file : List ℕ) where
   -- so do rounds before others that do
   rounds_called : (rounds : ℕ) (old mid : Between) (played : Played) → AreRounds file rounds old
       mid →
-      AreSome (SomeTimesThen (RoundCalls file) (Unasked Memory (Stops file)) mid (Ok played)) →
-      AreSome (SomeTimesThen (RoundCalls file) (Unasked Memory (Stops file)) old (Ok played))
+      AreSome (SomeTimesThen (RoundCalls file) (Unasked Memory (PlayStops file)) mid (Ok played)) →
+      AreSome (SomeTimesThen (RoundCalls file) (Unasked Memory (PlayStops file)) old (Ok played))
   rounds_called zero old mid played rounds later =
       subst (λ (at : Between). AreSome (SomeTimesThen (RoundCalls file) (Unasked Memory
-      (Stops file)) at (Ok played)))
+      (PlayStops file)) at (Ok played)))
       (sym rounds) later
   rounds_called (suc rounds) old mid played are later =
       let last : IsRound file are.0 mid = are.2 in
@@ -271,7 +271,7 @@ module _ (some : SomeTurnCalls) (file : List ℕ) where
       last.in_set_then)
       (played_called last.round are.0.game mid.game last.played) in
       rounds_called rounds old are.0 played are.1
-      (once_more AnyRunner (RoundCalls file) (Unasked Memory (Stops file)) are.0 mid (Ok played) tt
+      (once_more AnyRunner (RoundCalls file) (Unasked Memory (PlayStops file)) are.0 mid (Ok played) tt
       tt tt course later)
 
 -- and so does each game
@@ -287,9 +287,9 @@ game_called some played game =
     let all = rounds_called some played.file game.plays.rounds (before_play played.file) game.last
     played
     game.plays.reached
-    (no_more AnyRunner (RoundCalls played.file) (Unasked Memory (Stops played.file)) game.last
+    (no_more AnyRunner (RoundCalls played.file) (Unasked Memory (PlayStops played.file)) game.last
     (Ok played) tt tt
-    (silent AnyRunner Memory (Stops played.file) game.last played tt tt
+    (silent AnyRunner Memory (PlayStops played.file) game.last played tt tt
     (record { stopped = game.plays.stopped; game = is }) refl)) in
     (all.0, all.1)
 
@@ -311,8 +311,8 @@ one_before file (suc n) old mid new first rounds =
 -- the rounds of a game, with their calls, are its rounds
 rounds_lead :
     (file : List ℕ) (times : ℕ) (old : Between) (played : Played) (calls : List Call) →
-    TimesThen times (RoundCalls file) (Unasked Memory (Stops file)) old (Ok played) calls →
-    (last : Between) × AreRounds file times old last × Stops file last played
+    TimesThen times (RoundCalls file) (Unasked Memory (PlayStops file)) old (Ok played) calls →
+    (last : Between) × AreRounds file times old last × PlayStops file last played
 rounds_lead file zero old played calls course = (old, refl, course.0)
 rounds_lead file (suc times) old played calls course =
     elim course [
@@ -380,7 +380,7 @@ module _ (P : Call → Type 0) (file : List ℕ) where
       ((old : Between) (round : Round) → At old → IsToPlay file old.next round → OfAsked P round) →
       ((old new : Between) → At old → IsRound file old new → At new) →
       (times : ℕ) (old : Between) (played : Played) (calls : List Call) → At old →
-      TimesThen times (RoundCalls file) (Unasked Memory (Stops file)) old (Ok played) calls →
+      TimesThen times (RoundCalls file) (Unasked Memory (PlayStops file)) old (Ok played) calls →
       AllByRecursion P calls
   of_rounds At each on zero old played calls at course = of_none P calls course.1
   of_rounds At each on (suc times) old played calls at course =
@@ -575,9 +575,9 @@ module _ (lists : OneListOfTurnCalls) (prefixes : RefusedTurnCallsAreAPrefix) (f
         }
 
     -- and the game
-    game_called_once : IsOne (SomeTimesThen (RoundCalls file) (Unasked Memory (Stops file)))
+    game_called_once : IsOne (SomeTimesThen (RoundCalls file) (Unasked Memory (PlayStops file)))
     game_called_once =
-        some_times_agree Memory TellsOf (RoundCalls file) (Stops file) round_called_once
+        some_times_agree Memory TellsOf (RoundCalls file) (PlayStops file) round_called_once
         (λ from a b first second. first.game ∙ sym second.game)
         (λ from to outcome calls stops round. true≢false
         (sym (ap (goes_on file) round.1.comes ∙ round.1.posted) ∙ stops.stopped))

@@ -11,7 +11,8 @@ use Rattle.market.specs.OperatingOrder.{IsOperatingOrder, next_company, operatin
 use Rattle.operating.proofs.Idle.{all_have_operated, fewer_idle, idle_few, idle_of, next_is_idle}
 use Rattle.rounds.specs.OperatingRound.{CompaniesOperateOnce, EndsSoon}
 use Rattle.rounds.specs.OperatingRound.{OneOperatingRound, TakeTurns, TakesTurn, TurnsLead}
-use Rattle.rounds.specs.OperatingRound.{finished, opened, IsOperatingRound, left_events, lines_left}
+use Rattle.rounds.specs.OperatingRound.{operating_round_finished, operating_round_opened, IsOperatingRound, left_events}
+use Rattle.rounds.specs.OperatingRound.{lines_left}
 use Rattle.tables.specs.Roster.{same_company}
 use Rattle.tables.specs.declared.roster.Company.{Company}
 use Rattle.std.specs.Option.{option_map}
@@ -29,7 +30,7 @@ use Rattle.std.specs.List.{range_with_len}
 use Rattle.history.proofs.Recording.{left_first}
 use Rattle.totals.specs.AtEnd.{RulingsAreCounted}
 use Rattle.history.specs.Record.{revenues_recorded, with_left}
-use Rattle.purchases.specs.Standing.{after_standing}
+use Rattle.purchases.specs.Standing.{after_all_standing_lines}
 use Rattle.sheets.specs.File.{players_of}
 use Rattle.sheets.specs.Part.{lines_in, parts_for}
 use Rattle.tables.specs.Seat.{seat_at}
@@ -74,10 +75,10 @@ operating_once once file round old a b first second =
     let game : Game → Game = λ turned. record {
       seats = old.seats;
       events =
-          finished file round old.seats turned.events;
+          operating_round_finished file round old.seats turned.events;
     } in
     first.after
-    ∙ ap game (turns_once once file round first.turns.companies second.turns.companies (opened file round old)
+    ∙ ap game (turns_once once file round first.turns.companies second.turns.companies (operating_round_opened file round old)
     first.turned second.turned first.turns.turns first.turns.over_then second.turns.turns second.turns.over_then)
     ∙ sym second.after
 
@@ -191,10 +192,10 @@ no_one_yet events new round company grows =
 pub operating_ends : CompanyOperates → CompanyTurnEnds → AreOrdered → (file : List ℕ) (round : Round) (old : Game)
     → EndsSoon file round old
 operating_ends operates_too ends ordered file round old =
-    let start : Game = opened file round old in
+    let start : Game = operating_round_opened file round old in
     let end = turns_end operates_too ordered file round ends (idle_of start.events + 1) start (omega arith) in
     record {
-      new = record { seats = old.seats; events = finished file round old.seats end.0.events };
+      new = record { seats = old.seats; events = operating_round_finished file round old.seats end.0.events };
       played = record { turned = end.0; turns = end.1; after = refl };
     }
 
@@ -205,7 +206,7 @@ at_most_one b count is = grind arith
 -- in an operating round companies operate once each
 pub operate_once : CompanyOperates → AreOrdered → CompaniesOperateOnce
 operate_once operates_too ordered file round old new played =
-    let start : Game = opened file round old in
+    let start : Game = operating_round_opened file round old in
     let companies : List Company = played.turns.companies in
     let turned : Game = played.turned in
     let count : (company : Company) → times company companies ≡ (if has_operated turned.events
@@ -237,33 +238,33 @@ same_game a b seats events = λ i. record { seats = seats i; events = events i }
 -- the ROUND event, the standing lines and the revenues open a round
 pub round_opened : (file : List ℕ) (round : Round) (old recorded ruled paid : Game)
     → old.seats ≡ length (players_of file) → recorded ≡ with_event old (event.Round round)
-    → ruled.seats ≡ recorded.seats → ruled.events ≡ after_standing (length (players_of file)) file round recorded.events
-    → paid ≡ revenues_recorded ruled → paid ≡ opened file round old
+    → ruled.seats ≡ recorded.seats → ruled.events ≡ after_all_standing_lines (length (players_of file)) file round recorded.events
+    → paid ≡ revenues_recorded ruled → paid ≡ operating_round_opened file round old
 round_opened file round old recorded ruled paid players is_recorded ruled_seats is_ruled is_paid =
     let start : List Event = old.events ++ event.Round round ∷ [] in
-    let events : ruled.events ≡ after_standing old.seats file round start =
+    let events : ruled.events ≡ after_all_standing_lines old.seats file round start =
     is_ruled
-    ∙ ap (λ (game : Game). after_standing (length (players_of file)) file round game.events) is_recorded
-    ∙ ap (λ (seats : ℕ). after_standing seats file round start) (sym players)
+    ∙ ap (λ (game : Game). after_all_standing_lines (length (players_of file)) file round game.events) is_recorded
+    ∙ ap (λ (seats : ℕ). after_all_standing_lines seats file round start) (sym players)
     in
-    let is : ruled ≡ record { seats = old.seats; events = after_standing old.seats file round start } =
-    same_game ruled (record { seats = old.seats; events = after_standing old.seats file round start })
+    let is : ruled ≡ record { seats = old.seats; events = after_all_standing_lines old.seats file round start } =
+    same_game ruled (record { seats = old.seats; events = after_all_standing_lines old.seats file round start })
     (ruled_seats ∙ ap (λ (game : Game). game.seats) is_recorded) events
     in
     is_paid ∙ ap revenues_recorded is
 
 -- what opened a round, the turns of the companies and what was left are a round
 pub whole_round : (file : List ℕ) (round : Round) (old paid turned new : Game) → old.seats ≡ length (players_of file)
-    → paid ≡ opened file round old → TurnsLead file round paid turned → turned.seats ≡ paid.seats
-    → new.seats ≡ turned.seats → new.events ≡ finished file round (length (players_of file)) turned.events
+    → paid ≡ operating_round_opened file round old → TurnsLead file round paid turned → turned.seats ≡ paid.seats
+    → new.seats ≡ turned.seats → new.events ≡ operating_round_finished file round (length (players_of file)) turned.events
     → IsOperatingRound file round old new
 whole_round file round old paid turned new players is_paid lead turned_seats new_seats is_new =
     let seats : new.seats ≡ old.seats = new_seats ∙ turned_seats ∙ ap (λ (game : Game). game.seats) is_paid in
     record {
       turned = turned;
       turns = subst (λ (game : Game). TurnsLead file round game turned) is_paid lead;
-      after = same_game new (record { seats = old.seats; events = finished file round old.seats turned.events }) seats
-          (is_new ∙ ap (λ (seats : ℕ). finished file round seats turned.events) (sym players));
+      after = same_game new (record { seats = old.seats; events = operating_round_finished file round old.seats turned.events }) seats
+          (is_new ∙ ap (λ (seats : ℕ). operating_round_finished file round seats turned.events) (sym players));
     }
 
 -- a count of lines that were left adds no ruling

@@ -14,8 +14,8 @@ use Rattle.totals.specs.LookBack.{Game, is_closed, is_sold}
 use Rattle.history.specs.Sound.{BiddersAreSeated}
 use Rattle.privates.proofs.RulesAtTable.{by_rules, is_under, rules_at}
 use Rattle.privates.specs.Opening.{IsOpeningRound}
-use Rattle.privates.specs.Standing.{standing_ruling}
-use Rattle.privates.specs.Turn.{InTurn, after_opening_line}
+use Rattle.privates.specs.Standing.{opening_standing_ruling}
+use Rattle.privates.specs.Turn.{InOpeningTurn, after_opening_line}
 use Rattle.rounds.proofs.OpeningSteps.{AnyPrivate, OfOpening, of_close, of_line, AnySeat}
 use Rattle.rounds.proofs.OpeningSteps.{of_opening}
 use Rattle.rounds.proofs.RoundSteps.{says_still, OfOpenings, in_each_game, of_each_round}
@@ -90,7 +90,7 @@ opening_parts seats =
     }
 
 -- by a line where the test of its seat passes
-tested_line : (seats : ℕ) (seat : Seat) (turn : InTurn) (line : Numbered) (b : Bool) → (b ≡ true → seat.0 < seats) →
+tested_line : (seats : ℕ) (seat : Seat) (turn : InOpeningTurn) (line : Numbered) (b : Bool) → (b ≡ true → seat.0 < seats) →
     StillSeated seats turn.events (if b then after_opening_line seats seat turn line else turn).events
 tested_line seats seat turn line true under =
     of_line (AtTable seats) AnyPrivate (StillSeated seats) (opening_parts seats)
@@ -108,7 +108,7 @@ opening_seated file round old new played some seated =
       stays = λ events seated. seated;
       further = λ a b c one two seated. two (one seated);
       standing = λ seat events line. others_seated seats events
-          (event.Ruled seat line.number (standing_ruling events line)) refl;
+          (event.Ruled seat line.number (opening_standing_ruling events line)) refl;
       line = λ any seat turn line. tested_line seats seat turn line (nat_lt seat.0 seats)
           (λ under. is_under seat.0 seats under);
       passes = λ events seat. others_seated seats events (event.Passes seat) refl;

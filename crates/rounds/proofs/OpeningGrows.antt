@@ -6,8 +6,10 @@ use Rattle.events.specs.declared.event.Event.TheVariants as event
 use Rattle.events.specs.declared.ruling.Refusal.TheVariants as refusal
 use Rattle.totals.specs.LookBack.{Game}
 use Rattle.privates.specs.Opening.{IsOpeningRound}
-use Rattle.privates.specs.Standing.{has_place_before, standing_judgement, standing_refusal, standing_ruling}
-use Rattle.privates.specs.Turn.{acted, judgement_of, opening_rules, refusal_of, ruling_in}
+use Rattle.privates.specs.Standing.{has_place_before_turns, opening_standing_judgement, opening_standing_refusal}
+use Rattle.privates.specs.Standing.{opening_standing_ruling}
+use Rattle.privates.specs.Turn.{opening_judgement, opening_line_ruling, opening_refusal, opening_rules}
+use Rattle.privates.specs.Turn.{turn_after_opening_order}
 use Rattle.rounds.proofs.Growing.{◌⨾◌, Grows, GrowsBy, and_plain, by_one_event, is_aside, is_still}
 use Rattle.rounds.proofs.Growing.{stays}
 use Rattle.rounds.proofs.Growing.{still_and_plain_is_aside}
@@ -64,16 +66,16 @@ pub opening_adds : AddsPlain opening_rules
 opening_adds =
     record {
       standing = λ seat events line plain.
-          recorded_plain seat line.number (standing_ruling events line) events
-          (ruling_plain has_place_before (standing_refusal events) events line plain
-          (λ its. of_mapped refusal.Opening (λ rule. tt) (standing_judgement events its)));
+          recorded_plain seat line.number (opening_standing_ruling events line) events
+          (ruling_plain has_place_before_turns (opening_standing_refusal events) events line plain
+          (λ its. of_mapped refusal.Opening (λ rule. tt) (opening_standing_judgement events its)));
       line = λ seats seat turn line plain.
-          ruled_plain (acted seats seat)
+          ruled_plain (turn_after_opening_order seats seat)
           (λ at done. of_act AnySeat AnyPrivate (GrowsBy is_plain) parts_plain seats seat at.events
           done tt
           (λ private is. tt))
-          seat turn line.number (ruling_in seats seat turn line)
-          (ruling_plain has_place_in_turn (refusal_of seats turn.events seat turn.actions) turn.events line plain
-          (λ its. of_mapped refusal.Opening (λ rule. tt) (judgement_of seats turn.events seat turn.actions its)));
+          seat turn line.number (opening_line_ruling seats seat turn line)
+          (ruling_plain has_place_in_turn (opening_refusal seats turn.events seat turn.actions) turn.events line plain
+          (λ its. of_mapped refusal.Opening (λ rule. tt) (opening_judgement seats turn.events seat turn.actions its)));
       closed = of_close AnySeat AnyPrivate (GrowsBy is_plain) parts_plain;
     }

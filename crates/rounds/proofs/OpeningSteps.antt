@@ -22,13 +22,14 @@ use Rattle.order_grammar.specs.declared.order.Order.{Order}
 use Rattle.order_grammar.specs.declared.order.Order.TheVariants as order
 use Rattle.privates.proofs.TurnLemmas.{may_act_after}
 use Rattle.privates.proofs.StandingBids.{cheapest_unsold}
-use Rattle.privates.specs.Closing.{after_fall, after_passing, all_sold, closed, given_away}
-use Rattle.privates.specs.Bank.{price_of}
+use Rattle.privates.specs.Closing.{after_fall, after_passing, all_sold, given_away, opening_round_closed}
+use Rattle.privates.specs.Bank.{price_of_private}
 use Rattle.privates.specs.Opening.{IsOpeningRound}
-use Rattle.privates.specs.Standing.{standing_ruling}
-use Rattle.privates.specs.Sale.{after_sale, gifts, settle_auctions, settled, settled_by, settled_of}
-use Rattle.privates.specs.Turn.{InTurn, acted, after_act, after_opening_line, judgement_of}
-use Rattle.privates.specs.Turn.{opening_rules, refusal_of}
+use Rattle.privates.specs.Standing.{opening_standing_ruling}
+use Rattle.privates.specs.Sale.{after_private_sale, gifts, settle_auctions, settled, settled_by, settled_of}
+use Rattle.privates.specs.Turn.{InOpeningTurn, after_opening_line, after_opening_order}
+use Rattle.privates.specs.Turn.{opening_judgement, opening_refusal, opening_rules}
+use Rattle.privates.specs.Turn.{turn_after_opening_order}
 use Rattle.rounds.proofs.Growing.{GrowsPlainly, and_plain, is_still, over_growth, revenues_grow}
 use Rattle.sheets.specs.Part.{Numbered}
 use Rattle.tables.specs.Roster.{privates}
@@ -39,7 +40,7 @@ use Rattle.tables.specs.declared.seat.Seat.{Seat}
 use Rattle.tables.specs.declared.round.Round.{Round}
 use Rattle.turns.proofs.RoundLeads.{round_leads}
 use Rattle.turns.proofs.Ruled.{none_as_refusal, of_ruled}
-use Rattle.turns.specs.Ruling.{has_place_in_turn, obeyed_by}
+use Rattle.turns.specs.Ruling.{has_place_in_turn, obeyed_order}
 
 -- what is to be shown so that it holds of the parts of an opening round in which these seats take
 -- turns, and these privates are sold
@@ -74,9 +75,9 @@ ruling_quiet : (seat : Seat) (number : ℕ) (ruling : Ruling) → IsQuiet (event
 ruling_quiet seat number ruling = search rules
 
 -- so a private that may be bought is unsold after it
-still_unsold : (seats : ℕ) (seat : Seat) (turn : InTurn) (number : ℕ) (ruling : Ruling)
+still_unsold : (seats : ℕ) (seat : Seat) (turn : InOpeningTurn) (number : ℕ) (ruling : Ruling)
     (private : Private) →
-    refusal_of seats turn.events seat turn.actions (order.BuyPrivate private) ≡ None →
+    opening_refusal seats turn.events seat turn.actions (order.BuyPrivate private) ≡ None →
     is_sold (turn.events ++ event.Ruled seat number ruling ∷ []) private ≡ false
 still_unsold seats seat turn number ruling private kept =
     let its : Event = event.Ruled seat number ruling in
@@ -84,7 +85,7 @@ still_unsold seats seat turn number ruling private kept =
     (record { seats = seats; events = turn.events ++ its ∷ [] }) its seat turn.actions
     (order.BuyPrivate private) refl
     (ruling_quiet seat number ruling)
-    (none_as_refusal Opening (judgement_of seats turn.events seat turn.actions (order.BuyPrivate
+    (none_as_refusal Opening (opening_judgement seats turn.events seat turn.actions (order.BuyPrivate
     private)) kept)).unsold
 
 module _ (Sits : Seat → Type 0) (Sells : List Event → Private → Type 0) (R : List Event →
@@ -97,7 +98,7 @@ module _ (Sits : Seat → Type 0) (Sells : List Event → Private → Type 0) (R
   -- of a sale
   of_sale : (events : List Event) (private : Private) (buyer : Seat) (price : ℕ) → Sells events
       private →
-      R events (after_sale events private buyer price)
+      R events (after_private_sale events private buyer price)
   of_sale events private buyer price sells =
       let its : Event = event.Sold private buyer price in
       let next : List Event = events ++ its ∷ [] in
@@ -133,19 +134,19 @@ module _ (Sits : Seat → Type 0) (Sells : List Event → Private → Type 0) (R
 
   -- of a sale, and of those that follow from it
   of_sales : (seats : ℕ) (events : List Event) (private : Private) (buyer : Seat) (price : ℕ) →
-      Sells events private → R events (settled seats (after_sale events private buyer price))
+      Sells events private → R events (settled seats (after_private_sale events private buyer price))
   unfolding settled
   of_sales seats events private buyer price sells =
-      let sold : List Event = after_sale events private buyer price in
+      let sold : List Event = after_private_sale events private buyer price in
       of.both events sold (settled seats sold) (of_sale events private buyer price sells)
       (of_steps seats 6 sold)
 
   -- of what follows from an order that is done
   pub of_act : (seats : ℕ) (seat : Seat) (events : List Event) (done : Order) → Sits seat →
       ((private : Private) → done ≡ order.BuyPrivate private → Sells events private) →
-      R events (after_act seats seat events done)
+      R events (after_opening_order seats seat events done)
   of_act seats seat events (order.BuyPrivate private) sits sells =
-      of_sales seats events private seat (price_of events private) (sells private refl)
+      of_sales seats events private seat (price_of_private events private) (sells private refl)
   of_act seats seat events (order.Bid private amount) sits sells = of.bids events private seat
       amount sits
   of_act seats seat events other sits sells = of.same events
@@ -154,23 +155,23 @@ module _ (Sits : Seat → Type 0) (Sells : List Event → Private → Type 0) (R
   pub of_line :
       ((events : List Event) (seat : Seat) (number : ℕ) (ruling : Ruling) →
       R events (events ++ event.Ruled seat number ruling ∷ [])) →
-      (seats : ℕ) (seat : Seat) (turn : InTurn) (line : Numbered) → Sits seat →
+      (seats : ℕ) (seat : Seat) (turn : InOpeningTurn) (line : Numbered) → Sits seat →
       R turn.events (after_opening_line seats seat turn line).events
   of_line rulings seats seat turn line sits =
-      of_ruled (acted seats seat) (refusal_of seats turn.events seat turn.actions) seat turn line.number
-      (λ (after : InTurn). R turn.events after.events)
-      (λ (ruling : Ruling) (none : obeyed_by ruling ≡ None). rulings turn.events seat line.number
+      of_ruled (turn_after_opening_order seats seat) (opening_refusal seats turn.events seat turn.actions) seat turn line.number
+      (λ (after : InOpeningTurn). R turn.events after.events)
+      (λ (ruling : Ruling) (none : obeyed_order ruling ≡ None). rulings turn.events seat line.number
       ruling)
       (λ (condition : Option Condition) (done : Order)
-      (kept : refusal_of seats turn.events seat turn.actions done ≡ None).
+      (kept : opening_refusal seats turn.events seat turn.actions done ≡ None).
       let ruling : Ruling = Obeyed condition done in
       let ruled : List Event = turn.events ++ event.Ruled seat line.number ruling ∷ [] in
-      of.both turn.events ruled (after_act seats seat ruled done) (rulings turn.events seat
+      of.both turn.events ruled (after_opening_order seats seat ruled done) (rulings turn.events seat
       line.number ruling)
       (of_act seats seat ruled done sits
       (λ private is. of.unsold ruled private (still_unsold seats seat turn line.number ruling
       private
-      (ap (refusal_of seats turn.events seat turn.actions) (sym is) ∙ kept)))))
+      (ap (opening_refusal seats turn.events seat turn.actions) (sym is) ∙ kept)))))
       has_place_in_turn turn.events line
 
   -- of the fall of SV's price
@@ -199,7 +200,7 @@ module _ (Sits : Seat → Type 0) (Sells : List Event → Private → Type 0) (R
   of_passing seats events false is = of_fall seats events (sv_price_of events - 5) (priority_of seats events) is
 
   -- of the close
-  pub of_close : (seats : ℕ) (events : List Event) → R events (closed seats events)
+  pub of_close : (seats : ℕ) (events : List Event) → R events (opening_round_closed seats events)
   of_close seats events =
       elim (all_sold events) as (λ (b : Bool). R events (if b then events else after_passing seats events)) [
         | true ↦ of.same events
@@ -217,7 +218,7 @@ module _ (Sits : Seat → Type 0) (Sells : List Event → Private → Type 0) (R
       (record {
         stays = of.same;
         further = of.both;
-        standing = λ seat events line. rulings events seat line.number (standing_ruling events
+        standing = λ seat events line. rulings events seat line.number (opening_standing_ruling events
             line);
         line = λ seats seat turn line. of_line rulings seats seat turn line (sit seat);
         passes = λ events seat. of.quiet events (event.Passes seat) refl;

@@ -35,15 +35,15 @@ use Rattle.purchases.proofs.TrainSteps.{of_next, of_phase, of_trade, of_train_ow
 use Rattle.operating.specs.HomeToken.{has_home_token, with_home}
 use Rattle.operating.specs.Pay.{withheld, pay_judgement, withhold_judgement, withheld_if_unpaid}
 use Rattle.operating.specs.RunBest.{BestRuled, best_judgement}
-use Rattle.certs.specs.Dividend.{all_paid, paid_for, paid_out, paid_to, paid_to_seats}
+use Rattle.certs.specs.Dividend.{all_paid, dividend_paid_to, paid_for, paid_out, paid_to_seats}
 use Rattle.operating.specs.TurnEnd.{EndLeads}
-use Rattle.operating.specs.ForcedPurchase.{Operator, after_forced, after_raise_line, after_raises, cheapest}
-use Rattle.operating.specs.ForcedPurchase.{concluded, falls_short, lack_of, needed_rule, next_to_sell, one_share}
-use Rattle.operating.specs.ForcedPurchase.{raise_rule, raise_ruled, sale_rule, sold_further, sold_singly}
-use Rattle.operating.specs.ForcedPurchase.{with_aid, with_one_sold, with_ruling, with_sale}
+use Rattle.operating.specs.ForcedPurchase.{Operator, after_forced, after_presidents_sale, after_raise_line}
+use Rattle.operating.specs.ForcedPurchase.{after_raises, cheapest, concluded, falls_short, lack_of, needed_rule}
+use Rattle.operating.specs.ForcedPurchase.{next_to_sell, one_share, raise_rule, raise_ruled, sale_rule}
+use Rattle.operating.specs.ForcedPurchase.{sold_further, sold_singly, with_aid, with_one_sold, with_ruling}
 use Rattle.operating.specs.Progress.{is_unpaid, pay_done}
 use Rattle.operating.specs.TurnState.{TurnState, turn_state, line_recorded, ruled}
-use Rattle.purchases.specs.Train.{after_train, begins_phase, bought, with_trade, cost_of}
+use Rattle.purchases.specs.Train.{after_train, begins_phase, train_bought, with_trade, train_purchase_cost}
 use Rattle.purchases.specs.Train.{purchase_of, train_judgement}
 use Rattle.purchases.specs.Phases.{with_phase}
 use Rattle.purchases.specs.Private.{private_bought, private_judgement, sold_by}
@@ -81,7 +81,7 @@ use Rattle.std.specs.List.{list_all}
 use Rattle.privates.specs.Turn.{opening_rules}
 use Rattle.rounds.proofs.OpeningGrows.{opening_adds}
 use Rattle.rounds.proofs.OperatingGrows.{finished_adds, opened_adds}
-use Rattle.rounds.specs.OperatingRound.{IsOperatingRound, TakeTurns, opened}
+use Rattle.rounds.specs.OperatingRound.{IsOperatingRound, TakeTurns, operating_round_opened}
 use Rattle.rounds.specs.Play.{IsPlayed, before_play}
 use Rattle.sheets.specs.Laws.{VersionOneIsPlain}
 use Rattle.stock_round.specs.Turn.{stock_rules}
@@ -116,7 +116,7 @@ by_move move game company =
     passes_plain is_still (token_grows move game.events company (square_of game.events company))
 
 -- by a sale of shares
-by_sale : (by : Operator) (game : Game) (sale : Sale) → AddsPlainly game (with_sale by game sale)
+by_sale : (by : Operator) (game : Game) (sale : Sale) → AddsPlainly game (after_presidents_sale by game sale)
 by_sale by game sale =
     passes_plain is_still (sale_grows game by.president sale.company sale.shares)
 
@@ -138,7 +138,7 @@ module _ (company : Company) where
       ]
 
   -- by a dividend
-  by_dividend : (to : Holder) (amount : ℕ) (game : Game) → AddsPlainly game (paid_to company to amount game)
+  by_dividend : (to : Holder) (amount : ℕ) (game : Game) → AddsPlainly game (dividend_paid_to company to amount game)
   by_dividend to amount game =
       let its : Event = event.Dividend company to amount in
       of_choice AddsPlainly (amount == 0) game game (broken_recorded (with_event game its)) stays
@@ -183,8 +183,8 @@ module _ (company : Company) where
       let purchase = purchase_of kind from in
       let closes : OfClosings AddsPlainly = λ now private. by_event now (event.Closed private) refl in
       let traded : Game = with_trade game company purchase.trade_in in
-      let train : Event = event.Train company purchase.kind purchase.from (cost_of purchase) in
-      let all : Game = bought game company purchase in
+      let train : Event = event.Train company purchase.kind purchase.from (train_purchase_cost purchase) in
+      let all : Game = train_bought game company purchase in
       let first : AddsPlainly game all =
       of_trade AddsPlainly on (λ now its kind. by_event now (event.Traded its kind) refl) game
       company purchase.trade_in
@@ -469,7 +469,7 @@ module _ (file : List ℕ) (round : Round) (sheets : SheetsArePlain file round) 
       subst (λ (game : Game). GrowsPlain (old.events ++ event.Round round ∷ []) game.events)
       (sym played.after)
       (opened_adds file round old sheets
-      ⨾ turns_add played.turns.companies (opened file round old) played.turned played.turns.turns
+      ⨾ turns_add played.turns.companies (operating_round_opened file round old) played.turned played.turns.turns
       ⨾ finished_adds file round old.seats played.turned.events)
 
 -- and each round

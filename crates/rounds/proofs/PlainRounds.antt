@@ -22,7 +22,7 @@ use Rattle.rounds.specs.PlainLines.{FamilyAloneJudges, is_plain, is_ruled_plainl
 use Rattle.sheets.specs.CompanyOrders.{company_orders_for, company_orders_in, opens_orders_of}
 use Rattle.sheets.specs.File.{sheet_of, version_of}
 use Rattle.sheets.specs.Laws.{VersionOneIsPlain, plain, plain_parts}
-use Rattle.sheets.specs.Part.{Numbered, Part, Parts, after_head, after_line, written_turns_of}
+use Rattle.sheets.specs.Part.{Numbered, Part, SheetParts, after_head, after_line, written_turns_of}
 use Rattle.sheets.specs.Part.{opens_part, parts_for, lines_in_written_turns}
 use Rattle.sheets.specs.Taken.{after_all_before, after_each, after_lines_before}
 use Rattle.tables.specs.Seat.{seat_at}
@@ -32,8 +32,8 @@ use Rattle.tables.specs.declared.seat.Seat.{Seat}
 use Rattle.turns.specs.RoundOfTurns.{InTurn, in_turn, IsRoundOfTurns, RoundRules}
 use Rattle.turns.specs.RoundOfTurns.{after_written_turn, after_lines, finished, left_from, opened}
 use Rattle.turns.specs.RoundOfTurns.{turns_of}
-use Rattle.turns.specs.Ruling.{after_ruling, done, judged, line_ruling, obeyed_by, placed_ruling}
-use Rattle.turns.specs.Ruling.{recorded, ruling_of, under}
+use Rattle.turns.specs.Ruling.{after_ruling, done, judged, line_ruling, obeyed_order, placed_ruling}
+use Rattle.turns.specs.Ruling.{recorded, refusal_under, ruling_of}
 use Rattle.totals.specs.LookBack.{Game}
 use Rattle.tables.specs.Steps.{iterate}
 use Rattle.tables.specs.Turns.{InPlay, after_turn, written_turns_at, next_written_turn}
@@ -67,11 +67,11 @@ abbrev pub WrittenTurnsArePlain : List (List Numbered) → Type 0
 WrittenTurnsArePlain written_turns = AllByRecursion ArePlain written_turns
 
 -- nor does each line of a sheet
-abbrev pub PartsArePlain : Parts → Type 0
+abbrev pub PartsArePlain : SheetParts → Type 0
 PartsArePlain parts = ArePlain parts.before × WrittenTurnsArePlain (written_turns_of parts)
 
 -- a line before parts
-with_plain : (head : Bool) (line : Numbered) (parts : Parts) → IsPlain line → PartsArePlain parts →
+with_plain : (head : Bool) (line : Numbered) (parts : SheetParts) → IsPlain line → PartsArePlain parts →
     PartsArePlain (if head then after_head line parts else after_line line parts)
 with_plain head line parts is others = grind arith
 
@@ -155,8 +155,8 @@ pub ruling_plain : (has_place : Order → Bool) (judgement : Order → Option Re
     (line : Numbered) → IsPlain line → ((its : Order) → IsOfFamily (judgement its)) →
     is_ruled_plainly (line_ruling has_place judgement events line) ≡ true
 ruling_plain has_place judgement events line is of =
-    reading_plain has_place (under events line.condition judgement) line.condition line.reading is
-    (λ its. subst (λ (condition : Option Condition). IsOfFamily (under events condition judgement its)) (sym is)
+    reading_plain has_place (refusal_under events line.condition judgement) line.condition line.reading is
+    (λ its. subst (λ (condition : Option Condition). IsOfFamily (refusal_under events condition judgement its)) (sym is)
     (of its))
 
 -- such a ruling is plain
@@ -179,7 +179,7 @@ module _ {TurnActions : Type 0} (act : InTurn TurnActions → Order → InTurn T
   ruled_plain seat turn number ruling is =
       let ruled : List Event = recorded seat number ruling turn.events in
       recorded_plain seat number ruling turn.events is ⨾ done_plain (in_turn ruled turn.actions)
-      (obeyed_by ruling)
+      (obeyed_order ruling)
 
 module _ (step : Seat → List Event → Numbered → List Event)
     (adds : (seat : Seat) (events : List Event) (line : Numbered) → IsPlain line →

@@ -26,7 +26,7 @@ use Rattle.rounds.specs.declared.following.Next.{Next}
 use Rattle.rounds.specs.declared.following.Next.TheVariants as next
 use Rattle.sheets.specs.CompanyOrders.{company_orders_in}
 use Rattle.sheets.specs.File.{all_posted, players_of}
-use Rattle.sheets.specs.Part.{Numbered, Parts, written_turns_of, lines_in, parts_of}
+use Rattle.sheets.specs.Part.{Numbered, SheetParts, written_turns_of, lines_in, parts_of_sheet}
 use Rattle.sheets.specs.Taken.{after_all_before, after_each, after_lines_before}
 use Rattle.stock_round.specs.Turn.{stock_rules}
 use Rattle.tables.specs.Seat.{seat_at}
@@ -53,7 +53,7 @@ module _ (first second : List ℕ) where
         → after_all_before step first round state seats ≡ after_all_before step second round state seats
     same_standing step state [] = refl
     same_standing step state (seat ∷ seats) =
-        ap (λ (parts : Parts). after_all_before step first round (after_each (step (seat_at seat)) state parts.before)
+        ap (λ (parts : SheetParts). after_all_before step first round (after_each (step (seat_at seat)) state parts.before)
         seats) (same.parts seat)
         ∙ same_standing step (after_lines_before step second round state seat) seats
 
@@ -73,11 +73,11 @@ module _ (first second : List ℕ) where
         }
 
     -- they open an operating round the same way
-    same_operating_opened : (old : Game) → operating.opened first round old ≡ operating.opened
+    same_operating_opened : (old : Game) → operating.operating_round_opened first round old ≡ operating.operating_round_opened
         second round old
     same_operating_opened old =
         ap (λ (events : List Event). revenues_recorded (record { seats = old.seats; events = events }))
-        (same_standing rules.after_standing_line (old.events ++ event.Round round ∷ [])
+        (same_standing rules.after_operating_standing_line (old.events ++ event.Round round ∷ [])
         (range_with_len 0 old.seats))
 
     -- a company's orders lead to the same
@@ -86,7 +86,7 @@ module _ (first second : List ℕ) where
         → CompanyOrdersLead second round company turn president new
     same_orders company turn new None leads = leads
     same_orders company turn new (Some seat) leads =
-        subst (λ (parts : Parts). LinesLead (record { company = company; president = seat }) turn
+        subst (λ (parts : SheetParts). LinesLead (record { company = company; president = seat }) turn
         (company_orders_in company parts.opened) new) (same.parts seat.0) leads
 
     -- and its turn ends alike by those orders
@@ -95,7 +95,7 @@ module _ (first second : List ℕ) where
         → CompanyOrdersEnd second round company game president new
     same_end company game new None ends = ends
     same_end company game new (Some seat) ends =
-        subst (λ (parts : Parts). EndLeads (record { company = company; president = seat })
+        subst (λ (parts : SheetParts). EndLeads (record { company = company; president = seat })
         (company_orders_in company parts.opened) game new) (same.parts seat.0) ends
 
     -- so companies take the same turns, one after another
@@ -124,7 +124,7 @@ module _ (first second : List ℕ) where
     same_left events [] = refl
     same_left events (seat ∷ seats) =
         ap
-        (λ (parts : Parts).
+        (λ (parts : SheetParts).
         with_left (seat_at seat) (lines_in parts - rulings_in_round events (seat_at seat))
         (operating.left_events first round events seats))
         (same.parts seat)
@@ -143,7 +143,7 @@ module _ (first second : List ℕ) where
             turns = subst (λ (start : Game). operating.TakeTurns second round turns.companies start
                 played.turned)
                 (same_operating_opened old)
-                (same_turns turns.companies (operating.opened first round old) played.turned
+                (same_turns turns.companies (operating.operating_round_opened first round old) played.turned
                 turns.turns);
             over_then = turns.over_then;
           };
@@ -223,7 +223,7 @@ pub read_alike : SameSheetsAreReadAlike
 read_alike first second round version same =
     record {
       posted = λ seat. ap (λ (sheet : Option (List (List ℕ))). is_some sheet) (same seat);
-      parts = λ seat i. parts_of (version i) round (unwrap_or (same seat i) []);
+      parts = λ seat i. parts_of_sheet (version i) round (unwrap_or (same seat i) []);
     }
 
 -- in which order the sheets of different players arrive changes nothing in the game

@@ -19,7 +19,7 @@ use Rattle.rounds.proofs.Growing.{Grows, GrowsStill, is_aside, is_still, over_gr
 use Rattle.rounds.proofs.OpeningGrows.{opening_grows}
 use Rattle.rounds.proofs.OperatingGrows.{finished_still, opened_still}
 use Rattle.rounds.proofs.StockGrows.{stock_round_still}
-use Rattle.rounds.specs.OperatingRound.{IsOperatingRound, TakeTurns, finished, opened}
+use Rattle.rounds.specs.OperatingRound.{IsOperatingRound, TakeTurns, operating_round_finished, operating_round_opened}
 use Rattle.rounds.specs.Play.{AreRounds, Between, IsPlayed, before_play}
 use Rattle.stock_round.specs.StockRound.{IsStockRound}
 use Rattle.tables.specs.declared.roster.Company.{Company}
@@ -126,9 +126,9 @@ module _ (R : List Event → List Event → Type 0) (on : IsPassedStill R) where
         R (old.events ++ event.Round round ∷ []) new.events
     of_operating round old new played =
         let begun : List Event = old.events ++ event.Round round ∷ [] in
-        let start : Game = opened file round old in
+        let start : Game = operating_round_opened file round old in
         let turned : List Event = played.turned.events in
-        let end : List Event = finished file round old.seats turned in
+        let end : List Event = operating_round_finished file round old.seats turned in
         subst (λ (game : Game). R begun game.events) (sym played.after)
         (on.both begun start.events end (of_growing_still begun start.events (opened_still file round old))
         (on.both start.events turned end (of_turns round played.turns.companies start played.turned played.turns.turns)

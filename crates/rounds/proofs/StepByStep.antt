@@ -13,7 +13,7 @@ use Rattle.rounds.proofs.Coming.{comes_once, follows}
 use Rattle.rounds.proofs.Forward.{fewer_to_come, gifts_go_on, posted_small}
 use Rattle.rounds.proofs.InSet.{IsInSet, comes_in_set}
 use Rattle.rounds.proofs.OneGame.{OneOpeningRound, OneStockRound, on, on_the_way, was_on}
-use Rattle.rounds.specs.GameCalls.{RoundCalls, Stops, GameCalls}
+use Rattle.rounds.specs.GameCalls.{RoundCalls, PlayStops, GameCalls}
 use Rattle.rounds.specs.Gifts.{GiftsWait}
 use Rattle.rounds.specs.OperatingRound.{OneOperatingRound}
 use Rattle.rounds.specs.Play.{AreRounds, Between, IsPlayed, IsRound, IsToPlay, SomeGame}
@@ -83,7 +83,7 @@ breaks_off file here old new fault at (inr now) =
 pub stops_here : (file : List ℕ) (here : Between) (old new : Underway) (end : End) (game : Game) →
     IsAt file here old
     → Stays old end new → game_so_far new ≡ Some game
-    → Stops file here (record { file = file; game = game; end = end })
+    → PlayStops file here (record { file = file; game = game; end = end })
 stops_here file here old new end game at stays so_far =
     let same : stays.over.last ≡ here = same_place stays.over.last here old.there stays.over.there
     at.there in
@@ -372,7 +372,7 @@ record HasCome (file : List ℕ) (play : Underway) (calls : List Call) : Type 0 
   at : IsAt file here play
   on :
       (outcome : Result Played PlayFault) (later : List Call)
-      → SomeTimesThen (RoundCalls file) (Unasked Memory (Stops file)) here outcome later →
+      → SomeTimesThen (RoundCalls file) (Unasked Memory (PlayStops file)) here outcome later →
       GameCalls file outcome (calls ++ later)
 
 -- so it is after each number of steps
@@ -419,7 +419,7 @@ pub call_the_game : StepsCallTheGame
 call_the_game file steps last ended end calls called stays =
     let so_far = has_come steps file last calls called in
     let played : Played = record { file = file; game = so_far.here.game; end = end } in
-    let stops : Stops file so_far.here played =
+    let stops : PlayStops file so_far.here played =
     stops_here file so_far.here last ended end so_far.here.game so_far.at stays
     (ap (λ (at : Underway). game_so_far at) stays.after ∙ ap game_there so_far.at.there)
     in (

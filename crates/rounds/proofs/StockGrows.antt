@@ -24,14 +24,15 @@ use Rattle.rounds.proofs.Growing.{passes_plain, passes_test, stays}
 use Rattle.rounds.proofs.PlainRounds.{of_mapped, recorded_plain, ruled_plain, ruling_plain}
 use Rattle.rounds.proofs.PlainRounds.{AddsPlain}
 use Rattle.sheets.specs.Part.{Numbered}
-use Rattle.stock_round.specs.Buy.{after_purchase, bought}
+use Rattle.stock_round.specs.Buy.{after_purchase, share_bought}
 use Rattle.stock_round.specs.Closing.{all_risen, is_sold_out, risen}
 use Rattle.stock_round.specs.Exchange.{after_exchange, exchange_source, exchanged}
 use Rattle.stock_round.specs.Float.{is_to_float, with_float}
-use Rattle.stock_round.specs.Orders.{after_act, judgement_of, refusal_of}
+use Rattle.stock_round.specs.Orders.{after_stock_order, stock_judgement, stock_refusal}
 use Rattle.stock_round.specs.Standing.{fault_of_standing}
 use Rattle.stock_round.specs.StockRound.{IsStockRound}
-use Rattle.stock_round.specs.Turn.{InTurn, acted, after_stock_line, game_in, ruling_in, stock_rules}
+use Rattle.stock_round.specs.Turn.{InStockTurn, after_stock_line, game_in, stock_line_ruling, stock_rules}
+use Rattle.stock_round.specs.Turn.{turn_after_stock_order}
 use Rattle.tables.specs.declared.roster.Company.{Company}
 use Rattle.tables.specs.declared.roster.Company.TheVariants.{NewYorkCentral}
 use Rattle.tables.specs.declared.round.Round.{Round}
@@ -39,7 +40,7 @@ use Rattle.tables.specs.declared.seat.Seat.{Seat}
 use Rattle.tables.specs.declared.squares.Square.{Square}
 use Rattle.turns.proofs.RoundLeads.{round_leads}
 use Rattle.turns.proofs.Ruled.{of_ruled}
-use Rattle.turns.specs.Ruling.{has_place_in_turn, obeyed_by}
+use Rattle.turns.specs.Ruling.{has_place_in_turn, obeyed_order}
 
 -- by the presidency of a company, where it moves from this seat, if any has it
 successor_grows : (game : Game) (company : Company) (old : Option Seat) →
@@ -79,7 +80,7 @@ token_grows move events company (Some square) =
 purchase_grows : (game : Game) (seat : Seat) (company : Company) (from : ShareSource) →
     GrowsPlainly is_still game.events (after_purchase game seat company from).events
 purchase_grows game seat company from =
-    by_one_event game.events _ refl ⨾ share_grows (bought game seat company from) company
+    by_one_event game.events _ refl ⨾ share_grows (share_bought game seat company from) company
 
 -- by a sale
 pub sale_grows : (game : Game) (seat : Seat) (company : Company) (shares : ℕ) →
@@ -100,7 +101,7 @@ exchange_grows game seat =
 
 -- by an order that was obeyed
 act_grows : (game : Game) (seat : Seat) (done : Order) →
-    GrowsPlainly is_still game.events (after_act game seat done).events
+    GrowsPlainly is_still game.events (after_stock_order game seat done).events
 act_grows game seat (order.Par company price) =
     by_one_event game.events (event.Par company price) refl ⨾ by_one_event _ _ refl
     ⨾ by_one_event _ (event.President company seat) refl
@@ -110,15 +111,15 @@ act_grows game seat order.ExchangeMohawk = exchange_grows game seat
 act_grows game seat other = stays
 
 -- by a line of a turn
-line_grows : (seats : ℕ) (seat : Seat) (turn : InTurn) (line : Numbered) →
+line_grows : (seats : ℕ) (seat : Seat) (turn : InStockTurn) (line : Numbered) →
     GrowsStill turn.events (after_stock_line seats seat turn line).events
 line_grows seats seat turn line =
-    of_ruled (acted seats seat) (refusal_of (game_in seats turn) seat turn.actions.bought) seat turn line.number
-    (λ (after : InTurn). GrowsStill turn.events after.events)
-    (λ (ruled : Ruling) (none : obeyed_by ruled ≡ None).
+    of_ruled (turn_after_stock_order seats seat) (stock_refusal (game_in seats turn) seat turn.actions.bought) seat turn line.number
+    (λ (after : InStockTurn). GrowsStill turn.events after.events)
+    (λ (ruled : Ruling) (none : obeyed_order ruled ≡ None).
     by_one_event turn.events (event.Ruled seat line.number ruled) refl)
     (λ (condition : Option Condition) (done : Order)
-    (kept : refusal_of (game_in seats turn) seat turn.actions.bought done ≡ None).
+    (kept : stock_refusal (game_in seats turn) seat turn.actions.bought done ≡ None).
     by_one_event turn.events (event.Ruled seat line.number (ruling.Obeyed condition done)) refl
     ⨾ passes_test is_still (act_grows (with_event (game_in seats turn)
     (event.Ruled seat line.number (ruling.Obeyed condition done))) seat done))
@@ -156,12 +157,12 @@ stock_adds =
       standing = λ seat events line plain.
           recorded_plain seat line.number (ruling.Faulty (fault_of_standing line.reading)) events refl;
       line = λ seats seat turn line plain.
-          ruled_plain (acted seats seat)
+          ruled_plain (turn_after_stock_order seats seat)
           (λ at done. passes_plain is_still (act_grows (game_in seats at) seat done))
-          seat turn line.number (ruling_in seats seat turn line)
-          (ruling_plain has_place_in_turn (refusal_of (game_in seats turn) seat turn.actions.bought) turn.events line
+          seat turn line.number (stock_line_ruling seats seat turn line)
+          (ruling_plain has_place_in_turn (stock_refusal (game_in seats turn) seat turn.actions.bought) turn.events line
           plain (λ its. of_mapped refusal.Stock (λ rule. tt)
-          (judgement_of (game_in seats turn) seat turn.actions.bought its)));
+          (stock_judgement (game_in seats turn) seat turn.actions.bought its)));
       closed = λ seats events. passes_plain is_still (rises_grow events (operating_order_of
           events));
     }

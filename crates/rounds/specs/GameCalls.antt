@@ -7,7 +7,7 @@ use Rattle.market.specs.OperatingOrder.{next_company}
 use Rattle.operating.specs.Calls.{Call, Course, IsPrefix, Named, SomeTimesThen, Then, Unasked}
 use Rattle.operating.specs.TurnCalls.{TurnCalls}
 use Rattle.rounds.specs.Faults.{fault_in_turn}
-use Rattle.rounds.specs.OperatingRound.{finished, opened}
+use Rattle.rounds.specs.OperatingRound.{operating_round_finished, operating_round_opened}
 use Rattle.rounds.specs.Play.{Between, IsPlayed, IsTheGame, IsToPlay, Played, before_play, coming, end_of, goes_on}
 use Rattle.rounds.specs.Play.{in_set_before}
 use Rattle.rounds.specs.declared.fault.PlayFault.{PlayFault}
@@ -37,12 +37,12 @@ TurnsCall file round = SomeTimesThen (NextCalls file round) (Unasked Memory AreO
 
 -- an operating round is opened
 abbrev pub IsOpened : List ℕ → Round → Game → Game → Type 0
-IsOpened file round old new = new ≡ opened file round old
+IsOpened file round old new = new ≡ operating_round_opened file round old
 
 -- it is recorded what was left
 abbrev pub IsFinished : List ℕ → Round → Game → Game → Type 0
 IsFinished file round turned new =
-    new ≡ record { seats = turned.seats; events = finished file round turned.seats turned.events }
+    new ≡ record { seats = turned.seats; events = operating_round_finished file round turned.seats turned.events }
 
 -- the course of an operating round
 abbrev pub OperatingCalls : List ℕ → Round → Course Game Game PlayFault
@@ -72,13 +72,13 @@ RoundCalls file old outcome calls =
     outcome calls
 
 -- play stops
-pub record Stops (file : List ℕ) (last : Between) (played : Played) : Type 0 where
+pub record PlayStops (file : List ℕ) (last : Between) (played : Played) : Type 0 where
   pub stopped : goes_on file last.next ≡ false
   pub game : played ≡ record { file = file; game = last.game; end = end_of last.next last.game.events }
 
 -- the course of the game of a file
 abbrev pub GameCalls : List ℕ → Result Played PlayFault → List Call → Type 0
-GameCalls file = SomeTimesThen (RoundCalls file) (Unasked Memory (Stops file)) (before_play file)
+GameCalls file = SomeTimesThen (RoundCalls file) (Unasked Memory (PlayStops file)) (before_play file)
 
 -- what makes these calls and leads to a game leads to the game of the file
 abbrev pub CallsAreOfTheGame : Type 0

@@ -11,7 +11,7 @@ use Rattle.totals.specs.LookBack.{Game, bankrupt_in}
 use Rattle.totals.specs.Operating.{rulings_in_round}
 use Rattle.history.specs.Record.{revenues_recorded, with_left}
 use Rattle.market.specs.OperatingOrder.{next_company, operates, times}
-use Rattle.purchases.specs.Standing.{after_standing}
+use Rattle.purchases.specs.Standing.{after_all_standing_lines}
 use Rattle.operating.specs.Turn.{IsCompanyTurn}
 use Rattle.sheets.specs.Part.{lines_in, parts_for}
 use Rattle.tables.specs.Seat.{seat_at}
@@ -20,12 +20,12 @@ use Rattle.tables.specs.declared.round.Round.{Round}
 use Rattle.tables.specs.declared.seat.Seat.{Seat}
 
 -- the round before its first company: its standing lines are ruled, and the privates have paid
-abbrev pub opened : List ℕ → Round → Game → Game
-opened file round old =
+abbrev pub operating_round_opened : List ℕ → Round → Game → Game
+operating_round_opened file round old =
     revenues_recorded (record {
       seats = old.seats;
       events =
-          after_standing old.seats file round (old.events ++ event.Round round ∷ []);
+          after_all_standing_lines old.seats file round (old.events ++ event.Round round ∷ []);
     })
 
 -- a company takes its turn as the next
@@ -56,14 +56,14 @@ left_events file round events (seat ∷ seats) =
     with_left (seat_at seat) (lines_left file round events (seat_at seat)) (left_events file round events seats)
 
 -- the list at the end of the round, if the turns have led to these events
-abbrev pub finished : List ℕ → Round → ℕ → List Event → List Event
-finished file round seats events = events ++ left_events file round events (range_with_len 0 seats)
+abbrev pub operating_round_finished : List ℕ → Round → ℕ → List Event → List Event
+operating_round_finished file round seats events = events ++ left_events file round events (range_with_len 0 seats)
 
 -- new is old after an operating round with the sheets of the file
 pub record IsOperatingRound (file : List ℕ) (round : Round) (old new : Game) : Type 0 where
   pub turned : Game
-  pub turns : TurnsLead file round (opened file round old) turned
-  pub after : new ≡ record { seats = old.seats; events = finished file round old.seats turned.events }
+  pub turns : TurnsLead file round (operating_round_opened file round old) turned
+  pub after : new ≡ record { seats = old.seats; events = operating_round_finished file round old.seats turned.events }
 
 -- an operating round has at most one outcome
 abbrev pub OneOperatingRound : Type 0

@@ -18,7 +18,7 @@ use Rattle.order_grammar.specs.declared.order.Order.{Order}
 use Rattle.rounds.specs.Play.{AreRounds, Between, before_play}
 use Rattle.sheets.specs.File.{version_of}
 use Rattle.totals.specs.LookBack.{Game}
-use Rattle.turns.specs.Ruling.{under}
+use Rattle.turns.specs.Ruling.{refusal_under}
 
 -- the condition of the order that was ruled; a fault has none
 abbrev pub condition_ruled : Ruling → Option Condition
@@ -51,7 +51,7 @@ VersionOneIsRuledPlainly =
 -- is needed, by those of a sale
 pub record FamilyAloneJudges : Type 0 where
   pub turns : (events : List Event) (judgement : Order → Option Refusal) (order : Order)
-      → under events None judgement order ≡ judgement order
+      → refusal_under events None judgement order ≡ judgement order
   pub companies : (events : List Event) (order : Order) → is_held events None order ≡ false
   pub raises : (by : Operator) (game : Game) (sale : Sale)
       → needed_rule by game None sale ≡ option_map refusal.Stock (sale_rule by game sale)

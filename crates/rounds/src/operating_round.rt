@@ -9,7 +9,8 @@ ghost use Rattle.operating.specs.GameAndBoard.{IsLaidOut, game_on};
 ghost use Rattle.operating.specs.Turn.{IsCompanyTurn};
 ghost use Rattle.rounds.specs.Faults.{IsRefused};
 ghost use Rattle.rounds.specs.GameCalls.{CompanyCalls, OperatingCalls, TurnsCall};
-ghost use Rattle.rounds.specs.OperatingRound.{IsOperatingRound, TurnsLead, finished, lines_left, opened};
+ghost use Rattle.rounds.specs.OperatingRound.{IsOperatingRound, TurnsLead, lines_left, operating_round_finished};
+ghost use Rattle.rounds.specs.OperatingRound.{operating_round_opened};
 ghost use Rattle.sheets.specs.File.{players_of};
 
 use crate::fault::PlayFault;
@@ -53,7 +54,8 @@ pub(crate) fn play_operating<R: Runner>(
 fn open(history: &mut History, sheets: &Sheets, round: Round) -> Result<(), AllocError>
     requires sound { IsSound history.old }
     requires seats { history.old.seats ≡ length (players_of sheets.now) }
-    ensures opened { OnOk result (history.new ≡ opened sheets.now round history.old) }
+    ensures opened { OnOk result (history.new
+        ≡ operating_round_opened sheets.now round history.old) }
     ensures sound { OnOk result (IsSound history.new) }
 {
     history.record_event(Event::Round(round))?;
@@ -120,7 +122,8 @@ fn record_all_left(history: &mut History, sheets: &Sheets, round: Round) -> Resu
     requires { IsSound history.old }
     ensures seats { OnOk result (history.new.seats ≡ history.old.seats) }
     ensures events { OnOk result (history.new.events
-        ≡ finished sheets.now round (length (players_of sheets.now)) history.old.events) }
+        ≡ operating_round_finished sheets.now round (length (players_of sheets.now))
+        history.old.events) }
     ensures sound { OnOk result (IsSound history.new) }
 {
     // A law, which does nothing when it runs: recording the lines left does not change the count of

@@ -23,7 +23,7 @@ use Rattle.order_grammar.specs.declared.order.Order.TheVariants as order
 use Rattle.order_grammar.specs.declared.order.ShareSource.TheVariants.{InitialOffering}
 use Rattle.order_grammar.specs.declared.order.TrainSource.TheVariants as source
 use Rattle.market.specs.OperatingOrder.{operating_order_of}
-use Rattle.report.specs.Column.{at_left, at_right}
+use Rattle.report.specs.Column.{left_aligned, right_aligned}
 use Rattle.report.specs.Report.{lines_of_round}
 use Rattle.report.specs.Statement.{bank_line, cash_column, codes_owned, company_figures, company_line, company_lines}
 use Rattle.report.specs.Statement.{counted_column, holdings, player_line, player_lines, shares_column, trains_text}
@@ -58,7 +58,7 @@ use Rattle.operating.specs.Turn.{begun}
 use Rattle.operating.specs.TurnState.{TurnState}
 use Rattle.order_grammar.specs.declared.order.Order.{Order}
 use Rattle.reach.specs.declared.walk.WalkStep.{WalkStep}
-use Rattle.rounds.specs.OperatingRound.{opened}
+use Rattle.rounds.specs.OperatingRound.{operating_round_opened}
 use Rattle.sheets.specs.Part.{Numbered}
 use Rattle.std.proofs.Common.{inl, inr, true, pos, Ok}
 use Rattle.board.specs.LayRules.{is_blocked, is_colour_closed, is_lay_used, is_none_left}
@@ -146,7 +146,7 @@ pub printed_so :
     lines_of_round file 3 before happens
     ≡ codes "ROUND OR2.1\nREVENUE SV BOB 5\nANN 2 OBEYED LAY 9 H14 1\nLAID PRR 9 H14 1 0\nANN 3 OBEYED TOKEN H10.0\nTOKEN PRR H10.0 40\nANN 4 OBEYED RUN 2 H12.0 H10.0\nRUNS PRR 30\nANN 5 OBEYED PAY\nDIVIDEND PRR ANN 12\nDIVIDEND PRR BOB 6\nMOVES PRR 71 F8\nANN 6 OBEYED TRAIN 4 BANK\nTRAIN PRR 4 BANK 300\nPHASE 4\nRUSTED PRR 2\nRUSTED NYC 2\nRUSTED NYC 2\nRUSTED NYC 2\nRUSTED CO 2\nRUSTED CO 2\nPLAYER ANN        544  3  4  0  0  0  0  0  0  0\nPLAYER BOB        657  3  2  0  0  0  0  0  0  0 SV\nPLAYER CYD        800  0  0  0  0  0  0  0  0  0\nCOMPANY PRR    250  71  4  0 2 ANN 4\nBANK  11049\n"
 unfolding digits site_of number_of_tile players_of body_of content_of version_of written_lines is_blank begins
-    is_sheet_line operating_order_of at_left at_right bank_line cash_column codes_owned company_figures company_line
+    is_sheet_line operating_order_of left_aligned right_aligned bank_line cash_column codes_owned company_figures company_line
     company_lines counted_column holdings player_line player_lines shares_column trains_text
 printed_so = refl
 
@@ -162,7 +162,7 @@ token_place = record { hex = H10; stop = Some First }
 
 -- the turn after each line
 abbrev at_first : TurnState
-at_first = begun (opened file (Operating 2 1) (game before)) Pennsylvania
+at_first = begun (operating_round_opened file (Operating 2 1) (game before)) Pennsylvania
 
 abbrev once_laid : TurnState
 once_laid = lay_answered prr at_first (line 2 (order.Lay lay)) lay (Ok (pos 0))
@@ -237,7 +237,7 @@ reached =
     }
 
 -- the turn of PRR leads to what happens in the round
-turn : IsCompanyTurn file (Operating 2 1) Pennsylvania (opened file (Operating 2 1) (game before)) (game (before ++ happens))
+turn : IsCompanyTurn file (Operating 2 1) Pennsylvania (operating_round_opened file (Operating 2 1) (game before)) (game (before ++ happens))
 unfolding position_of tile_on index_of groups plain_hexes print_of printed_links_of printed tile_index_of hexes
     laid_links_of laid_track_of neighbour_of adjacent hex_at site_of is_sheet_line sheet_of players_of body_of
     content_of version_of written_lines is_blank begins is_cs_lay is_dh_lay is_dh_token is_lay_used is_none_left

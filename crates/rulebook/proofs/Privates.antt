@@ -7,7 +7,7 @@ use Rattle.events.specs.declared.event.Event.TheVariants as event
 use Rattle.events.specs.declared.event.Holder.TheVariants as holder
 use Rattle.events.specs.declared.ruling.Ruling.TheVariants.{Obeyed}
 use Rattle.order_grammar.specs.declared.order.Order.TheVariants as order
-use Rattle.privates.specs.Sale.{after_sale}
+use Rattle.privates.specs.Sale.{after_private_sale}
 use Rattle.tables.specs.Seat.{seat_at}
 use Rattle.tables.specs.declared.roster.Company.TheVariants as company
 use Rattle.tables.specs.declared.roster.Private.TheVariants.{CamdenAmboy, BaltimoreOhio, SchuylkillValley}
@@ -18,7 +18,7 @@ before = event.Ruled (seat_at 0) 1 (Obeyed None (order.Par company.BaltimoreOhio
 
 -- with CA comes a share of PRR
 pub ca_brings :
-    after_sale before CamdenAmboy (seat_at 0) 160
+    after_private_sale before CamdenAmboy (seat_at 0) 160
     ≡ before
     ++ event.Sold CamdenAmboy (seat_at 0) 160
     ∷ event.Given company.Pennsylvania (seat_at 0) 1
@@ -27,7 +27,7 @@ ca_brings = refl
 
 -- with BOP comes the president's certificate of BO, at the par that was ordered
 pub bop_brings :
-    after_sale before BaltimoreOhio (seat_at 0) 220
+    after_private_sale before BaltimoreOhio (seat_at 0) 220
     ≡ before
     ++ event.Sold BaltimoreOhio (seat_at 0) 220
     ∷ event.Par company.BaltimoreOhio 76
@@ -38,7 +38,7 @@ bop_brings = refl
 
 -- and to CYD, who ordered none, at 67
 pub bop_brings_cyd :
-    after_sale before BaltimoreOhio (seat_at 2) 220
+    after_private_sale before BaltimoreOhio (seat_at 2) 220
     ≡ before
     ++ event.Sold BaltimoreOhio (seat_at 2) 220
     ∷ event.Par company.BaltimoreOhio 67
@@ -48,8 +48,8 @@ pub bop_brings_cyd :
 bop_brings_cyd = refl
 
 -- ANN owns CA then, and nobody SV
-pub ann_owns : owner_of (after_sale before CamdenAmboy (seat_at 0) 160) CamdenAmboy ≡ Some (holder.Seat (seat_at 0))
+pub ann_owns : owner_of (after_private_sale before CamdenAmboy (seat_at 0) 160) CamdenAmboy ≡ Some (holder.Seat (seat_at 0))
 ann_owns = refl
 
-pub nobody_owns : owner_of (after_sale before CamdenAmboy (seat_at 0) 160) SchuylkillValley ≡ None
+pub nobody_owns : owner_of (after_private_sale before CamdenAmboy (seat_at 0) 160) SchuylkillValley ≡ None
 nobody_owns = refl

@@ -4,7 +4,7 @@
 use Rattle.std.proofs.Common.{refl, ℕ, List, codes}
 use Rattle.std.specs.Fmt.{digits}
 use Rattle.market.specs.OperatingOrder.{operating_order_of}
-use Rattle.report.specs.Column.{at_left, at_right}
+use Rattle.report.specs.Column.{left_aligned, right_aligned}
 use Rattle.report.specs.Report.{IsReport, header, owing}
 use Rattle.report.specs.Statement.{bank_line, cash_column, codes_owned, company_figures, company_line, company_lines}
 use Rattle.report.specs.Statement.{counted_column, holdings, player_line, player_lines, shares_column, trains_text}
@@ -21,7 +21,7 @@ text =
 -- it is the report of the file
 pub is_its_report : IsReport first_file text
 unfolding digits content_of players_of body_of version_of written_lines is_blank begins is_sheet_line sheet_of
-    unread_of header owing operating_order_of at_left at_right bank_line cash_column codes_owned company_figures
+    unread_of header owing operating_order_of left_aligned right_aligned bank_line cash_column codes_owned company_figures
     company_line company_lines counted_column holdings player_line player_lines shares_column trains_text
 is_its_report = record { last = first_end; game = first_plays; is = refl }
 

@@ -12,7 +12,7 @@ use Rattle.order_grammar.specs.declared.order.Order.{Order}
 use Rattle.sheets.specs.File.{sheet_of, version_of}
 use Rattle.sheets.specs.Laws.{SheetsHaveFewTurns}
 use Rattle.sheets.specs.Limits.{lines_most}
-use Rattle.sheets.specs.Part.{Parts, written_turns_of, numbered, opens_part, parts_after, reading_at, with_line}
+use Rattle.sheets.specs.Part.{SheetParts, written_turns_of, numbered, opens_part, parts_after, reading_at, with_line}
 use Rattle.sheets.specs.Reading.{order_read}
 use Rattle.tables.specs.declared.round.Round.{Round}
 use Rattle.tables.specs.declared.round.Round.TheVariants.{Opening, Stock, Operating}
@@ -20,7 +20,7 @@ use Rattle.sheets.proofs.Heads.{past_opens_none}
 
 module _ (opens : Result Order Fault → Bool) (no_head : opens (Err PastLastLine) ≡ false) where
   -- one more line before parts, by whether it is past the last and whether it is a head
-  one_more : (number : ℕ) (reading : Result Ordered Fault) (parts : Parts) (past : Bool) (head : Bool)
+  one_more : (number : ℕ) (reading : Result Ordered Fault) (parts : SheetParts) (past : Bool) (head : Bool)
       → nat_lt lines_most number ≡ past → opens (reading_at number (order_read reading)) ≡ head
       → length (written_turns_of parts) ≤ lines_most - number
       → length (written_turns_of (with_line opens (numbered number reading) parts)) ≤ (lines_most + 1) - number

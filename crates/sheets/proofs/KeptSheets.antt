@@ -6,7 +6,7 @@ use Rattle.std.specs.Option.{option_copied, option_map}
 use Rattle.order_grammar.specs.declared.condition.Version.{Version}
 use Rattle.sheets.specs.Collecting.{AreOfVersion, IsOfVersion, lines_kept}
 use Rattle.sheets.specs.File.{same_sheet_key}
-use Rattle.sheets.specs.Part.{parts_left, parts_of}
+use Rattle.sheets.specs.Part.{parts_left, parts_of_sheet}
 use Rattle.sheets.specs.Sheet.{Unruled, sent_in_version}
 use Rattle.sheets.specs.declared.sheet_key.SheetKey.{SheetKey}
 use Rattle.tables.specs.declared.round.Round.{Round}
@@ -78,7 +78,7 @@ missing_alike version sheet (Some lines) is = ap is_none is
 -- the parts of a sheet that is there
 pub parts_there : (version : Version) (round : Round) (sheet : Unruled) (lines : Option (List (List ℕ)))
     → Some sheet ≡ option_map (sent_in_version version) lines
-    → parts_left round sheet ≡ parts_of version round (unwrap_or lines [])
+    → parts_left round sheet ≡ parts_of_sheet version round (unwrap_or lines [])
 parts_there version round sheet None is = absurd (cc)
 parts_there version round sheet (Some lines) is =
     let same : sheet ≡ sent_in_version version lines = cc in ap (parts_left round) same
@@ -86,6 +86,6 @@ parts_there version round sheet (Some lines) is =
 -- without a sheet there are none
 pub parts_absent : (version : Version) (round : Round) (lines : Option (List (List ℕ)))
     → None ≡ option_map (sent_in_version version) lines
-    → parts_of version round [] ≡ parts_of version round (unwrap_or lines [])
+    → parts_of_sheet version round [] ≡ parts_of_sheet version round (unwrap_or lines [])
 parts_absent version round None is = refl
 parts_absent version round (Some lines) is = absurd (cc)

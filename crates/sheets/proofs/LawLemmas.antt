@@ -6,7 +6,7 @@ use Rattle.std.specs.Option.{option_or}
 use Rattle.sheets.specs.File.{Sent, begins, sheet_lines, lines_begun, sheet_in, sent_by, sent_in, last_for}
 use Rattle.sheets.specs.File.{sheet_key_at}
 use Rattle.sheets.specs.File.{sheet_of, posts_of, players_of, body_of, version_of}
-use Rattle.sheets.specs.Part.{parts_of}
+use Rattle.sheets.specs.Part.{parts_of_sheet}
 use Rattle.sheets.specs.Laws.{LastSheetCounts, ArrivalChangesNoParts, ArrivalChangesNothing}
 use Rattle.order_grammar.specs.declared.condition.Version.{Version}
 use Rattle.sheets.specs.declared.sheet_key.SheetKey.{SheetKey}
@@ -49,6 +49,6 @@ arrival_law f g same seat round =
 -- and that of the parts that are read of the sheets
 pub no_parts_law : ArrivalChangesNoParts
 no_parts_law f g same version round seat =
-    ap (λ (v : Version). parts_of v round (unwrap_or (sheet_of f seat round) [])) version
-    ∙ ap (λ (sheet : Option (List (List ℕ))). parts_of (version_of g) round (unwrap_or sheet []))
+    ap (λ (v : Version). parts_of_sheet v round (unwrap_or (sheet_of f seat round) [])) version
+    ∙ ap (λ (sheet : Option (List (List ℕ))). parts_of_sheet (version_of g) round (unwrap_or sheet []))
     (arrival_law f g same seat round)

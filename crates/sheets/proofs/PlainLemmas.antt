@@ -11,7 +11,8 @@ use Rattle.order_grammar.specs.declared.order.Order.{Order}
 use Rattle.sheets.specs.File.{fault_of_reading, sheet_of, unread_fault}
 use Rattle.sheets.specs.Laws.{VersionOneIsPlain, VersionOneIsPlainOutside, plain, plain_parts}
 use Rattle.sheets.specs.Limits.{lines_most}
-use Rattle.sheets.specs.Part.{Numbered, Parts, numbered, opens_part, parts_after, parts_of, reading_at, with_line}
+use Rattle.sheets.specs.Part.{Numbered, SheetParts, numbered, opens_part, parts_after, parts_of_sheet, reading_at}
+use Rattle.sheets.specs.Part.{with_line}
 use Rattle.sheets.specs.Reading.{condition_read, order_read}
 
 -- a line of version 1 is read as it is without versions
@@ -53,12 +54,12 @@ module _ (law : ReadAsBefore) (opens : Result Order Fault → Bool) where
   plain_after (line ∷ lines) count =
       ap (λ (first : Numbered). with_line opens first (parts_after One opens (count + 1) lines))
       (plain_line (count + 1) line)
-      ∙ ap (λ (parts : Parts). with_line opens (plain (count + 1) line) parts) (plain_after lines (count + 1))
+      ∙ ap (λ (parts : SheetParts). with_line opens (plain (count + 1) line) parts) (plain_after lines (count + 1))
 
 -- no line of a sheet is under a condition
 pub plain_law : ReadAsBefore → VersionOneIsPlain
 plain_law law file round seat one =
-    ap (λ (version : Version). parts_of version round (unwrap_or (sheet_of file seat round) [])) one
+    ap (λ (version : Version). parts_of_sheet version round (unwrap_or (sheet_of file seat round) [])) one
     ∙ plain_after law (opens_part round) (unwrap_or (sheet_of file seat round) []) 0
 
 -- nor does one outside

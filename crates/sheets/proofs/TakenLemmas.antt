@@ -5,7 +5,8 @@ use Rattle.std.proofs.Common.{append_assoc, arith}
 use Rattle.std.specs.List.{range_with_len}
 use Rattle.std.proofs.lemmas.List.{map-append}
 use Rattle.std.proofs.lemmas.List.FromFn.{map-range_with_len_more}
-use Rattle.sheets.specs.Part.{Numbered, Parts, IsAtHead, written_turns_of, lines_in, lines_in_written_turns, parts_for}
+use Rattle.sheets.specs.Part.{Numbered, SheetParts, IsAtHead, written_turns_of, lines_in, lines_in_written_turns}
+use Rattle.sheets.specs.Part.{parts_for}
 use Rattle.sheets.specs.Taken.{after_all_before, after_each, after_lines_before, written_turns_for, said_of_left}
 use Rattle.tables.specs.Seat.{seat_at}
 use Rattle.tables.specs.declared.round.Round.{Round}
@@ -20,7 +21,7 @@ next_seat seat total within =
 
 -- the seats that are left lead, after the next of them, where they lead before it
 pub standing_goes_on : {State : Type 0} (step : Seat → State → Numbered → State) (file : List ℕ) (round : Round)
-    (seat total : ℕ) (state after : State) (sheet : Parts) (taker : Seat) →
+    (seat total : ℕ) (state after : State) (sheet : SheetParts) (taker : Seat) →
     seat < total → after ≡ after_each (step taker) state sheet.before → taker ≡ seat_at seat
     → sheet ≡ parts_for file round taker.0 →
     after_all_before step file round after (range_with_len (seat + 1) (total - (seat + 1)))
@@ -28,14 +29,14 @@ pub standing_goes_on : {State : Type 0} (step : Seat → State → Numbered → 
 standing_goes_on {State} step file round seat total state after sheet taker within ruled is_seat is_sheet =
     let here : after ≡ after_lines_before step file round state seat =
     ruled
-    ∙ ap (λ (s : Parts). after_each (step taker) state s.before) is_sheet
+    ∙ ap (λ (s : SheetParts). after_each (step taker) state s.before) is_sheet
     ∙ ap (λ (s : Seat). after_each (step s) state (parts_for file round s.0).before) is_seat
     in
     ap (λ (all : State). after_all_before step file round all (range_with_len (seat + 1) (total - (seat + 1)))) here
     ∙ ap (λ (seats : List ℕ). after_all_before step file round state seats) (sym (next_seat seat total within))
 
 -- the written turns of the seats so far, and those of one more
-pub more_written_turns : (file : List ℕ) (round : Round) (seat : ℕ) (old : List Parts) (sheet new : Parts) (taker : Seat) →
+pub more_written_turns : (file : List ℕ) (round : Round) (seat : ℕ) (old : List SheetParts) (sheet new : SheetParts) (taker : Seat) →
     map written_turns_of old ≡ written_turns_for seat file round → taker ≡ seat_at seat → sheet ≡ parts_for file round taker.0 →
     new ≡ record { before = []; opened = sheet.opened }
     → map written_turns_of (old ++ new ∷ []) ≡ written_turns_for (seat + 1) file round
@@ -49,7 +50,7 @@ more_written_turns file round seat old sheet new taker before is_seat is_sheet l
     ∙ sym (map-range_with_len_more (λ seat. written_turns_of (parts_for file round seat)) 0 seat seat (zero-add seat))
 
 -- what is left of a sheet at a head is its written turns
-lines_at_head : (sheet : Parts) → IsAtHead sheet → lines_in sheet ≡ lines_in_written_turns (written_turns_of sheet)
+lines_at_head : (sheet : SheetParts) → IsAtHead sheet → lines_in sheet ≡ lines_in_written_turns (written_turns_of sheet)
 lines_at_head sheet is_at_head =
     let none : length sheet.before ≡ 0 = ap (λ (lines : List Numbered). length lines) is_at_head in
     omega arith
@@ -57,7 +58,7 @@ lines_at_head sheet is_at_head =
 -- the seats that are left bring, after the next of them, what they bring before it
 pub left_goes_on : {Said : Type 0} (say : Seat → ℕ → List Said → List Said) →
     ((seat : Seat) (count : ℕ) (rest : List Said) → say seat count [] ++ rest ≡ say seat count rest) →
-    (old new : List Said) (seat count : ℕ) (sheet : Parts) (others : List Parts)
+    (old new : List Said) (seat count : ℕ) (sheet : SheetParts) (others : List SheetParts)
     → new ≡ old ++ say (seat_at seat) count [] → count ≡ lines_in sheet →
     IsAtHead sheet → new ++ said_of_left say (seat + 1) (map written_turns_of others)
     ≡ old ++ said_of_left say seat (map written_turns_of (sheet ∷ others))

@@ -7,7 +7,7 @@ use Rattle.order_grammar.specs.declared.order.Order.{Order}
 use Rattle.sheets.specs.File.{IsAccepted, content_of, fault_of_reading, sheet_of, players_of, posts_of, last_for}
 use Rattle.sheets.specs.File.{unread_fault, version_of}
 use Rattle.sheets.specs.Limits.{file_most, lines_most}
-use Rattle.sheets.specs.Part.{Numbered, Parts, written_turns_of, opens_part, parts_for, reading_at, with_line}
+use Rattle.sheets.specs.Part.{Numbered, SheetParts, written_turns_of, opens_part, parts_for, reading_at, with_line}
 use Rattle.sheets.specs.declared.fault.FileFault.TheVariants.{TooLong}
 use Rattle.tables.specs.Round.{number_most}
 use Rattle.tables.specs.declared.round.Round.{Round}
@@ -40,7 +40,7 @@ abbrev pub plain : ℕ → List ℕ → Numbered
 plain number line = record { number = number; condition = None; reading = reading_at number (reading_of line) }
 
 -- the parts of lines that are under no condition, after this many others
-abbrev pub plain_parts : (Result Order Fault → Bool) → ℕ → List (List ℕ) → Parts
+abbrev pub plain_parts : (Result Order Fault → Bool) → ℕ → List (List ℕ) → SheetParts
 plain_parts opens count [] = record { before = []; opened = [] }
 plain_parts opens count (line ∷ lines) = with_line opens (plain (count + 1) line) (plain_parts opens (count + 1) lines)
 

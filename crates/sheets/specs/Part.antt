@@ -89,47 +89,47 @@ pub record Part : Type 0 where
   pub lines : List Numbered
 
 -- lines in their parts: those before the first head, and what the heads open
-pub record Parts : Type 0 where
+pub record SheetParts : Type 0 where
   pub before : List Numbered
   pub opened : List Part
 
 -- a head before these parts: it opens the lines that came first
-abbrev pub after_head : Numbered → Parts → Parts
+abbrev pub after_head : Numbered → SheetParts → SheetParts
 after_head head parts =
     record { before = []; opened = record { head = head; lines = parts.before } ∷ parts.opened }
 
 -- a line that is no head before these parts
-abbrev pub after_line : Numbered → Parts → Parts
+abbrev pub after_line : Numbered → SheetParts → SheetParts
 after_line line parts = record { before = line ∷ parts.before; opened = parts.opened }
 
 -- a line before these parts, if readings that pass this test open a part
-abbrev pub with_line : (Result Order Fault → Bool) → Numbered → Parts → Parts
+abbrev pub with_line : (Result Order Fault → Bool) → Numbered → SheetParts → SheetParts
 with_line opens line parts = if opens line.reading then after_head line parts else after_line line parts
 
 -- the parts of lines of a file of some version, after this many others
-abbrev pub parts_after : Version → (Result Order Fault → Bool) → ℕ → List (List ℕ) → Parts
+abbrev pub parts_after : Version → (Result Order Fault → Bool) → ℕ → List (List ℕ) → SheetParts
 parts_after version opens count [] = record { before = []; opened = [] }
 parts_after version opens count (line ∷ lines) =
     with_line opens (numbered (count + 1) (reading_in version line)) (parts_after version opens (count + 1) lines)
 
 -- the parts of the lines of a sheet for a round that are still to come
-abbrev pub parts_left : Round → Unruled → Parts
+abbrev pub parts_left : Round → Unruled → SheetParts
 parts_left round unruled = parts_after unruled.version (opens_part round) unruled.number unruled.lines
 
 -- the parts of the lines of a sheet for a round
-abbrev pub parts_of : Version → Round → List (List ℕ) → Parts
-parts_of version round lines = parts_after version (opens_part round) 0 lines
+abbrev pub parts_of_sheet : Version → Round → List (List ℕ) → SheetParts
+parts_of_sheet version round lines = parts_after version (opens_part round) 0 lines
 
 -- the parts of the sheet of a seat for a round; without a sheet there are none
-abbrev pub parts_for : List ℕ → Round → ℕ → Parts
-parts_for file round seat = parts_of (version_of file) round (unwrap_or (sheet_of file seat round) [])
+abbrev pub parts_for : List ℕ → Round → ℕ → SheetParts
+parts_for file round seat = parts_of_sheet (version_of file) round (unwrap_or (sheet_of file seat round) [])
 
 -- the lines that each head opens
-abbrev pub written_turns_of : Parts → List (List Numbered)
+abbrev pub written_turns_of : SheetParts → List (List Numbered)
 written_turns_of parts = map (λ part. part.lines) parts.opened
 
 -- no line is left before the next head
-abbrev pub IsAtHead : Parts → Type 0
+abbrev pub IsAtHead : SheetParts → Type 0
 IsAtHead parts = parts.before ≡ []
 
 -- how many lines some written turns have
@@ -138,15 +138,15 @@ lines_in_written_turns [] = 0
 lines_in_written_turns (written ∷ written_turns) = length written + lines_in_written_turns written_turns
 
 -- how many lines there are; heads do not count
-abbrev pub lines_in : Parts → ℕ
+abbrev pub lines_in : SheetParts → ℕ
 lines_in parts = length parts.before + lines_in_written_turns (written_turns_of parts)
 
 -- the next line before the next head is taken, if there is one
-abbrev pub TakesOrdinary : Parts → Option UnreadLine → Parts → Type 0
+abbrev pub TakesOrdinary : SheetParts → Option UnreadLine → SheetParts → Type 0
 TakesOrdinary old None new = IsAtHead old × (new ≡ old)
 TakesOrdinary old (Some line) new = old ≡ after_line (line_unread line) new
 
 -- the next head is taken, if there is one
-abbrev pub TakesHead : Parts → Option UnreadLine → Parts → Type 0
+abbrev pub TakesHead : SheetParts → Option UnreadLine → SheetParts → Type 0
 TakesHead old None new = (old.opened ≡ []) × (new ≡ old)
 TakesHead old (Some head) new = old ≡ after_head (line_unread head) new

@@ -26,9 +26,9 @@ pub struct PartsLeft<'a> {
 
 /// In a contract it is those lines in their parts.
 impl<'a> Model for PartsLeft<'a> {
-    ghost use Rattle.sheets.specs.Part.{Parts, parts_left};
+    ghost use Rattle.sheets.specs.Part.{SheetParts, parts_left};
 
-    ghost Value = { Parts };
+    ghost Value = { SheetParts };
 
     ghost view = { λ left. parts_left left.round left.lines };
 }

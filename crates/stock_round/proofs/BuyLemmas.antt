@@ -22,7 +22,7 @@ use Rattle.totals.specs.Shares.{is_started, shares_of, square_of}
 use Rattle.order_grammar.specs.declared.order.ShareSource.{ShareSource}
 use Rattle.stock_round.proofs.FloatLemmas.{in_what_follows}
 use Rattle.stock_round.proofs.PriceLemmas.{paid, same_price, same_purse}
-use Rattle.stock_round.specs.Buy.{MayBuy, after_purchase, bought, buy_judgement}
+use Rattle.stock_round.specs.Buy.{MayBuy, after_purchase, buy_judgement, share_bought}
 use Rattle.tables.proofs.Rules.{not_broken}
 use Rattle.tables.specs.declared.roster.Company.{Company}
 use Rattle.tables.specs.declared.seat.Seat.{Seat}
@@ -90,7 +90,7 @@ purchase_game game new seat company from price may within is_price recorded befo
 pub in_purchase : (game : Game) (seat : Seat) (company : Company) (from : ShareSource)
     → SaysWhoActed seat true game.events (after_purchase game seat company from).events
 in_purchase game seat company from =
-    let paid : Game = bought game seat company from in
+    let paid : Game = share_bought game seat company from in
     in_both seat true false game.events paid.events (after_purchase game seat company from).events
     (one_more seat true game.events (event.Bought company seat 1 from (share_price_of game.events company from)) refl)
     (in_what_follows paid seat company)

@@ -4,7 +4,7 @@ use Rattle.std.proofs.Common.{None, ℤ, pos, ◌≤ℤ◌, ◌+ℤ◌, refl, sy
 use Rattle.std.proofs.lemmas.Bool.Decides.{nat_tests}
 use Rattle.std.proofs.lemmas.Int.{ints}
 use Rattle.std.specs.Int.Signed.{lt_z}
-use Rattle.certs.specs.Purchase.{in_zone, is_over_six, lifts_six}
+use Rattle.certs.specs.Purchase.{holds_in_zone, is_over_six, lifts_six}
 use Rattle.events.specs.Event.{place_of_source}
 use Rattle.events.specs.RuleCodes.{code_of_stock_rule}
 use Rattle.events.specs.declared.event.Event.{Event}
@@ -16,13 +16,13 @@ use Rattle.events.specs.declared.ruling.StockRule.TheVariants.{NoExchange}
 use Rattle.history.proofs.Purchases.{exchange_sound as exchange_law}
 use Rattle.certs.specs.Games.{IsGame}
 use Rattle.totals.specs.AtEnd.{SaysTheSame}
-use Rattle.totals.specs.LookBack.{Game, owner_of, with_event}
+use Rattle.totals.specs.LookBack.{Game, is_owner, owner_of, with_event}
 use Rattle.totals.specs.Shares.{shares_of, square_of}
 use Rattle.order_grammar.specs.declared.order.ShareSource.{ShareSource}
 use Rattle.order_grammar.specs.declared.order.ShareSource.TheVariants as source
 use Rattle.stock_round.proofs.FloatLemmas.{in_what_follows}
 use Rattle.stock_round.specs.Exchange.{MayExchange, after_exchange, exchange_judgement, exchange_rules, exchange_source}
-use Rattle.stock_round.specs.Exchange.{exchanged, is_no_exchange, is_offered, is_owner, is_pooled}
+use Rattle.stock_round.specs.Exchange.{exchanged, is_no_exchange, is_offered, is_pooled}
 use Rattle.tables.proofs.Rules.{not_broken}
 use Rattle.tables.specs.Seat.{seat_at}
 use Rattle.tables.specs.declared.roster.Company.TheVariants.{NewYorkCentral}
@@ -43,7 +43,7 @@ unfolding is_over_six
 same_exchange before after seat same =
     let all : Option Holder → ℤ → ℤ → Option Square → ℤ → Bool = λ owner offered pooled square held.
     not (is_owner seat owner) || (not (lt_z (pos 0) offered || lt_z (pos 0) pooled)
-    || (not (in_zone lifts_six square) && lt_z (pos 6) (held +ℤ pos 1)))
+    || (not (holds_in_zone lifts_six square) && lt_z (pos 6) (held +ℤ pos 1)))
     in
     let company = NewYorkCentral in
     ap (λ (owner : Option Holder). all owner (shares_of after company InitialOffering)

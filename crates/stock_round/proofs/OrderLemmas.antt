@@ -13,14 +13,14 @@ use Rattle.order_grammar.specs.declared.order.Order.TheVariants.{Par, BuyShare, 
 use Rattle.stock_round.proofs.BuyLemmas.{purchase_allowed, still_may_buy}
 use Rattle.stock_round.proofs.ExchangeLemmas.{exchange_allowed, same_exchange}
 use Rattle.stock_round.proofs.ParLemmas.{start_allowed, still_may_start}
-use Rattle.stock_round.specs.Orders.{MayAct, after_act, judgement_of}
+use Rattle.stock_round.specs.Orders.{MayAct, after_stock_order, stock_judgement}
 use Rattle.stock_round.specs.Sell.{sale_of}
 use Rattle.tables.specs.declared.roster.Company.{Company}
 use Rattle.tables.specs.declared.seat.Seat.{Seat}
 
 -- an order that breaks no rule can be done
 may_act : (game : Game) (seat : Seat) (bought : Option Company) (order : Order)
-    → judgement_of game seat bought order ≡ None → MayAct game seat order
+    → stock_judgement game seat bought order ≡ None → MayAct game seat order
 may_act game seat bought (Par company price) none = start_allowed game seat company price bought none
 may_act game seat bought (BuyShare company from) none = purchase_allowed game seat company from bought none
 may_act game seat bought (Sell company shares) none = sale_allowed game seat (sale_of company shares) None none
@@ -39,7 +39,7 @@ still_may game after seat other same may = tt
 
 -- an order that breaks no rule can be done after its ruling
 pub may_act_after : (old new : Game) (event : Event) (seat : Seat) (bought : Option Company) (order : Order)
-    → new ≡ with_event old event → IsQuiet event → judgement_of old seat bought order ≡ None
+    → new ≡ with_event old event → IsQuiet event → stock_judgement old seat bought order ≡ None
     → MayAct new seat order
 may_act_after old new event seat bought order recorded quiet none =
     subst (λ (game : Game). MayAct game seat order) (sym recorded)
@@ -47,7 +47,7 @@ may_act_after old new event seat bought order recorded quiet none =
     (may_act old seat bought order none))
 
 -- whatever is done, the table stays
-pub same_table : (game : Game) (seat : Seat) (order : Order) → (after_act game seat order).seats ≡ game.seats
+pub same_table : (game : Game) (seat : Seat) (order : Order) → (after_stock_order game seat order).seats ≡ game.seats
 same_table game seat (Par company price) = refl
 same_table game seat (BuyShare company from) = refl
 same_table game seat (Sell company shares) = refl

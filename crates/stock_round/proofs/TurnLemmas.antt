@@ -14,10 +14,10 @@ use Rattle.stock_round.proofs.ParLemmas.{in_start}
 use Rattle.stock_round.proofs.SellLemmas.{in_sale}
 use Rattle.stock_round.specs.Buy.{after_purchase}
 use Rattle.stock_round.specs.Exchange.{after_exchange}
-use Rattle.stock_round.specs.Orders.{refusal_of}
+use Rattle.stock_round.specs.Orders.{stock_refusal}
 use Rattle.stock_round.specs.Par.{after_start}
 use Rattle.stock_round.specs.Sell.{after_sale}
-use Rattle.stock_round.specs.Turn.{InTurn, acted, after_ruling, game_in, stock_rules}
+use Rattle.stock_round.specs.Turn.{InStockTurn, after_stock_ruling, game_in, stock_rules, turn_after_stock_order}
 use Rattle.tables.specs.declared.seat.Seat.{Seat}
 use Rattle.turns.proofs.Acted.{LineSaysWhoActed, in_both, nobody_ruled, one_more, or_nothing, turns_say}
 use Rattle.turns.proofs.Ruled.{of_ruled}
@@ -37,9 +37,9 @@ has_sold false true = refl
 has_sold false false = refl
 
 -- by a line whose order is done
-order_says : (seats : ℕ) (seat : Seat) (turn : InTurn) (number : ℕ) (condition : Option Condition) (done : Order)
-    → refusal_of (game_in seats turn) seat turn.actions.bought done ≡ None →
-    LineSaysWhoActed stock_rules seat turn (after_ruling seats seat turn number (Obeyed condition done))
+order_says : (seats : ℕ) (seat : Seat) (turn : InStockTurn) (number : ℕ) (condition : Option Condition) (done : Order)
+    → stock_refusal (game_in seats turn) seat turn.actions.bought done ≡ None →
+    LineSaysWhoActed stock_rules seat turn (after_stock_ruling seats seat turn number (Obeyed condition done))
 order_says seats seat turn number condition (order.Par company price) kept =
     let line : Event = event.Ruled seat number (Obeyed condition (order.Par company price)) in
     let ruled : Game = with_event (game_in seats turn) line in
@@ -82,8 +82,8 @@ order_says seats seat turn number condition other kept = absurd (cc)
 pub stock_turns_say : TurnsSayWhoActed stock_rules
 stock_turns_say =
     turns_say stock_rules refl
-    (λ (seats : ℕ) (seat : Seat) (turn : InTurn) (line : Numbered).
-    of_ruled (acted seats seat) (refusal_of (game_in seats turn) seat turn.actions.bought) seat turn line.number
+    (λ (seats : ℕ) (seat : Seat) (turn : InStockTurn) (line : Numbered).
+    of_ruled (turn_after_stock_order seats seat) (stock_refusal (game_in seats turn) seat turn.actions.bought) seat turn line.number
     (LineSaysWhoActed stock_rules seat turn)
     (nobody_ruled stock_rules seat turn line.number) (order_says seats seat turn line.number) has_place_in_turn
     turn.events line)

@@ -28,10 +28,11 @@ pub record MayBuy (game : Game) (seat : Seat) (company : Company) (from : ShareS
   pub pays : is_short_of_cash game.seats game.events seat (share_price_of game.events company from) ≡ false
 
 -- after a seat has paid for a share
-abbrev pub bought : Game → Seat → Company → ShareSource → Game
-bought game seat company from =
+abbrev pub share_bought : Game → Seat → Company → ShareSource → Game
+share_bought game seat company from =
     with_event game (event.Bought company seat 1 from (share_price_of game.events company from))
 
 -- after a seat has bought a share, and what follows from it
 abbrev pub after_purchase : Game → Seat → Company → ShareSource → Game
-after_purchase game seat company from = with_float (with_president (bought game seat company from) company) company
+after_purchase game seat company from =
+    with_float (with_president (share_bought game seat company from) company) company

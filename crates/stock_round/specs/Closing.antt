@@ -27,5 +27,5 @@ all_risen events [] = events
 all_risen events (company ∷ others) = all_risen (risen events company) others
 
 -- after the turns the companies that are sold out move up, in operating order
-abbrev pub closed : List Event → List Event
-closed events = all_risen events (operating_order_of events)
+abbrev pub stock_round_closed : List Event → List Event
+stock_round_closed events = all_risen events (operating_order_of events)

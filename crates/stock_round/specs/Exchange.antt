@@ -1,19 +1,16 @@
 -- EXCHANGE: the owner of MH gives it up for a share of NYC, even before NYC is started. The share
 -- comes from the initial offering, or from the bank pool if the initial offering has none. The owner
 -- may not hold over six shares then, if the zone of NYC's square limits that. It costs nothing.
-use Rattle.std.specs.Prelude.{◌≡◌, ℕ, ◌==◌, Bool, false, not, ◌||◌, if◌then◌else◌, List, [], ◌∷◌, Option, Some}
-use Rattle.std.specs.Prelude.{None, pos}
+use Rattle.std.specs.Prelude.{◌≡◌, ℕ, Bool, false, not, ◌||◌, if◌then◌else◌, List, [], ◌∷◌, Option, pos}
 use Rattle.std.specs.Int.Signed.{lt_z}
 use Rattle.certs.specs.Purchase.{is_over_six}
 use Rattle.certs.specs.SaleAct.{with_president}
 use Rattle.events.specs.declared.event.Event.{Event}
 use Rattle.events.specs.declared.event.Event.TheVariants as event
-use Rattle.events.specs.declared.event.Holder.{Holder}
-use Rattle.events.specs.declared.event.Holder.TheVariants as holder
 use Rattle.events.specs.declared.event.Shareholder.TheVariants.{InitialOffering, BankPool}
 use Rattle.events.specs.declared.ruling.StockRule.{StockRule}
 use Rattle.events.specs.declared.ruling.StockRule.TheVariants.{NoExchange}
-use Rattle.totals.specs.LookBack.{Game, owner_of, with_event}
+use Rattle.totals.specs.LookBack.{Game, is_owner, owner_of, with_event}
 use Rattle.totals.specs.Shares.{shares_of}
 use Rattle.order_grammar.specs.declared.order.ShareSource.{ShareSource}
 use Rattle.order_grammar.specs.declared.order.ShareSource.TheVariants as source
@@ -22,12 +19,6 @@ use Rattle.tables.specs.Rules.{Rule, first_broken}
 use Rattle.tables.specs.declared.roster.Company.TheVariants.{NewYorkCentral}
 use Rattle.tables.specs.declared.roster.Private.TheVariants.{MohawkHudson}
 use Rattle.tables.specs.declared.seat.Seat.{Seat}
-
--- the seat is this owner
-abbrev pub is_owner : Seat → Option Holder → Bool
-is_owner seat None = false
-is_owner seat (Some (holder.Seat owner)) = owner.0 == seat.0
-is_owner seat (Some (holder.Company company)) = false
 
 -- there is a share of NYC in the initial offering
 abbrev pub is_offered : List Event → Bool

@@ -20,16 +20,16 @@ use Rattle.totals.specs.LookBack.{Game}
 
 -- The first rule that an order breaks in a turn in which the seat has bought of this company, if it
 -- has bought. Any order but these four breaks the first.
-abbrev pub judgement_of : Game → Seat → Option Company → Order → Option StockRule
-judgement_of game seat bought (Par company price) = par_judgement game seat company price bought
-judgement_of game seat bought (BuyShare company from) = buy_judgement game seat company from bought
-judgement_of game seat bought (Sell company shares) = sell_judgement game seat company shares
-judgement_of game seat bought ExchangeMohawk = exchange_judgement game seat
-judgement_of game seat bought other = Some NotOfStock
+abbrev pub stock_judgement : Game → Seat → Option Company → Order → Option StockRule
+stock_judgement game seat bought (Par company price) = par_judgement game seat company price bought
+stock_judgement game seat bought (BuyShare company from) = buy_judgement game seat company from bought
+stock_judgement game seat bought (Sell company shares) = sell_judgement game seat company shares
+stock_judgement game seat bought ExchangeMohawk = exchange_judgement game seat
+stock_judgement game seat bought other = Some NotOfStock
 
 -- the first rule that an order breaks, as a ruling refuses an order
-abbrev pub refusal_of : Game → Seat → Option Company → Order → Option Refusal
-refusal_of game seat bought order = option_map Stock (judgement_of game seat bought order)
+abbrev pub stock_refusal : Game → Seat → Option Company → Order → Option Refusal
+stock_refusal game seat bought order = option_map Stock (stock_judgement game seat bought order)
 
 -- the order can be done
 abbrev pub MayAct : Game → Seat → Order → Type 0
@@ -40,9 +40,9 @@ MayAct game seat ExchangeMohawk = MayExchange game seat
 MayAct game seat other = Unit {0}
 
 -- after what follows from an obeyed order of a seat
-abbrev pub after_act : Game → Seat → Order → Game
-after_act game seat (Par company price) = after_start game seat company price
-after_act game seat (BuyShare company from) = after_purchase game seat company from
-after_act game seat (Sell company shares) = after_sale game seat company shares
-after_act game seat ExchangeMohawk = after_exchange game seat
-after_act game seat other = game
+abbrev pub after_stock_order : Game → Seat → Order → Game
+after_stock_order game seat (Par company price) = after_start game seat company price
+after_stock_order game seat (BuyShare company from) = after_purchase game seat company from
+after_stock_order game seat (Sell company shares) = after_sale game seat company shares
+after_stock_order game seat ExchangeMohawk = after_exchange game seat
+after_stock_order game seat other = game

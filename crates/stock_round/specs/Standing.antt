@@ -16,5 +16,5 @@ fault_of_standing (Err fault) = fault
 fault_of_standing (Ok order) = OutOfPlace
 
 -- after a standing line of a seat
-abbrev pub after_standing_line : Seat → List Event → Numbered → List Event
-after_standing_line seat events line = recorded seat line.number (Faulty (fault_of_standing line.reading)) events
+abbrev pub after_stock_standing_line : Seat → List Event → Numbered → List Event
+after_stock_standing_line seat events line = recorded seat line.number (Faulty (fault_of_standing line.reading)) events

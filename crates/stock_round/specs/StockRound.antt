@@ -5,7 +5,7 @@ use Rattle.std.specs.Prelude.{ℕ, List}
 use Rattle.events.specs.declared.event.Event.{Event}
 use Rattle.totals.specs.LookBack.{Game}
 use Rattle.sheets.specs.Part.{Numbered}
-pub use Rattle.stock_round.specs.Standing.{after_standing_line}
+pub use Rattle.stock_round.specs.Standing.{after_stock_standing_line}
 use Rattle.stock_round.specs.Turn.{stock_rules}
 use Rattle.tables.specs.Turns.{InPlay}
 use Rattle.tables.specs.declared.round.Round.{Round}

@@ -6,7 +6,7 @@
 //! The rules are those of a purchase in `certs` (`share_purchase_rules`).
 ghost use Rattle.std.specs.Prelude.{◌≡◌, ◌<◌, OnOk};
 ghost use Rattle.certs.specs.Games.{IsGame};
-ghost use Rattle.stock_round.specs.Buy.{MayBuy, after_purchase, bought, buy_judgement};
+ghost use Rattle.stock_round.specs.Buy.{MayBuy, after_purchase, buy_judgement, share_bought};
 
 use crate::float::record_float;
 use crate::prices::share_cost;
@@ -58,7 +58,7 @@ fn pay_for_share(
     requires game { IsGame history.old }
     requires at_table { seat.0 < history.old.seats }
     requires may { MayBuy history.old seat company from }
-    ensures after { OnOk result (history.new ≡ bought history.old seat company from) }
+    ensures after { OnOk result (history.new ≡ share_bought history.old seat company from) }
     ensures game { OnOk result (IsGame history.new) }
 {
     let price = share_cost(history, company, from);

@@ -1,7 +1,7 @@
 //! The end of a stock round: sold-out companies move up on the chart.
 ghost use Rattle.std.specs.Prelude.{◌≡◌, OnOk};
 ghost use Rattle.certs.specs.Games.{IsGame, with_events};
-ghost use Rattle.stock_round.specs.Closing.{all_risen, closed, is_sold_out, risen};
+ghost use Rattle.stock_round.specs.Closing.{all_risen, is_sold_out, risen, stock_round_closed};
 
 use history::{History, Shareholder};
 use market::{move_token_up, operating_order};
@@ -12,7 +12,7 @@ use tables::Company;
 pub(crate) fn close(history: &mut History) -> Result<(), AllocError>
     requires { IsGame history.old }
     ensures after { OnOk result (history.new
-        ≡ with_events history.old (closed history.old.events)) }
+        ≡ with_events history.old (stock_round_closed history.old.events)) }
     ensures game { OnOk result (IsGame history.new) }
 {
     let order = operating_order(history);

@@ -5,8 +5,8 @@
 ghost use Rattle.std.specs.Prelude.{◌≡◌, ◌<◌, OnOk};
 ghost use Rattle.certs.specs.Games.{IsGame};
 ghost use Rattle.stock_round.specs.Exchange.{MayExchange, after_exchange, exchange_judgement, exchange_source};
-ghost use Rattle.stock_round.specs.Exchange.{exchanged, is_no_exchange, is_offered, is_owner, is_pooled};
-ghost use Rattle.totals.specs.LookBack.{owner_of};
+ghost use Rattle.stock_round.specs.Exchange.{exchanged, is_no_exchange, is_offered, is_pooled};
+ghost use Rattle.totals.specs.LookBack.{is_owner, owner_of};
 ghost use Rattle.tables.specs.declared.roster.Private.TheVariants.{MohawkHudson};
 
 use crate::float::record_float;

@@ -2,7 +2,7 @@
 ghost use Rattle.std.specs.Prelude.{◌≡◌, ◌<◌, IfOk, OnOk};
 ghost use Rattle.certs.specs.Games.{IsGame};
 ghost use Rattle.stock_round.specs.Deals.{with_deal};
-ghost use Rattle.stock_round.specs.Orders.{MayAct, after_act, judgement_of};
+ghost use Rattle.stock_round.specs.Orders.{MayAct, after_stock_order, stock_judgement};
 
 use crate::deals::ShareDeals;
 use crate::{buy, exchange, par, sell};
@@ -19,7 +19,7 @@ pub(crate) fn judge(
     order: &Order,
     bought: Option<Company>,
 ) -> Option<StockRule>
-    ensures { result ≡ judgement_of history.now seat bought order.now }
+    ensures { result ≡ stock_judgement history.now seat bought order.now }
 {
     match order {
         Order::Par { company, price } => par::judge(history, seat, *company, *price, bought),
@@ -41,7 +41,7 @@ pub(crate) fn act(
     requires game { IsGame history.old }
     requires at_table { seat.0 < history.old.seats }
     requires may { MayAct history.old seat order.now }
-    ensures after { OnOk result (history.new ≡ after_act history.old seat order.now) }
+    ensures after { OnOk result (history.new ≡ after_stock_order history.old seat order.now) }
     ensures deals { IfOk result (λ now. now ≡ with_deal deals order.now) }
     ensures game { OnOk result (IsGame history.new) }
 {

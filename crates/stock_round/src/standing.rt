@@ -4,7 +4,7 @@ ghost use Rattle.std.specs.Prelude.{◌≡◌, OnOk};
 ghost use Rattle.certs.specs.Games.{with_events};
 ghost use Rattle.history.specs.Sound.{IsSound};
 ghost use Rattle.sheets.specs.Part.{line_unread};
-ghost use Rattle.stock_round.specs.Standing.{after_standing_line};
+ghost use Rattle.stock_round.specs.Standing.{after_stock_standing_line};
 
 use history::History;
 use order_grammar::Order;
@@ -23,7 +23,7 @@ pub(crate) fn rule_standing_line(
 ) -> Result<(), AllocError>
     requires { IsSound history.old }
     ensures after { OnOk result (history.new ≡ with_events history.old
-        (after_standing_line seat history.old.events (line_unread line.entry))) }
+        (after_stock_standing_line seat history.old.events (line_unread line.entry))) }
     ensures sound { OnOk result (IsSound history.new) }
 {
     let fault = fault_out_of_place(line, order);

@@ -3,7 +3,7 @@
 ghost use Rattle.std.specs.Prelude.{◌≡◌, ◌≤◌, ◌<◌, OnOk, IfOk};
 ghost use Rattle.certs.specs.Games.{IsGame};
 ghost use Rattle.sheets.specs.Part.{line_unread};
-ghost use Rattle.stock_round.specs.Orders.{refusal_of};
+ghost use Rattle.stock_round.specs.Orders.{stock_refusal};
 ghost use Rattle.stock_round.specs.Turn.{after_stock_line};
 ghost use Rattle.turns.specs.RoundOfTurns.{in_turn};
 ghost use Rattle.turns.specs.Ruling.{has_place_in_turn};
@@ -27,7 +27,7 @@ struct TurnLines {
 impl Family for TurnLines {
     ghost place = { has_place_in_turn };
 
-    ghost judgement = { λ lines game seat. refusal_of game seat lines.bought };
+    ghost judgement = { λ lines game seat. stock_refusal game seat lines.bought };
 
     ghost may_judge = { λ game seat. (game.seats ≤ 6) × (seat.0 < game.seats) };
 

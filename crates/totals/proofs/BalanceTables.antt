@@ -19,8 +19,8 @@ use Rattle.events.specs.declared.event.TrainMove.{TrainMove}
 use Rattle.events.specs.declared.event.TrainPlace.{TrainPlace}
 use Rattle.events.specs.declared.event.TrainPlace.TheVariants as train_place
 use Rattle.events.specs.declared.event.Transfer.{Transfer}
-use Rattle.totals.specs.Totals.{IsBalance, IsSafe, balance_at, party_entry, row_of, shares_entry, train_entry}
-use Rattle.totals.specs.Totals.{train_row}
+use Rattle.totals.specs.Totals.{IsBalance, IsSafe, balance_at, party_entry, shares_entry, shares_row}
+use Rattle.totals.specs.Totals.{train_entry, train_row}
 use Rattle.totals.specs.LookBack.{IsModerate, balance, paid_by, paid_to, same_party}
 use Rattle.totals.specs.Shares.{brought_to, same_shareholder, taken_from}
 use Rattle.totals.specs.Trains.{any_comes, any_goes, one_if, same_train_place, train_comes, train_goes}
@@ -100,7 +100,7 @@ row_same a b r s low_a low_b =
     grind (arith, cases_eq a b, cases_eq r s, eq-eqb a b, eq-eqb r s, eq-eqb (8 * r + a) (8 * s + b))
 
 -- places have different rows
-same_row : (a b : Shareholder) → same_shareholder a b ≡ (row_of a == row_of b)
+same_row : (a b : Shareholder) → same_shareholder a b ≡ (shares_row a == shares_row b)
 same_row InitialOffering InitialOffering = refl
 same_row InitialOffering BankPool = refl
 same_row BankPool InitialOffering = refl
@@ -124,8 +124,8 @@ part_by_entry :
 part_by_entry a b at place shares =
     both_tests (same_company a b) (same_shareholder at place) shares
     ∙ ap (λ test. if same_company a b && test then shares else 0) (same_row at place)
-    ∙ ap (λ test. if test then shares else 0) (row_same (index_of_company a) (index_of_company b) (row_of at)
-    (row_of place) (company_low a) (company_low b))
+    ∙ ap (λ test. if test then shares else 0) (row_same (index_of_company a) (index_of_company b) (shares_row at)
+    (shares_row place) (company_low a) (company_low b))
 
 -- a transfer moves its shares from its entry to its other
 pub transfer_moved :

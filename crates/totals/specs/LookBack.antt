@@ -73,6 +73,12 @@ same_holder (holder.Company a) (holder.Company b) = same_company a b
 same_holder (holder.Seat a) (holder.Company b) = false
 same_holder (holder.Company a) (holder.Seat b) = false
 
+-- the seat is this owner
+abbrev pub is_owner : Seat → Option Holder → Bool
+is_owner seat None = false
+is_owner seat (Some (holder.Seat owner)) = owner.0 == seat.0
+is_owner seat (Some (holder.Company company)) = false
+
 -- two parties are the same
 abbrev pub same_party : Party → Party → Bool
 same_party party.Bank party.Bank = true

@@ -76,18 +76,18 @@ abbrev pub HasEntry : Party → Type 0
 HasEntry party = party_entry party < 15
 
 -- the row of a place in a table of shares
-abbrev pub row_of : Shareholder → ℕ
-row_of InitialOffering = 0
-row_of BankPool = 1
-row_of (OfSeat seat) = 2 + seat.0
+abbrev pub shares_row : Shareholder → ℕ
+shares_row InitialOffering = 0
+shares_row BankPool = 1
+shares_row (OfSeat seat) = 2 + seat.0
 
 -- the entry of the shares of a company at a place
 abbrev pub shares_entry : Company → Shareholder → ℕ
-shares_entry company place = 8 * row_of place + index_of_company company
+shares_entry company place = 8 * shares_row place + index_of_company company
 
 -- the place has entries: a seat is one of six
 abbrev pub HasShares : Shareholder → Type 0
-HasShares place = row_of place < 8
+HasShares place = shares_row place < 8
 
 -- the row of a place in a table of trains
 abbrev pub train_row : TrainPlace → ℕ

@@ -14,7 +14,7 @@ use Rattle.tables.specs.Steps.{iterate}
 use Rattle.tables.specs.declared.seat.Seat.{Seat}
 use Rattle.turns.specs.Acted.{SaysWhoActed, TurnsSayWhoActed}
 use Rattle.turns.specs.RoundOfTurns.{InTurn, RoundRules, after_lines, in_turn}
-use Rattle.turns.specs.Ruling.{obeyed_by, recorded}
+use Rattle.turns.specs.Ruling.{obeyed_order, recorded}
 use Rattle.totals.proofs.EventAtEnd.{option_or_assoc, option_or_none}
 
 -- what two lists say last, one after the other
@@ -133,7 +133,7 @@ module _ {TurnActions : Type 0} (rules : RoundRules TurnActions) (seats : ℕ) (
 -- a ruling by which no order is done names nobody
 pub nobody_ruled : {TurnActions : Type 0} (rules : RoundRules TurnActions) (seat : Seat) (turn : InTurn TurnActions)
     (number : ℕ) (ruling : Ruling) →
-    obeyed_by ruling ≡ None → LineSaysWhoActed rules seat turn (in_turn (recorded seat number ruling turn.events) turn.actions)
+    obeyed_order ruling ≡ None → LineSaysWhoActed rules seat turn (in_turn (recorded seat number ruling turn.events) turn.actions)
 nobody_ruled rules seat turn number (Obeyed condition order) none = absurd (cc)
 nobody_ruled rules seat turn number other none =
     record {

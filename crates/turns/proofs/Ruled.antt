@@ -14,8 +14,8 @@ use Rattle.order_grammar.specs.declared.order.Order.{Order}
 use Rattle.sheets.specs.Part.{Numbered}
 use Rattle.tables.specs.declared.seat.Seat.{Seat}
 use Rattle.turns.specs.RoundOfTurns.{InTurn, in_turn}
-use Rattle.turns.specs.Ruling.{after_ruling, judged, line_ruling, obeyed_by, placed_ruling, recorded, ruling_of}
-use Rattle.turns.specs.Ruling.{under}
+use Rattle.turns.specs.Ruling.{after_ruling, judged, line_ruling, obeyed_order, placed_ruling, recorded}
+use Rattle.turns.specs.Ruling.{refusal_under, ruling_of}
 use Rattle.turns.specs.Small.{IsSmallOrder, IsSmallReading, IsSmallRuling}
 
 -- a small order is ruled as one
@@ -43,7 +43,7 @@ pub small_ruling : (has_place : Order → Bool) (judgement : Order → Option Re
     (line : Numbered) →
     IsSmallReading line.reading → IsSmallRuling (line_ruling has_place judgement events line)
 small_ruling has_place judgement events line small =
-    small_ruling_of has_place (under events line.condition judgement) line.condition line.reading small
+    small_ruling_of has_place (refusal_under events line.condition judgement) line.condition line.reading small
 
 -- a family's own rule is broken where it is as a refusal
 pub none_as_refusal : {Rule : Type 0} (refusal : Rule → Refusal) (broken : Option Rule)
@@ -62,7 +62,7 @@ kept_under false broken none = absurd (cc)
 module _ {TurnActions : Type 0} (act : InTurn TurnActions → Order → InTurn TurnActions)
     (judgement : Order → Option Refusal) (seat : Seat) (turn : InTurn TurnActions) (number : ℕ)
     (P : InTurn TurnActions → Type 0)
-    (left : (ruling : Ruling) → obeyed_by ruling ≡ None
+    (left : (ruling : Ruling) → obeyed_order ruling ≡ None
     → P (in_turn (recorded seat number ruling turn.events) turn.actions))
     (each : (condition : Option Condition) (order : Order) → judgement order ≡ None
     → P (after_ruling act seat turn number (Obeyed condition order))) where
@@ -74,17 +74,17 @@ module _ {TurnActions : Type 0} (act : InTurn TurnActions → Order → InTurn T
 
   -- of one that has a place, or not
   of_if_placed : (has : Bool) (events : List Event) (condition : Option Condition) (order : Order) →
-      P (after_ruling act seat turn number (placed_ruling (under events condition judgement) condition
+      P (after_ruling act seat turn number (placed_ruling (refusal_under events condition judgement) condition
       (if has then Ok order else Err OutOfPlace)))
   of_if_placed true events condition order =
-      of_judged condition order (under events condition judgement order)
+      of_judged condition order (refusal_under events condition judgement order)
       (kept_under (is_met events condition) (judgement order))
   of_if_placed false events condition order = left (Faulty OutOfPlace) refl
 
   -- of a line with this condition and this reading
   of_read : (has_place : Order → Bool) (events : List Event) (condition : Option Condition)
       (reading : Result Order Fault) →
-      P (after_ruling act seat turn number (ruling_of has_place (under events condition judgement) condition reading))
+      P (after_ruling act seat turn number (ruling_of has_place (refusal_under events condition judgement) condition reading))
   of_read has_place events condition (Err fault) = left (Faulty fault) refl
   of_read has_place events condition (Ok order) = of_if_placed (has_place order) events condition order
 

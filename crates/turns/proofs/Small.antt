@@ -15,8 +15,8 @@ use Rattle.order_grammar.specs.declared.order.TrainSource.TheVariants.{Bank, Ban
 use Rattle.turns.specs.Small.{IsReady, IsSmallOrder, IsSmallReading, PartsAreSmall}
 use Rattle.sheets.specs.File.{sheet_of, version_of}
 use Rattle.sheets.specs.Limits.{lines_most}
-use Rattle.sheets.specs.Part.{Numbered, Parts, after_head, after_line, numbered, opens_part, parts_after, parts_for}
-use Rattle.sheets.specs.Part.{reading_at}
+use Rattle.sheets.specs.Part.{Numbered, SheetParts, after_head, after_line, numbered, opens_part, parts_after}
+use Rattle.sheets.specs.Part.{parts_for, reading_at}
 use Rattle.sheets.specs.Reading.{order_read}
 use Rattle.tables.specs.declared.round.Round.{Round}
 
@@ -44,7 +44,7 @@ small_where true reading small = tt
 small_where false reading small = small
 
 -- a line before parts
-small_with : (head : Bool) (line : Numbered) (parts : Parts) → IsSmallReading line.reading → PartsAreSmall parts →
+small_with : (head : Bool) (line : Numbered) (parts : SheetParts) → IsSmallReading line.reading → PartsAreSmall parts →
     PartsAreSmall (if head then after_head line parts else after_line line parts)
 small_with true line parts small others = (tt, (others.0, others.1))
 small_with false line parts small others = ((small, others.0), others.1)
@@ -65,7 +65,7 @@ pub parts_small : (file : List ℕ) (round : Round) (seat : ℕ) → PartsAreSma
 parts_small file round seat = small_after (version_of file) round (unwrap_or (sheet_of file seat round) []) 0
 
 -- once the standing lines are ruled a sheet is ready
-pub ready_after : (sheet new : Parts) → new ≡ record { before = []; opened = sheet.opened } → PartsAreSmall sheet
+pub ready_after : (sheet new : SheetParts) → new ≡ record { before = []; opened = sheet.opened } → PartsAreSmall sheet
     → IsReady new
 ready_after sheet new left small =
     subst IsReady (sym left) (record { is_at_head = refl; small = (tt, small.1) })

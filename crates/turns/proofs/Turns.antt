@@ -9,7 +9,7 @@ use Rattle.events.specs.Event.{actor_of}
 use Rattle.events.specs.declared.event.Event.{Event}
 use Rattle.events.specs.declared.event.Event.TheVariants.{Passes}
 use Rattle.totals.specs.LookBack.{last_said, left_of_actor, priority_of}
-use Rattle.sheets.specs.Part.{Numbered, Parts, written_turns_of}
+use Rattle.sheets.specs.Part.{Numbered, SheetParts, written_turns_of}
 use Rattle.tables.specs.Seat.{left_of, seat_at}
 use Rattle.tables.specs.Turns.{InPlay, IsIdleWithoutLines, Turned, after_turn, written_turns_at, next_written_turn}
 use Rattle.tables.specs.Turns.{turn_over}
@@ -35,7 +35,7 @@ pub all_have_passed : (ended : Bool) (seats passes : ℕ) → seats ≤ passes �
 all_have_passed ended seats passes all = grind (arith, nat_tests)
 
 -- a seat's written turns are those of what is left of its sheet
-written_turns_here : (unruled : List Parts) (seat : ℕ) (d : Parts) → seat < length unruled
+written_turns_here : (unruled : List SheetParts) (seat : ℕ) (d : SheetParts) → seat < length unruled
     → written_turns_at (map written_turns_of unruled) seat ≡ written_turns_of (get_or unruled seat d)
 written_turns_here unruled seat d within =
     ap (λ written_turns. unwrap_or written_turns []) (slice_get-map written_turns_of unruled seat
@@ -52,7 +52,7 @@ played seats seat passes turn written_turns =
     }
 
 module _ {TurnActions : Type 0} (rules : RoundRules TurnActions) (seats : ℕ) (events : List Event) (seat passes : ℕ)
-    (unruled : List Parts) (d new : Parts) (taker : Seat) (within : seat < length unruled)
+    (unruled : List SheetParts) (d new : SheetParts) (taker : Seat) (within : seat < length unruled)
     (is_seat : taker ≡ seat_at seat) (dropped : written_turns_of new ≡ drop 1 (written_turns_of (get_or unruled seat d))) where
   -- a turn that took the next written turn of a seat's sheet is one turn of the round
   turn_taken : (turn : Turned (List Event)) →

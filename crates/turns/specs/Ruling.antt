@@ -33,8 +33,9 @@ judged condition order (Some rule) = Refused rule condition order
 
 -- the first rule that an order under this condition breaks, as the list is: its condition comes
 -- before the rules of its family
-abbrev pub under : List Event → Option Condition → (Order → Option Refusal) → Order → Option Refusal
-under events condition judgement order = if is_met events condition then judgement order else Some refusal.Condition
+abbrev pub refusal_under : List Event → Option Condition → (Order → Option Refusal) → Order → Option Refusal
+refusal_under events condition judgement order =
+    if is_met events condition then judgement order else Some refusal.Condition
 
 -- what becomes of an order that has a place, judged by these rules, or of a fault
 abbrev pub placed_ruling : (Order → Option Refusal) → Option Condition → Result Order Fault → Ruling
@@ -49,16 +50,16 @@ ruling_of has_place judgement condition reading = placed_ruling judgement condit
 -- what becomes of a line, as the list is, if the family judges by these rules
 abbrev pub line_ruling : (Order → Bool) → (Order → Option Refusal) → List Event → Numbered → Ruling
 line_ruling has_place judgement events line =
-    ruling_of has_place (under events line.condition judgement) line.condition line.reading
+    ruling_of has_place (refusal_under events line.condition judgement) line.condition line.reading
 
 -- with the ruling of the line of a seat's sheet with this number
 abbrev pub recorded : Seat → ℕ → Ruling → List Event → List Event
 recorded seat number ruling events = events ++ event.Ruled seat number ruling ∷ []
 
 -- the order that is obeyed, and is to be done
-abbrev pub obeyed_by : Ruling → Option Order
-obeyed_by (Obeyed condition order) = Some order
-obeyed_by other = None
+abbrev pub obeyed_order : Ruling → Option Order
+obeyed_order (Obeyed condition order) = Some order
+obeyed_order other = None
 
 -- after an order that is to be done, if there is one
 abbrev pub done : {State : Type 0} → (State → Order → State) → State → Option Order → State
@@ -71,12 +72,13 @@ pub record IsToDo (has_place : Order → Bool) (judgement : Order → Option Ref
   pub read : line.reading ≡ Ok order
   pub met : IsTrue (is_met events line.condition)
   pub kept : judgement order ≡ None
-  pub obeyed : obeyed_by (line_ruling has_place judgement events line) ≡ Some order
+  pub obeyed : obeyed_order (line_ruling has_place judgement events line) ≡ Some order
 
 -- whether this order of a line is obeyed, as the list is, and is to be done: otherwise none is
 abbrev pub IsOrderToDo : (Order → Bool) → (Order → Option Refusal) → List Event → Numbered → Order → Bool → Type 0
 IsOrderToDo has_place judgement events line order true = IsToDo has_place judgement events line order
-IsOrderToDo has_place judgement events line order false = obeyed_by (line_ruling has_place judgement events line) ≡ None
+IsOrderToDo has_place judgement events line order false =
+    obeyed_order (line_ruling has_place judgement events line) ≡ None
 
 -- an order of a written turn is one of play
 abbrev pub has_place_in_turn : Order → Bool
@@ -87,4 +89,4 @@ has_place_in_turn order = not (is_of_file order)
 abbrev pub after_ruling : {TurnActions : Type 0} → (InTurn TurnActions → Order → InTurn TurnActions) → Seat
     → InTurn TurnActions → ℕ → Ruling → InTurn TurnActions
 after_ruling act seat turn number ruling =
-    done act (in_turn (recorded seat number ruling turn.events) turn.actions) (obeyed_by ruling)
+    done act (in_turn (recorded seat number ruling turn.events) turn.actions) (obeyed_order ruling)

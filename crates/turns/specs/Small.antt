@@ -6,7 +6,7 @@ use Rattle.order_grammar.specs.declared.fault.Fault.{Fault}
 use Rattle.order_grammar.specs.declared.order.Order.{Order}
 use Rattle.order_grammar.specs.declared.order.Order.TheVariants.{Bid, BuyTrain, Limit}
 use Rattle.order_grammar.specs.declared.order.TrainSource.TheVariants.{Company}
-use Rattle.sheets.specs.Part.{Numbered, Parts, IsAtHead, written_turns_of}
+use Rattle.sheets.specs.Part.{Numbered, SheetParts, IsAtHead, written_turns_of}
 
 -- the sum of a bid or a limit is at most 99,999, and the price at which a company is to sell a
 -- train
@@ -37,10 +37,10 @@ WrittenTurnsAreSmall [] = Unit {0}
 WrittenTurnsAreSmall (written ∷ written_turns) = AreSmall written × WrittenTurnsAreSmall written_turns
 
 -- the sums of a sheet are at most 99,999
-abbrev pub PartsAreSmall : Parts → Type 0
+abbrev pub PartsAreSmall : SheetParts → Type 0
 PartsAreSmall parts = AreSmall parts.before × WrittenTurnsAreSmall (written_turns_of parts)
 
 -- a sheet whose standing lines are ruled
-pub record IsReady (parts : Parts) : Type 0 where
+pub record IsReady (parts : SheetParts) : Type 0 where
   pub is_at_head : IsAtHead parts
   pub small : PartsAreSmall parts

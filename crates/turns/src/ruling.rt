@@ -7,9 +7,9 @@ ghost use Rattle.totals.specs.LookBack.{Game, with_event};
 ghost use Rattle.history.specs.Sound.{IsSound};
 ghost use Rattle.order_grammar.specs.declared.order.Order.{Order as OrderOfPlay};
 ghost use Rattle.sheets.specs.Part.{line_unread, line_with};
-ghost use Rattle.sheets.specs.Place.{placed as placed_reading};
+ghost use Rattle.sheets.specs.Place.{placed};
 ghost use Rattle.tables.specs.declared.seat.Seat.{Seat as SeatNumber};
-ghost use Rattle.turns.specs.Ruling.{IsOrderToDo, judged, line_ruling, under};
+ghost use Rattle.turns.specs.Ruling.{IsOrderToDo, judged, line_ruling, refusal_under};
 
 use history::{Event, History, PackedLine, PackedRuling, Refusal};
 use order_grammar::{Fault, Order};
@@ -72,8 +72,8 @@ pub fn rule_line<F: Family>(
 /// is that its order is out of place.
 fn placed<F: Family>(family: &F, line: UnreadLine, order: &mut Order) -> Result<ReadLine, Fault>
     ensures placed { MatchResult result
-        (λ read. placed_reading F.place (line_unread line.entry).reading ≡ Ok order.new)
-        (λ fault. placed_reading F.place (line_unread line.entry).reading ≡ Err fault) }
+        (λ read. placed F.place (line_unread line.entry).reading ≡ Ok order.new)
+        (λ fault. placed F.place (line_unread line.entry).reading ≡ Err fault) }
     ensures read { IfOk result (λ read. line_unread line.entry ≡ line_with read order.new) }
 {
     let read = line.read_into(order)?;
@@ -99,10 +99,10 @@ pub fn rule_order<F: Family>(
     ensures ruling { OnOk result (history.new
         ≡ with_event history.old (event.Ruled seat line.number
         (judged line.condition order.now
-        (under history.old.events line.condition
+        (refusal_under history.old.events line.condition
         (F.judgement family.now history.old seat) order.now)))) }
     ensures obeyed { IfOk result (λ obeyed. obeyed
-        ≡ is_none (under history.old.events line.condition
+        ≡ is_none (refusal_under history.old.events line.condition
         (F.judgement family.now history.old seat) order.now)) }
     ensures sound { OnOk result (IsSound history.new) }
 {
@@ -120,7 +120,7 @@ fn judge_under<F: Family>(
     order: &Order,
 ) -> Option<Refusal>
     requires { F.may_judge history.now seat }
-    ensures { result ≡ under history.now.events line.condition
+    ensures { result ≡ refusal_under history.now.events line.condition
         (F.judgement family.now history.now seat) order.now }
 {
     if history.is_met(line.condition.as_ref()) {

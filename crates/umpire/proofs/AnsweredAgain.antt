@@ -12,7 +12,7 @@ use Rattle.umpire.proofs.VerifyLemmas.{judgement_answers}
 use Rattle.umpire.specs.Certified.{AreCertified, Certifies, CertifyGame}
 use Rattle.umpire.specs.Groups.{groups_of}
 use Rattle.umpire.specs.Laws.{ArePartedAgain}
-use Rattle.umpire.specs.InputSplit.{certificates_most, certificates_of, order_file_of}
+use Rattle.umpire.specs.InputSplit.{certificates_most, certificates_of_input, order_file_of}
 use Rattle.umpire.specs.ReadAgain.{AcceptsWhatWasWritten, AreReadAgain, CanBeWritten, CertifyingCanBeWritten}
 use Rattle.umpire.specs.ReadAgain.{IsReadAgain}
 use Rattle.umpire.specs.Verify.{AnswersGame, AnswersInput, HasAllGroups, HasGroup, HaveGroups}
@@ -46,21 +46,21 @@ answered_again some written file groups accepted certify within =
     let text : List ℕ = certificates_text groups in
     let input : List ℕ = file ++ 10 ∷ text in
     let parted : ArePartedAgain file text = parted_again file text (begins_alone groups can) in
-    let read : AreReadAgain groups (groups_of (certificates_of input)) =
+    let read : AreReadAgain groups (groups_of (certificates_of_input input)) =
     subst (λ (behind : List ℕ). AreReadAgain groups (groups_of behind)) (sym parted.certificates)
     (reads_back groups can) in
-    let all : HasAllGroups (order_file_of input) (groups_of (certificates_of input)) =
-    subst (λ (prefix : List ℕ). HasAllGroups prefix (groups_of (certificates_of input))) (sym parted.order_file)
+    let all : HasAllGroups (order_file_of input) (groups_of (certificates_of_input input)) =
+    subst (λ (prefix : List ℕ). HasAllGroups prefix (groups_of (certificates_of_input input))) (sym parted.order_file)
     (record {
       played = certify.played;
       calls = certify.calls;
       made = certify.made;
       have =
-          have_again certify.calls groups (groups_of (certificates_of input)) certify.certified read;
+          have_again certify.calls groups (groups_of (certificates_of_input input)) certify.certified read;
     }) in
     let report = some (order_file_of input) in (
       report.0,
-      judgement_answers input (order_file_of input) (certificates_of input) report.0 (Ok tt) refl refl
+      judgement_answers input (order_file_of input) (certificates_of_input input) report.0 (Ok tt) refl refl
           (subst (λ (behind : List ℕ). length behind ≤ certificates_most) (sym parted.certificates) within)
           (subst IsAccepted (sym parted.order_file) accepted) (all, report.1),
     )

@@ -8,13 +8,13 @@ use Rattle.order_grammar.proofs.WordLemmas.{gives_first}
 use Rattle.order_grammar.specs.Token.{GivesFirst}
 use Rattle.order_grammar.specs.Words.{Placed, raised, texts_of}
 use Rattle.order_grammar.specs.declared.words.Token.{Token}
-use Rattle.umpire.specs.Groups.{begins_group, group_begun, groups_in, second_of_words, with_line, with_lines}
-use Rattle.umpire.specs.Groups.{with_marks}
+use Rattle.umpire.specs.Groups.{begins_group, group_begun, group_with_line, groups_in, second_of_words}
+use Rattle.umpire.specs.Groups.{with_lines, with_marks}
 use Rattle.certificate.specs.declared.group.Group.{Group}
 
 -- the next line is of the group
 pub next_line : (lines rest : List (List ℕ)) (line : List ℕ) (group : Group) (next : Option Group)
-    → lines ≡ line ∷ rest → begins_group line ≡ false → with_line group line ≡ next →
+    → lines ≡ line ∷ rest → begins_group line ≡ false → group_with_line group line ≡ next →
     with_lines lines (Some group) ≡ with_lines rest next
 next_line lines rest line group next e b w = rw (e, b, w) refl
 

@@ -6,10 +6,10 @@ use Rattle.std.specs.Prelude.{◌&&◌, nat_le}
 use Rattle.std.proofs.lemmas.Bool.{and_parts, cases_Bool, eqb-true, leb-true}
 use Rattle.std.proofs.lemmas.List.{append-nil, length-append, length-map}
 use Rattle.std.specs.Char.{to_ascii_uppercase}
+use Rattle.map_tables.specs.Text.{is_digit}
 use Rattle.order_grammar.specs.Class.{are_digits, value_of_digits}
 use Rattle.order_grammar.specs.Form.{order_forms}
 use Rattle.order_grammar.specs.Line.{reading_of}
-use Rattle.order_grammar.specs.Name.{is_digit}
 use Rattle.order_grammar.specs.Spells.{End, IsNumber, IsWord, Then}
 use Rattle.order_grammar.specs.Texts.{order_file}
 use Rattle.order_grammar.specs.Words.{before, before_comment, raised, with_word, words_from, words_of, written_words}

@@ -7,7 +7,7 @@ use Rattle.std.specs.Prelude.{Bool, Some, None}
 use Rattle.std.specs.List.{AllByRecursion}
 use Rattle.sheets.specs.Text.{lines_from, lines_of, rest_of, without_return}
 use Rattle.umpire.specs.Laws.{BeginsAlone, PartsWhatWasJoined}
-use Rattle.umpire.specs.InputSplit.{certificates_of, from_divider, is_divider, order_file_of, without_newline}
+use Rattle.umpire.specs.InputSplit.{certificates_of_input, from_divider, is_divider, order_file_of, without_newline}
 use Rattle.umpire.proofs.PartingLemmas.{at_line, without_newline-last}
 
 -- the lines of a text are a line, and those of what follows it
@@ -90,7 +90,7 @@ prefix_of_file file text =
     ) refl
 
 pub parted_again : PartsWhatWasJoined
-unfolding order_file_of certificates_of
+unfolding order_file_of certificates_of_input
 parted_again file text b =
     let found = found_behind true file text text (only_first text b) in
     record { order_file = rw found (prefix_of_file file text); certificates = rw found refl }

@@ -11,7 +11,7 @@ use Rattle.tables.specs.declared.roster.Company.{Company}
 use Rattle.tables.specs.declared.round.Round.{Round}
 use Rattle.umpire.specs.Groups.{groups_of}
 use Rattle.umpire.specs.OneAnswer.{OneAnswer}
-use Rattle.umpire.specs.InputSplit.{certificates_of, order_file_of}
+use Rattle.umpire.specs.InputSplit.{certificates_of_input, order_file_of}
 use Rattle.umpire.specs.Verify.{AnswersContent, AnswersGame, HasAllGroups, HaveGroups, IsRefusal, LacksGroup}
 use Rattle.umpire.specs.Verify.{content_of_input, uncertified_line}
 use Rattle.umpire.specs.declared.fault.Fault.{Fault}
@@ -118,7 +118,7 @@ module _ (one_list : OneListOfCalls)
   one_by : (input : List ℕ) (content : Result Content FileFault) (a b : Result (Unit {0}) Fault) (s t : List ℕ)
       → AnswersContent input content a s → AnswersContent input content b t → (a ≡ b) × (s ≡ t)
   one_by input (Ok content) a b s t some other =
-      one_of_game (order_file_of input) (groups_of (certificates_of input)) a b s t some other
+      one_of_game (order_file_of input) (groups_of (certificates_of_input input)) a b s t some other
   one_by input (Err fault) a b s t some other = (some.0 ∙ sym other.0, some.1 ∙ sym other.1)
 
   pub one_answer : OneAnswer

@@ -30,7 +30,8 @@ use Rattle.order_grammar.proofs.PartLemmas.{rows_of_certificates}
 use Rattle.order_grammar.proofs.SpellingLemmas.{spelling_read}
 use Rattle.order_grammar.proofs.SpellsLemmas.{read_spells}
 use Rattle.sheets.specs.Text.{lines_of}
-use Rattle.umpire.specs.Groups.{begins_group, group_begun, groups_in, groups_of, with_line, with_lines, with_reading}
+use Rattle.umpire.specs.Groups.{begins_group, group_begun, group_with_line, groups_in, groups_of, with_lines}
+use Rattle.umpire.specs.Groups.{with_reading}
 use Rattle.umpire.specs.Laws.{BeginsAlone}
 use Rattle.umpire.specs.InputSplit.{is_divider, says_certs}
 use Rattle.umpire.specs.ReadAgain.{AreReadAgain, CanBeWritten, IsReadAgain, ReadsBack}
@@ -55,8 +56,8 @@ first_word word rest (first ∷ words) then = then.0
 -- what a line adds to a group
 line_adds : (group : Group) (line : List ℕ) (order : Order) (words : List (List ℕ)) (next : Option Group)
     → cert_reading_of line ≡ Ok order → words_of line ≡ words →
-    with_reading group words (Ok order) ≡ next → with_line group line ≡ next
-unfolding with_line
+    with_reading group words (Ok order) ≡ next → group_with_line group line ≡ next
+unfolding group_with_line
 line_adds group line order words next reads is adds =
     (λ i. with_reading group (is i) (reads i)) ∙ adds
 
@@ -154,7 +155,7 @@ having group runs bits =
 
 -- a line of a group is taken up
 taken : (group next : Group) (line : List ℕ) (lines : List (List ℕ)) → begins_group line ≡ false
-    → with_line group line ≡ Some next →
+    → group_with_line group line ≡ Some next →
     with_lines (line ∷ lines) (Some group) ≡ with_lines lines (Some next)
 taken group next line lines begins adds = rw (begins, adds) refl
 
@@ -168,7 +169,7 @@ claims_read group before [] more all = rw (append-nil before) refl
 claims_read group before (claimed ∷ runs) more all =
     let line = claim_line_is claimed all.0 in
     let text : List ℕ = spelling_of (Claim claimed.kind claimed.run) in
-    let adds : with_line (having group before []) text ≡ Some (having group (before ++ claimed ∷ []) []) =
+    let adds : group_with_line (having group before []) text ≡ Some (having group (before ++ claimed ∷ []) []) =
     line_adds (having group before []) text (Claim claimed.kind claimed.run) (words_of text)
     (Some (having group (before ++ claimed ∷ []) [])) line.reads refl refl in
     taken (having group before []) (having group (before ++ claimed ∷ []) []) text (claims_of runs ++ more)
@@ -201,7 +202,7 @@ marks_add group runs before bits lines line =
     let next : Group = having group runs (before ++ bits_of_digits (digits_of bits)) in
     let same : bits_of_digits (raised (digits_of bits)) ≡ bits_of_digits (digits_of bits) =
     raised_digits (digits_of bits) in
-    let adds : with_line (having group runs before) text ≡ Some next =
+    let adds : group_with_line (having group runs before) text ≡ Some next =
     line_adds (having group runs before) text Marks (codes "MARKS" ∷ raised (digits_of bits) ∷ []) (Some next)
     line.reads line.words
     (ap (λ (more : List Bool). Some (having group runs (before ++ more))) same) in

@@ -23,7 +23,7 @@ use Rattle.tables.specs.declared.rolling_stock.Kind.{Kind}
 use Rattle.tables.specs.declared.roster.Company.{Company}
 use Rattle.tables.specs.declared.round.Round.{Round}
 use Rattle.umpire.proofs.GroupLemmas.{malformed}
-use Rattle.umpire.specs.Groups.{begins_group, with_line, with_lines, with_reading, with_run}
+use Rattle.umpire.specs.Groups.{begins_group, group_with_line, with_lines, with_reading, with_run}
 use Rattle.umpire.specs.Verifier.{AnswersByText, IsReadFor}
 
 -- each run that is claimed is of a train
@@ -62,8 +62,8 @@ reading_grows group words (Ok Marks) most many = many
 reading_grows group words other most many = tt
 
 line_grows : (group : Group) (line : List ℕ) (most : ℕ) → most < length group.claim.runs
-    → IsReadFor most (with_line group line) None
-unfolding with_line
+    → IsReadFor most (group_with_line group line) None
+unfolding group_with_line
 line_grows group line most many = reading_grows group (words_of line) (cert_reading_of line) most many
 
 too_many_by : (lines : List (List ℕ)) (next : Option Group) (most : ℕ) → IsReadFor most next None
@@ -72,8 +72,8 @@ too_many_by lines None most many =
     subst (λ (group : Option Group). IsReadFor most group None) (sym (malformed lines)) tt
 too_many_by [] (Some group) most many = many
 too_many_by (line ∷ lines) (Some group) most many =
-    elim (begins_group line) as (λ b. IsReadFor most (cond b (Some group) (with_lines lines (with_line group line))) None)
-    [ true ↦ many | false ↦ too_many_by lines (with_line group line) most (line_grows group line most many) ]
+    elim (begins_group line) as (λ b. IsReadFor most (cond b (Some group) (with_lines lines (group_with_line group line))) None)
+    [ true ↦ many | false ↦ too_many_by lines (group_with_line group line) most (line_grows group line most many) ]
 
 pub too_many : (lines : List (List ℕ)) (group : Group) (whole : Option Group) (most : ℕ)
     → most < length group.claim.runs → with_lines lines (Some group) ≡ whole → IsReadFor most whole None

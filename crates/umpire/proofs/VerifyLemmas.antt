@@ -19,8 +19,8 @@ use Rattle.umpire.proofs.PartingLemmas.{found_within}
 use Rattle.umpire.proofs.Stopping.{stops_refused, stops_unread, stops_whole}
 use Rattle.umpire.specs.Failure.{AppendsPrefix}
 use Rattle.umpire.specs.Groups.{groups_of}
-use Rattle.umpire.specs.InputSplit.{certificates_most, certificates_of, file_before, from_divider, order_file_of}
-use Rattle.umpire.specs.InputSplit.{without_newline}
+use Rattle.umpire.specs.InputSplit.{certificates_most, certificates_of_input, file_before, from_divider}
+use Rattle.umpire.specs.InputSplit.{order_file_of, without_newline}
 use Rattle.umpire.specs.Rounds.{IsTextOfRounds, WritesAllRounds, WritesPrefixOfRounds}
 use Rattle.umpire.specs.Run.{IsCutShort, IsFileOf, IsReadFault, IsReported, IsWriteFault, Refuses}
 use Rattle.umpire.specs.Verify.{AnswersContent, AnswersGame, AnswersInput, HasAllGroups, IsAnswerCut, IsAnswered}
@@ -52,32 +52,32 @@ parts_of input (Some text) within =
     length-take-le (length input - length text) input (omega arith) in
     omega (arith, less_newline (take (length input - length text) input), prefix)
 
-make_up : (input : List ℕ) → length input ≤ length (order_file_of input) + 1 + length (certificates_of input)
-unfolding order_file_of certificates_of
+make_up : (input : List ℕ) → length input ≤ length (order_file_of input) + 1 + length (certificates_of_input input)
+unfolding order_file_of certificates_of_input
 make_up input = parts_of input (from_divider true input) (λ text is. found_within true input text is)
 
 -- the text of certificates is over its limit
-pub over_limit : (input : List ℕ) → certificates_most < length (certificates_of input)
+pub over_limit : (input : List ℕ) → certificates_most < length (certificates_of_input input)
     → content_of_input input ≡ Err TooLong
 unfolding content_of_input
 over_limit input over =
-    let t : nat_lt certificates_most (length (certificates_of input)) ≡ true =
-    lt-ltb certificates_most (length (certificates_of input)) over in
+    let t : nat_lt certificates_most (length (certificates_of_input input)) ≡ true =
+    lt-ltb certificates_most (length (certificates_of_input input)) over in
     rw t refl
 
 -- it is within
-pub within_limit : (input : List ℕ) → length (certificates_of input) ≤ certificates_most
+pub within_limit : (input : List ℕ) → length (certificates_of_input input) ≤ certificates_most
     → content_of_input input ≡ content_of (order_file_of input)
 unfolding content_of_input
 within_limit input within =
-    let t : nat_lt certificates_most (length (certificates_of input)) ≡ false =
-    le-ltb certificates_most (length (certificates_of input)) within in
+    let t : nat_lt certificates_most (length (certificates_of_input input)) ≡ false =
+    le-ltb certificates_most (length (certificates_of_input input)) within in
     rw t refl
 
 -- an input over both limits and the LF is refused
 input_too_long : (input : List ℕ) → 134217729 < length input → content_of_input input ≡ Err TooLong
 input_too_long input many =
-    elim (either (length (certificates_of input)) certificates_most) [
+    elim (either (length (certificates_of_input input)) certificates_most) [
       | inl within ↦ within_limit input within ∙ too_long (order_file_of input) (omega (arith, make_up input))
       | inr over ↦ over_limit input over
     ]
@@ -196,20 +196,20 @@ refusal_answers input text fault outcome is refusal =
 -- one that is not, as its game is judged
 judgement_by :
     (input text : List ℕ) (outcome : Result (Unit {0}) Fault) (content : Result Content FileFault) → IsOk content →
-    AnswersGame (order_file_of input) (groups_of (certificates_of input)) outcome text
+    AnswersGame (order_file_of input) (groups_of (certificates_of_input input)) outcome text
     → AnswersContent input content outcome text
 judgement_by input text outcome (Ok content) accepted answers = answers
 judgement_by input text outcome (Err fault) accepted answers = absurd cc
 
 pub judgement_answers :
     (input file certificates text : List ℕ) (outcome : Result (Unit {0}) Fault) → file ≡ order_file_of input
-    → certificates ≡ certificates_of input →
+    → certificates ≡ certificates_of_input input →
     length certificates ≤ certificates_most → IsAccepted file → AnswersGame file (groups_of certificates) outcome text →
     AnswersInput input outcome text
 judgement_answers input file certificates text outcome of_file of_certificates within accepted answers =
-    let few : length (certificates_of input) ≤ certificates_most =
+    let few : length (certificates_of_input input) ≤ certificates_most =
     subst (λ (t : List ℕ). length t ≤ certificates_most) of_certificates within in
-    let of_whole : AnswersGame (order_file_of input) (groups_of (certificates_of input)) outcome text =
+    let of_whole : AnswersGame (order_file_of input) (groups_of (certificates_of_input input)) outcome text =
     subst (λ (t : List ℕ). AnswersGame (order_file_of input) (groups_of t) outcome text) of_certificates
     (subst (λ (f : List ℕ). AnswersGame f (groups_of certificates) outcome text) of_file answers) in
     subst (λ (content : Result Content FileFault). AnswersContent input content outcome text)
@@ -220,7 +220,7 @@ judgement_answers input file certificates text outcome of_file of_certificates w
 pub game_answers :
     (input file certificates : List ℕ) (old new : Option (List ℕ)) (outcome : Result (Unit {0}) Fault)
     → file ≡ order_file_of input →
-    certificates ≡ certificates_of input → length certificates ≤ certificates_most → IsAccepted file →
+    certificates ≡ certificates_of_input input → length certificates ≤ certificates_most → IsAccepted file →
     IsGameAnswered file (groups_of certificates) outcome old new → IsAnswered (Some input) outcome old new
 game_answers input file certificates old new outcome of_file of_certificates within accepted known =
     record {
@@ -234,7 +234,7 @@ game_answers input file certificates old new outcome of_file of_certificates wit
 
 game_cut :
     (input file certificates : List ℕ) (old new : Option (List ℕ)) → file ≡ order_file_of input →
-    certificates ≡ certificates_of input → length certificates ≤ certificates_most → IsAccepted file →
+    certificates ≡ certificates_of_input input → length certificates ≤ certificates_most → IsAccepted file →
     IsGameCut file (groups_of certificates) old new → IsAnswerCut (Some input) old new
 game_cut input file certificates old new of_file of_certificates within accepted (inl kept) = inl kept
 game_cut input file certificates old new of_file of_certificates within accepted (inr known) =
@@ -251,7 +251,7 @@ game_cut input file certificates old new of_file of_certificates within accepted
 pub game_stops :
     (input file certificates : List ℕ) (old new : Option (List ℕ)) (failed : Bool) (fault : Fault)
     → file ≡ order_file_of input →
-    certificates ≡ certificates_of input → length certificates ≤ certificates_most → IsAccepted file →
+    certificates ≡ certificates_of_input input → length certificates ≤ certificates_most → IsAccepted file →
     StopsGame file (groups_of certificates) old new failed fault → StopsVerify (Some input) old new false failed fault
 game_stops input file certificates old new failed Read of_file of_certificates within accepted stops = absurd stops
 game_stops input file certificates old new failed Write of_file of_certificates within accepted stops =

@@ -4,7 +4,7 @@
 -- marks as they are printed.
 use Rattle.std.specs.Prelude.{◌≡◌, ◌<◌, ℕ, pos, List, [], ◌∷◌, Ok}
 use Rattle.certificate.specs.Filled.{IsAcceptedFilled}
-use Rattle.certificate.specs.Holding.{IsAccepted}
+use Rattle.certificate.specs.Holding.{IsAcceptedClaim}
 use Rattle.certificate.specs.declared.group.Group.{Group}
 use Rattle.operating.specs.Calls.{Call}
 use Rattle.rounds.specs.GameCalls.{GameCalls}
@@ -14,7 +14,7 @@ use Rattle.rounds.specs.Play.{Played}
 pub record Certifies (call : Call) (group : Group) : Type 0 where
   pub of_round : group.round ≡ call.round
   pub of_company : group.company ≡ call.company
-  pub accepted : IsAccepted call.position call.company call.trains group.claim group.bits
+  pub accepted : IsAcceptedClaim call.position call.company call.trains group.claim group.bits
   pub filled : IsAcceptedFilled call.position call.company call.trains group.claim group.bits
   pub answered : call.answer ≡ Ok (pos group.claim.revenue)
   pub small : group.claim.revenue < 50000

@@ -47,14 +47,14 @@ with_reading group words (Ok Marks) = Some (with_marks group (second_of_words wo
 with_reading group words other = None
 
 -- a group with a line; nothing if it is no longer well formed
-unfoldable pub with_line : Group → List ℕ → Option Group
-with_line group line = with_reading group (words_of line) (cert_reading_of line)
+unfoldable pub group_with_line : Group → List ℕ → Option Group
+group_with_line group line = with_reading group (words_of line) (cert_reading_of line)
 
 -- a group with the lines up to the next that begins one
 abbrev pub with_lines : List (List ℕ) → Option Group → Option Group
 with_lines [] group = group
 with_lines (line ∷ lines) group =
-    if begins_group line then group else with_lines lines (option_and_then (λ begun. with_line begun line) group)
+    if begins_group line then group else with_lines lines (option_and_then (λ begun. group_with_line begun line) group)
 
 -- the group that a line begins, with the lines of the text after that
 abbrev pub group_behind : List ℕ → List ℕ → Option Group

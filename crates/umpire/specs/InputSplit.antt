@@ -46,8 +46,8 @@ unfoldable pub order_file_of : List ℕ → List ℕ
 order_file_of input = file_before input (from_divider true input)
 
 -- the text of the certificates of an input; nothing if there is none
-unfoldable pub certificates_of : List ℕ → List ℕ
-certificates_of input = unwrap_or (from_divider true input) []
+unfoldable pub certificates_of_input : List ℕ → List ℕ
+certificates_of_input input = unwrap_or (from_divider true input) []
 
 -- the most bytes of that text
 abbrev pub certificates_most : ℕ

@@ -2,7 +2,7 @@
 use Rattle.std.specs.Prelude.{◌≡◌, false, true, List, ℕ, ◌∷◌, ◌++◌}
 use Rattle.std.specs.List.{AllByRecursion}
 use Rattle.sheets.specs.Text.{lines_of}
-use Rattle.umpire.specs.InputSplit.{certificates_of, is_divider, order_file_of}
+use Rattle.umpire.specs.InputSplit.{certificates_of_input, is_divider, order_file_of}
 
 -- a text in which only the first line divides
 pub record BeginsAlone (text : List ℕ) : Type 0 where
@@ -15,7 +15,7 @@ pub record BeginsAlone (text : List ℕ) : Type 0 where
 -- a file and such a text after an LF are the file and the text of what both make
 pub record ArePartedAgain (file text : List ℕ) : Type 0 where
   pub order_file : order_file_of (file ++ 10 ∷ text) ≡ file
-  pub certificates : certificates_of (file ++ 10 ∷ text) ≡ text
+  pub certificates : certificates_of_input (file ++ 10 ∷ text) ≡ text
 
 abbrev pub PartsWhatWasJoined : Type 0
 PartsWhatWasJoined = (file text : List ℕ) → BeginsAlone text → ArePartedAgain file text

@@ -22,7 +22,7 @@ use Rattle.tables.specs.declared.roster.Company.{Company}
 use Rattle.tables.specs.declared.round.Round.{Round}
 use Rattle.umpire.specs.Failure.{AppendsPrefix}
 use Rattle.umpire.specs.Groups.{groups_of}
-use Rattle.umpire.specs.InputSplit.{certificates_most, certificates_of, order_file_of}
+use Rattle.umpire.specs.InputSplit.{certificates_most, certificates_of_input, order_file_of}
 use Rattle.umpire.specs.Run.{IsFileOf, StopsBy}
 use Rattle.umpire.specs.declared.fault.Fault.{Fault}
 use Rattle.umpire.specs.declared.fault.Fault.TheVariants.{Read, Write, Memory, File, Certificate}
@@ -112,7 +112,9 @@ StopsGame file groups old new failed (Certificate round company) =
 -- over its limit, or the order file is refused
 unfoldable pub content_of_input : List ℕ → Result Content FileFault
 content_of_input input =
-    if nat_lt certificates_most (length (certificates_of input)) then Err TooLong else content_of (order_file_of input)
+    if nat_lt certificates_most (length (certificates_of_input input))
+    then Err TooLong
+    else content_of (order_file_of input)
 
 -- what is returned and written if a file is refused
 abbrev pub IsRefusal : FileFault → Result (Unit {0}) Fault → List ℕ → Type 0
@@ -121,7 +123,7 @@ IsRefusal fault outcome text = (outcome ≡ Err (File fault)) × (text ≡ refus
 -- what is returned and written for an input, by what it says
 abbrev pub AnswersContent : List ℕ → Result Content FileFault → Result (Unit {0}) Fault → List ℕ → Type 0
 AnswersContent input (Ok content) outcome text =
-    AnswersGame (order_file_of input) (groups_of (certificates_of input)) outcome text
+    AnswersGame (order_file_of input) (groups_of (certificates_of_input input)) outcome text
 AnswersContent input (Err fault) outcome text = IsRefusal fault outcome text
 
 -- what is returned and written for an input

@@ -1,7 +1,7 @@
 //! Reads the groups of a text of certificates one at a time, each from its CERT line to the next.
 ghost use Rattle.std.specs.Prelude.{◌≡◌, [], ◌∷◌, IfOk, MatchOption, OnOk};
-ghost use Rattle.umpire.specs.Groups.{begins_group, group_begun, group_behind, group_if, groups_of, second_of_words};
-ghost use Rattle.umpire.specs.Groups.{with_line, with_marks, with_run};
+ghost use Rattle.umpire.specs.Groups.{begins_group, group_begun, group_behind, group_if, group_with_line, groups_of};
+ghost use Rattle.umpire.specs.Groups.{second_of_words, with_marks, with_run};
 ghost use Rattle.umpire.specs.Verifier.{IsReadFor};
 ghost use Rattle.order_grammar.specs.Line.{cert_reading_of};
 ghost use Rattle.order_grammar.specs.Words.{texts_of};
@@ -106,9 +106,9 @@ fn group_begun(alloc: Global, head: &[u8]) -> Option<Group>
 
 /// Takes a line into a group. Returns `false` if the line makes the group malformed; then the group
 /// does not change.
-#[tactic(auto, unfolding(crate::specs::Groups::with_line))]
+#[tactic(auto, unfolding(crate::specs::Groups::group_with_line))]
 fn take_line(group: &mut Group, line: &[u8]) -> Result<bool, AllocError>
-    ensures { IfOk result (λ taken. group_if taken group.new ≡ with_line group.old line.now) }
+    ensures { IfOk result (λ taken. group_if taken group.new ≡ group_with_line group.old line.now) }
 {
     let Ok(Line { order, words, .. }) = read_cert_line(line) else {
         return Ok(false);

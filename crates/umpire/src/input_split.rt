@@ -1,7 +1,8 @@
 //! Splits the input of a check of certificates into the order file and the text of the certificates
 //! after it.
 ghost use Rattle.std.specs.Prelude.{◌≡◌, true, None, Some, MatchOption};
-ghost use Rattle.umpire.specs.InputSplit.{certificates_of, from_divider, is_divider, order_file_of, without_newline};
+ghost use Rattle.umpire.specs.InputSplit.{certificates_of_input, from_divider, is_divider, order_file_of};
+ghost use Rattle.umpire.specs.InputSplit.{without_newline};
 
 use order_grammar::{Line, Order, begins_with_word, read_cert_line};
 use sheets::first_line;
@@ -23,7 +24,7 @@ pub struct Parted<'a> {
 /// such line, the order file is the whole input, and there are no certificates.
 pub fn part(input: &[u8]) -> Parted<'_>
     ensures file { result.file.now ≡ order_file_of input.now }
-    ensures certificates { result.certificates.now ≡ certificates_of input.now }
+    ensures certificates { result.certificates.now ≡ certificates_of_input input.now }
 {
     match from_divider(input) {
         Some(certificates) => Parted {

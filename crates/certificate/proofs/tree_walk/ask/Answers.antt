@@ -3,7 +3,7 @@ use Rattle.std.proofs.Common.{◌≡◌, ℕ, ◌+◌, false, Option, drop, ap, 
 use Rattle.tables.specs.Train.{stops_of}
 use Rattle.legal_runs.specs.Legal.{visited, worth}
 use Rattle.certificate.specs.Ranking.{most_of}
-use Rattle.legal_runs.specs.Set.{revenue_of}
+use Rattle.legal_runs.specs.Set.{revenue_of_runs}
 use Rattle.certificate.specs.Tree.{bound, may_all_earn, may_earn, new_values}
 use Rattle.certificate.specs.Walked.{capped}
 use Rattle.certificate.specs.Walking.{node_at, reached_in, trains_of_tree}
@@ -24,7 +24,7 @@ returns g c = λ position crossed assigned steps at_node.
     let is : c.saturating_add-bound.result ≡ capped
     (bound position (reached_in tree) (node_at tree begun assigned steps)) =
     c.saturating_add-bound.ensures ∙ (ap (λ (n : ℕ). capped (n + begun.later)) c.saturating_add.ensures
-    ∙ bound_is begun.value c.may_earn-still.result begun.later (revenue_of position assigned) (worth position stops)
+    ∙ bound_is begun.value c.may_earn-still.result begun.later (revenue_of_runs position assigned) (worth position stops)
     amount (may_all_earn position (reached_in tree) (drop begun.next (trains_of_tree tree))) at_node.value still
     at_node.later) in
     subst (λ s. g.D.Decider.decides s (capped (bound position (reached_in tree) (node_at tree begun assigned steps)))

@@ -3,12 +3,12 @@ use Rattle.desk_round.proofs.SheetSteps.{keeps, kept_all, kept_most}
 use Rattle.desk_round.specs.SheetLines.{lines_left, placed}
 use Rattle.desk_round.specs.Why.{lines_kept}
 use Rattle.desk_round.specs.declared.sheet_line.LinePlace.TheVariants as line_place
-use Rattle.sheets.specs.Part.{Parts}
+use Rattle.sheets.specs.Part.{SheetParts}
 use Rattle.desk_round.proofs.sheet_line.push_sheet.Goals as goal
 
 pub loop-init : goal.loop-init
 loop-init c =
-    ap (λ (parts : Parts). map placed c.args.lines.now.items
+    ap (λ (parts : SheetParts). map placed c.args.lines.now.items
     ++ take lines_kept (lines_left c.args.seat line_place.Standing parts)) c.parts-parts.ensures
 
 pub loop-preserved : goal.loop-preserved

@@ -1,15 +1,9 @@
 -- Money is raised while the company still has no train.
-use Rattle.std.proofs.Common.{◌≤◌, ◌<◌, ◌∙◌, ap, sym, subst}
+use Rattle.std.proofs.Common.{◌<◌, ◌∙◌, ap, sym, subst}
 use Rattle.totals.specs.LookBack.{Game}
 use Rattle.forced_purchase.proofs.TrainCounts.{still_none}
 use Rattle.forced_purchase.proofs.Steps.{forced_then}
 use Rattle.forced_purchase.proofs.forced.buy_by_force.Goals as goal
-
-pub rule_raises-requires-clause-game : goal.rule_raises-requires-clause-game
-rule_raises-requires-clause-game c = record {
-  few = subst (λ (game : Game). game.seats ≤ 6) (sym c.in_ok-record_event.ensures.ok) c.requires.game.few;
-  sound = c.record_event.ensures.sound;
-}
 
 pub rule_raises-requires-clause-at_table : goal.rule_raises-requires-clause-at_table
 rule_raises-requires-clause-at_table c = subst (λ (game : Game). c.args.by.president.0 < game.seats)

@@ -1,5 +1,5 @@
 -- A RAISE that breaks no rule sells what it says.
-use Rattle.std.proofs.Common.{◌≡◌, ◌≤◌, ◌<◌, true, false, Option, Some, is_none, refl, ap, sym, subst, ◌∙◌}
+use Rattle.std.proofs.Common.{◌≡◌, ◌<◌, true, false, Option, Some, is_none, refl, ap, sym, subst, ◌∙◌}
 use Rattle.certs.proofs.SaleAllowed.{may_sell_after}
 use Rattle.events.specs.declared.event.Event.TheVariants as event
 use Rattle.totals.specs.LookBack.{Game}
@@ -10,12 +10,6 @@ use Rattle.purchases.proofs.Recorded.{recorded_obeyed}
 use Rattle.forced_purchase.specs.Raise.{after_raise_line, raise_rule}
 use Rattle.sheets.specs.Part.{Numbered, line_with}
 use Rattle.forced_purchase.proofs.raise.rule_raise.Goals as goal
-
-pub sell_block-requires-clause-game : goal.sell_block-requires-clause-game
-sell_block-requires-clause-game c = record {
-  few = subst (λ (game : Game). game.seats ≤ 6) (sym c.in_ok-record_packed.ensures.ruling) c.requires.game.few;
-  sound = c.in_ok-record_packed.ensures.sound;
-}
 
 pub sell_block-requires-clause-at_table : goal.sell_block-requires-clause-at_table
 sell_block-requires-clause-at_table c = subst (λ (game : Game). c.args.by.president.0 < game.seats)

@@ -5,7 +5,7 @@ use mir.Syntax.{w128}
 use mir.Val.{of_z, to_z}
 use Rattle.totals.specs.LookBack.{IsModerate, cash_of}
 use Rattle.forced_purchase.specs.Shortfall.{cheapest, lack_of}
-use Rattle.purchases.specs.Train.{cost_of}
+use Rattle.purchases.specs.Train.{train_purchase_cost}
 use Rattle.forced_purchase.proofs.shortfall.lack.Goals as goal
 
 -- a price less a moderate sum fits in the bits that it is counted in
@@ -23,6 +23,6 @@ returns c =
     c.from.ensures
     ∙ difference_kept c.price-cost.result c.cash.result (omega (arith, price.small)) cash.within
     ∙ ap (λ (n : ℕ). pos n -ℤ c.cash.result) (price.price
-    ∙ ap cost_of (c.cheapest.ensures.purchase ∙ ap cheapest c.now.ensures.events))
-    ∙ ap (λ (z : ℤ). pos (cost_of (cheapest view.events)) -ℤ z)
+    ∙ ap train_purchase_cost (c.cheapest.ensures.purchase ∙ ap cheapest c.now.ensures.events))
+    ∙ ap (λ (z : ℤ). pos (train_purchase_cost (cheapest view.events)) -ℤ z)
     (cash.sum ∙ ap (cash_of view.seats view.events) c.of_company.ensures)

@@ -1,7 +1,7 @@
 use Rattle.std.proofs.Common.{◌≡◌, min, true, take}
 use Rattle.std.specs.List.{list_all}
+use Rattle.map_tables.specs.Text.{is_digit}
 use Rattle.order_grammar.specs.Class.{value_of_digits}
-use Rattle.order_grammar.specs.Name.{is_digit}
 use Rattle.order_grammar.proofs.class.digits_value.Given as goal
 
 -- the digits so far, and their value, capped

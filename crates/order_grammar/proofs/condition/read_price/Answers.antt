@@ -1,6 +1,6 @@
 use Rattle.std.proofs.Common.{◌≡◌, true, Result, ap, sym, ◌∙◌}
 use Rattle.order_grammar.specs.Class.{class_reading}
-use Rattle.order_grammar.specs.Condition.{price_of, play_reading, under}
+use Rattle.order_grammar.specs.Condition.{price_condition, play_reading, under}
 use Rattle.order_grammar.specs.Keyword.{text_of_keyword}
 use Rattle.order_grammar.specs.Words.{raised, same_word, texts_of}
 use Rattle.order_grammar.specs.declared.class.Class.TheVariants as class
@@ -24,8 +24,8 @@ returns c =
     let price : c.read-price.result ≡ class_reading class.Number (raised number.text.now) = c.read-price.ensures in
     c.read_under.ensures
     ∙ ap (λ (r : Result Condition Fault). under r (play_reading (texts_of c.next-3.new.self)))
-    (c.price_of.ensures ∙ ap (λ (r : Reading). price_of r c.read-price.result) company
-    ∙ ap (price_of (class_reading class.Company (raised name.text.now))) price)
+    (c.price_condition.ensures ∙ ap (λ (r : Reading). price_condition r c.read-price.result) company
+    ∙ ap (price_condition (class_reading class.Company (raised name.text.now))) price)
     ∙ price_words (texts_of words) (texts_of c.next.new.self) (texts_of c.next-2.new.self)
     (texts_of c.next-3.new.self) (raised name.text.now) (raised sign.text.now) (raised number.text.now)
     (next_words words c.next.new.self c.next.result name c.next.ensures.steps c.in-Some.is)

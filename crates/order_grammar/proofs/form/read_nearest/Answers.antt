@@ -2,7 +2,7 @@ use Rattle.std.proofs.Common.{◌≡◌, ◌≤◌, ◌+◌, List, arith, length
 use Rattle.std.proofs.lemmas.List.{at_drop_all, length-map}
 use Rattle.order_grammar.specs.Form.{Row, nearer, put_reading, rows_reading}
 use Rattle.order_grammar.specs.Keyword.{text_of_keyword}
-use Rattle.order_grammar.specs.Row.{row_of, rows_of}
+use Rattle.order_grammar.specs.Row.{row_of_form, rows_of}
 use Rattle.order_grammar.specs.Words.{raised, same_word, texts_of}
 use Rattle.order_grammar.specs.declared.fault.Fault.{Fault}
 use Rattle.order_grammar.specs.declared.fault.Fault.TheVariants.{UnknownWord}
@@ -27,7 +27,7 @@ returns-in-Ok c =
     let forms = c.forms-forms.result.now in
     let i = c.loop-form.form-index in
     let order = c.read.new.order in
-    let others = drop (i + 1) (map row_of forms) in
+    let others = drop (i + 1) (map row_of_form forms) in
     let spelt = sym c.of_word.ensures ∙ c.in-Some.is in
     let same : same_word first (text_of_keyword (get_or forms i _).keyword) ≡ true =
     first_of_row c.in-Some.keyword (rows_of c.args.grammar) forms i _ first c.forms-forms.ensures.rows
@@ -51,7 +51,7 @@ loop-form-preserved c =
     let forms = c.forms-forms.result.now in
     let i = c.loop-form.form-index in
     let order = c.read.new.order in
-    let others = drop (i + 1) (map row_of forms) in
+    let others = drop (i + 1) (map row_of_form forms) in
     let same : same_word first (text_of_keyword (get_or forms i _).keyword) ≡ true =
     first_of_row c.in-Some.keyword (rows_of c.args.grammar) forms i _ first c.forms-forms.ensures.rows
     c.loop-form-test.true (sym c.of_word.ensures ∙ c.in-Some.is) in
@@ -70,10 +70,10 @@ returns c =
     let first = raised c.args.first.now in
     let rest = texts_of c.args.rest.now in
     let forms = c.forms-forms.result.now in
-    let past : length (map row_of forms) ≤ c.loop-form.form-index =
-    omega (arith, length-map forms row_of, c.loop-form-test.false) in
+    let past : length (map row_of_form forms) ≤ c.loop-form.form-index =
+    omega (arith, length-map forms row_of_form, c.loop-form-test.false) in
     sym (at_drop_all (λ (rows : List Row). fold (with_row first rest) (Err c.loop-form.nearest) rows)
-    (map row_of forms) c.loop-form.form-index past)
+    (map row_of_form forms) c.loop-form.form-index past)
     ∙ c.loop-form.invariant ∙ ap (λ rows. rows_reading rows first rest) c.forms-forms.ensures.rows
     ∙ rows_with-read c.in-Some.keyword first rest (Err UnknownWord) (rows_of c.args.grammar)
     (sym c.of_word.ensures ∙ c.in-Some.is)

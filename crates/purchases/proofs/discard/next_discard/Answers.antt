@@ -1,7 +1,7 @@
 -- There is no line of the president to use, so the company discards of its least kind.
 use Rattle.std.proofs.Common.{◌≡◌, ◌∙◌, ap, sym, Option, None}
 use Rattle.std.specs.Option.{option_or}
-use Rattle.purchases.specs.Discard.{first_held, lines_of, next_discard}
+use Rattle.purchases.specs.Discard.{discard_lines_left, first_held, next_discard}
 use Rattle.totals.specs.Shares.{president_of}
 use Rattle.tables.specs.Train.{kinds}
 use Rattle.tables.specs.declared.rolling_stock.Kind.{Kind}
@@ -11,8 +11,8 @@ pub returns : goal.returns
 returns c =
     let events = c.now-now.result.events.now in
     let company = c.args.company in
-    let lines = c.as_slice.ensures.value ∙ (c.in_ok-lines.ensures ∙ ap (lines_of events company) c.president.ensures) in
-    let none : None ≡ first_held events company (lines_of events company (president_of events company)) =
+    let lines = c.as_slice.ensures.value ∙ (c.in_ok-lines.ensures ∙ ap (discard_lines_left events company) c.president.ensures) in
+    let none : None ≡ first_held events company (discard_lines_left events company (president_of events company)) =
     sym c.in-None.is ∙ (c.first_held.ensures ∙ ap (first_held events company) lines)
     in
     c.first_held-in-None.ensures

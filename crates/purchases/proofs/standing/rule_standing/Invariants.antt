@@ -1,6 +1,6 @@
 use Rattle.std.proofs.Common.{◌≡◌, length}
 use Rattle.history.specs.Sound.{IsSound}
-use Rattle.purchases.specs.Standing.{after_standing_line}
+use Rattle.purchases.specs.Standing.{after_operating_standing_line}
 use Rattle.sheets.specs.Taken.{after_each}
 use Rattle.purchases.proofs.standing.rule_standing.Given as goal
 
@@ -8,8 +8,8 @@ use Rattle.purchases.proofs.standing.rule_standing.Given as goal
 abbrev pub invariant-loop-line : goal.invariant-loop-line
 invariant-loop-line l = record {
   seats : l.history.seats ≡ l.fn.history.seats;
-  events : after_each (after_standing_line l.seat) l.history.events l.sheet.before
-      ≡ after_each (after_standing_line l.seat) l.fn.history.events l.fn.sheet.before;
+  events : after_each (after_operating_standing_line l.seat) l.history.events l.sheet.before
+      ≡ after_each (after_operating_standing_line l.seat) l.fn.history.events l.fn.sheet.before;
   sound : IsSound l.history;
 }
 

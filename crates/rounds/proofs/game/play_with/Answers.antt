@@ -5,7 +5,7 @@ use Rattle.operating.specs.Calls.{Makes, Unasked}
 use Rattle.rounds.proofs.OneGame.{was_on}
 use Rattle.rounds.proofs.StepByStep.{LeadsOn, breaks_off, called_between, leads_on, silent_stop}
 use Rattle.rounds.proofs.StepByStep.{stops_here}
-use Rattle.rounds.specs.GameCalls.{GameCalls, RoundCalls, Stops}
+use Rattle.rounds.specs.GameCalls.{GameCalls, PlayStops, RoundCalls}
 use Rattle.rounds.specs.Play.{Played}
 use Rattle.rounds.specs.Steps.{PlaysNext, Stays, StepLeads}
 use Rattle.rounds.specs.declared.fault.PlayFault.{PlayFault}
@@ -27,7 +27,7 @@ returns-in_err-end-clause-calls g c =
     at.stands broken.0 broken.1 c.in_err-end.ensures.calls in
     subst (λ (met : Result Played PlayFault). Makes g.R.Runner.earns c.args.runner.now (GameCalls file met)
     c.step.new.runner) (sym is)
-    (at.calls (Err fault) _ (none_after g.R.Runner.earns (RoundCalls file) (Unasked Memory (Stops file)) at.here fault
+    (at.calls (Err fault) _ (none_after g.R.Runner.earns (RoundCalls file) (Unasked Memory (PlayStops file)) at.here fault
     _ _ course))
 
 pub loop-play-preserved : goal.loop-play-preserved
@@ -52,7 +52,7 @@ loop-play-preserved g c =
       calls =
           λ outcome after made.
           at.calls outcome after
-          (once_more g.R.Runner.earns (RoundCalls file) (Unasked Memory (Stops file)) at.here on.to outcome _ _ after
+          (once_more g.R.Runner.earns (RoundCalls file) (Unasked Memory (PlayStops file)) at.here on.to outcome _ _ after
           course made);
     }
 
@@ -70,5 +70,5 @@ returns-in-Ended-clause-calls g c =
     at.stands
     stops.stopped c.in_ok-end.ensures.calls in
     at.calls (Ok (record { file = file; game = c.into_history.result; end = c.in-Ended.end })) _
-    (no_more g.R.Runner.earns (RoundCalls file) (Unasked Memory (Stops file)) at.here _ _ _
-    (silent g.R.Runner.earns Memory (Stops file) at.here _ _ _ stops same))
+    (no_more g.R.Runner.earns (RoundCalls file) (Unasked Memory (PlayStops file)) at.here _ _ _
+    (silent g.R.Runner.earns Memory (PlayStops file) at.here _ _ _ stops same))

@@ -1,7 +1,7 @@
 use Rattle.std.proofs.Common.{ℕ, Result}
 use Rattle.operating.specs.Calls.{Makes, SomeTimesThen, Unasked}
 use Rattle.rounds.proofs.StepByStep.{IsAt}
-use Rattle.rounds.specs.GameCalls.{GameCalls, RoundCalls, Stops}
+use Rattle.rounds.specs.GameCalls.{GameCalls, PlayStops, RoundCalls}
 use Rattle.rounds.specs.Play.{AreRounds, Between, Played, before_play}
 use Rattle.rounds.specs.Steps.{places_ahead}
 use Rattle.rounds.specs.declared.fault.PlayFault.{PlayFault}
@@ -17,7 +17,7 @@ pub record Playing (g : goal.Over) (l : goal.Live-loop-play g) : Type 0 where
   pub reached : AreRounds l.sheets rounds (before_play l.sheets) here
   pub calls :
       (outcome : Result Played PlayFault) (after : _) →
-      Makes g.R.Runner.earns l.runner (SomeTimesThen (RoundCalls l.sheets) (Unasked Memory (Stops l.sheets)) here
+      Makes g.R.Runner.earns l.runner (SomeTimesThen (RoundCalls l.sheets) (Unasked Memory (PlayStops l.sheets)) here
       outcome) after →
       Makes g.R.Runner.earns l.fn.runner (GameCalls l.sheets outcome) after
 

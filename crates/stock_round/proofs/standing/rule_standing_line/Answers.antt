@@ -8,7 +8,7 @@ use Rattle.order_grammar.specs.declared.fault.Fault.{Fault}
 use Rattle.order_grammar.specs.declared.order.Order.{Order}
 use Rattle.sheets.specs.Part.{Numbered, line_unread}
 use Rattle.sheets.specs.Place.{has_no_place, placed}
-use Rattle.stock_round.specs.Standing.{after_standing_line, fault_of_standing}
+use Rattle.stock_round.specs.Standing.{after_stock_standing_line, fault_of_standing}
 use Rattle.tables.specs.declared.seat.Seat.{Seat}
 use Rattle.stock_round.proofs.standing.rule_standing_line.Goals as goal
 
@@ -22,7 +22,7 @@ fault_is (Ok order) fault is = cc
 recorded_is : (seat : Seat) (line : Numbered) (fault : Fault) (old new : Game)
     → placed has_no_place line.reading ≡ Err fault →
     new ≡ with_event old (event.Ruled seat line.number (Faulty fault))
-    → new ≡ with_events old (after_standing_line seat old.events line)
+    → new ≡ with_events old (after_stock_standing_line seat old.events line)
 recorded_is seat line fault old new is recorded =
     recorded
     ∙ ap (λ (fault : Fault). with_event old (event.Ruled seat line.number (Faulty fault)))
@@ -35,5 +35,5 @@ returns-clause-after c =
     let old : Game = c.args.history.now in
     let new : Game = c.record_fault.new.history in
     on_ok_weaker {P = new ≡ with_event old (event.Ruled c.args.seat line.number (Faulty fault))}
-    {Q = new ≡ with_events old (after_standing_line c.args.seat old.events line)} c.record_fault.result
+    {Q = new ≡ with_events old (after_stock_standing_line c.args.seat old.events line)} c.record_fault.result
     (recorded_is c.args.seat line fault old new c.fault_out_of_place-fault.ensures) c.record_fault.ensures.ruling

@@ -1,6 +1,6 @@
 use Rattle.std.proofs.Common.{◌≡◌, ℕ, ◌<◌, List, length, map, sym, ap, ◌∙◌, arith}
 use Rattle.totals.specs.LookBack.{priority_of}
-use Rattle.sheets.specs.Part.{Parts, written_turns_of}
+use Rattle.sheets.specs.Part.{SheetParts, written_turns_of}
 use Rattle.tables.specs.declared.seat.Seat.{Seat}
 use Rattle.turns.proofs.Turns.{priority_within}
 use Rattle.turns.proofs.WholeRound.{whole_round}
@@ -14,7 +14,7 @@ take_turns-requires-clause-first g c =
     ∙ ap (priority_of c.args.history.now.seats) c.now.ensures.events)
     in
     let each : length c.as_mut_slice-unruled.result.now ≡ c.args.history.now.seats =
-    ap (λ (unruled : List Parts). length unruled) c.as_mut_slice-unruled.ensures.value ∙ c.in_ok-unruled.ensures.each
+    ap (λ (unruled : List SheetParts). length unruled) c.as_mut_slice-unruled.ensures.value ∙ c.in_ok-unruled.ensures.each
     ∙ sym c.requires.seats
     in
     let some : 0 < c.args.history.now.seats = let has = c.in_ok-unruled.ensures.some in let count =
@@ -33,7 +33,7 @@ returns-clause-round g c =
     c.rule_all_standing.new.history c.take_turns.new.history c.close.new.history c.record_all_left.new.history
     c.index.result (map written_turns_of c.as_mut_slice-unruled.result.now) (map written_turns_of c.take_turns.new.unruled)
     c.requires.seats c.in_ok-begin.ensures.event c.in_ok-unruled.ensures.seats c.in_ok-unruled.ensures.events
-    (ap (λ (unruled : List Parts). map written_turns_of unruled) c.as_mut_slice-unruled.ensures.value
+    (ap (λ (unruled : List SheetParts). map written_turns_of unruled) c.as_mut_slice-unruled.ensures.value
     ∙ c.in_ok-unruled.ensures.left) first c.in_ok-take_turns.ensures.seats c.in_ok-take_turns.ensures.turns
     c.in_ok-close.ensures.seats c.in_ok-close.ensures.events c.in_ok-record_all_left.ensures.seats
     c.in_ok-record_all_left.ensures.events

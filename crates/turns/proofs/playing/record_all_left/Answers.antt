@@ -5,14 +5,14 @@ use Rattle.history.proofs.Recording.{left_first}
 use Rattle.totals.specs.LookBack.{Game}
 use Rattle.history.specs.Record.{with_left}
 use Rattle.sheets.proofs.TakenLemmas.{left_goes_on}
-use Rattle.sheets.specs.Part.{Parts, written_turns_of, lines_in}
+use Rattle.sheets.specs.Part.{SheetParts, written_turns_of, lines_in}
 use Rattle.tables.specs.declared.seat.Seat.{Seat}
 use Rattle.turns.specs.RoundOfTurns.{left_from}
 use Rattle.turns.specs.Small.{IsReady}
 use Rattle.turns.proofs.playing.record_all_left.Goals as goal
 
 -- the sheets that are left begin with the next
-next_sheet : (all : List Parts) (i : ℕ) (d : Parts) → i < length all → drop i all ≡ get_or all i d ∷ drop (i + 1) all
+next_sheet : (all : List SheetParts) (i : ℕ) (d : SheetParts) → i < length all → drop i all ≡ get_or all i d ∷ drop (i + 1) all
 next_sheet all i d within =
     drop-cons all i d within ∙ ap (λ (k : ℕ). get_or all i d ∷ drop k all) (sym (add-one i))
 
@@ -30,7 +30,7 @@ loop-seat-preserved g c =
           left_goes_on with_left left_first old c.record_seat_left.new.history.events i c.count.result
           (get_or all i d) (drop (i + 1) all) (said ∙ ap (λ (s : Seat). old ++ with_left s c.count.result [])
           c.at.ensures) (c.count.ensures ∙ ap lines_in c.index-unruled-seat.is) ready.is_at_head
-          ∙ ap (λ (left : List Parts). old ++ left_from i (map written_turns_of left))
+          ∙ ap (λ (left : List SheetParts). old ++ left_from i (map written_turns_of left))
           (sym (next_sheet all i d c.loop-seat-test.true))
           ∙ c.loop-seat.invariant.events;
       underway = c.in_ok-record_seat_left.ensures.underway;

@@ -5,13 +5,13 @@ use Rattle.std.proofs.lemmas.Result.{IfErr-weaker, on_ok_weaker}
 use Rattle.std.specs.Prelude.{Err, Ok}
 use Rattle.sheets.specs.File.{IsAccepted, content_of}
 use Rattle.umpire.proofs.VerifyLemmas.{game_answers, game_stops, over_limit, refusal_stops, within_limit}
-use Rattle.umpire.specs.InputSplit.{certificates_most, certificates_of}
+use Rattle.umpire.specs.InputSplit.{certificates_most, certificates_of_input}
 use Rattle.umpire.proofs.verification.write_answer.Goals as goal
 
 pub returns-then-certificates-gt-CERTIFICATES_MOST-clause-err :
     goal.returns-then-certificates-gt-CERTIFICATES_MOST-clause-err
 returns-then-certificates-gt-CERTIFICATES_MOST-clause-err g c =
-    let over : certificates_most < length (certificates_of c.args.input.now) =
+    let over : certificates_most < length (certificates_of_input c.args.input.now) =
     subst (λ (text : List ℕ). certificates_most < length text) c.part.ensures.certificates
     c.if-certificates-gt-CERTIFICATES_MOST.true in
     refusal_stops c.args.input.now _ _ _ _ _ (over_limit c.args.input.now over) c.refuse.ensures
@@ -36,7 +36,7 @@ returns-in-Ok-clause-err g c =
 
 pub returns-in-Err-clause-err : goal.returns-in-Err-clause-err
 returns-in-Err-clause-err g c =
-    let within : length (certificates_of c.args.input.now) ≤ certificates_most =
+    let within : length (certificates_of_input c.args.input.now) ≤ certificates_most =
     subst (λ (text : List ℕ). length text ≤ certificates_most) c.part.ensures.certificates
     c.if-certificates-gt-CERTIFICATES_MOST.false in
     let is : content_of c.part.result.file.now ≡ Err c.in-Err.fault =

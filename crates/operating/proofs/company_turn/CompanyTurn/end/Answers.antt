@@ -2,12 +2,6 @@
 use Rattle.std.proofs.Common.{◌≡◌, true, false, inl, inr, sym, ◌∙◌}
 use Rattle.operating.proofs.company_turn.CompanyTurn.end.Goals as goal
 
-pub buy_by_force-requires-clause-game : goal.buy_by_force-requires-clause-game
-buy_by_force-requires-clause-game c = record { few = c.requires.few; sound = c.requires.order.sound }
-
-pub rule_raises-requires-clause-game : goal.rule_raises-requires-clause-game
-rule_raises-requires-clause-game c = record { few = c.requires.few; sound = c.requires.order.sound }
-
 pub buy_by_force-requires-clause-none : goal.buy_by_force-requires-clause-none
 buy_by_force-requires-clause-none c = (c.in_ok-due.ensures.due.0 c.if-due.true).0
 

@@ -16,13 +16,13 @@ use Rattle.operating.specs.CompanyOrders.{LinesLead}
 use Rattle.operating.specs.CompanyTurn.{state}
 use Rattle.operating.specs.TurnCalls.{OrdersCall, led_to}
 use Rattle.operating.specs.TurnState.{TurnState}
-use Rattle.sheets.specs.Part.{Numbered, Parts}
+use Rattle.sheets.specs.Part.{Numbered, SheetParts}
 use Rattle.turns.specs.Small.{AreSmall}
 use Rattle.operating.proofs.company_turn.CompanyTurn.play.Goals as goal
 
 pub rule_lines-requires-clause-small : goal.rule_lines-requires-clause-small
 rule_lines-requires-clause-small g c =
-    subst (λ (parts : Parts). AreSmall parts.before) (sym c.duplicate-lines.ensures) c.requires.small
+    subst (λ (parts : SheetParts). AreSmall parts.before) (sym c.duplicate-lines.ensures) c.requires.small
 
 pub end-requires-clause-few : goal.end-requires-clause-few
 end-requires-clause-few g c =
@@ -49,13 +49,13 @@ returns-clause-turn g c =
     let old = c.args.self.now in
     let ruled = c.rule_lines.new.self in (
       state ruled,
-      subst (λ (parts : Parts). LinesLead old.by (state old) parts.before (state ruled)) c.duplicate-lines.ensures
+      subst (λ (parts : SheetParts). LinesLead old.by (state old) parts.before (state ruled)) c.duplicate-lines.ensures
           c.in_ok-rule_lines.ensures.turn,
       ended old.by ruled c.withhold_if_unpaid.new.self c.rule_lines.new.raises.items c.args.orders.now.before
           c.end.new.self.history c.in_ok-rule_lines.ensures.by c.in_ok-withhold_if_unpaid.ensures.order.by
           (c.in_ok-rule_lines.ensures.raises
           ∙ ap (λ (items : List Numbered). items ++ raises_in c.duplicate-lines.result.before) c.new-raises.ensures.items
-          ∙ ap (λ (parts : Parts). raises_in parts.before) c.duplicate-lines.ensures)
+          ∙ ap (λ (parts : SheetParts). raises_in parts.before) c.duplicate-lines.ensures)
           c.in_ok-withhold_if_unpaid.ensures.turn c.in_ok-end.ensures.turn,
     )
 
@@ -65,7 +65,7 @@ returns-clause-calls g c =
     let old = c.args.self.now in
     orders_called g.R.Runner.earns old.by old.round c.duplicate-lines.result.before c.args.orders.now.before
     (state old) (state c.rule_lines.new.self) (Ok c.end.new.self.history) c.args.runner.now c.rule_lines.new.runner
-    (ap (λ (parts : Parts). parts.before) c.duplicate-lines.ensures) c.in_ok-rule_lines.ensures.calls
+    (ap (λ (parts : SheetParts). parts.before) c.duplicate-lines.ensures) c.in_ok-rule_lines.ensures.calls
     ((returns-clause-turn g c).2, refl)
 
 pub returns-clause-prefix : goal.returns-clause-prefix
@@ -84,7 +84,7 @@ returns-in_err-withhold_if_unpaid-clause-calls g c =
     (led_to c.withhold_if_unpaid.new.self.history met)) c.rule_lines.new.runner) (sym is)
     (orders_called g.R.Runner.earns old.by old.round c.duplicate-lines.result.before c.args.orders.now.before
     (state old) (state c.rule_lines.new.self) (Err Memory) c.args.runner.now c.rule_lines.new.runner
-    (ap (λ (parts : Parts). parts.before) c.duplicate-lines.ensures) c.in_ok-rule_lines.ensures.calls (refl, refl))
+    (ap (λ (parts : SheetParts). parts.before) c.duplicate-lines.ensures) c.in_ok-rule_lines.ensures.calls (refl, refl))
 
 pub returns-in_err-end-clause-calls : goal.returns-in_err-end-clause-calls
 returns-in_err-end-clause-calls g c =
@@ -96,7 +96,7 @@ returns-in_err-end-clause-calls g c =
     c.rule_lines.new.runner) (sym is)
     (orders_called g.R.Runner.earns old.by old.round c.duplicate-lines.result.before c.args.orders.now.before
     (state old) (state c.rule_lines.new.self) (Err Memory) c.args.runner.now c.rule_lines.new.runner
-    (ap (λ (parts : Parts). parts.before) c.duplicate-lines.ensures) c.in_ok-rule_lines.ensures.calls (refl, refl))
+    (ap (λ (parts : SheetParts). parts.before) c.duplicate-lines.ensures) c.in_ok-rule_lines.ensures.calls (refl, refl))
 
 pub returns-in_err-rule_lines-clause-calls : goal.returns-in_err-rule_lines-clause-calls
 returns-in_err-rule_lines-clause-calls g c =
@@ -110,4 +110,4 @@ returns-in_err-rule_lines-clause-calls g c =
     c.rule_lines.new.runner) (sym is)
     (orders_broken_off g.R.Runner.earns old.by old.round c.duplicate-lines.result.before c.args.orders.now.before
     (state old) fault c.args.runner.now c.rule_lines.new.runner
-    (ap (λ (parts : Parts). parts.before) c.duplicate-lines.ensures) c.in_err-rule_lines.ensures.calls)
+    (ap (λ (parts : SheetParts). parts.before) c.duplicate-lines.ensures) c.in_err-rule_lines.ensures.calls)

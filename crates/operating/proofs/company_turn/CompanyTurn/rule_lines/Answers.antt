@@ -10,7 +10,7 @@ use Rattle.operating.specs.CompanyOrders.{LineLeads, LinesLead}
 use Rattle.operating.specs.CompanyTurn.{state}
 use Rattle.operating.specs.TurnCalls.{LineCalls, LinesCall, led_to}
 use Rattle.forced_purchase.specs.declared.operator.Operator.{Operator}
-use Rattle.sheets.specs.Part.{Numbered, Parts, line_unread}
+use Rattle.sheets.specs.Part.{Numbered, SheetParts, line_unread}
 use Rattle.tables.specs.declared.round.Round.{Round}
 use Rattle.turns.specs.Small.{AreSmall}
 use Rattle.operating.proofs.company_turn.CompanyTurn.rule_lines.Goals as goal
@@ -22,7 +22,7 @@ loop-line-preserved g c =
     let new = c.rule_line.new.self in
     let line = line_unread c.in-Some.line in
     let before = c.loop-line.invariant in
-    let are = ap (λ (parts : Parts). parts.before) c.in-Some.ensures in
+    let are = ap (λ (parts : SheetParts). parts.before) c.in-Some.ensures in
     let on = c.in_ok-rule_line.ensures.order in
     let leads : LineLeads begun.by (state old) line (state new) =
     subst (λ (by : Operator). LineLeads by (state old) line (state new)) before.by c.in_ok-rule_line.ensures.turn in
@@ -47,7 +47,7 @@ loop-line-preserved g c =
 
 pub rule_line-requires-clause-small : goal.rule_line-requires-clause-small
 rule_line-requires-clause-small g c =
-    (subst AreSmall (ap (λ (parts : Parts). parts.before) c.in-Some.ensures) c.loop-line.invariant.small).0
+    (subst AreSmall (ap (λ (parts : SheetParts). parts.before) c.in-Some.ensures) c.loop-line.invariant.small).0
 
 pub returns-in_err-rule_line-clause-calls : goal.returns-in_err-rule_line-clause-calls
 returns-in_err-rule_line-clause-calls g c =
@@ -62,7 +62,7 @@ returns-in_err-rule_line-clause-calls g c =
     (led_to (state c.rule_line.new.self) met)) c.rule_line.new.runner) (sym is)
     (before.calls (Err c.in_err-rule_line.field-0.0) _
     (line_calls_end g.R.Runner.earns begun.by begun.round _ line _ (state old) _ _ _
-    (ap (λ (parts : Parts). parts.before) c.in-Some.ensures)
+    (ap (λ (parts : SheetParts). parts.before) c.in-Some.ensures)
     (subst (λ (round : Round). Makes g.R.Runner.earns c.loop-line.runner
     (LineCalls begun.by round line (state old) (Err c.in_err-rule_line.field-0.0)) c.rule_line.new.runner)
     before.round

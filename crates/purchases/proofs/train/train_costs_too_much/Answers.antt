@@ -5,7 +5,7 @@ use Rattle.std.specs.Int.Signed.{lt_z}
 use Rattle.std.proofs.lemmas.Int.{to_z-of_z}
 use Rattle.events.specs.Event.{party_of_company}
 use Rattle.totals.specs.LookBack.{cash_of}
-use Rattle.purchases.proofs.train.is_too_dear.Goals as goal
+use Rattle.purchases.proofs.train.train_costs_too_much.Goals as goal
 
 pub returns : goal.returns
 returns c =

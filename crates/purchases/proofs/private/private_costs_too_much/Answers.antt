@@ -4,7 +4,7 @@ use Rattle.std.specs.Int.{w128}
 use Rattle.std.specs.Int.Signed.{lt_z}
 use Rattle.std.proofs.lemmas.Int.{to_z-of_z}
 use Rattle.totals.specs.LookBack.{cash_of}
-use Rattle.purchases.proofs.private.is_too_dear.Goals as goal
+use Rattle.purchases.proofs.private.private_costs_too_much.Goals as goal
 
 pub returns : goal.returns
 returns c =
