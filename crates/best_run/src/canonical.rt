@@ -17,7 +17,7 @@ use crate::search::are_pruned_by_cap;
 use crate::search_state::SearchState;
 use crate::state::{Assigned, PartialRun};
 use reach::SPOTS;
-use search_task::{Borders, ReadyTask, Spots};
+use search_task::{Borders, ReadyTask, SpotNumber, Spots};
 use tables::Amount;
 
 /// What is in reach of the trains that are left.
@@ -36,10 +36,10 @@ fn anywhere() -> PartialRun
     ensures { result ≡ anywhere }
 {
     PartialRun {
-        home: 0,
+        home: SpotNumber::of(0),
         first: 0,
         turned: false,
-        head: 0,
+        head: SpotNumber::of(0),
         most: 0,
         left: 1,
         value: 0,
@@ -48,8 +48,7 @@ fn anywhere() -> PartialRun
 }
 
 /// Adds what a run may reach from a token to what is in reach of the trains that are left.
-fn reach_from(task: &ReadyTask, assigned: &Assigned, stop: usize, reach: &mut Outlook)
-    requires spot { stop < map_spots }
+fn reach_from(task: &ReadyTask, assigned: &Assigned, stop: SpotNumber, reach: &mut Outlook)
     requires stops { stop_in (node_at task.now stop) ≡ true }
     requires known { IsWorth task.now.spots.items reach.old.ahead reach.old.worth }
     ensures reaches { WidensTo task.now assigned.now stop reach.old.ahead reach.new.ahead }
@@ -65,14 +64,13 @@ fn reach_from(task: &ReadyTask, assigned: &Assigned, stop: usize, reach: &mut Ou
 }
 
 /// Puts a stop in reach.
-fn hold(task: &ReadyTask, assigned: &Assigned, stop: usize, reach: &mut Outlook)
-    requires spot { stop < map_spots }
-    requires known { IsWorth task.now.spots.items reach.old.ahead reach.old.worth }
+fn hold(task: &ReadyTask, assigned: &Assigned, stop: SpotNumber, reach: &mut Outlook)
+    requires { IsWorth task.now.spots.items reach.old.ahead reach.old.worth }
     ensures holds { Holds stop reach.old.ahead reach.new.ahead }
     ensures known { IsWorth task.now.spots.items reach.new.ahead reach.new.worth }
 {
     reach.ahead.is_whole();
-    if !reach.ahead.has(stop) {
+    if !reach.ahead.has(stop.index()) {
         count(task, assigned, &anywhere(), stop, reach);
     }
 }
@@ -80,9 +78,8 @@ fn hold(task: &ReadyTask, assigned: &Assigned, stop: usize, reach: &mut Outlook)
 /// Returns what is in reach of a run that sets out from a stop: the stop, and those to which it may
 /// come. Their worth is known for a run that may visit this many stops.
 #[inline(always)]
-fn reach_of(task: &ReadyTask, assigned: &Assigned, stop: usize, left: usize) -> Outlook
-    requires spot { stop < map_spots }
-    requires stops { stop_in (node_at task.now stop) ≡ true }
+fn reach_of(task: &ReadyTask, assigned: &Assigned, stop: SpotNumber, left: usize) -> Outlook
+    requires { stop_in (node_at task.now stop) ≡ true }
     ensures near { IsNear task.now assigned.now.used stop result.ahead }
     ensures known { IsWorth task.now.spots.items result.ahead result.worth }
 {
@@ -94,18 +91,16 @@ fn reach_of(task: &ReadyTask, assigned: &Assigned, stop: usize, left: usize) -> 
 
 /// Returns whether a stop lies in reach and may be passed: all that is in reach of it is in reach
 /// already.
-fn is_passed(task: &ReadyTask, stop: usize, ahead: &Spots) -> bool
-    requires spot { stop < map_spots }
+fn is_passed(task: &ReadyTask, stop: SpotNumber, ahead: &Spots) -> bool
     ensures lies { IsTrue result → LiesAhead ahead.now stop }
     ensures passes { IsTrue result → ends_in (node_at task.now stop) ≡ false }
 {
     let node = task.node(stop);
-    !node.ends && ahead.has(stop)
+    !node.ends && ahead.has(stop.index())
 }
 
 /// Adds what is in reach of a token, unless it is in reach already.
-fn reach_token(task: &ReadyTask, assigned: &Assigned, stop: usize, reach: &mut InReach)
-    requires spot { stop < map_spots }
+fn reach_token(task: &ReadyTask, assigned: &Assigned, stop: SpotNumber, reach: &mut InReach)
     requires stops { stop_in (node_at task.now stop) ≡ true }
     requires left { reach.old.left ≤ map_spots }
     ensures { ReachesToken task.now assigned.now.used stop reach.old reach.new }
@@ -173,9 +168,8 @@ pub(crate) fn is_pruned_by_reach(
 }
 
 /// Opens the legs from a stop that cross no used border.
-fn open_from(task: &ReadyTask, assigned: &Assigned, stop: usize, shut: &mut Borders)
-    requires spot { stop < map_spots }
-    requires stops { stop_in (node_at task.now stop) ≡ true }
+fn open_from(task: &ReadyTask, assigned: &Assigned, stop: SpotNumber, shut: &mut Borders)
+    requires { stop_in (node_at task.now stop) ≡ true }
     ensures opens { Opens assigned.now.used shut.old shut.new }
     ensures open { AreOpen task.now assigned.now.used stop shut.new }
 {
@@ -191,12 +185,11 @@ fn open_from(task: &ReadyTask, assigned: &Assigned, stop: usize, shut: &mut Bord
 
 /// Returns whether a run may set out from a stop: the company has a token there, or it lies in
 /// reach and may be passed.
-fn sets_out(task: &ReadyTask, stop: usize, reach: &Spots) -> bool
-    requires spot { stop < map_spots }
+fn sets_out(task: &ReadyTask, stop: SpotNumber, reach: &Spots) -> bool
     ensures { result ≡ sets_out task.now reach.now stop }
 {
     let node = task.node(stop);
-    node.stop && (node.own || (reach.has(stop) && !node.ends))
+    node.stop && (node.own || (reach.has(stop.index()) && !node.ends))
 }
 
 /// Returns all borders except those that a run of the trains that are left may cross.
@@ -242,9 +235,8 @@ pub(crate) fn canonical(task: &ReadyTask, assigned: &Assigned, reach: &Spots) ->
 }
 
 /// Adds a stop, and what a run may reach from there, to what is in reach.
-fn reach_at(task: &ReadyTask, assigned: &Assigned, stop: usize, ahead: &mut Spots)
-    requires spot { stop < map_spots }
-    requires stops { stop_in (node_at task.now stop) ≡ true }
+fn reach_at(task: &ReadyTask, assigned: &Assigned, stop: SpotNumber, ahead: &mut Spots)
+    requires { stop_in (node_at task.now stop) ≡ true }
     ensures { ReachesAt task.now assigned.now.used stop ahead.old ahead.new }
 {
     if is_passed(task, stop, ahead) {

@@ -4,18 +4,16 @@ ghost use Rattle.std.specs.Prelude.{◌≡◌, ℕ, ◌<◌, ◌≤◌, IsTrue, 
 ghost use Rattle.best_run.specs.Ahead.{IsWorth};
 ghost use Rattle.best_run.specs.EndStops.{CountsAsPassed, CrossIt, HasWorth, IsLast};
 ghost use Rattle.legal_runs.specs.Legal.{map_borders};
-ghost use Rattle.reach.specs.Search.{map_spots};
 ghost use Rattle.search_task.specs.Spots.{ends_in, node_at};
 ghost use Rattle.search_task.specs.Legs.{legs_at};
 
 use crate::lookahead::Outlook;
 use crate::state::{Assigned, PartialRun};
-use search_task::ReadyTask;
+use search_task::{ReadyTask, SpotNumber};
 
 /// Returns a border that is crossed by the first two of a stop's legs that cross no used border, or
 /// by the only such leg. Returns `None` if these two share none, or there is no such leg.
-fn exit(task: &ReadyTask, assigned: &Assigned, spot: usize) -> Option<usize>
-    requires spot { spot < map_spots }
+fn exit(task: &ReadyTask, assigned: &Assigned, spot: SpotNumber) -> Option<usize>
     ensures { (border : ℕ) → result ≡ Some border → border < map_borders }
 {
     let from = task.departures(spot);
@@ -36,9 +34,8 @@ fn exit(task: &ReadyTask, assigned: &Assigned, spot: usize) -> Option<usize>
 }
 
 /// Returns whether all legs from a stop that cross no used border cross this border.
-fn cross_it(task: &ReadyTask, assigned: &Assigned, spot: usize, border: usize) -> bool
-    requires spot { spot < map_spots }
-    requires border { border < map_borders }
+fn cross_it(task: &ReadyTask, assigned: &Assigned, spot: SpotNumber, border: usize) -> bool
+    requires { border < map_borders }
     ensures { IsTrue result → CrossIt task.now assigned.now.used spot border }
 {
     let from = task.departures(spot);
@@ -54,8 +51,7 @@ fn cross_it(task: &ReadyTask, assigned: &Assigned, spot: usize, border: usize) -
 /// Returns whether a run that reaches a stop ahead ends there, since all its legs that cross no
 /// used border cross the one by which it comes. It may be false even if that holds, and it is false
 /// for a run that visits no stops.
-fn is_last(task: &ReadyTask, assigned: &Assigned, run: &PartialRun, spot: usize) -> bool
-    requires spot { spot < map_spots }
+fn is_last(task: &ReadyTask, assigned: &Assigned, run: &PartialRun, spot: SpotNumber) -> bool
     ensures { IsTrue result → (0 < run.now.most) × IsLast task.now assigned.now.used spot }
 {
     task.is_ready();
@@ -73,10 +69,9 @@ pub(crate) fn count(
     task: &ReadyTask,
     assigned: &Assigned,
     run: &PartialRun,
-    spot: usize,
+    spot: SpotNumber,
     outlook: &mut Outlook,
 )
-    requires spot { spot < map_spots }
     requires free { get_or outlook.old.ahead spot false ≡ false }
     requires known { HasWorth task.now assigned.now run.now outlook.old.ahead outlook.old.worth }
     ensures marked { outlook.new.ahead ≡ set outlook.old.ahead spot true }
@@ -87,7 +82,7 @@ pub(crate) fn count(
     task.is_ready();
     let node = task.node(spot);
     outlook.ahead.is_whole();
-    outlook.ahead.mark(spot);
+    outlook.ahead.mark(spot.index());
     outlook.stops = outlook.stops.wrapping_add(1);
     if node.ends {
         outlook.worth.end(node.value);
@@ -103,10 +98,9 @@ pub(crate) fn end_at(
     task: &ReadyTask,
     assigned: &Assigned,
     run: &PartialRun,
-    spot: usize,
+    spot: SpotNumber,
     outlook: &mut Outlook,
 )
-    requires spot { spot < map_spots }
     requires lies { get_or outlook.old.ahead spot false ≡ true }
     requires passed { CountsAsPassed task.now assigned.now run.now spot outlook.old.ahead
         outlook.old.worth }

@@ -10,7 +10,7 @@ ghost use Rattle.search_task.specs.Spots.{node_at, stop_in};
 use crate::end_stops::{count, end_at};
 use crate::state::{Assigned, PartialRun};
 use crate::value_ahead::{LEVELS, Worth};
-use search_task::{ReadyTask, Segment, Spots};
+use search_task::{ReadyTask, Segment, SpotNumber, Spots};
 
 /// What lies ahead of a run.
 #[derive(Drop)]
@@ -68,8 +68,7 @@ pub(crate) fn leads_on(
     segment: &Segment,
     ahead: &Spots,
 ) -> bool
-    requires to { segment.now.to < map_spots }
-    requires stop { stop_in (node_at task.now segment.now.to) ≡ true }
+    requires { stop_in (node_at task.now segment.now.to) ≡ true }
     ensures { result ≡ leads_on task.now assigned.now run.now ahead.now segment.now }
 {
     !ahead.either_has(&run.visited, &segment.to)
@@ -84,10 +83,9 @@ fn look_from(
     task: &ReadyTask,
     assigned: &Assigned,
     run: &PartialRun,
-    spot: usize,
+    spot: SpotNumber,
     outlook: &mut Outlook,
 ) -> bool
-    requires spot { spot < map_spots }
     requires stop { stop_in (node_at task.now spot) ≡ true }
     requires known { HasWorth task.now assigned.now run.now outlook.old.ahead outlook.old.worth }
     ensures widens { WidensFrom task.now assigned.now run.now spot outlook.old.ahead
@@ -120,10 +118,9 @@ pub(crate) fn look_at(
     task: &ReadyTask,
     assigned: &Assigned,
     run: &PartialRun,
-    spot: usize,
+    spot: SpotNumber,
     outlook: &mut Outlook,
 )
-    requires spot { spot < map_spots }
     requires stop { stop_in (node_at task.now spot) ≡ true }
     requires free { get_or outlook.old.ahead spot false ≡ false }
     requires known { HasWorth task.now assigned.now run.now outlook.old.ahead outlook.old.worth }
@@ -151,7 +148,6 @@ pub(crate) fn look_along(
     segment: &Segment,
     outlook: &mut Outlook,
 )
-    requires to { segment.now.to < map_spots }
     requires stop { stop_in (node_at task.now segment.now.to) ≡ true }
     requires known { HasWorth task.now assigned.now run.now outlook.old.ahead outlook.old.worth }
     ensures widens { WidensBy task.now assigned.now run.now segment.now outlook.old.ahead
@@ -171,7 +167,6 @@ pub(crate) fn look_back(
     run: &PartialRun,
     outlook: &mut Outlook,
 )
-    requires home { run.now.home < map_spots }
     requires begun { stop_in (node_at task.now run.now.home) ≡ true }
     requires known { HasWorth task.now assigned.now run.now outlook.old.ahead outlook.old.worth }
     ensures widens { WidensBack task.now assigned.now run.now outlook.old.ahead

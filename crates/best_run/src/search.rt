@@ -19,7 +19,7 @@ use crate::memo::Found;
 use crate::move_path::Mark;
 use crate::state::{Assigned, PartialRun, along, begun, can_take, mark_own, may_finish};
 use crate::ways_on::{WaysOn, earns_too_much, ways_on};
-use search_task::{ReadyTask, Segment, Spots};
+use search_task::{ReadyTask, Segment, SpotNumber, Spots};
 use tables::Amount;
 
 /// The fewest stops ahead of a run with which the search looks up whether the run has been tried
@@ -171,7 +171,7 @@ fn is_in_vain(bounded: &BoundedTask, assigned: &Assigned, run: &PartialRun, best
 fn begin_at(
     bounded: &BoundedTask,
     assigned: &Assigned,
-    stop: usize,
+    stop: SpotNumber,
     before: &Spots,
     best: &mut Found,
 )

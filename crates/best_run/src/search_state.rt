@@ -61,7 +61,7 @@ impl SearchState {
             .mixed(0)
             .wrapping_add(self.assigned.next as u64);
         if let Some(run) = &self.run {
-            sum = run.visited.mixed(sum).wrapping_add(run.head as u64);
+            sum = run.visited.mixed(sum).wrapping_add(run.head.index() as u64);
         }
         (mixed_with(sum, 0) >> 40) as usize
     }

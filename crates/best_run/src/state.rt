@@ -8,12 +8,11 @@ ghost use Rattle.search_task.specs.Marks.{Freer};
 ghost use Rattle.best_run.specs.Moves.{along, begun, begun_by, can_take, left_after, may_come, may_earn, may_finish};
 ghost use Rattle.best_run.specs.Moves.{own_before, passed, with_run_finished, turned_back, using};
 ghost use Rattle.legal_runs.specs.Legal.{map_borders};
-ghost use Rattle.reach.specs.Search.{map_spots};
 ghost use Rattle.search_task.specs.Crossed.{marked_all, misses};
 ghost use Rattle.search_task.specs.Spots.{node_at, stop_in};
 
 use legal_runs::BORDERS;
-use search_task::{BitPlace, Borders, ReadyTask, Segment, Spots};
+use search_task::{BitPlace, Borders, ReadyTask, Segment, SpotNumber, Spots};
 use tables::Amount;
 
 /// The trains assigned so far.
@@ -35,13 +34,13 @@ pub(crate) struct Assigned {
 #[derive(Drop)]
 pub(crate) struct PartialRun {
     /// Where it began: at a token of the company.
-    pub(crate) home: usize,
+    pub(crate) home: SpotNumber,
     /// Which of the segments from there it begins by.
     pub(crate) first: usize,
     /// Whether it has turned back to where it began, and goes on from there.
     pub(crate) turned: bool,
     /// Where it is.
-    pub(crate) head: usize,
+    pub(crate) head: SpotNumber,
     /// The most stops of its train.
     pub(crate) most: usize,
     /// How many more stops it may visit.
@@ -150,7 +149,7 @@ impl PartialRun {
     pub(crate) fn dominates(&self, other: &PartialRun) -> bool
         ensures { IsTrue result → DominatesRun self.now other.now }
     {
-        self.head == other.head
+        self.head.index() == other.head.index()
             && self.turned == other.turned
             && self.most == other.most
             && self.may_turn_as(other)
@@ -163,7 +162,7 @@ impl PartialRun {
     fn may_turn_as(&self, other: &PartialRun) -> bool
         ensures { IsTrue result → TurnsAs self.now other.now }
     {
-        other.turned || (self.home == other.home && self.first == other.first)
+        other.turned || (self.home.index() == other.home.index() && self.first == other.first)
     }
 
     /// Returns the same run, with all stops that are not in reach counted as visited.
@@ -216,7 +215,6 @@ impl PartialRun {
 
     /// Returns whether the run may still visit a stop.
     fn may_come(&self, stop: &BitPlace) -> bool
-        requires { stop.now < map_spots }
         ensures { result ≡ may_come true self.now stop.now }
     {
         !self.visited.has_at(stop) && self.left > 0
@@ -237,21 +235,19 @@ pub(crate) fn can_take(
     assigned: &Assigned,
     segment: &Segment,
 ) -> bool
-    requires to { segment.now.to < map_spots }
-    requires stop { stop_in (node_at task.now segment.now.to) ≡ true }
+    requires { stop_in (node_at task.now segment.now.to) ≡ true }
     ensures { result ≡ can_take task.now run.now assigned.now.used segment.now }
 {
     run.may_come(&segment.to) && segment.borders.misses(&assigned.used)
 }
 
 /// Marks a spot after those before it, if the company has a token there.
-pub(crate) fn mark_own(task: &ReadyTask, number: usize, marks: &mut Spots)
-    requires number { number < map_spots }
-    requires before { marks.old ≡ own_before task.now number }
-    ensures { marks.new ≡ own_before task.now (number + 1) }
+pub(crate) fn mark_own(task: &ReadyTask, spot: SpotNumber, marks: &mut Spots)
+    requires { marks.old ≡ own_before task.now spot }
+    ensures { marks.new ≡ own_before task.now (spot + 1) }
 {
-    if task.node(number).own {
-        marks.mark(number);
+    if task.node(spot).own {
+        marks.mark(spot.index());
     }
 }
 
@@ -260,17 +256,16 @@ pub(crate) fn mark_own(task: &ReadyTask, number: usize, marks: &mut Spots)
 pub(crate) fn begun(
     task: &ReadyTask,
     assigned: &Assigned,
-    stop: usize,
+    stop: SpotNumber,
     first: usize,
     before: &Spots,
 ) -> PartialRun
-    requires stop { stop < map_spots }
     requires next { assigned.now.next < length task.now.trains.items }
     requires before { before.now ≡ own_before task.now stop }
     ensures { result ≡ begun task.now assigned.now stop first }
 {
     let mut visited = before.copy();
-    visited.mark(stop);
+    visited.mark(stop.index());
     PartialRun {
         home: stop,
         first,
@@ -285,7 +280,6 @@ pub(crate) fn begun(
 
 /// Returns whether a run may be finished.
 pub(crate) fn may_finish(task: &ReadyTask, assigned: &Assigned, run: &PartialRun) -> bool
-    requires head { run.now.head < map_spots }
     ensures { result ≡ may_finish task.now assigned.now run.now }
 {
     task.node(run.head).stop && assigned.may_earn(run)
@@ -293,8 +287,7 @@ pub(crate) fn may_finish(task: &ReadyTask, assigned: &Assigned, run: &PartialRun
 
 /// Returns a run after a segment.
 pub(crate) fn along(task: &ReadyTask, run: &PartialRun, segment: &Segment) -> PartialRun
-    requires to { segment.now.to < map_spots }
-    requires room { run.now.value ≤ 50000 }
+    requires { run.now.value ≤ 50000 }
     ensures { result ≡ along task.now run.now segment.now }
 {
     task.is_ready();
@@ -302,7 +295,7 @@ pub(crate) fn along(task: &ReadyTask, run: &PartialRun, segment: &Segment) -> Pa
     let node = task.node(to);
     let mut visited = run.visited.copy();
     if node.stop {
-        visited.mark(to);
+        visited.mark(to.index());
     }
     PartialRun {
         home: run.home,

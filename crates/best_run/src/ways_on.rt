@@ -14,7 +14,7 @@ use crate::lookahead::{Outlook, leads_on, look_at, look_back, nothing_ahead};
 use crate::search::are_pruned_by_cap;
 use crate::state::{Assigned, PartialRun, can_take};
 use reach::SPOTS;
-use search_task::{ReadyTask, Spots};
+use search_task::{ReadyTask, SpotNumber, Spots};
 use tables::Amount;
 
 /// The ways on from a run: to the stops ahead, or back to where it began.
@@ -64,7 +64,6 @@ impl WaysOn {
 
 /// Returns whether a run may go on from where it is.
 fn goes_on(task: &ReadyTask, run: &PartialRun) -> bool
-    requires head { run.now.head < map_spots }
     ensures { result ≡ goes_on task.now run.now }
 {
     let node = task.node(run.head);
@@ -73,7 +72,6 @@ fn goes_on(task: &ReadyTask, run: &PartialRun) -> bool
 
 /// Returns whether a run may still go on from where it began.
 fn goes_back(task: &ReadyTask, run: &PartialRun) -> bool
-    requires home { run.now.home < map_spots }
     ensures { result ≡ goes_back task.now run.now }
 {
     let node = task.node(run.home);
@@ -82,8 +80,6 @@ fn goes_back(task: &ReadyTask, run: &PartialRun) -> bool
 
 /// Returns the most that a run may still earn, in dollars, by what lies ahead.
 fn most_ahead(task: &ReadyTask, assigned: &Assigned, run: &PartialRun, outlook: &Outlook) -> Amount
-    requires head { run.now.head < map_spots }
-    requires home { run.now.home < map_spots }
     requires left { run.now.left ≤ map_spots }
     requires known { HasWorth task.now assigned.now run.now outlook.now.ahead outlook.now.worth }
     ensures most { EarnsAhead task.now assigned.now run.now outlook.now.ahead result }
@@ -243,7 +239,7 @@ fn count_ways(
     task: &ReadyTask,
     assigned: &Assigned,
     run: &PartialRun,
-    stop: usize,
+    stop: SpotNumber,
     first: usize,
 ) -> usize
     requires stop { IsStop task.now stop }

@@ -14,10 +14,11 @@ pub node_is : (task : Task) → IsFit task → (stop : ℕ) (node : Node) → st
     → node ≡ get_or task.spots.items stop node → node_at task stop ≡ Some node
 node_is task fit stop node low is = slice_get_read task.spots.items 744 stop node (sym fit.all) low is
 
--- a node that is read where a segment leads is the one there
-pub came : (task : Task) (to read : ℕ) (node : Node) → read ≡ to → node ≡ get_or task.spots.items read node
-    → node ≡ get_or task.spots.items to node
-came task to read node same is = subst (λ (n : ℕ). node ≡ get_or task.spots.items n node) same is
+-- what is read by the number of a spot is what is there
+pub read_there : {X : Type 0} (items : List X) (spot read : ℕ) (item : X) → 744 ≡ length items → read ≡ spot
+    → read < 744 → item ≡ get_or items read item → slice_get items spot ≡ Some item
+read_there items spot read item all same low is =
+    subst (λ (n : ℕ). slice_get items n ≡ Some item) same (slice_get_read items 744 read item all low is)
 
 -- a segment that is found from where another leads
 pub from_there : (task : Task) (to read index : ℕ) (segment : Segment) → read ≡ to

@@ -1,9 +1,9 @@
 //! Sets of numbers, a bit each: of the borders or the spots of the map.
 ghost use Rattle.std.specs.Prelude.{◌≡◌, ℕ, ◌-◌, ◌<◌, ◌||◌, IsTrue, Some, true, false, get_or, length, set, replicate};
 ghost use Rattle.std.specs.Int.{bit_at};
-ghost use Rattle.reach.specs.Search.{map_spots};
 ghost use Rattle.search_task.specs.Marks.{AreApart, AreBarred, AreBoth, AreOnly, FillWords, Freer, IsOneOf};
 
+use crate::spot_number::SpotNumber;
 use legal_runs::BORDERS;
 use reach::SPOTS;
 use std::marker::Model;
@@ -40,8 +40,8 @@ impl<const COUNT: usize, const WORDS: usize> Model for BitSet<COUNT, WORDS> {
     ghost invariant = { λ marks. FillWords COUNT WORDS × HasNoneFrom COUNT marks.words };
 }
 
-/// A number, with the place of the word that marks it, and its bit there. In a contract it is the
-/// number.
+/// The number of a spot, with the place of the word that marks it, and its bit there. In a contract
+/// it is the number.
 #[derive(Drop)]
 pub struct BitPlace {
     number: u32,
@@ -50,7 +50,8 @@ pub struct BitPlace {
 }
 
 impl Model for BitPlace {
-    ghost use Rattle.std.specs.Prelude.{◌≡◌, ◌/◌, ℕ};
+    ghost use Rattle.std.specs.Prelude.{◌≡◌, ◌/◌, ◌<◌, ℕ};
+    ghost use Rattle.reach.specs.Search.{map_spots};
 
     ghost Value = { ℕ };
 
@@ -58,15 +59,16 @@ impl Model for BitPlace {
 
     ghost view = { λ place. place.number };
 
-    ghost invariant = { λ place. (place.word ≡ place.number / 64) × IsBitOf place.number place.bit };
+    ghost invariant = { λ place. (place.number < map_spots)
+        × (place.word ≡ place.number / 64) × IsBitOf place.number place.bit };
 }
 
 impl BitPlace {
     /// Returns the number of a spot, with its bit.
-    pub(crate) fn of(number: usize) -> BitPlace
-        requires { number < map_spots }
-        ensures { result ≡ number }
+    pub(crate) fn of(spot: SpotNumber) -> BitPlace
+        ensures { result ≡ spot }
     {
+        let number = spot.index();
         BitPlace {
             number: number as u32,
             word: (number / BITS) as u32,
@@ -74,11 +76,11 @@ impl BitPlace {
         }
     }
 
-    /// Returns the number.
-    pub fn number(&self) -> usize
+    /// Returns the number of the spot.
+    pub fn number(&self) -> SpotNumber
         ensures { result ≡ self.now }
     {
-        self.number as usize
+        SpotNumber::of(self.number as usize)
     }
 }
 
@@ -143,24 +145,6 @@ impl<const COUNT: usize, const WORDS: usize> BitSet<COUNT, WORDS> {
         ensures { result ≡ get_or self.now number false }
     {
         self.words[number / BITS] >> (number % BITS) & 1 == 1
-    }
-
-    /// Returns whether a number is marked, given with its bit.
-    pub fn has_at(&self, place: &BitPlace) -> bool
-        requires { place.now < COUNT }
-        ensures { result ≡ get_or self.now place.now false }
-    {
-        self.words[place.word as usize] & place.bit != 0
-    }
-
-    /// Returns whether a number is marked here or in another, given with its bit.
-    pub fn either_has(&self, other: &Self, place: &BitPlace) -> bool
-        requires { place.now < COUNT }
-        ensures { result ≡ get_or self.now place.now false || get_or other.now place.now false }
-    {
-        let at = place.word as usize;
-        let word = self.words[at] | other.words[at];
-        word & place.bit != 0
     }
 
     /// Returns whether no number is marked in both.
@@ -241,5 +225,23 @@ impl<const COUNT: usize, const WORDS: usize> BitSet<COUNT, WORDS> {
             sum = mixed_with(sum, self.words[word]);
         }
         sum
+    }
+}
+
+impl BitSet<SPOTS, SPOT_WORDS> {
+    /// Returns whether a spot is marked, given with its bit.
+    pub fn has_at(&self, place: &BitPlace) -> bool
+        ensures { result ≡ get_or self.now place.now false }
+    {
+        self.words[place.word as usize] & place.bit != 0
+    }
+
+    /// Returns whether a spot is marked here or in another, given with its bit.
+    pub fn either_has(&self, other: &Self, place: &BitPlace) -> bool
+        ensures { result ≡ get_or self.now place.now false || get_or other.now place.now false }
+    {
+        let at = place.word as usize;
+        let word = self.words[at] | other.words[at];
+        word & place.bit != 0
     }
 }

@@ -18,11 +18,12 @@
 //! - `Described`: how a position is laid out.
 //! - `Legs`: how segments make legs from stop to stop, and where runs may begin.
 //!
-//! Reading order: `task` (what a search works on), `ready_task` (what a search reads of it),
-//! `bit_set` (marks of borders and spots, a bit each), `outgoing_segment` (a segment of track),
-//! `segments` (the segments from all spots), `crossing` (the borders of a leg, a set of them),
-//! `steps` (the steps of a leg), `spots` (the spots of a position, and the whole task), `legs`
-//! (from stop to stop), `mirror` (whether each leg has a reverse).
+//! Reading order: `task` (what a search works on), `spot_number` (the number of a spot, whose type
+//! says so), `ready_task` (what a search reads of the task), `bit_set` (marks of borders and spots,
+//! a bit each), `outgoing_segment` (a segment of track), `segments` (the segments from all spots),
+//! `crossing` (the borders of a leg, a set of them), `steps` (the steps of a leg), `spots` (the
+//! spots of a position, and the whole task), `legs` (from stop to stop), `mirror` (whether each leg
+//! has a reverse).
 #![tactic(auto)]
 
 mod bit_set;
@@ -32,6 +33,7 @@ mod mirror;
 mod outgoing_segment;
 mod ready_task;
 mod segments;
+mod spot_number;
 mod spots;
 mod steps;
 mod task;
@@ -40,5 +42,6 @@ pub use bit_set::{BitPlace, BitSet, Borders, Spots, mixed_with};
 pub use crossing::Crossing;
 pub use ready_task::ReadyTask;
 pub use segments::Segments;
+pub use spot_number::SpotNumber;
 pub use steps::Steps;
 pub use task::{Departures, Leg, Node, Segment, Task};

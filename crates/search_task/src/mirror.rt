@@ -10,7 +10,7 @@ impl Task {
     fn leads_back(&self, leg: &Leg) -> bool
         ensures { IsTrue result → HasMirror self.now leg.now }
     {
-        let to = leg.segment.to.number();
+        let to = leg.segment.to.number().index();
         if to >= self.departures.len() {
             return false;
         }

@@ -4,13 +4,14 @@ ghost use Rattle.search_task.specs.Fit.{BordersFit};
 ghost use Rattle.search_task.specs.Crossed.{marked_all, misses};
 
 use crate::bit_set::Borders;
+use crate::spot_number::SpotNumber;
 use reach::WalkStep;
 use std::marker::Model;
 
 /// A segment of track: one step, which crosses at most one border.
 #[derive(Drop)]
 pub(crate) struct Stretch {
-    to: usize,
+    to: SpotNumber,
     step: WalkStep,
     border: Option<usize>,
 }
@@ -34,7 +35,7 @@ impl Model for Stretch {
 
 impl Stretch {
     /// Returns a segment to a spot, by a step, over a border.
-    pub(crate) fn of(to: usize, step: WalkStep, border: Option<usize>) -> Stretch
+    pub(crate) fn of(to: SpotNumber, step: WalkStep, border: Option<usize>) -> Stretch
         requires { BordersFit (option_to_list border) }
         ensures to { result.to ≡ to }
         ensures step { result.step ≡ step }
@@ -44,7 +45,7 @@ impl Stretch {
     }
 
     /// Returns the spot to which it leads, by its number.
-    pub(crate) fn to(&self) -> usize
+    pub(crate) fn to(&self) -> SpotNumber
         ensures { result ≡ self.now.to }
     {
         self.to

@@ -5,6 +5,7 @@ ghost use Rattle.search_task.specs.Fit.{IsFit};
 ghost use Rattle.search_task.specs.Legs.{AreReady, IsStop};
 ghost use Rattle.search_task.specs.Spots.{node_at};
 
+use crate::spot_number::SpotNumber;
 use crate::task::{Departures, Node, Task};
 use std::marker::Model;
 
@@ -38,20 +39,21 @@ impl ReadyTask {
 
     /// Returns what is known of a spot, by its number.
     #[inline(always)]
-    pub fn node(&self, spot: usize) -> &Node
-        requires { spot < map_spots }
-        ensures { node_at self.now spot ≡ Some result.now }
+    pub fn node(&self, spot: SpotNumber) -> &Node
+        ensures node { node_at self.now spot ≡ Some result.now }
+        ensures low { spot < map_spots }
     {
-        &self.task.spots[spot]
+        let at = spot.index();
+        &self.task.spots[at]
     }
 
     /// Returns the departures from a spot, by its number.
     #[inline(always)]
-    pub fn departures(&self, spot: usize) -> &Departures
-        requires { spot < map_spots }
+    pub fn departures(&self, spot: SpotNumber) -> &Departures
         ensures { slice_get self.now.departures.items spot ≡ Some result.now }
     {
-        &self.task.departures[spot]
+        let at = spot.index();
+        &self.task.departures[at]
     }
 
     /// Returns how many stops are listed from which legs lead.
@@ -64,7 +66,7 @@ impl ReadyTask {
 
     /// Returns a stop from which legs lead, by its place among these.
     #[inline(always)]
-    pub fn stop(&self, place: usize) -> usize
+    pub fn stop(&self, place: usize) -> SpotNumber
         requires { place < length self.now.stops.items }
         ensures at { slice_get self.now.stops.items place ≡ Some result }
         ensures is { IsStop self.now result }
@@ -82,7 +84,7 @@ impl ReadyTask {
 
     /// Returns a spot where the company has a token, by its place among these.
     #[inline(always)]
-    pub fn home(&self, place: usize) -> usize
+    pub fn home(&self, place: usize) -> SpotNumber
         requires { place < length self.now.homes.items }
         ensures { result ≡ get_or self.now.homes.items place 0 }
     {

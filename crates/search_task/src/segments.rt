@@ -1,10 +1,10 @@
 //! The segments of track that lead from the spots, all in one table. The segments from a spot are
 //! added one after another, each with the place of the one before it.
 ghost use Rattle.std.specs.Prelude.{◌≡◌, ◌<◌, [], IfOk, OnOk, Some, length, slice_get};
-ghost use Rattle.reach.specs.Search.{map_spots};
 ghost use Rattle.search_task.specs.Segments.{AddsSegment, segments_from};
 
 use crate::outgoing_segment::Stretch;
+use crate::spot_number::SpotNumber;
 use reach::SPOTS;
 use std::alloc::{AllocError, Global};
 use std::marker::Model;
@@ -16,7 +16,7 @@ const ROOM: usize = 256;
 #[derive(Drop)]
 pub(crate) struct Entry {
     /// The spot, by its number.
-    pub(crate) from: usize,
+    pub(crate) from: SpotNumber,
     /// How many segments lead from there before it.
     pub(crate) place: usize,
     /// The place in the table of the one before it, if there is one.
@@ -67,11 +67,11 @@ impl Segments {
     }
 
     /// Adds a segment after those that lead from a spot. Fails only if allocation fails.
-    pub(crate) fn add(&mut self, from: usize, segment: Stretch) -> Result<(), AllocError>
-        requires { from < map_spots }
+    pub(crate) fn add(&mut self, from: SpotNumber, segment: Stretch) -> Result<(), AllocError>
         ensures { OnOk result (AddsSegment from segment self.old self.new) }
     {
-        let chain = self.chains[from];
+        let at = from.index();
+        let chain = self.chains[at];
         let last = self.entries.len();
         self.entries.push(Entry {
             from,
@@ -79,7 +79,7 @@ impl Segments {
             before: chain.last,
             segment,
         })?;
-        self.chains[from] = Chain {
+        self.chains[at] = Chain {
             count: chain.count + 1,
             last,
         };
@@ -87,20 +87,20 @@ impl Segments {
     }
 
     /// Returns how many segments lead from a spot.
-    pub(crate) fn count(&self, spot: usize) -> usize
-        requires { spot < map_spots }
+    pub(crate) fn count(&self, spot: SpotNumber) -> usize
         ensures { result ≡ length (segments_from spot self.now) }
     {
-        self.chains[spot].count
+        let at = spot.index();
+        self.chains[at].count
     }
 
     /// Returns the segment that leads from a spot at a place among those from there.
-    pub(crate) fn at(&self, spot: usize, place: usize) -> &Stretch
-        requires spot { spot < map_spots }
-        requires place { place < length (segments_from spot self.now) }
+    pub(crate) fn at(&self, spot: SpotNumber, place: usize) -> &Stretch
+        requires { place < length (segments_from spot self.now) }
         ensures { slice_get (segments_from spot self.now) place ≡ Some result.now }
     {
-        let chain = self.chains[spot];
+        let at = spot.index();
+        let chain = self.chains[at];
         let mut entry = chain.last;
         for next in place + 1..chain.count {
             entry = self.entries[entry].before;

@@ -16,6 +16,7 @@ ghost use Rattle.tables.specs.Train.{stops_of};
 use crate::outgoing_segment::Stretch;
 use crate::ready_task::ReadyTask;
 use crate::segments::Segments;
+use crate::spot_number::SpotNumber;
 use crate::task::{Node, Task};
 use legal_runs::border_to;
 use map_tables::{ENDS, HEXES, Hex, SIDES, Stop, StopNumber, TrackEnd, neighbour};
@@ -69,7 +70,8 @@ fn segment_of(step: WalkStep, border: Option<usize>) -> Stretch
         entered.end }
     ensures { IsSegmentOf step result }
 {
-    Stretch::of(spot_number(step.left()), step, border)
+    let to = SpotNumber::of(spot_number(step.left()));
+    Stretch::of(to, step, border)
 }
 
 /// Returns a side, which is worth nothing and holds no token.
@@ -152,7 +154,7 @@ fn add_step(step: WalkStep, segments: &mut Segments) -> Result<(), AllocError>
     let from = origin_of(step.entered());
     if from.number < SPOTS {
         let segment = segment_of(step, from.border);
-        segments.add(from.number, segment)?;
+        segments.add(SpotNumber::of(from.number), segment)?;
     }
     Ok(())
 }
@@ -216,21 +218,21 @@ fn most_of_all(alloc: Global, kinds: &[Kind]) -> Result<Vec<usize>, AllocError>
 
 impl Task {
     /// Lists the next spot, if the company has a token there. Fails only if allocation fails.
-    fn list_home(&self, spot: usize, homes: &mut Vec<usize>) -> Result<(), AllocError>
+    fn list_home(&self, spot: usize, homes: &mut Vec<SpotNumber>) -> Result<(), AllocError>
         requires fit { IsFit self.now }
         requires spot { spot < map_spots }
         requires before { AreHomes self.now 0 spot homes.old.items }
         ensures { OnOk result (AreHomes self.now 0 (spot + 1) homes.new.items) }
     {
         if self.spots[spot].own {
-            homes.push(spot)?;
+            homes.push(SpotNumber::of(spot))?;
         }
         Ok(())
     }
 
     /// Returns the spots where the company has tokens, by their numbers, in order. Fails only if
     /// allocation fails.
-    fn all_homes(&self, alloc: Global) -> Result<Vec<usize>, AllocError>
+    fn all_homes(&self, alloc: Global) -> Result<Vec<SpotNumber>, AllocError>
         requires { IsFit self.now }
         ensures { IfOk result (λ homes. AreHomes self.now 0 map_spots homes.items) }
     {

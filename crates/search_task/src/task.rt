@@ -5,6 +5,7 @@ ghost use Rattle.std.specs.Prelude.{◌≡◌};
 use crate::bit_set::BitPlace;
 use crate::crossing::Crossing;
 use crate::segments::Segments;
+use crate::spot_number::SpotNumber;
 use crate::steps::Steps;
 use reach::WalkStep;
 use tables::Amount;
@@ -61,9 +62,9 @@ pub struct Task {
     /// For each spot that is a stop, by its number, the legs from there.
     pub departures: Vec<Departures>,
     /// The stops from which legs lead, by their numbers.
-    pub stops: Vec<usize>,
+    pub stops: Vec<SpotNumber>,
     /// The spots where the company has tokens, by their numbers, in order.
-    pub homes: Vec<usize>,
+    pub homes: Vec<SpotNumber>,
     /// For each train, the most stops of a run.
     pub trains: Vec<usize>,
     /// Whether each leg has a reverse.

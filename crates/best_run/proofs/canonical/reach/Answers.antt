@@ -11,13 +11,6 @@ use Rattle.best_run.proofs.canonical.reach.Goals.{then-node, else-node}
 pub loop-place-init : goal.loop-place-init
 loop-place-init c = (capped_none c.args.task.now c.args.assigned.now.used _ c.none.ensures, c.left_to.ensures)
 
-pub node-requires : goal.node-requires
-node-requires c = c.stop-stop.ensures.is.0
-
-pub reach_token-requires-clause-spot : goal.reach_token-requires-clause-spot
-reach_token-requires-clause-spot c =
-    c.stop-stop.ensures.is.0
-
 pub reach_token-requires-clause-stops : goal.reach_token-requires-clause-stops
 reach_token-requires-clause-stops c =
     c.stop-stop.ensures.is.1
@@ -30,7 +23,7 @@ loop-place-preserved c =
     let stop = c.stop-stop.result in
     let at : slice_get task.stops.items place ≡ Some stop = c.stop-stop.ensures.at in
     let is : IsStop task stop = c.stop-stop.ensures.is in
-    let there = c.node.ensures in
+    let there = c.node.ensures.node in
     let Known : InReach → Type 0 = λ r. AreCappedBelow task used (place + 1) r × (r.left ≤ 744) in
     elim c.if-node.branch [
       | then-node w ↦

@@ -12,19 +12,6 @@ use Rattle.search_task.proofs.Described.{among_place}
 use Rattle.best_run.proofs.Lasting.{has_plain, plain_has}
 use Rattle.best_run.proofs.canonical.reach_from.Goals as goal
 
-pub look_along-requires-clause-to : goal.look_along-requires-clause-to
-look_along-requires-clause-to c =
-    let task = c.args.task.now in
-    let from = c.departures-from.result.now in
-    let legs = from.legs.items in
-    let leg = c.index-leg.result.now in
-    let are : AreLegsOf task c.args.stop legs = c.is_ready.ensures.ready.each c.args.stop from c.departures-from.ensures c.requires.stops in
-    let at : slice_get legs c.loop-index.index ≡ Some leg =
-    slice_get_read legs (length legs) c.loop-index.index leg refl (omega arith) c.index-leg.ensures in
-    let fits = leg_fits task c.is_ready.ensures.fit c.args.stop legs are c.requires.stops leg
-    (among_place legs c.loop-index.index leg at) in
-    fits.0.to
-
 pub look_along-requires-clause-stop : goal.look_along-requires-clause-stop
 look_along-requires-clause-stop c =
     let task = c.args.task.now in

@@ -4,8 +4,8 @@ use Rattle.best_run.specs.Canonical.{Holds}
 use Rattle.best_run.proofs.Capped.{near_of}
 use Rattle.best_run.proofs.canonical.reach_of.Goals as goal
 
-pub hold-requires-clause-known : goal.hold-requires-clause-known
-hold-requires-clause-known c =
+pub hold-requires : goal.hold-requires
+hold-requires c =
     rw c.nothing_ahead-near.ensures.ahead (c.nothing_ahead-near.ensures.known c.args.task.now.spots.items)
 
 pub returns-clause-near : goal.returns-clause-near

@@ -11,11 +11,8 @@ loop-place-init c =
     rw c.all-shut.ensures (shut_none c.args.task.now c.args.assigned.now.used c.args.reach.now
     c.marks_all_borders.ensures)
 
-pub sets_out-requires : goal.sets_out-requires
-sets_out-requires c = record { spot = c.stop-stop.ensures.is.0 }
-
-pub open_from-requires-clause-stops : goal.open_from-requires-clause-stops
-open_from-requires-clause-stops c =
+pub open_from-requires : goal.open_from-requires
+open_from-requires c =
     c.stop-stop.ensures.is.1
 
 pub loop-place-preserved : goal.loop-place-preserved

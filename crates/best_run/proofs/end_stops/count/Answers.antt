@@ -1,5 +1,5 @@
 -- The run ends at the stop, or may pass it.
-use Rattle.std.proofs.Common.{◌≡◌, Bool, Some, List, sym, ap, subst, ◌∙◌, arith}
+use Rattle.std.proofs.Common.{◌≡◌, ℕ, Bool, true, Some, List, set, sym, ap, subst, ◌∙◌, arith}
 use Rattle.best_run.specs.EndStops.{CountsAsPassed, HasWorth}
 use Rattle.search_task.specs.Spots.{ends_in, node_at}
 use Rattle.best_run.proofs.Beyond.{worth_low}
@@ -20,18 +20,19 @@ returns-then-node-clause-known c =
     let task = c.args.task.now in
     let node = c.node-node.result.now in
     let at : node_at task c.args.spot ≡ Some node =
-    c.node-node.ensures in
-    subst (λ (ms : List Bool). HasWorth task c.args.assigned.now c.args.run.now ms c.end.new.self) (sym c.mark.ensures)
+    c.node-node.ensures.node in
+    let marked = c.mark.ensures ∙ ap (λ (n : ℕ). set c.args.outlook.now.ahead n true) c.index.ensures.value in
+    subst (λ (ms : List Bool). HasWorth task c.args.assigned.now c.args.run.now ms c.end.new.self) (sym marked)
     (has_ended task c.args.assigned.now c.args.run.now c.args.outlook.now.ahead c.args.spot node at
-    (omega (arith, c.requires.spot, c.is_ready.ensures.fit.all))
-    (worth_low task c.is_ready.ensures.fit c.args.spot node c.node-node.ensures) c.requires.free
-    (omega (arith, c.is_whole.ensures, c.requires.spot)) c.args.outlook.now.worth c.end.new.self c.requires.known
+    (omega (arith, c.node-node.ensures.low, c.is_ready.ensures.fit.all))
+    (worth_low task c.is_ready.ensures.fit c.args.spot node c.node-node.ensures.node) c.requires.free
+    (omega (arith, c.is_whole.ensures, c.node-node.ensures.low)) c.args.outlook.now.worth c.end.new.self c.requires.known
     (ap ends_in at ∙ c.if-node.true) c.end.ensures)
 
 pub returns-then-node-clause-passed : goal.returns-then-node-clause-passed
 returns-then-node-clause-passed c passes =
     let at : node_at c.args.task.now c.args.spot ≡ Some c.node-node.result.now =
-    c.node-node.ensures in
+    c.node-node.ensures.node in
     absurd (not_both c.node-node.result.now.ends c.if-node.true (sym (ap ends_in at) ∙ passes))
 
 pub returns-else-node-clause-passed : goal.returns-else-node-clause-passed
@@ -39,17 +40,18 @@ returns-else-node-clause-passed c passes =
     let task = c.args.task.now in
     let node = c.node-node.result.now in
     let at : node_at task c.args.spot ≡ Some node =
-    c.node-node.ensures in
+    c.node-node.ensures.node in
+    let marked = c.mark.ensures ∙ ap (λ (n : ℕ). set c.args.outlook.now.ahead n true) c.index.ensures.value in
     subst (λ (ms : List Bool). CountsAsPassed task c.args.assigned.now c.args.run.now c.args.spot ms c.pass.new.self)
-    (sym c.mark.ensures)
+    (sym marked)
     (has_passing task c.args.assigned.now c.args.run.now c.args.outlook.now.ahead c.args.spot node at
-    (omega (arith, c.requires.spot, c.is_ready.ensures.fit.all))
-    (worth_low task c.is_ready.ensures.fit c.args.spot node c.node-node.ensures) c.requires.free
-    (omega (arith, c.is_whole.ensures, c.requires.spot)) c.args.outlook.now.worth c.pass.new.self c.requires.known
+    (omega (arith, c.node-node.ensures.low, c.is_ready.ensures.fit.all))
+    (worth_low task c.is_ready.ensures.fit c.args.spot node c.node-node.ensures.node) c.requires.free
+    (omega (arith, c.is_whole.ensures, c.node-node.ensures.low)) c.args.outlook.now.worth c.pass.new.self c.requires.known
     passes c.pass.ensures)
 
 pub returns-else-node-clause-known : goal.returns-else-node-clause-known
 returns-else-node-clause-known c =
     let at : node_at c.args.task.now c.args.spot ≡ Some c.node-node.result.now =
-    c.node-node.ensures in
+    c.node-node.ensures.node in
     (returns-else-node-clause-passed c (ap ends_in at ∙ c.if-node.false)).has

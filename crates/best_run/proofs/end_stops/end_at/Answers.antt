@@ -16,10 +16,10 @@ returns-then-is_last-clause-known c =
     let task = c.args.task.now in
     let node = c.node-node.result.now in
     let at : node_at task c.args.spot ≡ Some node =
-    c.node-node.ensures in
+    c.node-node.ensures.node in
     turned_ends task c.args.assigned.now c.args.run.now c.args.outlook.now.ahead c.args.spot node at
-    (omega (arith, c.requires.spot, c.is_ready.ensures.fit.all))
-    (worth_low task c.is_ready.ensures.fit c.args.spot node c.node-node.ensures) c.requires.lies
+    (omega (arith, c.node-node.ensures.low, c.is_ready.ensures.fit.all))
+    (worth_low task c.is_ready.ensures.fit c.args.spot node c.node-node.ensures.node) c.requires.lies
     c.args.outlook.now.worth c.take_back.new.self c.end.new.self c.requires.passed
     (c.is_last.ensures c.if-is_last.true) c.take_back.ensures c.end.ensures
 

@@ -20,11 +20,11 @@ use Rattle.search_task.proofs.Booleans.{not_both}
 pub look_at-look_from-requires : goal.look_at-look_from-requires
 look_at-look_from-requires t c =
     let ahead = c.args.outlook.now.ahead in
-    let low : c.args.spot < length ahead = omega (arith, c.is_whole.ensures, c.requires.spot) in
+    let low : c.args.spot < length ahead = omega (arith, c.is_whole.ensures, c.node.ensures.low) in
     let fewer = set_fewer ahead c.args.spot low c.requires.free in
     let less = ap unused c.count.ensures.marked in (
       omega (arith, less),
-      (c.requires.spot, (c.requires.stop, c.count.ensures.known)),
+      (c.requires.stop, c.count.ensures.known),
     )
 
 pub look_at-returns-then-node-clause-widens : goal.look_at-returns-then-node-clause-widens
@@ -34,15 +34,15 @@ look_at-returns-then-node-clause-widens t c =
     let run = c.args.run.now in
     let spot = c.args.spot in
     let ahead = c.args.outlook.now.ahead in
-    let node = c.node.ensures in
-    at_from task assigned run spot ahead _ c.requires.free (omega (arith, c.is_whole.ensures, c.requires.spot))
+    let node = c.node.ensures.node in
+    at_from task assigned run spot ahead _ c.requires.free (omega (arith, c.is_whole.ensures, c.node.ensures.low))
     (subst (λ (ms : List Bool). WidensFrom task assigned run spot ms c.count.new.outlook.ahead) c.count.ensures.marked
     (from_end task assigned run spot c.count.new.outlook.ahead (ap ends_in node ∙ c.if-node.true)))
 
 pub look_at-end_at-requires-clause-passed : goal.look_at-end_at-requires-clause-passed
 look_at-end_at-requires-clause-passed t c =
     let task = c.args.task.now in
-    let node = c.node.ensures in
+    let node = c.node.ensures.node in
     subst (λ (o : Outlook). CountsAsPassed task c.args.assigned.now c.args.run.now c.args.spot o.ahead o.worth)
     (sym (c.look_from.ensures.same c.if-not-look_from.true))
     (c.count.ensures.passed (ap ends_in node ∙ c.if-node.false))
@@ -54,7 +54,7 @@ look_at-returns-then-not-look_from-clause-widens t c =
     let run = c.args.run.now in
     let spot = c.args.spot in
     at_from task assigned run spot c.args.outlook.now.ahead _ c.requires.free
-    (omega (arith, c.is_whole.ensures, c.requires.spot))
+    (omega (arith, c.is_whole.ensures, c.node.ensures.low))
     (subst (λ (ms : List Bool). WidensFrom task assigned run spot (set c.args.outlook.now.ahead spot true) ms)
     (sym c.end_at.ensures.same)
     (subst (λ (ms : List Bool). WidensFrom task assigned run spot ms c.look_from.new.outlook.ahead)
@@ -67,7 +67,7 @@ look_at-returns-else-not-look_from-clause-widens t c =
     let run = c.args.run.now in
     let spot = c.args.spot in
     at_from task assigned run spot c.args.outlook.now.ahead _ c.requires.free
-    (omega (arith, c.is_whole.ensures, c.requires.spot))
+    (omega (arith, c.is_whole.ensures, c.node.ensures.low))
     (subst (λ (ms : List Bool). WidensFrom task assigned run spot ms c.look_from.new.outlook.ahead)
     c.count.ensures.marked c.look_from.ensures.widens)
 
@@ -90,7 +90,7 @@ look_from-leads_on-requires t c =
     slice_get_read legs (length legs) c.loop-index.index leg refl (omega (arith, ap (λ (ws : List Leg). length ws) whole)) read in
     let fits = leg_fits task c.is_ready.ensures.fit c.args.spot legs are c.requires.stop leg
     (among_place legs c.loop-index.index leg at) in
-    record { to = fits.0.to; stop = fits.1 }
+    fits.1
 
 pub look_from-look_at-requires : goal.look_from-look_at-requires
 look_from-look_at-requires t c =
@@ -112,11 +112,8 @@ look_from-look_at-requires t c =
     leads_free _ _ (sym c.leads_on.ensures ∙ c.if-leads_on.true) in (
       omega arith,
       (
-        subst (λ (to : ℕ). to < 744) same fits.0.to,
-        (
-          subst (λ (to : ℕ). stop_in (node_at task to) ≡ true) same fits.1,
-          (subst (λ (to : ℕ). get_or ahead to false ≡ false) same free, c.loop-index.invariant.1.0),
-        ),
+        subst (λ (to : ℕ). stop_in (node_at task to) ≡ true) same fits.1,
+        (subst (λ (to : ℕ). get_or ahead to false ≡ false) same free, c.loop-index.invariant.1.0),
       ),
     )
 

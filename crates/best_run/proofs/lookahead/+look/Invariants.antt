@@ -13,6 +13,6 @@ decreases-look_from l = 2 * unused l.outlook.now.ahead + 1
 
 abbrev pub invariant-look_from-loop-index : goal.invariant-look_from-loop-index
 invariant-look_from-loop-index l =
-    WidensBelow l.task l.assigned l.run l.spot l.index l.initial.outlook.ahead l.outlook.ahead
+    WidensBelow l.task l.assigned l.run l.fn.spot l.index l.initial.outlook.ahead l.outlook.ahead
     × (HasWorth l.task l.assigned l.run l.outlook.ahead l.outlook.worth
     × (l.leads ≡ false → l.outlook ≡ l.initial.outlook))

@@ -19,22 +19,6 @@ loop-index-init c = (
   c.requires.known,
 )
 
-pub look_along-requires-clause-to : goal.look_along-requires-clause-to
-look_along-requires-clause-to c =
-    let task = c.args.task.now in
-    let home = c.args.run.now.home in
-    let from = c.departures-from.result.now in
-    let legs = from.legs.items in
-    let leg = c.index-legs-index.result in
-    let whole = c.as_slice-legs.ensures.value in
-    let read = c.index-legs-index.is ∙ ap (λ (ws : List Leg). get_or ws c.loop-index.index leg) whole in
-    let are : AreLegsOf task home legs = c.is_ready.ensures.ready.each home from c.departures-from.ensures c.requires.begun in
-    let at : slice_get legs c.loop-index.index ≡ Some leg =
-    slice_get_read legs (length legs) c.loop-index.index leg refl (omega (arith, ap (λ (ws : List Leg). length ws) whole)) read in
-    let fits = leg_fits task c.is_ready.ensures.fit home legs are c.requires.begun leg
-    (among_place legs c.loop-index.index leg at) in
-    fits.0.to
-
 pub look_along-requires-clause-stop : goal.look_along-requires-clause-stop
 look_along-requires-clause-stop c =
     let task = c.args.task.now in
@@ -96,5 +80,5 @@ returns-clause-widens c =
 pub returns-then-node-clause-widens : goal.returns-then-node-clause-widens
 returns-then-node-clause-widens c =
     let run = c.args.run.now in
-    let there = c.node.ensures in
+    let there = c.node.ensures.node in
     back_end c.args.task.now c.args.assigned.now run _ (ap ends_in there ∙ c.if-node.true)

@@ -97,19 +97,6 @@ go_on-loop-index-init t c =
     legs_none c.args.bounded.now.task.now c.is_ready.ensures.fit run.head c.requires.may.at_stop.1 from.legs.items are
     (partial c.args.assigned.now run) c.args.assigned.now (λ leg. run) AnyLeg c.args.best.now
 
-pub go_on-has_at-requires : goal.go_on-has_at-requires
-go_on-has_at-requires t c =
-    let task = c.args.bounded.now.task.now in
-    let run = c.args.run.now in
-    let from = c.departures-from.result.now in
-    let leg = c.index-leg.result.now in
-    let legs = from.legs.items in
-    let are : AreLegsOf task run.head legs = c.is_ready.ensures.ready.each run.head from c.departures-from.ensures c.requires.may.at_stop.1 in
-    let at : slice_get legs c.loop-index.index ≡ Some leg =
-    slice_get_read legs (length legs) c.loop-index.index leg refl (omega arith) c.index-leg.ensures in
-    let fits = leg_fits task c.is_ready.ensures.fit run.head legs are c.requires.may.at_stop.1 leg
-    (among_place legs c.loop-index.index leg at) in (omega arith, fits.0.to)
-
 pub go_on-loop-index-preserved : goal.go_on-loop-index-preserved
 go_on-loop-index-preserved t c =
     let task = c.args.bounded.now.task.now in
@@ -121,7 +108,7 @@ go_on-loop-index-preserved t c =
     let leg = c.index-leg.result.now in
     let legs = from.legs.items in
     let there : node_at task run.head ≡ Some node =
-    c.node-head.ensures in
+    c.node-head.ensures.node in
     let passes = ap ends_in there ∙ c.if-head.false in
     let are : AreLegsOf task run.head legs = c.is_ready.ensures.ready.each run.head from c.departures-from.ensures c.requires.may.at_stop.1 in
     let at : slice_get legs index ≡ Some leg = slice_get_read legs (length legs) index leg refl (omega arith)
@@ -328,12 +315,6 @@ next_home task assigned place home before old new low is tries =
     subst (λ (homes : List ℕ). TriesHomes task assigned homes before old new)
     (drop_more task.homes.items place 0 low ∙ ap (λ (h : ℕ). h ∷ drop (place + 1) task.homes.items) (sym is)) tries
 
-pub begin_runs-node-node-requires : goal.begin_runs-node-node-requires
-begin_runs-node-node-requires t c =
-    let next = next_home c.args.bounded.now.task.now c.args.assigned.now c.loop-place.place c.home-stop.result _ _ _
-    (omega arith) c.home-stop.ensures c.loop-place.invariant in
-    next.rest.1
-
 pub begin_runs-begin_at-requires : goal.begin_runs-begin_at-requires
 begin_runs-begin_at-requires t c =
     let task = c.args.bounded.now.task.now in
@@ -341,7 +322,7 @@ begin_runs-begin_at-requires t c =
     let next = next_home task c.args.assigned.now c.loop-place.place stop _ _ _ (omega arith) c.home-stop.ensures
     c.loop-place.invariant in
     let there : node_at task stop ≡ Some c.node-node.result.now =
-    c.node-node.ensures in (
+    c.node-node.ensures.node in (
       omega arith,
       (
         c.requires.next,
@@ -361,11 +342,7 @@ begin_runs-mark_own-requires t c =
     let stop = c.home-stop.result in
     let next = next_home task c.args.assigned.now c.loop-place.place stop _ _ _ (omega arith) c.home-stop.ensures
     c.loop-place.invariant in
-    record {
-      number = next.rest.1;
-      before =
-          home_before task c.args.assigned.now stop _ _ _ _ next;
-    }
+    home_before task c.args.assigned.now stop _ _ _ _ next
 
 pub begin_runs-loop-place-preserved : goal.begin_runs-loop-place-preserved
 begin_runs-loop-place-preserved t c =
@@ -376,7 +353,7 @@ begin_runs-loop-place-preserved t c =
     let next = next_home task assigned c.loop-place.place stop before c.args.best.now c.loop-place.best (omega arith)
     c.home-stop.ensures c.loop-place.invariant in
     let there : node_at task stop ≡ Some c.node-node.result.now =
-    c.node-node.ensures in
+    c.node-node.ensures.node in
     let homes = drop (c.loop-place.place + 1) task.homes.items in
     elim c.if-node.branch [
       | begin_runs-then-node w ↦
@@ -436,7 +413,7 @@ turn_back-loop-index-preserved t c =
     let leg = c.index-leg.result.now in
     let legs = from.legs.items in
     let there : node_at task run.home ≡ Some node =
-    c.node.ensures in
+    c.node.ensures.node in
     let are : AreLegsOf task run.home legs = c.is_ready.ensures.ready.each run.home from c.departures-from.ensures c.requires.may.begun.1 in
     let at : slice_get legs index ≡ Some leg = slice_get_read legs (length legs) index leg refl (omega arith)
     c.index-leg.ensures in
@@ -469,7 +446,7 @@ turn_back-returns-then-ways t c =
     let task = c.args.bounded.now.task.now in
     let run = c.args.run.now in
     let there : node_at task run.home ≡ Some c.node.result.now =
-    c.node.ensures in
+    c.node.ensures.node in
     turns_tried task c.is_ready.ensures.fit c.is_ready.ensures.ready c.args.assigned.now run c.args.best.now
     c.requires.may.begun c.marks_all_borders.ensures c.if-run.false
     (ap ends_in there ∙ c.if-node.false) (c.requires.ways.turn c.if-ways.true)

@@ -46,7 +46,7 @@ invariant-begin_runs-loop-place l =
 
 abbrev pub invariant-begin_at-loop-index : goal.invariant-begin_at-loop-index
 invariant-begin_at-loop-index l =
-    TriesLegs l.bounded.task.now (between l.assigned) l.assigned (λ leg. begun l.bounded.task.now l.assigned l.stop leg.first)
+    TriesLegs l.bounded.task.now (between l.assigned) l.assigned (λ leg. begun l.bounded.task.now l.assigned l.fn.stop leg.first)
     (λ leg. IsListed l.from.legs.items l.index leg × AnyLeg leg) l.initial.best l.best
 
 abbrev pub invariant-go_on-loop-index : goal.invariant-go_on-loop-index

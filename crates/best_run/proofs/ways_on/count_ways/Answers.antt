@@ -6,20 +6,8 @@ use Rattle.best_run.proofs.Along.{leg_fits}
 use Rattle.search_task.proofs.Described.{among_place}
 use Rattle.best_run.proofs.ways_on.count_ways.Goals as goal
 
-pub can_take-requires-clause-to : goal.can_take-requires-clause-to
-can_take-requires-clause-to c =
-    let task = c.args.task.now in
-    let from = c.departures-from.result.now in
-    let leg = c.index-leg.result.now in
-    let legs = from.legs.items in
-    let are : AreLegsOf task c.args.stop legs = c.is_ready.ensures.ready.each c.args.stop from c.departures-from.ensures c.requires.stop.1 in
-    let at : slice_get legs c.loop-index.index ≡ Some leg =
-    slice_get_read legs (length legs) c.loop-index.index leg refl (omega arith) c.index-leg.ensures in
-    (leg_fits task c.is_ready.ensures.fit c.args.stop legs are c.requires.stop.1 leg
-    (among_place legs c.loop-index.index leg at)).0.to
-
-pub can_take-requires-clause-stop : goal.can_take-requires-clause-stop
-can_take-requires-clause-stop c =
+pub can_take-requires : goal.can_take-requires
+can_take-requires c =
     let task = c.args.task.now in
     let from = c.departures-from.result.now in
     let leg = c.index-leg.result.now in

@@ -1,5 +1,5 @@
 -- Each leg that leads on adds a way to those found, and together they are all ways on.
-use Rattle.std.proofs.Common.{◌≡◌, ℕ, ◌<◌, ◌+◌, true, Some, List, length, get_or, slice_get, refl, sym}
+use Rattle.std.proofs.Common.{◌≡◌, ℕ, ◌+◌, true, Some, List, length, get_or, slice_get, refl, sym}
 use Rattle.std.proofs.Common.{ap, subst, ◌∙◌, arith}
 use Rattle.std.proofs.lemmas.Option.{slice_get_read}
 use Rattle.best_run.specs.declared.lookahead.Outlook.{Outlook}
@@ -20,31 +20,14 @@ pub returns-then-node-clause-most : goal.returns-then-node-clause-most
 returns-then-node-clause-most c =
     let task = c.args.bounded.now.task.now in
     let run = c.args.run.now in
-    let node = c.node.ensures in
+    let node = c.node.ensures.node in
     found_all task c.is_ready.ensures.fit c.is_ready.ensures.ready c.args.assigned.now run c.args.best c.requires.may.at_stop
     c.requires.may.begun c.requires.home.borders c.requires.home.spots c.args.home.now.ahead c.ways_home-ways.result 0
     (λ passing. absurd (not_both (ends_in (node_at task run.head)) (ap ends_in node ∙ c.if-node.true) passing))
     c.ways_home-ways.ensures
 
-pub leads_on-requires-clause-to : goal.leads_on-requires-clause-to
-leads_on-requires-clause-to c =
-    let task = c.args.bounded.now.task.now in
-    let run = c.args.run.now in
-    let from = c.departures-from.result.now in
-    let legs = from.legs.items in
-    let leg = c.index-legs-index.result in
-    let whole = c.as_slice-legs.ensures.value in
-    let read = c.index-legs-index.is ∙ ap (λ (ws : List Leg). get_or ws c.loop-index.index leg) whole in
-    let are : AreLegsOf task run.head legs = c.is_ready.ensures.ready.each run.head from c.departures-from.ensures c.requires.may.at_stop.1 in
-    let at : slice_get legs c.loop-index.index ≡ Some leg =
-    slice_get_read legs (length legs) c.loop-index.index leg refl
-    (omega (arith, ap (λ (ws : List Leg). length ws) whole)) read in
-    let fits = leg_fits task c.is_ready.ensures.fit run.head legs are c.requires.may.at_stop.1 leg
-    (among_place legs c.loop-index.index leg at) in
-    fits.0.to
-
-pub leads_on-requires-clause-stop : goal.leads_on-requires-clause-stop
-leads_on-requires-clause-stop c =
+pub leads_on-requires : goal.leads_on-requires
+leads_on-requires c =
     let task = c.args.bounded.now.task.now in
     let run = c.args.run.now in
     let from = c.departures-from.result.now in
@@ -59,23 +42,6 @@ leads_on-requires-clause-stop c =
     let fits = leg_fits task c.is_ready.ensures.fit run.head legs are c.requires.may.at_stop.1 leg
     (among_place legs c.loop-index.index leg at) in
     fits.1
-
-pub look_at-requires-clause-spot : goal.look_at-requires-clause-spot
-look_at-requires-clause-spot c =
-    let task = c.args.bounded.now.task.now in
-    let run = c.args.run.now in
-    let from = c.departures-from.result.now in
-    let legs = from.legs.items in
-    let leg = c.index-legs-index.result in
-    let whole = c.as_slice-legs.ensures.value in
-    let read = c.index-legs-index.is ∙ ap (λ (ws : List Leg). get_or ws c.loop-index.index leg) whole in
-    let are : AreLegsOf task run.head legs = c.is_ready.ensures.ready.each run.head from c.departures-from.ensures c.requires.may.at_stop.1 in
-    let at : slice_get legs c.loop-index.index ≡ Some leg =
-    slice_get_read legs (length legs) c.loop-index.index leg refl
-    (omega (arith, ap (λ (ws : List Leg). length ws) whole)) read in
-    let fits = leg_fits task c.is_ready.ensures.fit run.head legs are c.requires.may.at_stop.1 leg
-    (among_place legs c.loop-index.index leg at) in
-    subst (λ (to : ℕ). to < 744) (sym c.number.ensures) fits.0.to
 
 pub look_at-requires-clause-stop : goal.look_at-requires-clause-stop
 look_at-requires-clause-stop c =

@@ -1,5 +1,5 @@
 -- The segment is added at the code of its step.
-use Rattle.std.proofs.Common.{◌≡◌, ◌<◌, ℕ, subst, arith}
+use Rattle.std.proofs.Common.{◌≡◌, ◌<◌, ℕ, subst, ◌∙◌, arith}
 use Rattle.search_task.specs.Described.{code_before}
 use Rattle.search_task.specs.Segments.{AddsSegment}
 use Rattle.search_task.proofs.Laid.{code_is, takes_none, takes_segment}
@@ -15,7 +15,7 @@ returns-in_ok-add c =
     c.origin_of-from.ensures.number in
     let few : code_before step < 744 = omega (arith, holds, c.if-from-lt-SPOTS.true) in
     takes_segment step old new c.segment_of-segment.result few c.segment_of-segment.ensures
-    (subst (λ (n : ℕ). AddsSegment n c.segment_of-segment.result old new) holds c.in_ok-add.ensures)
+    (subst (λ (n : ℕ). AddsSegment n c.segment_of-segment.result old new) (c.of.ensures ∙ holds) c.in_ok-add.ensures)
 
 pub returns-else-from-lt-SPOTS : goal.returns-else-from-lt-SPOTS
 returns-else-from-lt-SPOTS c =

@@ -4,6 +4,7 @@ use Rattle.std.proofs.lemmas.Option.{slice_get_read}
 use Rattle.search_task.specs.declared.segments.Entry.{Entry}
 use Rattle.search_task.specs.Segments.{segments_from}
 use Rattle.search_task.proofs.Chained.{IsAbove, above_before, above_it, above_last, above_low, from_few}
+use Rattle.search_task.proofs.Places.{read_there}
 use Rattle.search_task.proofs.segments.Segments.at.Goals as goal
 
 pub overflow_step-next : goal.overflow_step-next
@@ -11,7 +12,7 @@ overflow_step-next c =
     let entries = c.self.inside.entries.items in
     let low : c.args.place < length (segments_from c.args.spot entries) =
     subst (λ (es : List Entry). c.args.place < length (segments_from c.args.spot es)) (sym c.self.view_is)
-    c.requires.place in
+    c.requires in
     omega (arith, low, from_few c.args.spot entries, c.self.inside.entries.small)
 
 pub loop-next-init : goal.loop-next-init
@@ -20,10 +21,11 @@ loop-next-init c =
     let entries = c.self.inside.entries.items in
     let chain = c.index-chain.result.now in
     let at : slice_get chains c.args.spot ≡ Some chain =
-    slice_get_read chains 744 c.args.spot chain (sym c.self.invariant.long) c.requires.spot c.index-chain.ensures in
+    read_there chains c.args.spot c.index-at.result chain (sym c.self.invariant.long) c.index-at.ensures.value
+    c.index-at.ensures.bound c.index-chain.ensures in
     let low : c.args.place < length (segments_from c.args.spot entries) =
     subst (λ (es : List Entry). c.args.place < length (segments_from c.args.spot es)) (sym c.self.view_is)
-    c.requires.place in
+    c.requires in
     above_last entries chains c.self.invariant c.args.spot chain at c.args.place low
 
 pub index-requires : goal.index-requires

@@ -9,7 +9,7 @@ pub returns-in_ok-push : goal.returns-in_ok-push
 returns-in_ok-push c =
     let task = c.args.self.now in
     let there = node_is task c.requires.fit c.args.spot c.index.result.now c.requires.spot c.index.ensures in
-    rw c.in_ok-push.ensures.items
+    rw (c.in_ok-push.ensures.items, c.of.ensures)
     (homes_listed task 0 c.args.spot c.args.homes.now.items (omega arith) (ap own_in there ∙ c.if-index.true)
     c.requires.before)
 
