@@ -3,5 +3,6 @@ pub mod BoxedTotals
 pub mod Record
 pub mod Conditions
 pub mod Sound
+pub mod Games
 pub mod Laws
 pub mod Money

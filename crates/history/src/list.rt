@@ -117,8 +117,7 @@ impl History {
 
     /// Returns a view of the game now.
     pub fn now(&self) -> GameView<'_>
-        ensures seats { result.seats ≡ self.now.seats }
-        ensures events { result.events.now ≡ self.now.events }
+        ensures { result ≡ self.now }
     {
         GameView::with_totals(
             self.seats,

@@ -71,8 +71,7 @@ impl<'a> Walk<'a> {
 
     /// Returns a view of the game after the events passed so far.
     pub fn view(&self, seats: usize) -> GameView<'_>
-        ensures seats { result.seats ≡ seats }
-        ensures events { result.events.now ≡ take self.now.passed self.now.events.now }
+        ensures { result ≡ record { seats = seats; events = take self.now.passed self.now.events.now } }
     {
         GameView::of(seats, &self.events[..self.passed], &self.totals)
     }

@@ -1,7 +1,8 @@
 -- A company's token moves over the chart: MOVES says so if it reaches another square.
-use Rattle.std.specs.Prelude.{ℕ, ◌==◌, Bool, ◌&&◌, if◌then◌else◌, List, [], ◌∷◌, ◌++◌, Option, Some, None}
+use Rattle.std.specs.Prelude.{◌==◌, Bool, ◌&&◌, if◌then◌else◌, List, [], ◌∷◌, ◌++◌, Option, Some, None}
 use Rattle.events.specs.declared.event.Event.{Event}
 use Rattle.events.specs.declared.event.Event.TheVariants.{Moves}
+use Rattle.totals.specs.LookBack.{Game, with_events}
 use Rattle.totals.specs.Shares.{square_of}
 use Rattle.tables.specs.declared.roster.Company.{Company}
 use Rattle.tables.specs.declared.squares.Square.{Square}
@@ -22,3 +23,7 @@ moved_from move events company (Some square) = moved_to events company square (m
 -- with the token of a company moved
 abbrev pub with_move : (Square → Square) → List Event → Company → List Event
 with_move move events company = moved_from move events company (square_of events company)
+
+-- a game in which the token of a company has moved
+abbrev pub token_moved : (Square → Square) → Game → Company → Game
+token_moved move game company = with_events game (with_move move game.events company)

@@ -1,7 +1,8 @@
 //! The token of a company moves over the chart, and each move to another square is recorded.
 ghost use Rattle.std.specs.Prelude.{◌≡◌, OnOk};
 ghost use Rattle.market.specs.Moves.{fallen, square_left_of, right_of, up_of};
-ghost use Rattle.market.specs.Token.{moved_to, with_move};
+ghost use Rattle.market.specs.Token.{moved_to, token_moved};
+ghost use Rattle.totals.specs.LookBack.{with_events};
 
 use crate::moves::{fall, left, right, up};
 use history::{Event, History};
@@ -11,9 +12,7 @@ use tables::{Company, Square};
 /// Moves a company's token right, and records it if the token reaches another square. Fails only if
 /// allocation fails.
 pub fn move_token_right(history: &mut History, company: Company) -> Result<(), AllocError>
-    ensures seats { OnOk result (history.new.seats ≡ history.old.seats) }
-    ensures events { OnOk result (history.new.events
-        ≡ with_move right_of history.old.events company) }
+    ensures { OnOk result (history.new ≡ token_moved right_of history.old company) }
 {
     match history.square(company) {
         Some(square) => move_token(history, company, square, right(square)),
@@ -24,9 +23,7 @@ pub fn move_token_right(history: &mut History, company: Company) -> Result<(), A
 /// Moves a company's token left, and records it if the token reaches another square. Fails only if
 /// allocation fails.
 pub fn move_token_left(history: &mut History, company: Company) -> Result<(), AllocError>
-    ensures seats { OnOk result (history.new.seats ≡ history.old.seats) }
-    ensures events { OnOk result (history.new.events
-        ≡ with_move square_left_of history.old.events company) }
+    ensures { OnOk result (history.new ≡ token_moved square_left_of history.old company) }
 {
     match history.square(company) {
         Some(square) => move_token(history, company, square, left(square)),
@@ -37,9 +34,7 @@ pub fn move_token_left(history: &mut History, company: Company) -> Result<(), Al
 /// Moves a company's token up, if there is a square, and records that. Fails only if allocation
 /// fails.
 pub fn move_token_up(history: &mut History, company: Company) -> Result<(), AllocError>
-    ensures seats { OnOk result (history.new.seats ≡ history.old.seats) }
-    ensures events { OnOk result (history.new.events
-        ≡ with_move up_of history.old.events company) }
+    ensures { OnOk result (history.new ≡ token_moved up_of history.old company) }
 {
     match history.square(company) {
         Some(square) => move_token(history, company, square, up(square)),
@@ -54,9 +49,7 @@ pub fn move_token_down(
     company: Company,
     squares: u8,
 ) -> Result<(), AllocError>
-    ensures seats { OnOk result (history.new.seats ≡ history.old.seats) }
-    ensures events { OnOk result (history.new.events
-        ≡ with_move (fallen squares) history.old.events company) }
+    ensures { OnOk result (history.new ≡ token_moved (fallen squares) history.old company) }
 {
     match history.square(company) {
         Some(square) => move_token(history, company, square, fall(square, squares)),
@@ -72,9 +65,8 @@ fn move_token(
     from: Square,
     to: Square,
 ) -> Result<(), AllocError>
-    ensures seats { OnOk result (history.new.seats ≡ history.old.seats) }
-    ensures events { OnOk result (history.new.events
-        ≡ moved_to history.old.events company from to) }
+    ensures { OnOk result (history.new
+        ≡ with_events history.old (moved_to history.old.events company from to)) }
 {
     if to == from {
         return Ok(());

@@ -33,6 +33,10 @@ pub record Game : Type 0 where
 abbrev pub with_event : Game → Event → Game
 with_event game event = record { seats = game.seats; events = game.events ++ event ∷ [] }
 
+-- a game of the same seats with this list
+abbrev pub with_events : Game → List Event → Game
+with_events game events = record { seats = game.seats; events = events }
+
 -- what the last event that says something of this kind says
 abbrev pub last_said : {A : Type 0} → (Event → Option A) → List Event → Option A
 last_said says [] = None

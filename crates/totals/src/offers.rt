@@ -12,11 +12,11 @@ impl GameView<'_> {
     /// Returns whether a seat has offered exactly this sale, by an OFFER line that was obeyed in
     /// this round.
     pub fn has_offered(&self, seat: Seat, sale: Offer) -> bool
-        ensures { result ≡ has_offered self.now.events.now seat sale }
+        ensures { result ≡ has_offered self.now.events seat sale }
     {
         match self.offers() {
             Some(offers) => is_among(offers, seat, sale),
-            None => last_said(&InRound(OfferBy(sale, seat)), self.events)
+            None => last_said(&InRound(OfferBy(sale, seat)), self.events())
                 .flatten()
                 .is_some(),
         }
@@ -25,7 +25,7 @@ impl GameView<'_> {
     /// Returns whether the giving seat consents to a sale to this seat: they are the same, or the
     /// giver has offered exactly this sale in this round.
     pub fn has_consent(&self, giver: Seat, taker: Seat, sale: Offer) -> bool
-        ensures { result ≡ has_consent self.now.events.now giver taker sale }
+        ensures { result ≡ has_consent self.now.events giver taker sale }
     {
         giver == taker || self.has_offered(giver, sale)
     }

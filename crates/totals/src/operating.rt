@@ -9,7 +9,7 @@ use tables::{Company, PLAYERS_MOST, Seat};
 impl GameView<'_> {
     /// Returns how many tokens a company has placed, including its home token.
     pub fn tokens_placed(&self, company: Company) -> usize
-        ensures { result ≡ tokens_placed self.now.events.now company }
+        ensures { result ≡ tokens_placed self.now.events company }
     {
         match self.totals() {
             Some(totals) => totals.tokens[company.index()],
@@ -19,7 +19,7 @@ impl GameView<'_> {
 
     /// Returns whether a company has operated since the last round began.
     pub fn has_operated(&self, company: Company) -> bool
-        ensures { result ≡ has_operated self.now.events.now company }
+        ensures { result ≡ has_operated self.now.events company }
     {
         match self.totals() {
             Some(totals) => totals.operated[company.index()],
@@ -29,12 +29,12 @@ impl GameView<'_> {
 
     /// Returns how many lines of a seat's sheet were ruled since the last round began.
     pub fn rulings_in_round(&self, seat: Seat) -> usize
-        ensures { result ≡ rulings_in_round self.now.events.now seat }
+        ensures { result ≡ rulings_in_round self.now.events seat }
     {
         let number = seat.index();
         match self.totals() {
             Some(totals) if number < PLAYERS_MOST => totals.rulings[number],
-            _ => count_rulings(self.events, seat),
+            _ => count_rulings(self.events(), seat),
         }
     }
 }

@@ -18,7 +18,7 @@ pub type ShareCount = i128;
 impl GameView<'_> {
     /// Returns the shares of a company at a place.
     pub fn shares(&self, company: Company, place: Shareholder) -> ShareCount
-        ensures sum { result ≡ shares_of self.now.events.now company place }
+        ensures sum { result ≡ shares_of self.now.events company place }
         ensures within { IsModerate result }
     {
         let start = start_shares(place);
@@ -26,20 +26,20 @@ impl GameView<'_> {
         match self.totals() {
             Some(totals) if entry < totals.shares.len() => ShareCount::from(start)
                 + totals.shares[entry],
-            _ => balance(&Shares(company, place), start, self.events),
+            _ => balance(&Shares(company, place), start, self.events()),
         }
     }
 
     /// Returns a company's par value in dollars; `None` while it has none.
     pub fn par(&self, company: Company) -> Option<Money>
-        ensures { result ≡ option_map pos (par_of self.now.events.now company) }
+        ensures { result ≡ option_map pos (par_of self.now.events company) }
     {
         self.par_set(company).map(Money::from)
     }
 
     /// Returns a company's par value as the sum that an event sets.
     fn par_set(&self, company: Company) -> Option<Amount>
-        ensures { result ≡ par_of self.now.events.now company }
+        ensures { result ≡ par_of self.now.events company }
     {
         match self.totals() {
             Some(totals) => totals.pars[company.index()],
@@ -49,14 +49,14 @@ impl GameView<'_> {
 
     /// Returns whether a company has started: its token has a square.
     pub fn is_started(&self, company: Company) -> bool
-        ensures { result ≡ is_started self.now.events.now company }
+        ensures { result ≡ is_started self.now.events company }
     {
         self.square(company).is_some()
     }
 
     /// Returns whether a company has floated.
     pub fn floated(&self, company: Company) -> bool
-        ensures { result ≡ is_floated self.now.events.now company }
+        ensures { result ≡ is_floated self.now.events company }
     {
         match self.totals() {
             Some(totals) => totals.floats[company.index()].is_some(),
@@ -66,12 +66,12 @@ impl GameView<'_> {
 
     /// Returns whether a seat has sold shares of a company since the last round began.
     pub fn has_sold_in_round(&self, company: Company, seat: Seat) -> bool
-        ensures { result ≡ has_sold_in_round self.now.events.now company seat }
+        ensures { result ≡ has_sold_in_round self.now.events company seat }
     {
         let number = seat.index();
         match self.totals() {
             Some(totals) if number < PLAYERS_MOST => totals.sales[company.index()][number],
-            _ => last_said(&InRound(SaleBy(company, seat)), self.events)
+            _ => last_said(&InRound(SaleBy(company, seat)), self.events())
                 .flatten()
                 .is_some(),
         }
@@ -79,7 +79,7 @@ impl GameView<'_> {
 
     /// Returns the square of a company's token.
     pub fn square(&self, company: Company) -> Option<Square>
-        ensures { result ≡ square_of self.now.events.now company }
+        ensures { result ≡ square_of self.now.events company }
     {
         match self.totals() {
             Some(totals) => totals.squares[company.index()],
@@ -90,7 +90,7 @@ impl GameView<'_> {
     /// Returns the square of each company's token, by the places of the companies.
     pub fn squares(&self) -> PerCompany<Option<Square>>
         ensures { (company : Company) →
-            at_company result company ≡ square_of self.now.events.now company }
+            at_company result company ≡ square_of self.now.events company }
     {
         match self.totals() {
             Some(totals) => totals.squares,
@@ -102,7 +102,7 @@ impl GameView<'_> {
     /// token: the less it is, the earlier the token arrived there. It is 0 if the token has no
     /// square.
     pub fn arrival(&self, company: Company) -> usize
-        ensures { result ≡ arrival_of self.now.events.now company }
+        ensures { result ≡ arrival_of self.now.events company }
     {
         match self.totals() {
             Some(totals) => totals.arrivals[company.index()].unwrap_or(0),
@@ -112,7 +112,7 @@ impl GameView<'_> {
 
     /// Returns a company's president.
     pub fn president(&self, company: Company) -> Option<Seat>
-        ensures { result ≡ president_of self.now.events.now company }
+        ensures { result ≡ president_of self.now.events company }
     {
         match self.totals() {
             Some(totals) => totals.presidents[company.index()],
@@ -123,7 +123,7 @@ impl GameView<'_> {
     /// Returns the president of each company, by the places of the companies.
     pub fn presidents(&self) -> PerCompany<Option<Seat>>
         ensures { (company : Company) →
-            at_company result company ≡ president_of self.now.events.now company }
+            at_company result company ≡ president_of self.now.events company }
     {
         match self.totals() {
             Some(totals) => totals.presidents,

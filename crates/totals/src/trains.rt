@@ -15,7 +15,7 @@ impl GameView<'_> {
     /// Returns the trains of a kind that a company has, or those of the bank pool if there is no
     /// owner.
     pub fn trains(&self, owner: Option<Company>, kind: Kind) -> TrainCount
-        ensures sum { result ≡ trains_held self.now.events.now owner kind }
+        ensures sum { result ≡ trains_held self.now.events owner kind }
         ensures within { IsModerate result }
     {
         self.trains_at(TrainPlace::of_owner(owner), kind)
@@ -23,7 +23,7 @@ impl GameView<'_> {
 
     /// Returns the trains of a kind at a place.
     fn trains_at(&self, place: TrainPlace, kind: Kind) -> TrainCount
-        ensures sum { result ≡ trains_at self.now.events.now place kind }
+        ensures sum { result ≡ trains_at self.now.events place kind }
         ensures within { IsModerate result }
     {
         match self.totals() {
@@ -34,7 +34,7 @@ impl GameView<'_> {
 
     /// Returns how many trains a company has, or the bank pool if there is no owner.
     pub fn train_count(&self, owner: Option<Company>) -> TrainCount
-        ensures sum { result ≡ train_count self.now.events.now owner }
+        ensures sum { result ≡ train_count self.now.events owner }
         ensures within { IsModerate result }
     {
         match self.totals() {
@@ -47,14 +47,14 @@ impl GameView<'_> {
 
     /// Returns how many trains of a kind the bank has sold; none returns to its stock.
     pub fn trains_sold(&self, kind: Kind) -> usize
-        ensures { result ≡ trains_sold self.now.events.now kind }
+        ensures { result ≡ trains_sold self.now.events kind }
     {
         self.trains_at(TrainPlace::Bank, kind).unsigned_abs() as usize
     }
 
     /// Returns the phase, at first that of the 2.
     pub fn phase(&self) -> Kind
-        ensures { result ≡ phase_of self.now.events.now }
+        ensures { result ≡ phase_of self.now.events }
     {
         match self.totals() {
             Some(totals) => totals.phase.unwrap_or(Kind::Two),

@@ -9,7 +9,6 @@ use Rattle.events.specs.declared.event.Holder.TheVariants as holder
 use Rattle.events.specs.declared.event.Party.{Party}
 use Rattle.events.specs.declared.event.Party.TheVariants as party
 use Rattle.totals.specs.LookBack.{Game, IsModerate, cash_of, same_party}
-use Rattle.totals.specs.declared.look_back.GameView.{GameView}
 use Rattle.tables.specs.Roster.{index_of_company}
 use Rattle.tables.specs.Seat.{seat_at}
 use Rattle.tables.specs.declared.roster.Company.{Company}
@@ -34,8 +33,8 @@ AreAccountsOf game accounts =
     (party : Party) → HasAccount party → cash_in accounts party ≡ cash_of game.seats game.events party
 
 -- each holds what its party had in a game as it stood
-abbrev pub AreAccountsAt : GameView → Accounts → Type 0
-AreAccountsAt view accounts = AreAccountsOf (record { seats = view.seats; events = view.events.now }) accounts
+abbrev pub AreAccountsAt : Game → Accounts → Type 0
+AreAccountsAt view accounts = AreAccountsOf (record { seats = view.seats; events = view.events }) accounts
 
 -- no party has, or owes, more than 2 ^ 100
 abbrev pub AreModerate : Accounts → Type 0

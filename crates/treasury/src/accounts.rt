@@ -138,7 +138,7 @@ impl Accounts {
 
 /// Returns what each seat has, by its number.
 fn cash_of_seats(now: &GameView) -> PerSeat<Money>
-    ensures cash { AreOfSeats now.now.seats now.now.events.now result }
+    ensures cash { AreOfSeats now.now.seats now.now.events result }
     ensures moderate { AreModerateForSeats result }
 {
     let mut cash = [0; PLAYERS_MOST];
@@ -150,7 +150,7 @@ fn cash_of_seats(now: &GameView) -> PerSeat<Money>
 
 /// Returns what each company has, by its place in the roster.
 fn cash_of_companies(now: &GameView) -> PerCompany<Money>
-    ensures cash { AreOfCompanies now.now.seats now.now.events.now result }
+    ensures cash { AreOfCompanies now.now.seats now.now.events result }
     ensures moderate { AreModerateForCompanies result }
 {
     let mut cash = [0; COMPANIES];

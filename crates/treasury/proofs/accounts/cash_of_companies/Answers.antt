@@ -17,7 +17,7 @@ pub loop-place-preserved : goal.loop-place-preserved
 loop-place-preserved c =
     let before = c.loop-place.invariant in
     let fits : SFits w128 c.cash.result = search rules in
-    let of : Party → ℤ = λ party. cash_of c.args.now.now.seats c.args.now.now.events.now party in
+    let of : Party → ℤ = λ party. cash_of c.args.now.now.seats c.args.now.now.events party in
     record {
       all_companies = length-set _ _ _ ∙ before.all_companies;
       cash = filled_more (λ (k : ℕ) (z : ℤ). z ≡ of (party.Holder
@@ -30,7 +30,7 @@ loop-place-preserved c =
 
 pub returns-clause-cash : goal.returns-clause-cash
 returns-clause-cash c =
-    at_places (λ (its : Company) (z : ℤ). z ≡ cash_of c.args.now.now.seats c.args.now.now.events.now
+    at_places (λ (its : Company) (z : ℤ). z ≡ cash_of c.args.now.now.seats c.args.now.now.events
     (party.Holder (holder.Company its))) (pos 0) _
     (λ k less. c.loop-place.invariant.cash k (omega (arith, less, c.loop-place-test.false)))
 

@@ -11,6 +11,6 @@ abbrev pub invariant-loop-place : goal.invariant-loop-place
 invariant-loop-place l = record {
   all_companies : length l.cash ≡ 8;
   cash : (k : ℕ) → k < l.place → get_or l.cash k (pos 0)
-      ≡ cash_of l.fn.now.seats l.fn.now.events.now (party.Holder (holder.Company (get_or companies k Pennsylvania)));
+      ≡ cash_of l.fn.now.seats l.fn.now.events (party.Holder (holder.Company (get_or companies k Pennsylvania)));
   moderate : (k : ℕ) → k < l.place → IsModerate (get_or l.cash k (pos 0));
 }

@@ -13,7 +13,7 @@ pub loop-number-preserved : goal.loop-number-preserved
 loop-number-preserved c =
     let before = c.loop-number.invariant in
     let fits : SFits w128 c.cash.result = search rules in
-    let of : Party → ℤ = λ party. cash_of c.args.now.now.seats c.args.now.now.events.now party in
+    let of : Party → ℤ = λ party. cash_of c.args.now.now.seats c.args.now.now.events party in
     record {
       all_seats = length-set _ _ _ ∙ before.all_seats;
       cash = filled_more (λ (k : ℕ) (z : ℤ). z ≡ of (party_at (seat_at k))) c.loop-number.cash c.loop-number.number

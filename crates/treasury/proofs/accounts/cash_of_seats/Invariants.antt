@@ -9,6 +9,6 @@ abbrev pub invariant-loop-number : goal.invariant-loop-number
 invariant-loop-number l = record {
   all_seats : length l.cash ≡ 6;
   cash : (k : ℕ) → k < l.number → get_or l.cash k (pos 0)
-      ≡ cash_of l.fn.now.seats l.fn.now.events.now (party_at (seat_at k));
+      ≡ cash_of l.fn.now.seats l.fn.now.events (party_at (seat_at k));
   moderate : (k : ℕ) → k < l.number → IsModerate (get_or l.cash k (pos 0));
 }

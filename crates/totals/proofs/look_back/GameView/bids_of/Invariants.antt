@@ -6,5 +6,5 @@ use Rattle.totals.proofs.look_back.GameView.bids_of.Given as goal
 abbrev pub invariant-loop-private : goal.invariant-loop-private
 invariant-loop-private l =
     (l.private-items ≡ privates)
-    × (l.sum ≡ sum_by (tied_on l.fn.self.events.now l.fn.seat) (take l.private-index l.private-items))
+    × (l.sum ≡ sum_by (tied_on l.fn.self.events l.fn.seat) (take l.private-index l.private-items))
     × (l.sum ≤ 2 ^ 32 * l.private-index)

@@ -7,7 +7,7 @@ use Rattle.totals.proofs.look_back.GameView.bids_on.Goals.{in-Some, in_default}
 
 pub loop-number-preserved : goal.loop-number-preserved
 loop-number-preserved c =
-    let events = c.args.self.now.events.now in
+    let events = c.args.self.now.events in
     let private = c.args.private in
     let number = c.loop-number.number in
     let is_bid = is_standing events private number c.standing_by_seat-standing.result c.at-seat.result

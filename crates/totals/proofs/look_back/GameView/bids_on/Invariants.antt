@@ -4,4 +4,4 @@ use Rattle.totals.proofs.look_back.GameView.bids_on.Given as goal
 
 abbrev pub invariant-loop-number : goal.invariant-loop-number
 invariant-loop-number l =
-    (l.bids.items ≡ bids_on l.number l.fn.self.events.now l.fn.private) × (length l.bids.items ≤ l.number)
+    (l.bids.items ≡ bids_on l.number l.fn.self.events l.fn.private) × (length l.bids.items ≤ l.number)

@@ -8,4 +8,4 @@ pub returns-clause-sum : goal.returns-clause-sum
 returns-clause-sum c =
     to_z-of_z w64 c.trains_at.result (record { sfits = c.trains_at.type_inv })
     ∙ (c.trains_at.ensures.sum
-    ∙ ap (λ place. trains_at c.args.self.now.events.now place c.args.kind) c.of_owner.ensures)
+    ∙ ap (λ place. trains_at c.args.self.now.events place c.args.kind) c.of_owner.ensures)

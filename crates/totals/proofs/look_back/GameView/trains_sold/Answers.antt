@@ -10,5 +10,5 @@ pub returns : goal.returns
 returns c =
     let kept = to_z-of_z w64 c.trains_at.result (record { sfits = c.trains_at.type_inv }) in
     c.unsigned_abs.ensures.value
-    ∙ ap unsigned_abs (kept ∙ (c.trains_at.ensures.sum ∙ bank_sold c.args.self.now.events.now c.args.kind))
-    ∙ size_of_debt (trains_sold c.args.self.now.events.now c.args.kind)
+    ∙ ap unsigned_abs (kept ∙ (c.trains_at.ensures.sum ∙ bank_sold c.args.self.now.events c.args.kind))
+    ∙ size_of_debt (trains_sold c.args.self.now.events c.args.kind)

@@ -9,7 +9,7 @@ use mir.Val.{SFits}
 pub returns-clause-accounts : goal.returns-clause-accounts
 returns-clause-accounts c =
     let fits : SFits w128 c.cash.result = search rules in
-    accounts_of (record { seats = c.args.view.now.seats; events = c.args.view.now.events.now }) _ _ _ refl refl
+    accounts_of (record { seats = c.args.view.now.seats; events = c.args.view.now.events }) _ _ _ refl refl
     (to_z-of_z w128 c.cash.result fits ∙ c.cash.ensures.sum) c.cash_of_seats.ensures.cash
     c.cash_of_companies.ensures.cash
 
