@@ -18,13 +18,12 @@ use Rattle.totals.specs.Shares.{held_by, shares_of}
 use Rattle.history.specs.Sound.{IsSound, SharesAreHeld}
 use Rattle.history.specs.Record.{breaks, broken_recorded}
 use Rattle.market.specs.Moves.{right_of}
-use Rattle.market.specs.Token.{with_move}
+use Rattle.market.specs.Token.{with_move, token_moved}
 use Rattle.history.proofs.NearlySound.{broken_quiet, quiet_sound}
-use Rattle.certs.proofs.Games.{moved_there}
 use Rattle.certs.specs.Dividend.{all_paid, dividend_paid_to, paid_for, paid_out, paid_to_seats}
-use Rattle.certs.specs.Games.{IsGame, token_moved}
 use Rattle.tables.specs.Seat.{all_seats, seat_at}
 use Rattle.tables.specs.declared.roster.Company.{Company}
+use Rattle.history.specs.Games.{IsGame}
 use Rattle.tables.specs.declared.seat.Seat.{Seat}
 
 -- the word that the bank is broken keeps a list sound
@@ -122,6 +121,6 @@ all_are_paid company revenue old paid new i seats same over leads recorded =
 
 -- what paying out brings, step by step
 pub paid_out_steps : (game paid new : Game) (company : Company) (revenue : ℕ) → paid ≡ all_paid company revenue game
-    → new.seats ≡ paid.seats → new.events ≡ with_move right_of paid.events company → new ≡ paid_out game company revenue
-paid_out_steps game paid new company revenue is_paid seats events =
-    moved_there right_of paid new company seats events ∙ ap (λ (game : Game). token_moved right_of game company) is_paid
+    → new ≡ token_moved right_of paid company → new ≡ paid_out game company revenue
+paid_out_steps game paid new company revenue is_paid moved =
+    moved ∙ ap (λ (game : Game). token_moved right_of game company) is_paid

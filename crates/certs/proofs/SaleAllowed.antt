@@ -6,7 +6,6 @@ use Rattle.std.proofs.lemmas.Bool.{not-false}
 use Rattle.std.proofs.lemmas.Int.{ints}
 use Rattle.std.specs.Int.Signed.{le_z, lt_z}
 use Rattle.certs.specs.Counted.{presides}
-use Rattle.certs.specs.Games.{with_events}
 use Rattle.certs.specs.President.{others_from}
 use Rattle.certs.specs.Sale.{is_first_stock, is_not_held, is_over_five, kept_after, none_is_left, moves_operating}
 use Rattle.certs.specs.Sale.{must_stay, one_has, sale_judgement, sale_rules}
@@ -21,7 +20,7 @@ use Rattle.events.specs.declared.ruling.StockRule.TheVariants.{SaleInFirstRound,
 use Rattle.events.specs.declared.ruling.StockRule.TheVariants.{WrongStart}
 use Rattle.totals.proofs.EventAtEnd.{quiet_same}
 use Rattle.totals.specs.AtEnd.{SaysTheSame}
-use Rattle.totals.specs.LookBack.{Game, round_of, with_event}
+use Rattle.totals.specs.LookBack.{Game, round_of, with_event, with_events}
 use Rattle.totals.specs.Shares.{is_started, president_of, shares_of}
 use Rattle.history.specs.Sound.{IsSound}
 use Rattle.tables.proofs.Rules.{not_broken}

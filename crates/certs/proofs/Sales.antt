@@ -7,7 +7,6 @@ use Rattle.std.proofs.lemmas.Int.{ints}
 use Rattle.std.specs.Int.Signed.{lt_z}
 use Rattle.certs.proofs.Presidents.{most_le}
 use Rattle.certs.specs.Counted.{presides}
-use Rattle.certs.specs.Games.{IsGame, with_events}
 use Rattle.certs.specs.President.{others_from, seat_shares_of, successor_of}
 use Rattle.certs.specs.Purchase.{market_price_of}
 use Rattle.certs.specs.Sale.{is_not_held, kept_after, none_is_left, must_stay, one_has}
@@ -18,7 +17,7 @@ use Rattle.events.specs.declared.event.Shareholder.TheVariants.{Seat as OfSeat}
 use Rattle.totals.proofs.EventAtEnd.{president_of_before, shares_of_at_end, shares_of_before}
 use Rattle.history.proofs.Blocks.{block_sound, block_with_succession_sound}
 use Rattle.history.specs.Laws.{block_sold}
-use Rattle.totals.specs.LookBack.{Game}
+use Rattle.totals.specs.LookBack.{Game, with_events}
 use Rattle.totals.specs.Shares.{is_started, president_of, square_of}
 use Rattle.history.specs.Sound.{IsLed, IsSound}
 use Rattle.history.specs.Record.{breaks, with_broken}
@@ -29,6 +28,7 @@ use Rattle.tables.specs.Seat.{seat_at}
 use Rattle.tables.specs.declared.roster.Company.{Company}
 use Rattle.tables.specs.declared.seat.Seat.{Seat}
 use Rattle.tables.specs.declared.squares.Square.{Square}
+use Rattle.history.specs.Games.{IsGame}
 use Rattle.tables.proofs.Companies.{company_itself}
 
 -- a company that is started is led

@@ -1,15 +1,15 @@
 -- A presidency that passes on keeps a list sound.
 use Rattle.std.proofs.Common.{◌≡◌, ◌==◌, Bool, true, false, if◌then◌else◌, [], ◌∷◌, ◌++◌, Option, Some, None, refl, sym, subst}
 use Rattle.certs.proofs.Presidents.{most_le}
-use Rattle.certs.specs.Games.{IsGame, with_events}
 use Rattle.certs.specs.President.{others_from, seat_shares_of, successor_of}
 use Rattle.certs.specs.SaleAct.{succeeded, with_president, with_successor}
 use Rattle.events.specs.declared.event.Event.TheVariants as event
 use Rattle.history.proofs.Blocks.{succession_sound as succession_law}
-use Rattle.totals.specs.LookBack.{Game}
+use Rattle.totals.specs.LookBack.{Game, with_events}
 use Rattle.totals.specs.Shares.{president_of}
 use Rattle.history.specs.Sound.{IsSound}
 use Rattle.tables.specs.declared.roster.Company.{Company}
+use Rattle.history.specs.Games.{IsGame}
 use Rattle.tables.specs.declared.seat.Seat.{Seat}
 
 -- a presidency that has moved

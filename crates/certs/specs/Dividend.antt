@@ -3,7 +3,6 @@
 -- the bank pool; those of the initial offering are paid nothing. The token of the company on the
 -- chart moves right.
 use Rattle.std.specs.Prelude.{ℕ, ◌==◌, ◌*◌, ◌/◌, if◌then◌else◌, List, [], ◌∷◌, pos, ◌-ℤ◌, ◌≤ℤ◌}
-use Rattle.certs.specs.Games.{token_moved}
 use Rattle.events.specs.declared.event.Event.{Event}
 use Rattle.events.specs.declared.event.Event.TheVariants as event
 use Rattle.events.specs.declared.event.Holder.{Holder}
@@ -19,6 +18,7 @@ use Rattle.totals.specs.Trains.{at_least_zero}
 use Rattle.market.specs.Moves.{right_of}
 use Rattle.tables.specs.Seat.{all_seats}
 use Rattle.tables.specs.declared.roster.Company.{Company}
+use Rattle.market.specs.Token.{token_moved}
 use Rattle.tables.specs.declared.seat.Seat.{Seat}
 
 -- what each share of a company is paid of a revenue

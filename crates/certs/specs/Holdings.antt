@@ -7,7 +7,6 @@ use Rattle.events.specs.declared.event.Shareholder.{Shareholder}
 use Rattle.events.specs.declared.event.Transfer.{Transfer}
 use Rattle.totals.specs.LookBack.{Game, owner_in, owner_of}
 use Rattle.totals.specs.Shares.{brought_to, president_of, shares_of, square_of, taken_from}
-use Rattle.totals.specs.declared.look_back.GameView.{GameView}
 use Rattle.tables.specs.Roster.{index_of_company}
 use Rattle.tables.specs.declared.roster.Company.{Company}
 use Rattle.tables.specs.declared.roster.Private.{Private}
@@ -37,8 +36,8 @@ pub record AreHoldingsOf (game : Game) (holdings : Holdings) : Type 0 where
   pub owners : (private : Private) → owner_in holdings.owners private ≡ owner_of game.events private
 
 -- the holdings are those of a game as it stood
-abbrev pub AreHoldingsAt : GameView → Holdings → Type 0
-AreHoldingsAt view holdings = AreHoldingsOf (record { seats = view.seats; events = view.events.now }) holdings
+abbrev pub AreHoldingsAt : Game → Holdings → Type 0
+AreHoldingsAt view holdings = AreHoldingsOf (record { seats = view.seats; events = view.events }) holdings
 
 -- a transfer moves its shares, and nothing else
 pub record MovesShares (old new : Holdings) (transfer : Transfer) : Type 0 where

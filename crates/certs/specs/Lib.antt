@@ -1,4 +1,3 @@
-pub mod Games
 pub mod ShareRow
 pub mod CompanyTables
 pub mod Holdings

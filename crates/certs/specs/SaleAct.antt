@@ -4,7 +4,6 @@
 -- if the seat has the shares, the pool has room for them, a president remains and the company is
 -- started.
 use Rattle.std.specs.Prelude.{◌≡◌, ℕ, ◌*◌, ◌==◌, true, false, if◌then◌else◌, List, [], ◌∷◌, ◌++◌, Option, Some, None}
-use Rattle.certs.specs.Games.{token_moved, with_events}
 use Rattle.certs.specs.President.{successor_of}
 use Rattle.certs.specs.Purchase.{market_price_of}
 use Rattle.certs.specs.Sale.{is_not_held, is_over_five, must_stay}
@@ -14,8 +13,9 @@ use Rattle.events.specs.declared.event.Event.TheVariants as event
 use Rattle.totals.specs.Shares.{is_started, president_of}
 use Rattle.history.specs.Laws.{block_sold}
 use Rattle.market.specs.Moves.{fallen}
-use Rattle.totals.specs.LookBack.{Game}
+use Rattle.totals.specs.LookBack.{Game, with_events}
 use Rattle.tables.specs.declared.roster.Company.{Company}
+use Rattle.market.specs.Token.{token_moved}
 use Rattle.tables.specs.declared.seat.Seat.{Seat}
 
 -- with PRESIDENT if this seat now presides in place of another

@@ -19,7 +19,7 @@ pub(crate) struct CompanyTables {
 
 /// Returns the tables of the companies of a game.
 pub(crate) fn company_tables_of(view: &GameView) -> CompanyTables
-    ensures { AreCompanyTablesOf view.now.events.now result }
+    ensures { AreCompanyTablesOf view.now.events result }
 {
     CompanyTables {
         shares: rows_of(view),
@@ -30,7 +30,7 @@ pub(crate) fn company_tables_of(view: &GameView) -> CompanyTables
 
 /// Returns the shares of each company.
 fn rows_of(view: &GameView) -> PerCompany<Row>
-    ensures shares { AreSharesOf view.now.events.now result }
+    ensures shares { AreSharesOf view.now.events result }
     ensures bounded { AreBounded result }
 {
     [
@@ -47,7 +47,7 @@ fn rows_of(view: &GameView) -> PerCompany<Row>
 
 /// Returns the shares of a company.
 fn row_of(view: &GameView, company: Company) -> Row
-    ensures shares { IsRowOf view.now.events.now company result }
+    ensures shares { IsRowOf view.now.events company result }
     ensures bounded { IsBounded result }
 {
     [

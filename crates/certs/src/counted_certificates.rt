@@ -34,7 +34,7 @@ impl Certificates for Holdings {
 
 /// Returns the certificates by the events.
 impl Certificates for GameView<'_> {
-    ghost certificates = { λ view. certificates_now view.events.now };
+    ghost certificates = { λ view. certificates_now view.events };
 
     fn certificates_of(&self, seat: Seat, company: Company) -> ShareCount {
         let shares = self.shares(company, Shareholder::Seat(seat));
@@ -56,7 +56,7 @@ impl Holdings {
 /// Returns how many certificates of a seat count against the limit, by the events of a game, from
 /// its totals.
 pub fn counted_now(view: &GameView, seat: Seat) -> ShareCount
-    ensures { result ≡ counted_of view.now.events.now seat }
+    ensures { result ≡ counted_of view.now.events seat }
 {
     counted(&view.owners(), view, seat)
 }

@@ -1,7 +1,7 @@
 //! What a company pays out for its shares.
 ghost use Rattle.std.specs.Prelude.{◌≡◌, ◌≤◌, ◌≤ℤ◌, OnOk, pos};
 ghost use Rattle.certs.specs.Dividend.{all_paid, dividend_of, dividend_paid_to, paid_for, paid_out};
-ghost use Rattle.certs.specs.Games.{IsGame};
+ghost use Rattle.history.specs.Games.{IsGame};
 ghost use Rattle.events.specs.declared.event.Party.TheVariants as party;
 ghost use Rattle.history.specs.Money.{IsParty};
 ghost use Rattle.totals.specs.Shares.{shares_of};

@@ -41,7 +41,7 @@ impl Holdings {
             squares,
         } = company_tables_of(view);
         Holdings {
-            seats: view.seats,
+            seats: view.seats(),
             shares,
             presidents,
             squares,

@@ -27,7 +27,7 @@ impl SharesOfSeats for Holdings {
 
 /// Returns the shares by the events.
 impl SharesOfSeats for GameView<'_> {
-    ghost shares = { λ view. seat_shares_of view.events.now };
+    ghost shares = { λ view. seat_shares_of view.events };
 
     fn shares_of_seat(&self, company: Company, seat: Seat) -> ShareCount {
         self.shares(company, Shareholder::Seat(seat))
@@ -50,9 +50,9 @@ impl Holdings {
 /// some seat has strictly more shares. Then it is the seat with the most; if several have as many,
 /// the first to its left.
 pub fn successor(view: &GameView, company: Company, old: Seat) -> Seat
-    ensures { result ≡ successor_of view.now.seats view.now.events.now company old }
+    ensures { result ≡ successor_of view.now.seats view.now.events company old }
 {
-    with_most(view, company, view.seats, old)
+    with_most(view, company, view.seats(), old)
 }
 
 /// Returns the seat with the most shares of a company at a table of this many seats; if several

@@ -48,7 +48,7 @@ fn judge_purchase(
     bought: Option<Company>,
 ) -> Option<StockRule>
     ensures { result
-        ≡ purchase_judgement now.now.seats now.now.events.now seat purchase bought }
+        ≡ purchase_judgement now.now.seats now.now.events seat purchase bought }
 {
     let company = purchase.company();
     rules! { StockRule
@@ -66,7 +66,7 @@ fn judge_purchase(
 /// Returns whether no share is left where one is to be bought.
 #[tactic(auto, unfolding(crate::specs::Purchase::is_sold_out_there))]
 fn is_sold_out_there(now: &GameView, purchase: Purchase) -> bool
-    ensures { result ≡ is_sold_out_there now.now.events.now purchase }
+    ensures { result ≡ is_sold_out_there now.now.events purchase }
 {
     match purchase {
         Purchase::Par { .. } => false,
@@ -89,7 +89,7 @@ fn is_no_par(purchase: Purchase) -> bool
 /// Returns whether the purchase sets a par value for a company that has started, or buys a share of
 /// one that has not.
 fn is_wrong_start(now: &GameView, purchase: Purchase) -> bool
-    ensures { result ≡ is_wrong_start now.now.events.now purchase }
+    ensures { result ≡ is_wrong_start now.now.events purchase }
 {
     match purchase {
         Purchase::Par { company, .. } => now.is_started(company),
@@ -99,7 +99,7 @@ fn is_wrong_start(now: &GameView, purchase: Purchase) -> bool
 
 /// Returns what a purchase costs, in dollars: the president's certificate twice the par value.
 pub fn purchase_cost(now: &GameView, purchase: Purchase) -> Money
-    ensures { result ≡ pos (cost_of now.now.events.now purchase) }
+    ensures { result ≡ pos (cost_of now.now.events purchase) }
 {
     match purchase {
         Purchase::Par { price, .. } => Money::from(PRESIDENT_SHARES) * Money::from(price),
@@ -110,9 +110,9 @@ pub fn purchase_cost(now: &GameView, purchase: Purchase) -> Money
 /// Returns what a share of a company costs, in dollars: the par value in the initial offering, the
 /// market price in the pool.
 pub fn share_price(now: &GameView, company: Company, from: ShareSource) -> Money
-    ensures price { result ≡ pos (share_price_of now.now.events.now company from) }
-    ensures small { unwrap_or (par_of now.now.events.now company) 0 ≤ price_most →
-        share_price_of now.now.events.now company from ≤ price_most }
+    ensures price { result ≡ pos (share_price_of now.now.events company from) }
+    ensures small { unwrap_or (par_of now.now.events company) 0 ≤ price_most →
+        share_price_of now.now.events company from ≤ price_most }
 {
     match from {
         ShareSource::InitialOffering => now.par(company).unwrap_or(0),
@@ -123,7 +123,7 @@ pub fn share_price(now: &GameView, company: Company, from: ShareSource) -> Money
 /// Returns the market price of a company, in dollars, which is that of its square; 0 if it has
 /// none.
 pub fn market_price(now: &GameView, company: Company) -> Amount
-    ensures price { result ≡ market_price_of now.now.events.now company }
+    ensures price { result ≡ market_price_of now.now.events company }
     ensures small { result ≤ price_most }
 {
     match now.square(company) {
@@ -135,8 +135,8 @@ pub fn market_price(now: &GameView, company: Company) -> Amount
 /// Returns whether a purchase costs more than a seat's cash minus its bids.
 #[tactic(auto, unfolding(crate::specs::Purchase::is_short_of_cash))]
 fn is_short(now: &GameView, seat: Seat, purchase: Purchase) -> bool
-    ensures { result ≡ is_short_of_cash now.now.seats now.now.events.now seat
-        (cost_of now.now.events.now purchase) }
+    ensures { result ≡ is_short_of_cash now.now.seats now.now.events seat
+        (cost_of now.now.events purchase) }
 {
     now.free_cash(seat) < purchase_cost(now, purchase)
 }
@@ -144,7 +144,7 @@ fn is_short(now: &GameView, seat: Seat, purchase: Purchase) -> bool
 /// Returns whether a certificate of a company would count though the seat has reached the limit.
 #[tactic(auto, unfolding(crate::specs::Purchase::is_at_limit))]
 fn is_at_limit(now: &GameView, seat: Seat, company: Company) -> bool
-    ensures { result ≡ is_at_limit now.now.seats now.now.events.now seat company }
+    ensures { result ≡ is_at_limit now.now.seats now.now.events seat company }
 {
     counts_on(now.square(company)) && has_full_hand(now, seat)
 }
@@ -152,23 +152,23 @@ fn is_at_limit(now: &GameView, seat: Seat, company: Company) -> bool
 /// Returns whether as many of a seat's certificates count as the limit allows.
 fn has_full_hand(now: &GameView, seat: Seat) -> bool
     ensures { result ≡ le_z (pos (certificate_limit_of now.now.seats))
-        (counted_of now.now.events.now seat) }
+        (counted_of now.now.events seat) }
 {
-    counted_now(now, seat) >= certificate_limit(now.seats) as ShareCount
+    counted_now(now, seat) >= certificate_limit(now.seats()) as ShareCount
 }
 
 /// Returns whether with this many more shares a seat would have over six of a company, and the zone
 /// of the company's square does not lift that limit.
 #[tactic(auto, unfolding(crate::specs::Purchase::is_over_six))]
 pub fn is_over_six(now: &GameView, seat: Seat, company: Company, shares: u8) -> bool
-    ensures { result ≡ is_over_six now.now.events.now seat company shares }
+    ensures { result ≡ is_over_six now.now.events seat company shares }
 {
     !lifts_six(now, company) && would_have(now, seat, company, shares) > SHARES_MOST
 }
 
 /// Returns whether the zone of a company's square lifts the limit of six shares.
 fn lifts_six(now: &GameView, company: Company) -> bool
-    ensures { result ≡ holds_in_zone lifts_six (square_of now.now.events.now company) }
+    ensures { result ≡ holds_in_zone lifts_six (square_of now.now.events company) }
 {
     match now.square(company) {
         Some(square) => matches!(zone(square), Zone::Orange | Zone::Brown),
@@ -178,7 +178,7 @@ fn lifts_six(now: &GameView, company: Company) -> bool
 
 /// Returns what a seat would have of a company with this many more shares.
 fn would_have(now: &GameView, seat: Seat, company: Company, shares: u8) -> ShareCount
-    ensures { result ≡ shares_of now.now.events.now company (OfSeat seat) +ℤ pos shares }
+    ensures { result ≡ shares_of now.now.events company (OfSeat seat) +ℤ pos shares }
 {
     now.shares(company, Shareholder::Seat(seat)) + ShareCount::from(shares)
 }
@@ -186,7 +186,7 @@ fn would_have(now: &GameView, seat: Seat, company: Company, shares: u8) -> Share
 /// Returns whether a seat has bought already in its turn, and may not buy a second time.
 #[tactic(auto, unfolding(crate::specs::Purchase::is_second))]
 fn is_second(now: &GameView, company: Company, bought: Option<Company>) -> bool
-    ensures { result ≡ is_second now.now.events.now company bought }
+    ensures { result ≡ is_second now.now.events company bought }
 {
     match bought {
         Some(bought) => company != bought || !allows_several(now, company),
@@ -196,7 +196,7 @@ fn is_second(now: &GameView, company: Company, bought: Option<Company>) -> bool
 
 /// Returns whether several certificates of a company may be bought in a turn.
 fn allows_several(now: &GameView, company: Company) -> bool
-    ensures { result ≡ holds_in_zone allows_several (square_of now.now.events.now company) }
+    ensures { result ≡ holds_in_zone allows_several (square_of now.now.events company) }
 {
     match now.square(company) {
         Some(square) => zone(square) == Zone::Brown,

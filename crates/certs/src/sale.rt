@@ -36,7 +36,7 @@ fn judge_sale(
     sale: Sale,
     operating: Option<Company>,
 ) -> Option<StockRule>
-    ensures { result ≡ sale_judgement now.now.seats now.now.events.now seat sale operating }
+    ensures { result ≡ sale_judgement now.now.seats now.now.events seat sale operating }
 {
     rules! { StockRule
         SaleInFirstRound: is_first_stock(now),
@@ -49,7 +49,7 @@ fn judge_sale(
 
 /// Returns whether the round is the first stock round.
 fn is_first_stock(now: &GameView) -> bool
-    ensures { result ≡ is_first_stock (round_of now.now.events.now) }
+    ensures { result ≡ is_first_stock (round_of now.now.events) }
 {
     matches!(now.round(), Some(Round::Stock(1)))
 }
@@ -57,7 +57,7 @@ fn is_first_stock(now: &GameView) -> bool
 /// Returns whether the sale is of no shares, or of more than the seat has.
 #[tactic(auto, unfolding(crate::specs::Sale::is_not_held))]
 fn is_not_held(now: &GameView, seat: Seat, sale: Sale) -> bool
-    ensures { result ≡ is_not_held now.now.events.now seat sale }
+    ensures { result ≡ is_not_held now.now.events seat sale }
 {
     sale.shares == 0
         || now.shares(sale.company, Shareholder::Seat(seat)) < ShareCount::from(sale.shares)
@@ -66,14 +66,14 @@ fn is_not_held(now: &GameView, seat: Seat, sale: Sale) -> bool
 /// Returns whether the bank pool would hold over five shares of the company.
 #[tactic(auto, unfolding(crate::specs::Sale::is_over_five))]
 fn is_over_five(now: &GameView, sale: Sale) -> bool
-    ensures { result ≡ is_over_five now.now.events.now sale }
+    ensures { result ≡ is_over_five now.now.events sale }
 {
     would_be_pooled(now, sale) > ShareCount::from(POOL_SHARES_MOST)
 }
 
 /// Returns what the bank pool would hold of the company.
 fn would_be_pooled(now: &GameView, sale: Sale) -> ShareCount
-    ensures { result ≡ shares_of now.now.events.now sale.company BankPool +ℤ pos sale.shares }
+    ensures { result ≡ shares_of now.now.events sale.company BankPool +ℤ pos sale.shares }
 {
     now.shares(sale.company, Shareholder::BankPool) + ShareCount::from(sale.shares)
 }
@@ -81,7 +81,7 @@ fn would_be_pooled(now: &GameView, sale: Sale) -> ShareCount
 /// Returns whether the seat presides over the company, and may not sell this many of its shares.
 #[tactic(auto, unfolding(crate::specs::Sale::must_stay))]
 fn must_stay(now: &GameView, seat: Seat, sale: Sale, operating: Option<Company>) -> bool
-    ensures { result ≡ must_stay now.now.seats now.now.events.now seat sale operating }
+    ensures { result ≡ must_stay now.now.seats now.now.events seat sale operating }
 {
     now.president(sale.company) == Some(seat)
         && (none_is_left(now, seat, sale) || moves_operating(now, seat, sale, operating))
@@ -89,7 +89,7 @@ fn must_stay(now: &GameView, seat: Seat, sale: Sale, operating: Option<Company>)
 
 /// Returns whether the president would keep fewer than two shares, and no other seat has two.
 pub fn none_is_left(now: &GameView, seat: Seat, sale: Sale) -> bool
-    ensures { result ≡ none_is_left now.now.seats now.now.events.now seat sale }
+    ensures { result ≡ none_is_left now.now.seats now.now.events seat sale }
 {
     let least = ShareCount::from(PRESIDENT_SHARES);
     would_keep(now, seat, sale) < least && !another_has(now, sale.company, seat, least)
@@ -98,7 +98,7 @@ pub fn none_is_left(now: &GameView, seat: Seat, sale: Sale) -> bool
 /// Returns whether the sale is of the operating company, and another seat would have strictly more
 /// of it.
 fn moves_operating(now: &GameView, seat: Seat, sale: Sale, operating: Option<Company>) -> bool
-    ensures { result ≡ moves_operating now.now.seats now.now.events.now seat sale operating }
+    ensures { result ≡ moves_operating now.now.seats now.now.events seat sale operating }
 {
     match operating {
         Some(company) => company == sale.company && another_has_more(now, seat, sale),
@@ -108,15 +108,15 @@ fn moves_operating(now: &GameView, seat: Seat, sale: Sale, operating: Option<Com
 
 /// Returns whether another seat would have strictly more of the company.
 fn another_has_more(now: &GameView, seat: Seat, sale: Sale) -> bool
-    ensures { result ≡ another_has now.now.seats now.now.events.now sale.company seat
-        (kept_after now.now.events.now seat sale +ℤ pos 1) }
+    ensures { result ≡ another_has now.now.seats now.now.events sale.company seat
+        (kept_after now.now.events seat sale +ℤ pos 1) }
 {
     another_has(now, sale.company, seat, would_keep(now, seat, sale) + 1)
 }
 
 /// Returns what the seat would keep of the company.
 fn would_keep(now: &GameView, seat: Seat, sale: Sale) -> ShareCount
-    ensures kept { result ≡ kept_after now.now.events.now seat sale }
+    ensures kept { result ≡ kept_after now.now.events seat sale }
     ensures not_over { result ≤ℤ pos (2 ^ 100) }
 {
     now.shares(sale.company, Shareholder::Seat(seat)) - ShareCount::from(sale.shares)
@@ -125,11 +125,12 @@ fn would_keep(now: &GameView, seat: Seat, sale: Sale) -> ShareCount
 /// Returns whether another seat has at least this many shares of a company.
 fn another_has(now: &GameView, company: Company, seat: Seat, least: ShareCount) -> bool
     ensures { result
-        ≡ another_has now.now.seats now.now.events.now company seat least }
+        ≡ another_has now.now.seats now.now.events company seat least }
 {
+    let seats = now.seats();
     let mut other = seat;
-    for _ in 1..now.seats {
-        other = other.left(now.seats);
+    for _ in 1..seats {
+        other = other.left(seats);
         if now.shares(company, Shareholder::Seat(other)) >= least {
             return true;
         }

@@ -1,6 +1,7 @@
 //! What follows from a sale.
 ghost use Rattle.std.specs.Prelude.{◌≡◌, ◌≤◌, ◌<◌, OnOk};
-ghost use Rattle.certs.specs.Games.{IsGame, with_events};
+ghost use Rattle.history.specs.Games.{IsGame};
+ghost use Rattle.totals.specs.LookBack.{with_events};
 ghost use Rattle.certs.specs.SaleAct.{MaySell, after_sale, sold, succeeded, with_president};
 
 use crate::president::successor;

@@ -4,7 +4,7 @@ use Rattle.certs.proofs.company_tables.row_of.Goals as goal
 pub returns-clause-shares : goal.returns-clause-shares
 returns-clause-shares c =
     row_is
-    c.args.view.now.events.now
+    c.args.view.now.events
     c.args.company
     _ _ _ _ _ _ _ _
     (kept_is c.shares.result _ c.shares.ensures.within c.shares.ensures.sum)

@@ -13,4 +13,4 @@ returns c =
     to_z-of_z w128 c.counted.result (record { sfits = c.counted.type_inv })
     ∙ c.counted.ensures
     ∙ ap (λ (owner : Private → Option Holder). pos (privates_owned owner c.args.seat) +ℤ certificates_in
-    (certificates_now c.args.view.now.events.now c.args.seat) companies) (fun_ext c.owners.ensures.owner)
+    (certificates_now c.args.view.now.events c.args.seat) companies) (fun_ext c.owners.ensures.owner)

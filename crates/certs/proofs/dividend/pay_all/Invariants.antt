@@ -1,8 +1,8 @@
 use Rattle.std.proofs.Common.{◌≡◌, ◌-◌, map}
 use Rattle.std.specs.List.{range_with_len}
 use Rattle.certs.specs.Dividend.{paid_to_seats}
-use Rattle.certs.specs.Games.{IsGame}
 use Rattle.tables.specs.Seat.{all_seats, seat_at}
+use Rattle.history.specs.Games.{IsGame}
 use Rattle.certs.proofs.dividend.pay_all.Given as goal
 
 -- the dividends of the seats that are left lead from here where all lead from the start

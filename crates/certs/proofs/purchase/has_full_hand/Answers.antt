@@ -3,6 +3,7 @@ use Rattle.std.specs.Int.{w128}
 use Rattle.std.specs.Int.Signed.{le_z}
 use Rattle.std.proofs.lemmas.Int.{ints, to_z-of_z}
 use Rattle.certs.specs.Counted.{counted_of}
+use Rattle.tables.specs.Roster.{certificate_limit_of}
 use Rattle.certs.proofs.purchase.has_full_hand.Goals as goal
 use mir.Val.{to_z}
 
@@ -14,4 +15,5 @@ returns c =
     let small = c.certificate_limit.type_inv in
     let is : to_z w128 c.certificate_limit.result ≡ pos c.certificate_limit.result = omega (arith, ints, small) in
     ap (λ (z : ℤ). le_z (to_z w128 c.certificate_limit.result) z) counted
-    ∙ ap (λ (z : ℤ). le_z z (counted_of now.events.now c.args.seat)) (is ∙ ap pos c.certificate_limit.ensures)
+    ∙ ap (λ (z : ℤ). le_z z (counted_of now.events c.args.seat)) (is
+    ∙ ap pos (c.certificate_limit.ensures ∙ ap certificate_limit_of c.seats.ensures))

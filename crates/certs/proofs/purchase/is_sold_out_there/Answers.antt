@@ -10,7 +10,7 @@ use Rattle.certs.proofs.purchase.is_sold_out_there.Goals as goal
 pub returns-in-Share : goal.returns-in-Share
 unfolding is_sold_out_there
 returns-in-Share c =
-    let events = c.args.now.now.events.now in
+    let events = c.args.now.now.events in
     let fits : SFits w128 c.shares.result = record { sfits = c.shares.type_inv } in
     ap (λ (shares : ℤ). lt_z shares (pos 1)) (to_z-of_z w128 c.shares.result fits ∙ c.shares.ensures.sum)
     ∙ ap (λ (place : Shareholder). lt_z (shares_of events c.in-Share.company place) (pos 1)) c.of_source.ensures

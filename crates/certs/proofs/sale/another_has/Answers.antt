@@ -1,4 +1,4 @@
-use Rattle.std.proofs.Common.{true, false, ℤ, sym, ap, ◌∙◌, SFits}
+use Rattle.std.proofs.Common.{true, false, ℤ, sym, ap, ◌∙◌, SFits, ℕ}
 use Rattle.std.specs.Int.{w128}
 use Rattle.std.specs.Int.Signed.{le_z}
 use Rattle.std.proofs.lemmas.Int.{to_z-of_z}
@@ -13,11 +13,12 @@ returns-then-shares-least c =
     let least : ℤ = to_z w128 (of_z w128 c.args.least) in
     let fits : SFits w128 c.shares.result = record { sfits = c.shares.type_inv } in
     let shares = to_z-of_z w128 c.shares.result fits ∙ c.shares.ensures.sum in
-    one_has_from now.events.now c.args.company least now.seats c.loop.counter c.loop.other c.left-other.result true
+    one_has_from now.events c.args.company least c.seats-seats.result c.loop.counter c.loop.other c.left-other.result true
     c.loop-test.true c.left-other.ensures (ap (λ (z : ℤ). le_z least z) (sym shares) ∙ c.if-shares-least.true)
     ∙ c.loop.invariant
-    ∙ ap (λ (z : ℤ). another_has now.seats now.events.now c.args.company c.args.seat z)
+    ∙ ap (λ (z : ℤ). another_has c.seats-seats.result now.events c.args.company c.args.seat z)
     (to_z-of_z w128 c.args.least c.ranges.least)
+    ∙ ap (λ (n : ℕ). another_has n now.events c.args.company c.args.seat c.args.least) c.seats-seats.ensures
 
 pub loop-preserved : goal.loop-preserved
 loop-preserved c =
@@ -25,6 +26,6 @@ loop-preserved c =
     let least : ℤ = to_z w128 (of_z w128 c.args.least) in
     let fits : SFits w128 c.shares.result = record { sfits = c.shares.type_inv } in
     let shares = to_z-of_z w128 c.shares.result fits ∙ c.shares.ensures.sum in
-    one_has_from now.events.now c.args.company least now.seats c.loop.counter c.loop.other c.left-other.result false
+    one_has_from now.events c.args.company least c.seats-seats.result c.loop.counter c.loop.other c.left-other.result false
     c.loop-test.true c.left-other.ensures (ap (λ (z : ℤ). le_z least z) (sym shares) ∙ c.if-shares-least.false)
     ∙ c.loop.invariant

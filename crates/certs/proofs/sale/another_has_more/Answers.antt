@@ -10,10 +10,10 @@ use mir.Val.{of_z, to_z}
 pub returns : goal.returns
 returns c =
     let now = c.args.now.now in
-    let kept = kept_after now.events.now c.args.seat c.args.sale in
+    let kept = kept_after now.events c.args.seat c.args.sale in
     let is = c.would_keep.ensures.kept in
     let fits : SFits w128 c.would_keep.result = record { sfits = c.would_keep.type_inv } in
     let more : to_z w128 (of_z w128 (to_z w128 (of_z w128 c.would_keep.result) +ℤ pos 1)) ≡ kept +ℤ pos 1 =
     omega (arith, ints, is, fits, c.would_keep.ensures.not_over) in
     c.another_has.ensures
-    ∙ ap (λ (least : ℤ). another_has now.seats now.events.now c.args.sale.company c.args.seat least) more
+    ∙ ap (λ (least : ℤ). another_has now.seats now.events c.args.sale.company c.args.seat least) more

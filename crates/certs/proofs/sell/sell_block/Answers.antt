@@ -1,11 +1,11 @@
 use Rattle.std.proofs.Common.{◌≤◌, ap, ◌∙◌, arith}
 use Rattle.market.specs.Moves.{fallen}
 use Rattle.totals.specs.LookBack.{Game}
-use Rattle.certs.proofs.Games.{move_game, moved_there}
+use Rattle.certs.proofs.Games.{move_game}
 use Rattle.certs.proofs.SaleAllowed.{block_small}
 use Rattle.certs.proofs.Sales.{sold_game}
-use Rattle.certs.specs.Games.{token_moved}
 use Rattle.certs.specs.SaleAct.{with_president}
+use Rattle.market.specs.Token.{token_moved}
 use Rattle.certs.proofs.sell.sell_block.Goals as goal
 
 pub overflow_cast-shares : goal.overflow_cast-shares
@@ -20,8 +20,7 @@ pay_for_block-requires c =
 
 pub returns-clause-after : goal.returns-clause-after
 returns-clause-after c =
-    moved_there (fallen c.args.sale.shares) c.record_president.new.history c.move_token_down.new.history
-    c.args.sale.company c.in_ok-move_token_down.ensures.seats c.in_ok-move_token_down.ensures.events
+    c.in_ok-move_token_down.ensures
     ∙ ap (λ (game : Game). token_moved (fallen c.args.sale.shares) game c.args.sale.company)
     (c.in_ok-record_president.ensures
     ∙ ap (λ (game : Game). with_president game c.args.sale.company) c.in_ok-pay_for_block.ensures)
@@ -29,7 +28,7 @@ returns-clause-after c =
 pub returns-clause-game : goal.returns-clause-game
 returns-clause-game c =
     move_game (fallen c.args.sale.shares) c.record_president.new.history c.move_token_down.new.history
-    c.args.sale.company c.in_ok-move_token_down.ensures.seats c.in_ok-move_token_down.ensures.events
+    c.args.sale.company c.in_ok-move_token_down.ensures
     (sold_game c.args.history.now c.pay_for_block.new.history c.record_president.new.history c.args.seat c.args.sale
     c.requires.at_table c.requires.may c.requires.game c.in_ok-pay_for_block.ensures
     c.in_ok-record_president.ensures)
