@@ -158,5 +158,5 @@ pub bid_underway : (game new : Game) (private : Private) (seat : Seat) (amount :
     → new ≡ with_event game (event.Bids private seat amount) → IsUnderway game → IsUnderway new
 bid_underway game new private seat amount small seated may recorded before =
     event_underway game new (event.Bids private seat amount) refl (λ its other. refl) recorded
-    (bid_sound game private seat amount small seated (no_other_bid game private seat amount may before.sound)
-    may.pays.free before.sound) before
+    (bid_sound game private seat amount small seated (no_other_bid game private seat amount may before.game.sound)
+    may.pays.free before.game.sound) before

@@ -101,7 +101,7 @@ winner_pays game private bids are some cheapest underway =
     let one = made_of (IsStandingBid game.events private 0 game.seats) made is_won.winner bids is_won.bids all in
     let its : Bid = one.bid in
     let free : pos its.amount ≤ℤ free_for game.seats game.events its.seat private =
-    bid_free game.seats game.events private its.seat its.amount one.so.is_bid (underway.sound.solvent its.seat) in
+    bid_free game.seats game.events private its.seat its.amount one.so.is_bid (underway.game.sound.solvent its.seat) in
     let least : pos its.amount ≤ℤ won.1 = subst (λ (b : Bidder). bid_by b ≤ℤ won.1) (sym one.is)
     (of_one (λ (other : Bidder). bid_by other ≤ℤ won.1) bidders is_won.winner is_won.bids
     is_won.at_least_each_bid) in
@@ -111,7 +111,7 @@ winner_pays game private bids are some cheapest underway =
     (free_for game.seats game.events its.seat private) free in
     let small = limit_is_small its.amount (bid_limit_of game.events private its.seat)
     (free_for game.seats game.events its.seat private)
-    (underway.sound.bids_small private its.seat its.amount one.so.is_bid)
+    (underway.game.sound.bids_small private its.seat its.amount one.so.is_bid)
     (underway.waiting.limits private its.seat) in
     let size = size_of won.1 its.amount least in
     let seat : its.seat ≡ won.0 = ap (λ (b : Bidder). b.0) one.is ∙ sym is_won.buys in
@@ -143,15 +143,11 @@ auction_differs game private bids are differ =
     (subst AmountsDiffer (sym are) (bids_differ game.seats game.events private differ))
 
 -- bidders made of a list as it is now
-pub same_bidders : (game : Game) (private : Private) (bids : List Bid) (seats : ℕ) (events : List Event)
-    (items slice : List Bidder) → seats ≡ game.seats → events ≡ game.events
-    → items ≡ map (bidder_of seats events private) bids → slice ≡ items
+pub same_bidders : (game now : Game) (private : Private) (bids : List Bid) (items slice : List Bidder)
+    → now ≡ game → items ≡ map (bidder_of now.seats now.events private) bids → slice ≡ items
     → slice ≡ map (bidder_of game.seats game.events private) bids
-same_bidders game private bids seats events items slice same_seats same_events made sliced =
-    sliced
-    ∙ made
-    ∙ ap (λ (n : ℕ). map (bidder_of n events private) bids) same_seats
-    ∙ ap (λ (list : List Event). map (bidder_of game.seats list private) bids) same_events
+same_bidders game now private bids items slice same made sliced =
+    sliced ∙ made ∙ ap (λ (game : Game). map (bidder_of game.seats game.events private) bids) same
 
 -- the winner among them can pay
 pub payable : (game : Game) (private : Private) (bids : List Bid) (bidders : List Bidder) (won : Seat × ℤ)

@@ -44,8 +44,8 @@ pub price_underway : (game new : Game) (price : ℕ) → price ≡ sv_price_of g
     → new ≡ with_event game (event.Price price) → IsUnderway game → IsUnderway new
 price_underway game new price fallen some recorded before =
     event_underway game new (event.Price price) refl (λ its seat. refl) recorded
-    (price_sound game price (fallen_price (sv_price_of game.events) price fallen some before.sound.price)
-    (λ none. absurd (some none)) before.sound) before
+    (price_sound game price (fallen_price (sv_price_of game.events) price fallen some before.game.sound.price)
+    (λ none. absurd (some none)) before.game.sound) before
 
 -- one list of the same events
 pub two_more : {A : Type 0} (events : List A) (a b : A) → (events ++ a ∷ []) ++ b ∷ [] ≡ events ++ a ∷ b ∷ []
@@ -65,7 +65,7 @@ pub gift_underway : (game new : Game) (seat : Seat) → is_sold game.events Schu
 gift_underway game new seat unsold seated recorded before =
     subst IsUnderway (sym recorded)
     (record {
-      sound = gift_sound game seat unsold seated before.sound;
+      game = record { few = before.game.few; sound = gift_sound game seat unsold seated before.game.sound };
       waiting = waiting_silent (game.events ++ event.Price 0 ∷ []) (event.Sold SchuylkillValley seat 0) refl
           (λ its other. refl) (waiting_silent game.events (event.Price 0) refl (λ its other. refl) before.waiting);
     })
@@ -76,7 +76,7 @@ pub sold_underway : (game new : Game) (private : Private) (buyer : Seat) (price 
     → new ≡ with_event game (event.Sold private buyer price) → IsUnderway game → IsUnderway new
 sold_underway game new private buyer price may seated recorded before =
     event_underway game new (event.Sold private buyer price) refl (λ its seat. refl) recorded
-    (sale_sound game private buyer price may.unsold seated may.free before.sound) before
+    (sale_sound game private buyer price may.unsold seated may.free before.game.sound) before
 
 -- the sale of CA with its gift
 pub ca_underway : (game new : Game) (buyer : Seat) (price : ℕ) → MayPay game.seats game.events buyer CamdenAmboy price
@@ -85,8 +85,11 @@ pub ca_underway : (game new : Game) (buyer : Seat) (price : ℕ) → MayPay game
 ca_underway game new buyer price may seated recorded before =
     subst IsUnderway (sym recorded)
     (record {
-      sound = ca_sound game buyer price may.unsold (before.waiting.pennsylvania may.unsold) seated may.free
-          before.sound;
+      game = record {
+        few = before.game.few;
+        sound = ca_sound game buyer price may.unsold (before.waiting.pennsylvania may.unsold) seated may.free
+            before.game.sound;
+      };
       waiting = waiting_silent (game.events ++ event.Sold CamdenAmboy buyer price ∷ [])
           (event.Given company.Pennsylvania buyer 1) refl (λ its other. refl)
           (waiting_silent game.events (event.Sold CamdenAmboy buyer price) refl (λ its other. refl) before.waiting);
@@ -140,9 +143,12 @@ bop_underway game new buyer price par may seated is_par recorded before =
     (event.Given company.BaltimoreOhio buyer 2) refl (λ its other. refl) after_par in
     subst IsUnderway (sym recorded)
     (record {
-      sound = started_sound sold company.BaltimoreOhio buyer par
-          (ap is_par_value is_par ∙ par_set_is_par game.events buyer) unplaced seated
-          (sale_sound game BaltimoreOhio buyer price may.unsold seated may.free before.sound);
+      game = record {
+        few = before.game.few;
+        sound = started_sound sold company.BaltimoreOhio buyer par
+            (ap is_par_value is_par ∙ par_set_is_par game.events buyer) unplaced seated
+            (sale_sound game BaltimoreOhio buyer price may.unsold seated may.free before.game.sound);
+      };
       waiting = waiting_silent ((sold.events ++ event.Par company.BaltimoreOhio par ∷ [])
           ++ event.Given company.BaltimoreOhio buyer 2 ∷ []) (event.President company.BaltimoreOhio buyer) refl
           (λ its other. refl) after_gift;

@@ -1,7 +1,7 @@
 -- The standing bids on a private, in the order of the seats at the table.
 use Rattle.std.proofs.Common.{◌≡◌, ◌≢◌, ℕ, zero, suc, ◌+◌, ◌<◌, ◌≤◌, Bool, true, false, if◌then◌else◌, List, [], ◌∷◌}
 use Rattle.std.proofs.Common.{◌++◌, length, map, get_or, Option, Some, None, unwrap_or, pos, ◌≤ℤ◌, refl, sym, subst, ap}
-use Rattle.std.proofs.Common.{◌∙◌, arith}
+use Rattle.std.proofs.Common.{◌∙◌, arith, length-append}
 use Rattle.std.specs.List.{flat_map, range_with_len}
 use Rattle.std.proofs.lemmas.Int.{ints}
 use Rattle.events.specs.declared.event.Bid.{Bid}
@@ -9,6 +9,7 @@ use Rattle.events.specs.declared.event.Event.{Event}
 use Rattle.totals.proofs.Standing.{bids_split}
 use Rattle.totals.specs.Bids.{as_bid, bid_of, bids_on, free_cash_of, free_for, tied_on}
 use Rattle.totals.specs.LookBack.{Game, cheapest_of, first_unsold, is_sold}
+use Rattle.history.specs.Games.{IsGame}
 use Rattle.history.specs.Sound.{IsSound}
 use Rattle.privates.specs.Bank.{MayPay}
 use Rattle.tables.specs.Roster.{privates}
@@ -65,6 +66,32 @@ all_stand events private first (suc count) last within =
 pub bids_stand : (seats : ℕ) (events : List Event) (private : Private)
     → EachBid (IsStandingBid events private 0 seats) (bids_on seats events private)
 bids_stand seats events private = all_stand events private 0 seats seats (omega arith)
+
+-- a seat has at most one bid on a private
+one_most : (seat : Seat) (found : Option ℕ) → length (as_bid seat found) ≤ 1
+one_most seat None = omega arith
+one_most seat (Some amount) = omega arith
+
+-- so there are no more bids than seats
+bids_most : (events : List Event) (private : Private) (first count : ℕ)
+    → length (bids_from events private first count) ≤ count
+bids_most events private first zero = omega arith
+bids_most events private first (suc count) =
+    let here : List Bid = as_bid (seat_at first) (bid_of events private (seat_at first)) in
+    let others : List Bid = bids_from events private (first + 1) count in
+    let one : length here ≤ 1 = one_most (seat_at first) (bid_of events private (seat_at first)) in
+    let rest : length others ≤ count = bids_most events private (first + 1) count in
+    let all : length (bids_from events private first (suc count)) ≡ length here + length others =
+    length-append here others in
+    omega arith
+
+-- at most six in a game
+pub six_bids : (game : Game) (private : Private) (bids : List Bid)
+    → bids ≡ bids_on game.seats game.events private → IsGame game → length bids ≤ 6
+six_bids game private bids are its =
+    let few = its.few in
+    let most = bids_most game.events private 0 game.seats in
+    subst (λ (all : List Bid). length all ≤ 6) (sym are) (omega arith)
 
 -- each is of another amount than those after it
 abbrev pub AmountsDiffer : List Bid → Type 0

@@ -4,6 +4,7 @@ use Rattle.std.proofs.Common.{refl}
 use Rattle.std.specs.Prelude.{ℕ}
 use Rattle.events.specs.declared.event.Event.TheVariants as event
 use Rattle.totals.specs.LookBack.{Game, with_event}
+use Rattle.history.specs.Games.{IsGame}
 use Rattle.history.specs.Sound.{IsSound}
 use Rattle.history.specs.Record.{left_recorded}
 use Rattle.privates.specs.UnderwayKept.{begun_underway, event_underway, left_underway}
@@ -12,10 +13,10 @@ use Rattle.tables.specs.declared.round.Round.{Round}
 use Rattle.tables.specs.declared.seat.Seat.{Seat}
 
 -- the ROUND event begins it
-pub begins : (game : Game) (round : Round) → MayBegin game.events → IsSound (with_event game (event.Round round)) →
+pub begins : (game : Game) (round : Round) → MayBegin game.events → IsGame (with_event game (event.Round round)) →
     IsUnderway (with_event game (event.Round round))
-begins game round may sound =
-    begun_underway game (with_event game (event.Round round)) round refl may.pennsylvania may.baltimore sound
+begins game round may its =
+    begun_underway game (with_event game (event.Round round)) round refl may.pennsylvania may.baltimore its
 
 -- a pass keeps it
 pub pass_keeps_underway : (game : Game) (seat : Seat) → IsUnderway game → IsSound (with_event game (event.Passes seat))

@@ -1,5 +1,5 @@
 -- What keeps an opening round under way.
-use Rattle.std.proofs.Common.{◌≡◌, ℕ, ◌==◌, Bool, true, false, if◌then◌else◌, List, [], ◌∷◌, ◌++◌, Option, Some, None}
+use Rattle.std.proofs.Common.{◌≡◌, ℕ, ◌≤◌, ◌==◌, Bool, true, false, if◌then◌else◌, List, [], ◌∷◌, ◌++◌, Option, Some, None}
 use Rattle.std.proofs.Common.{is_some, append-nil, refl, sym, subst, ap, ◌∙◌}
 use Rattle.std.specs.Option.{option_or}
 use Rattle.events.specs.Event.{ownership_of, square_set}
@@ -9,6 +9,7 @@ use Rattle.events.specs.declared.event.Holder.{Holder}
 use Rattle.events.specs.declared.ruling.Ruling.{Ruling}
 use Rattle.totals.proofs.EventAtEnd.{last_said_at_end, square_of_before}
 use Rattle.totals.specs.LookBack.{Game, is_sold, last_said, owner_of, owner_said, with_event}
+use Rattle.history.specs.Games.{IsGame}
 use Rattle.history.specs.Sound.{IsSound}
 use Rattle.history.specs.Record.{after_revenues, breaks, paid_to_owner, revenues_recorded, with_broken, with_left}
 use Rattle.privates.specs.LimitsKept.{limit_said, limits_kept, limits_ruled, no_limits}
@@ -60,18 +61,18 @@ pub ruling_underway : (game new : Game) (seat : Seat) (line : ℕ) (ruling : Rul
 ruling_underway game new seat line ruling recorded small sound before =
     subst IsUnderway (sym recorded)
     (record {
-      sound = subst IsSound recorded sound;
+      game = record { few = before.game.few; sound = subst IsSound recorded sound };
       waiting = waiting_kept game.events (event.Ruled seat line ruling) refl
           (limits_ruled game.events seat line ruling small before.waiting.limits) before.waiting;
     })
 
 -- a round begins
 pub begun_underway : (game new : Game) (round : Round) → new ≡ with_event game (event.Round round)
-    → PennsylvaniaWaits game.events → BaltimoreWaits game.events → IsSound new → IsUnderway new
-begun_underway game new round recorded pennsylvania baltimore sound =
+    → PennsylvaniaWaits game.events → BaltimoreWaits game.events → IsGame new → IsUnderway new
+begun_underway game new round recorded pennsylvania baltimore its =
     subst IsUnderway (sym recorded)
     (record {
-      sound = subst IsSound recorded sound;
+      game = subst IsGame recorded its;
       waiting = record {
         pennsylvania = λ unsold. square_of_before game.events (event.Round round) Pennsylvania refl
             ∙ pennsylvania (unsold_before game.events (event.Round round) private.CamdenAmboy unsold);
@@ -87,7 +88,7 @@ pub event_underway : (game new : Game) (event : Event) → square_set event ≡ 
     → IsSound (with_event game event) → IsUnderway game → IsUnderway new
 event_underway game new event no_square silent recorded sound before =
     subst IsUnderway (sym recorded) (record {
-      sound = sound;
+      game = record { few = before.game.few; sound = sound };
       waiting =
           waiting_silent game.events event no_square silent before.waiting;
     })
@@ -142,7 +143,7 @@ pub revenues_underway : (game new : Game) → new ≡ revenues_recorded game →
     → IsUnderway new
 revenues_underway game new recorded sound before =
     record {
-      sound = sound;
+      game = record { few = subst (λ (after : Game). after.seats ≤ 6) (sym recorded) before.game.few; sound = sound };
       waiting = subst (λ (after : Game). IsWaiting after.events) (sym recorded)
           (waiting_revenues game.seats game.events privates before.waiting);
     }

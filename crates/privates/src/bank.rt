@@ -10,7 +10,7 @@ use tables::{Amount, Money, Private, Seat, face};
 /// Returns the price of a private at the bank, in dollars: SV's price may have fallen; that of the
 /// others is their face value.
 pub fn price_of_private(view: &GameView, private: Private) -> Amount
-    ensures { result ≡ price_of_private view.now.events.now private }
+    ensures { result ≡ price_of_private view.now.events private }
 {
     match private {
         Private::SchuylkillValley => view.sv_price(),
@@ -27,7 +27,7 @@ pub(crate) fn is_cheapest(owners: &Owners, private: Private) -> bool
 
 /// Returns whether a sum is over what a seat can spend on a private.
 pub(crate) fn is_short(view: &GameView, seat: Seat, private: Private, sum: Amount) -> bool
-    ensures { result ≡ is_short view.now.seats view.now.events.now seat private sum }
+    ensures { result ≡ is_short view.now.seats view.now.events seat private sum }
 {
     view.free_for(seat, private) < Money::from(sum)
 }

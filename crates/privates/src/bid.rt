@@ -21,7 +21,7 @@ pub(crate) fn judge_bid(
     turn_used: bool,
 ) -> Option<OpeningRule>
     ensures { result ≡ first_broken
-        (bid_rules view.now.seats view.now.events.now seat turn_used private amount) }
+        (bid_rules view.now.seats view.now.events seat turn_used private amount) }
 {
     let owners = view.owners();
     rules! { OpeningRule
@@ -37,7 +37,7 @@ pub(crate) fn judge_bid(
 /// on it.
 #[tactic(auto, using(crate::proofs::BidLemmas::near_greatest))]
 fn is_too_low(view: &GameView, private: Private, amount: Amount) -> bool
-    ensures { result ≡ is_too_low view.now.events.now private amount }
+    ensures { result ≡ is_too_low view.now.events private amount }
 {
     if u64::from(amount) < u64::from(face(private)) + u64::from(BID_STEP) {
         return true;

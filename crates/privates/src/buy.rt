@@ -1,6 +1,7 @@
 //! A purchase: in a turn a seat buys the cheapest unsold private, at the bank's price. What comes
 //! with the private follows, and the bids on the next one are settled at once.
-ghost use Rattle.std.specs.Prelude.{◌≡◌, ◌≤◌, ◌<◌, OnOk};
+ghost use Rattle.std.specs.Prelude.{◌≡◌, ◌<◌, OnOk};
+ghost use Rattle.totals.specs.LookBack.{with_events};
 ghost use Rattle.privates.specs.Bank.{MayPay, price_of_private};
 ghost use Rattle.privates.specs.Buy.{after_private_purchase, private_purchase_rules};
 ghost use Rattle.privates.specs.Underway.{IsUnderway};
@@ -20,7 +21,7 @@ pub(crate) fn judge_purchase(
     turn_used: bool,
 ) -> Option<OpeningRule>
     ensures { result ≡ first_broken
-        (private_purchase_rules view.now.seats view.now.events.now seat turn_used private) }
+        (private_purchase_rules view.now.seats view.now.events seat turn_used private) }
 {
     let owners = view.owners();
     rules! { OpeningRule
@@ -33,14 +34,12 @@ pub(crate) fn judge_purchase(
 
 /// Buys a private for a seat at the bank's price.
 pub(crate) fn buy(history: &mut History, seat: Seat, private: Private) -> Result<(), AllocError>
-    requires few { history.old.seats ≤ 6 }
     requires at_table { seat.0 < history.old.seats }
     requires may { MayPay history.old.seats history.old.events seat private
         (price_of_private history.old.events private) }
     requires underway { IsUnderway history.old }
-    ensures seats { OnOk result (history.new.seats ≡ history.old.seats) }
-    ensures events { OnOk result (history.new.events
-        ≡ after_private_purchase history.old.seats seat history.old.events private) }
+    ensures after { OnOk result (history.new ≡ with_events history.old
+        (after_private_purchase history.old.seats seat history.old.events private)) }
     ensures underway { OnOk result (IsUnderway history.new) }
 {
     let price = price_of_private(&history.now(), private);

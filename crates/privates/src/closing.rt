@@ -1,8 +1,8 @@
 //! The end of an opening round with a private still unsold: the price of SV falls, or, if SV is
 //! sold, each sold private pays its revenue.
-ghost use Rattle.std.specs.Prelude.{◌≡◌, ◌≢◌, ◌<◌, ◌≤◌, ◌-◌, OnOk, false};
+ghost use Rattle.std.specs.Prelude.{◌≡◌, ◌≢◌, ◌<◌, ◌-◌, OnOk, false};
 ghost use Rattle.events.specs.declared.event.Event.TheVariants as event;
-ghost use Rattle.totals.specs.LookBack.{is_sold, priority_of, sv_price_of, with_event};
+ghost use Rattle.totals.specs.LookBack.{is_sold, priority_of, sv_price_of, with_event, with_events};
 ghost use Rattle.history.specs.Record.{revenues_recorded};
 ghost use Rattle.privates.specs.Closing.{after_fall, given_away, opening_round_closed};
 ghost use Rattle.privates.specs.Underway.{IsUnderway};
@@ -18,12 +18,10 @@ const FALL: u32 = 5;
 
 /// Ends the round: unless all privates are sold, SV's price falls, or each sold private pays.
 pub(crate) fn close(history: &mut History) -> Result<(), AllocError>
-    requires few { history.old.seats ≤ 6 }
     requires some { 0 < history.old.seats }
     requires underway { IsUnderway history.old }
-    ensures seats { OnOk result (history.new.seats ≡ history.old.seats) }
-    ensures events { OnOk result (history.new.events
-        ≡ opening_round_closed history.old.seats history.old.events) }
+    ensures after { OnOk result (history.new ≡ with_events history.old
+        (opening_round_closed history.old.seats history.old.events)) }
     ensures underway { OnOk result (IsUnderway history.new) }
 {
     let owners = history.now().owners();
@@ -39,14 +37,12 @@ pub(crate) fn close(history: &mut History) -> Result<(), AllocError>
 
 /// Lowers the price of SV, which is unsold; at 0 SV goes to the holder of priority for nothing.
 fn lower_price(history: &mut History) -> Result<(), AllocError>
-    requires few { history.old.seats ≤ 6 }
     requires some { 0 < history.old.seats }
     requires unsold { is_sold history.old.events SchuylkillValley ≡ false }
     requires underway { IsUnderway history.old }
-    ensures seats { OnOk result (history.new.seats ≡ history.old.seats) }
-    ensures events { OnOk result (history.new.events
-        ≡ after_fall history.old.seats history.old.events (sv_price_of history.old.events - 5)
-        (priority_of history.old.seats history.old.events)) }
+    ensures after { OnOk result (history.new ≡ with_events history.old
+        (after_fall history.old.seats history.old.events (sv_price_of history.old.events - 5)
+        (priority_of history.old.seats history.old.events))) }
     ensures underway { OnOk result (IsUnderway history.new) }
 {
     let price = history.now().sv_price().saturating_sub(FALL);
@@ -75,8 +71,8 @@ fn give_away(history: &mut History, seat: Seat) -> Result<(), AllocError>
     requires unsold { is_sold history.old.events SchuylkillValley ≡ false }
     requires at_table { seat.0 < history.old.seats }
     requires underway { IsUnderway history.old }
-    ensures seats { OnOk result (history.new.seats ≡ history.old.seats) }
-    ensures events { OnOk result (history.new.events ≡ given_away history.old.events seat) }
+    ensures after { OnOk result (history.new
+        ≡ with_events history.old (given_away history.old.events seat)) }
     ensures underway { OnOk result (IsUnderway history.new) }
 {
     history.append(Event::Price { price: 0 })?;

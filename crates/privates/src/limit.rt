@@ -9,7 +9,7 @@ use tables::{Money, Private, rules};
 
 /// Returns the rule that a LIMIT breaks.
 pub(crate) fn judge_limit(view: &GameView, private: Private) -> Option<OpeningRule>
-    ensures { result ≡ first_broken (limit_rules view.now.events.now private) }
+    ensures { result ≡ first_broken (limit_rules view.now.events private) }
 {
     rules! { OpeningRule
         Sold: view.is_sold(private),
@@ -20,7 +20,7 @@ pub(crate) fn judge_limit(view: &GameView, private: Private) -> Option<OpeningRu
 /// ordered, or to what they can spend if that is less; without a limit only to their bid. It is at
 /// least their bid.
 pub(crate) fn auction_limit(view: &GameView, private: Private, bid: Bid) -> Money
-    ensures { result ≡ auction_limit view.now.seats view.now.events.now private bid }
+    ensures { result ≡ auction_limit view.now.seats view.now.events private bid }
 {
     let amount = Money::from(bid.amount);
     match view.limit(private, bid.seat) {

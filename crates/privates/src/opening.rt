@@ -65,7 +65,7 @@ impl TurnRules for OpeningTurns {
         closing::close(history)
     }
 
-    ghost stays_sound = { λ game underway. underway.sound };
+    ghost stays_game = { λ game underway. underway.game };
 
     ghost begins = { begins_underway };
 

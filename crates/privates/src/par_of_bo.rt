@@ -29,7 +29,7 @@ fn is_par_of_baltimore(company: Company, price: Amount) -> bool
 /// Returns the par value that a buyer of BOP sets for BO, in dollars: the one in their last obeyed
 /// PAR line, or else 67.
 pub(crate) fn par_set_by(view: &GameView, buyer: Seat) -> Amount
-    ensures par { result ≡ par_set_by view.now.events.now buyer }
+    ensures par { result ≡ par_set_by view.now.events buyer }
     ensures small { result ≤ 1000000 }
 {
     view.par_ordered(buyer).unwrap_or(PAR_UNLESS_ORDERED)

@@ -3,7 +3,7 @@ ghost use Rattle.std.specs.Prelude.{◌≡◌, ◌≤◌, ◌<◌, OnOk, Some, l
 ghost use Rattle.std.specs.Int.RustNames.{unsigned_abs};
 ghost use Rattle.events.specs.declared.event.Event.TheVariants as event;
 ghost use Rattle.totals.specs.Bids.{bids_on};
-ghost use Rattle.totals.specs.LookBack.{cheapest_of, with_event};
+ghost use Rattle.totals.specs.LookBack.{cheapest_of, with_event, with_events};
 ghost use Rattle.privates.specs.Bank.{MayPay};
 ghost use Rattle.privates.specs.Sale.{after_private_sale, bidder_of, settle_auctions, settled, settled_by};
 ghost use Rattle.tables.specs.declared.roster.Private.TheVariants.{BaltimoreOhio, CamdenAmboy};
@@ -28,9 +28,8 @@ pub(crate) fn sell(
     requires at_table { buyer.0 < history.old.seats }
     requires may { MayPay history.old.seats history.old.events buyer private price }
     requires underway { IsUnderway history.old }
-    ensures seats { OnOk result (history.new.seats ≡ history.old.seats) }
-    ensures events { OnOk result (history.new.events
-        ≡ after_private_sale history.old.events private buyer price) }
+    ensures after { OnOk result (history.new
+        ≡ with_events history.old (after_private_sale history.old.events private buyer price)) }
     ensures underway { OnOk result (IsUnderway history.new) }
 {
     match private {
@@ -72,9 +71,8 @@ fn sell_camden(history: &mut History, buyer: Seat, price: Amount) -> Result<(), 
     requires at_table { buyer.0 < history.old.seats }
     requires may { MayPay history.old.seats history.old.events buyer CamdenAmboy price }
     requires underway { IsUnderway history.old }
-    ensures seats { OnOk result (history.new.seats ≡ history.old.seats) }
-    ensures events { OnOk result (history.new.events
-        ≡ after_private_sale history.old.events CamdenAmboy buyer price) }
+    ensures after { OnOk result (history.new ≡ with_events history.old
+        (after_private_sale history.old.events CamdenAmboy buyer price)) }
     ensures underway { OnOk result (IsUnderway history.new) }
 {
     history.append(Event::Sold {
@@ -96,9 +94,8 @@ fn sell_baltimore(history: &mut History, buyer: Seat, price: Amount) -> Result<(
     requires at_table { buyer.0 < history.old.seats }
     requires may { MayPay history.old.seats history.old.events buyer BaltimoreOhio price }
     requires underway { IsUnderway history.old }
-    ensures seats { OnOk result (history.new.seats ≡ history.old.seats) }
-    ensures events { OnOk result (history.new.events
-        ≡ after_private_sale history.old.events BaltimoreOhio buyer price) }
+    ensures after { OnOk result (history.new ≡ with_events history.old
+        (after_private_sale history.old.events BaltimoreOhio buyer price)) }
     ensures underway { OnOk result (IsUnderway history.new) }
 {
     let company = Company::BaltimoreOhio;
@@ -127,11 +124,9 @@ fn sell_baltimore(history: &mut History, buyer: Seat, price: Amount) -> Result<(
 /// Makes the sales that follow from a sale: as long as there are bids on the cheapest private,
 /// sells it.
 pub(crate) fn settle_all(history: &mut History) -> Result<(), AllocError>
-    requires few { history.old.seats ≤ 6 }
     requires underway { IsUnderway history.old }
-    ensures seats { OnOk result (history.new.seats ≡ history.old.seats) }
-    ensures events { OnOk result (history.new.events
-        ≡ settled history.old.seats history.old.events) }
+    ensures after { OnOk result (history.new
+        ≡ with_events history.old (settled history.old.seats history.old.events)) }
     ensures underway { OnOk result (IsUnderway history.new) }
 {
     for _private in &Private::ALL {
@@ -142,11 +137,9 @@ pub(crate) fn settle_all(history: &mut History) -> Result<(), AllocError>
 
 /// Sells the cheapest private, if there are bids on it.
 fn settle(history: &mut History) -> Result<(), AllocError>
-    requires few { history.old.seats ≤ 6 }
     requires underway { IsUnderway history.old }
-    ensures seats { OnOk result (history.new.seats ≡ history.old.seats) }
-    ensures events { OnOk result (history.new.events
-        ≡ settle_auctions history.old.seats history.old.events) }
+    ensures after { OnOk result (history.new
+        ≡ with_events history.old (settle_auctions history.old.seats history.old.events)) }
     ensures underway { OnOk result (IsUnderway history.new) }
 {
     match history.now().cheapest_unsold() {
@@ -157,13 +150,11 @@ fn settle(history: &mut History) -> Result<(), AllocError>
 
 /// Sells this private, the cheapest one, if there are bids on it.
 fn settle_bids(history: &mut History, private: Private) -> Result<(), AllocError>
-    requires few { history.old.seats ≤ 6 }
     requires cheapest { cheapest_of history.old.events ≡ Some private }
     requires underway { IsUnderway history.old }
-    ensures seats { OnOk result (history.new.seats ≡ history.old.seats) }
-    ensures events { OnOk result (history.new.events
-        ≡ settled_by history.old.seats history.old.events private
-        (bids_on history.old.seats history.old.events private)) }
+    ensures after { OnOk result (history.new ≡ with_events history.old
+        (settled_by history.old.seats history.old.events private
+        (bids_on history.old.seats history.old.events private))) }
     ensures underway { OnOk result (IsUnderway history.new) }
 {
     let bids = history.now().bids_on(private);
@@ -176,14 +167,12 @@ fn settle_bids(history: &mut History, private: Private) -> Result<(), AllocError
 
 /// Sells the cheapest private to the winner of an auction among those who bid on it.
 fn sell_by_auction(history: &mut History, private: Private, bids: &[Bid]) -> Result<(), AllocError>
-    requires few { length bids.now ≤ 6 }
     requires two { 2 ≤ length bids.now }
     requires cheapest { cheapest_of history.old.events ≡ Some private }
     requires bids { bids.now ≡ bids_on history.old.seats history.old.events private }
     requires underway { IsUnderway history.old }
-    ensures seats { OnOk result (history.new.seats ≡ history.old.seats) }
-    ensures events { OnOk result (history.new.events
-        ≡ settled_by history.old.seats history.old.events private bids.now) }
+    ensures after { OnOk result (history.new ≡ with_events history.old
+        (settled_by history.old.seats history.old.events private bids.now)) }
     ensures underway { OnOk result (IsUnderway history.new) }
 {
     let bidders = bidders_of(&history.now(), private, bids);
@@ -207,7 +196,7 @@ fn bidders_of(
     bids: &[Bid],
 ) -> ArrayVec<(Seat, Money, Money), PLAYERS_MOST>
     requires { length bids.now ≤ 6 }
-    ensures { result.items ≡ map (bidder_of view.now.seats view.now.events.now private)
+    ensures { result.items ≡ map (bidder_of view.now.seats view.now.events private)
         bids.now }
 {
     let mut bidders = ArrayVec::new();
@@ -219,7 +208,7 @@ fn bidders_of(
 
 /// Returns a bidder with a bid and a limit.
 fn bidder_of(view: &GameView, private: Private, bid: Bid) -> (Seat, Money, Money)
-    ensures { result ≡ bidder_of view.now.seats view.now.events.now private bid }
+    ensures { result ≡ bidder_of view.now.seats view.now.events private bid }
 {
     let limit = auction_limit(view, private, bid);
     (bid.seat, Money::from(bid.amount), limit)

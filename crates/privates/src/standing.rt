@@ -1,5 +1,6 @@
 //! The standing lines of an opening sheet, the lines before its first written turn: LIMIT and PAR.
 ghost use Rattle.std.specs.Prelude.{◌≡◌, OnOk};
+ghost use Rattle.totals.specs.LookBack.{with_events};
 ghost use Rattle.turns.specs.Small.{IsSmallReading};
 ghost use Rattle.privates.specs.Standing.{after_opening_standing_line, has_place_before_turns};
 ghost use Rattle.privates.specs.Standing.{opening_standing_judgement, opening_standing_refusal};
@@ -43,9 +44,8 @@ pub(crate) fn rule_standing_line(
 ) -> Result<(), AllocError>
     requires small { IsSmallReading (line_unread line).reading }
     requires underway { IsUnderway history.old }
-    ensures seats { OnOk result (history.new.seats ≡ history.old.seats) }
-    ensures events { OnOk result (history.new.events
-        ≡ after_opening_standing_line seat history.old.events (line_unread line.entry)) }
+    ensures after { OnOk result (history.new ≡ with_events history.old
+        (after_opening_standing_line seat history.old.events (line_unread line.entry))) }
     ensures underway { OnOk result (IsUnderway history.new) }
 {
     turns::rule_line(&StandingLines, history, seat, line, order)?;

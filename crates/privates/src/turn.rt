@@ -1,5 +1,6 @@
 //! The lines of a written turn: in a turn a seat may buy or bid, once.
-ghost use Rattle.std.specs.Prelude.{◌≡◌, ◌≤◌, ◌<◌, OnOk, IfOk};
+ghost use Rattle.std.specs.Prelude.{◌≡◌, ◌<◌, OnOk, IfOk};
+ghost use Rattle.totals.specs.LookBack.{with_events};
 ghost use Rattle.privates.specs.Turn.{MayAct, after_opening_line, after_opening_order, opening_judgement};
 ghost use Rattle.privates.specs.Turn.{opening_refusal};
 ghost use Rattle.privates.specs.Underway.{IsUnderway};
@@ -49,7 +50,6 @@ pub(crate) fn rule_line(
     order: &mut Order,
     turn_used: bool,
 ) -> Result<bool, AllocError>
-    requires few { history.old.seats ≤ 6 }
     requires at_table { seat.0 < history.old.seats }
     requires small { IsSmallReading (line_unread line).reading }
     requires underway { IsUnderway history.old }
@@ -82,14 +82,12 @@ pub fn judge(history: &History, seat: Seat, order: &Order, turn_used: bool) -> O
 
 /// Carries out what a seat orders in its turn.
 fn act(history: &mut History, seat: Seat, order: &Order) -> Result<(), AllocError>
-    requires few { history.old.seats ≤ 6 }
     requires at_table { seat.0 < history.old.seats }
     requires small { IsSmallOrder order.now }
     requires may { MayAct history.old.seats history.old.events seat order.now }
     requires underway { IsUnderway history.old }
-    ensures seats { OnOk result (history.new.seats ≡ history.old.seats) }
-    ensures events { OnOk result (history.new.events
-        ≡ after_opening_order history.old.seats seat history.old.events order.now) }
+    ensures after { OnOk result (history.new ≡ with_events history.old
+        (after_opening_order history.old.seats seat history.old.events order.now)) }
     ensures underway { OnOk result (IsUnderway history.new) }
 {
     match order {

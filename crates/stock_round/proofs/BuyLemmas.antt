@@ -5,7 +5,6 @@ use Rattle.std.proofs.lemmas.Int.{ints}
 use Rattle.std.specs.Int.Signed.{lt_z}
 use Rattle.std.proofs.lemmas.Bool.{not-false}
 use Rattle.certs.proofs.SaleAllowed.{same_start}
-use Rattle.certs.specs.Games.{IsGame, with_events}
 use Rattle.certs.specs.Purchase.{is_sold_out_there, purchase_judgement, share_price_of, share_purchase_rules}
 use Rattle.certs.specs.declared.share_deal.Purchase.TheVariants as purchase
 use Rattle.events.specs.Event.{place_of_source}
@@ -17,7 +16,7 @@ use Rattle.history.proofs.Purchases.{purchase_sound as purchase_law}
 use Rattle.history.specs.Sound.{IsSound}
 use Rattle.totals.specs.AtEnd.{SaysTheSame}
 use Rattle.totals.specs.Bids.{free_cash_of}
-use Rattle.totals.specs.LookBack.{Game, with_event}
+use Rattle.totals.specs.LookBack.{Game, with_event, with_events}
 use Rattle.totals.specs.Shares.{is_started, shares_of, square_of}
 use Rattle.order_grammar.specs.declared.order.ShareSource.{ShareSource}
 use Rattle.stock_round.proofs.FloatLemmas.{in_what_follows}
@@ -28,6 +27,7 @@ use Rattle.tables.specs.declared.roster.Company.{Company}
 use Rattle.tables.specs.declared.seat.Seat.{Seat}
 use Rattle.tables.specs.declared.squares.Square.{Square}
 use Rattle.turns.proofs.Acted.{in_both, one_more}
+use Rattle.history.specs.Games.{IsGame}
 use Rattle.turns.specs.Acted.{SaysWhoActed}
 
 -- a share can be bought

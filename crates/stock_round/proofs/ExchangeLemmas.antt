@@ -14,7 +14,6 @@ use Rattle.events.specs.declared.event.Holder.TheVariants as holder
 use Rattle.events.specs.declared.event.Shareholder.TheVariants.{InitialOffering, BankPool, Seat as OfSeat}
 use Rattle.events.specs.declared.ruling.StockRule.TheVariants.{NoExchange}
 use Rattle.history.proofs.Purchases.{exchange_sound as exchange_law}
-use Rattle.certs.specs.Games.{IsGame}
 use Rattle.totals.specs.AtEnd.{SaysTheSame}
 use Rattle.totals.specs.LookBack.{Game, is_owner, owner_of, with_event}
 use Rattle.totals.specs.Shares.{shares_of, square_of}
@@ -30,6 +29,7 @@ use Rattle.tables.specs.declared.roster.Private.TheVariants.{MohawkHudson}
 use Rattle.tables.specs.declared.seat.Seat.{Seat}
 use Rattle.tables.specs.declared.squares.Square.{Square}
 use Rattle.turns.proofs.Acted.{in_both, one_more}
+use Rattle.history.specs.Games.{IsGame}
 use Rattle.turns.specs.Acted.{SaysWhoActed}
 
 -- MH can be given up

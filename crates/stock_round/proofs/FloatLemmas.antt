@@ -4,7 +4,6 @@ use Rattle.std.proofs.Common.{Option, Some, None, ℤ, pos, ◌≤ℤ◌, refl, 
 use Rattle.std.proofs.lemmas.Int.{ints}
 use Rattle.std.specs.Int.Signed.{lt_z}
 use Rattle.std.specs.Prelude.{unwrap_or}
-use Rattle.certs.specs.Games.{IsGame}
 use Rattle.certs.specs.President.{successor_of}
 use Rattle.certs.specs.SaleAct.{with_president, with_successor}
 use Rattle.events.specs.declared.event.Event.{Event}
@@ -22,6 +21,7 @@ use Rattle.tables.specs.declared.roster.Private.TheVariants.{MohawkHudson, Camde
 use Rattle.tables.specs.declared.seat.Seat.{Seat}
 use Rattle.tables.specs.declared.squares.Square.{Square}
 use Rattle.turns.proofs.Acted.{in_both, in_either, nobody, one_more}
+use Rattle.history.specs.Games.{IsGame}
 use Rattle.turns.specs.Acted.{SaysWhoActed}
 
 -- a company that is to float has few shares left

@@ -2,12 +2,11 @@
 -- what parties have and own.
 use Rattle.std.proofs.Common.{◌≡◌, List, [], ◌∷◌, ◌++◌, Option, None, refl, sym, subst, ◌∙◌}
 use Rattle.certs.proofs.SaleAllowed.{sale_allowed, still_may_sell}
-use Rattle.certs.specs.Games.{with_events}
 use Rattle.events.specs.Event.{IsQuiet}
 use Rattle.events.specs.declared.event.Event.{Event}
 use Rattle.totals.proofs.EventAtEnd.{quiet_same}
 use Rattle.totals.specs.AtEnd.{SaysTheSame}
-use Rattle.totals.specs.LookBack.{Game, with_event}
+use Rattle.totals.specs.LookBack.{Game, with_event, with_events}
 use Rattle.order_grammar.specs.declared.order.Order.{Order}
 use Rattle.order_grammar.specs.declared.order.Order.TheVariants.{Par, BuyShare, Sell, ExchangeMohawk}
 use Rattle.stock_round.proofs.BuyLemmas.{purchase_allowed, still_may_buy}

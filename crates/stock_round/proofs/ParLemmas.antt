@@ -11,10 +11,9 @@ use Rattle.events.specs.declared.event.Event.{Event}
 use Rattle.events.specs.declared.event.Event.TheVariants as event
 use Rattle.events.specs.declared.ruling.StockRule.TheVariants.{NoParValue, WrongStart, CashTooSmall}
 use Rattle.history.proofs.Purchases.{start_by_purchase_sound}
-use Rattle.certs.specs.Games.{IsGame, with_events}
 use Rattle.totals.specs.AtEnd.{SaysTheSame}
 use Rattle.totals.specs.Bids.{free_cash_of}
-use Rattle.totals.specs.LookBack.{Game, with_event}
+use Rattle.totals.specs.LookBack.{Game, with_event, with_events}
 use Rattle.totals.specs.Shares.{square_of}
 use Rattle.order_grammar.specs.declared.order.ShareSource.TheVariants.{InitialOffering}
 use Rattle.stock_round.proofs.PriceLemmas.{paid, same_purse}
@@ -23,6 +22,7 @@ use Rattle.tables.proofs.Rules.{not_broken}
 use Rattle.tables.specs.declared.roster.Company.{Company}
 use Rattle.tables.specs.declared.seat.Seat.{Seat}
 use Rattle.turns.proofs.Acted.{in_both, one_more}
+use Rattle.history.specs.Games.{IsGame}
 use Rattle.turns.specs.Acted.{SaysWhoActed}
 
 -- a company can be started where no rule is broken

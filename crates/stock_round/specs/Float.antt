@@ -2,13 +2,12 @@
 -- times its par value. A company floats once.
 use Rattle.std.specs.Prelude.{ℕ, ◌*◌, Bool, not, ◌&&◌, if◌then◌else◌, List, unwrap_or, pos}
 use Rattle.std.specs.Int.Signed.{lt_z}
-use Rattle.certs.specs.Games.{with_events}
 use Rattle.events.specs.declared.event.Event.{Event}
 use Rattle.events.specs.declared.event.Event.TheVariants as event
 use Rattle.events.specs.declared.event.Shareholder.TheVariants.{InitialOffering}
 use Rattle.totals.specs.Shares.{is_floated, par_of, shares_of}
 use Rattle.history.specs.Record.{broken_recorded}
-use Rattle.totals.specs.LookBack.{Game, with_event}
+use Rattle.totals.specs.LookBack.{Game, with_event, with_events}
 use Rattle.tables.specs.declared.roster.Company.{Company}
 
 -- the most shares that are left in the initial offering of a company that floats

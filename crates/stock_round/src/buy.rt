@@ -5,7 +5,7 @@
 //!
 //! The rules are those of a purchase in `certs` (`share_purchase_rules`).
 ghost use Rattle.std.specs.Prelude.{◌≡◌, ◌<◌, OnOk};
-ghost use Rattle.certs.specs.Games.{IsGame};
+ghost use Rattle.history.specs.Games.{IsGame};
 ghost use Rattle.stock_round.specs.Buy.{MayBuy, after_purchase, buy_judgement, share_bought};
 
 use crate::float::record_float;

@@ -1,6 +1,7 @@
 //! The end of a stock round: sold-out companies move up on the chart.
 ghost use Rattle.std.specs.Prelude.{◌≡◌, OnOk};
-ghost use Rattle.certs.specs.Games.{IsGame, with_events};
+ghost use Rattle.history.specs.Games.{IsGame};
+ghost use Rattle.totals.specs.LookBack.{with_events};
 ghost use Rattle.stock_round.specs.Closing.{all_risen, is_sold_out, risen, stock_round_closed};
 
 use history::{History, Shareholder};

@@ -3,7 +3,7 @@
 //! costs nothing, and counts neither as a purchase nor as a sale. The presidency of NYC passes and
 //! NYC floats as after a purchase.
 ghost use Rattle.std.specs.Prelude.{◌≡◌, ◌<◌, OnOk};
-ghost use Rattle.certs.specs.Games.{IsGame};
+ghost use Rattle.history.specs.Games.{IsGame};
 ghost use Rattle.stock_round.specs.Exchange.{MayExchange, after_exchange, exchange_judgement, exchange_source};
 ghost use Rattle.stock_round.specs.Exchange.{exchanged, is_no_exchange, is_offered, is_pooled};
 ghost use Rattle.totals.specs.LookBack.{is_owner, owner_of};

@@ -2,7 +2,7 @@
 //! pays its capital.
 ghost use Rattle.std.specs.Prelude.{◌≡◌, OnOk, true, unwrap_or};
 ghost use Rattle.totals.specs.Shares.{par_of};
-ghost use Rattle.certs.specs.Games.{IsGame};
+ghost use Rattle.history.specs.Games.{IsGame};
 ghost use Rattle.stock_round.specs.Float.{floated_at, is_to_float, with_float};
 
 use crate::prices::par_value;

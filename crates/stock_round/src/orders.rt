@@ -1,6 +1,6 @@
 //! The orders of a turn: which rule one breaks, and what follows if it breaks none.
 ghost use Rattle.std.specs.Prelude.{◌≡◌, ◌<◌, IfOk, OnOk};
-ghost use Rattle.certs.specs.Games.{IsGame};
+ghost use Rattle.history.specs.Games.{IsGame};
 ghost use Rattle.stock_round.specs.Deals.{with_deal};
 ghost use Rattle.stock_round.specs.Orders.{MayAct, after_stock_order, stock_judgement};
 

@@ -3,7 +3,7 @@
 //!
 //! The rules are those of a purchase in `certs` (`share_purchase_rules`).
 ghost use Rattle.std.specs.Prelude.{◌≡◌, ◌<◌, OnOk};
-ghost use Rattle.certs.specs.Games.{IsGame};
+ghost use Rattle.history.specs.Games.{IsGame};
 ghost use Rattle.stock_round.specs.Par.{MayStart, after_start, par_judgement};
 
 use certs::{Purchase, may_buy};

@@ -1,5 +1,6 @@
 //! A stock round as a round of turns, and the call that plays it.
 ghost use Rattle.std.specs.Prelude.{◌≡◌, IfOk, length, refl};
+ghost use Rattle.history.specs.Games.{IsGame};
 ghost use Rattle.history.specs.Sound.{IsSound};
 ghost use Rattle.sheets.specs.File.{players_of};
 ghost use Rattle.stock_round.specs.StockRound.{IsStockRound};
@@ -24,7 +25,7 @@ impl TurnRules for StockTurns {
 
     ghost may_begin = { λ events. Unit {0} };
 
-    ghost holds = { IsSound };
+    ghost holds = { IsGame };
 
     fn rule_standing_line(
         &self,
@@ -66,13 +67,13 @@ impl TurnRules for StockTurns {
         closing::close(history)
     }
 
-    ghost stays_sound = { λ game sound. sound };
+    ghost stays_game = { λ game its. its };
 
-    ghost begins = { λ game round may sound. sound };
+    ghost begins = { λ game round may its. its };
 
-    ghost passes = { λ game seat before sound. sound };
+    ghost passes = { λ game seat before sound. record { few = before.few; sound = sound } };
 
-    ghost leaves = { λ game seat lines before sound. sound };
+    ghost leaves = { λ game seat lines before sound. record { few = before.few; sound = sound } };
 
     ghost idle = { refl };
 }
@@ -91,5 +92,6 @@ pub fn play_stock(
     ensures round { IfOk result (λ new. IsStockRound sheets.now round history new) }
     ensures sound { IfOk result IsSound }
 {
-    play_round(&StockTurns, history, sheets, round)
+    let history = play_round(&StockTurns, history, sheets, round)?;
+    Ok(history)
 }

@@ -4,7 +4,7 @@
 //!
 //! The rules are those of a sale in `certs` (`sale_rules`).
 ghost use Rattle.std.specs.Prelude.{◌≡◌, ◌<◌, OnOk};
-ghost use Rattle.certs.specs.Games.{IsGame};
+ghost use Rattle.history.specs.Games.{IsGame};
 ghost use Rattle.stock_round.specs.Sell.{MaySell, after_sale, sale_of, sell_judgement};
 
 use certs::{Sale, may_sell, sell_block};

@@ -1,8 +1,8 @@
 //! The standing lines of a sheet for a stock round. Each has a fault, since every order is out of
 //! place there.
 ghost use Rattle.std.specs.Prelude.{◌≡◌, OnOk};
-ghost use Rattle.certs.specs.Games.{with_events};
-ghost use Rattle.history.specs.Sound.{IsSound};
+ghost use Rattle.totals.specs.LookBack.{with_events};
+ghost use Rattle.history.specs.Games.{IsGame};
 ghost use Rattle.sheets.specs.Part.{line_unread};
 ghost use Rattle.stock_round.specs.Standing.{after_stock_standing_line};
 
@@ -21,11 +21,12 @@ pub(crate) fn rule_standing_line(
     line: UnreadLine,
     order: &mut Order,
 ) -> Result<(), AllocError>
-    requires { IsSound history.old }
+    requires { IsGame history.old }
     ensures after { OnOk result (history.new ≡ with_events history.old
         (after_stock_standing_line seat history.old.events (line_unread line.entry))) }
-    ensures sound { OnOk result (IsSound history.new) }
+    ensures game { OnOk result (IsGame history.new) }
 {
     let fault = fault_out_of_place(line, order);
-    record_fault(history, seat, line.number, fault)
+    record_fault(history, seat, line.number, fault)?;
+    Ok(())
 }

@@ -1,7 +1,7 @@
 //! The lines of a written turn of a stock round: which orders are allowed in it, by which rules
 //! they are judged, and what they do.
 ghost use Rattle.std.specs.Prelude.{◌≡◌, ◌≤◌, ◌<◌, OnOk, IfOk};
-ghost use Rattle.certs.specs.Games.{IsGame};
+ghost use Rattle.history.specs.Games.{IsGame};
 ghost use Rattle.sheets.specs.Part.{line_unread};
 ghost use Rattle.stock_round.specs.Orders.{stock_refusal};
 ghost use Rattle.stock_round.specs.Turn.{after_stock_line};

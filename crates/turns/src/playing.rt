@@ -3,9 +3,10 @@
 ghost use Rattle.std.specs.Prelude.{◌≡◌, ◌<◌, ◌≤◌, ◌++◌, [], All, IfOk, OnOk, length, map};
 ghost use Rattle.std.specs.List.{range_with_len};
 ghost use Rattle.events.specs.declared.event.Event.TheVariants as event;
-ghost use Rattle.totals.specs.LookBack.{with_event};
-ghost use Rattle.history.specs.Sound.{IsSound};
+ghost use Rattle.totals.specs.LookBack.{with_event, with_events};
+ghost use Rattle.history.specs.Games.{IsGame};
 ghost use Rattle.history.specs.Record.{left_recorded};
+ghost use Rattle.history.specs.Sound.{IsSound};
 ghost use Rattle.sheets.specs.File.{players_of};
 ghost use Rattle.sheets.specs.Part.{written_turns_of};
 ghost use Rattle.sheets.specs.Taken.{after_each};
@@ -60,6 +61,8 @@ fn play_whole<T: TurnRules>(
         (IsRoundOfTurns T.rules sheets.now round history.old history.new) }
     ensures underway { OnOk result (T.holds history.new) }
 {
+    // For the proof only: the seats are at most six.
+    let _few = sheets.seats();
     let first = history.now().priority();
     begin(rules, history, round)?;
     let mut unruled = rule_all_standing(rules, history, sheets, round)?;
@@ -76,7 +79,7 @@ pub fn begin<T: TurnRules>(
     history: &mut History,
     round: Round,
 ) -> Result<(), AllocError>
-    requires sound { IsSound history.old }
+    requires game { IsGame history.old }
     requires may_begin { T.may_begin history.old.events }
     ensures event { OnOk result (history.new ≡ with_event history.old (event.Round round)) }
     ensures underway { OnOk result (T.holds history.new) }
@@ -93,10 +96,9 @@ fn rule_all_standing<'a, T: TurnRules>(
     round: Round,
 ) -> Result<Unruled<'a>, AllocError>
     requires { T.holds history.old }
-    ensures seats { OnOk result (history.new.seats ≡ history.old.seats) }
-    ensures events { OnOk result (history.new.events
-        ≡ after_standing T.rules sheets.now round history.old.events
-        (range_with_len 0 (length (players_of sheets.now)))) }
+    ensures after { OnOk result (history.new ≡ with_events history.old
+        (after_standing T.rules sheets.now round history.old.events
+        (range_with_len 0 (length (players_of sheets.now))))) }
     ensures left { IfOk result (λ unruled. map written_turns_of unruled.items
         ≡ written_turns_for (length (players_of sheets.now)) sheets.now round) }
     ensures each { IfOk result (λ unruled. length unruled.items ≡ length (players_of sheets.now)) }
@@ -124,9 +126,8 @@ pub fn rule_standing<T: TurnRules>(
 ) -> Result<(), AllocError>
     requires small { PartsAreSmall sheet.old }
     requires underway { T.holds history.old }
-    ensures seats { OnOk result (history.new.seats ≡ history.old.seats) }
-    ensures events { OnOk result (history.new.events
-        ≡ after_each (T.rules.standing seat) history.old.events sheet.old.before) }
+    ensures after { OnOk result (history.new ≡ with_events history.old
+        (after_each (T.rules.standing seat) history.old.events sheet.old.before)) }
     ensures left { OnOk result (sheet.new ≡ record { before = []; opened = sheet.old.opened }) }
     ensures underway { OnOk result (T.holds history.new) }
 {
@@ -218,9 +219,8 @@ fn record_all_left<T: TurnRules>(
     requires few { length unruled.now ≤ 6 }
     requires ready { All IsReady unruled.now }
     requires underway { T.holds history.old }
-    ensures seats { OnOk result (history.new.seats ≡ history.old.seats) }
-    ensures events { OnOk result (history.new.events
-        ≡ history.old.events ++ left_from 0 (map written_turns_of unruled.now)) }
+    ensures after { OnOk result (history.new ≡ with_events history.old
+        (history.old.events ++ left_from 0 (map written_turns_of unruled.now))) }
     ensures underway { OnOk result (T.holds history.new) }
 {
     for (seat, sheet) in unruled.iter().enumerate() {

@@ -1,10 +1,11 @@
 //! The trait `TurnRules`, with the rules of one kind of round that is played in turns.
-ghost use Rattle.std.specs.Prelude.{◌≡◌, ◌≤◌, ◌<◌, ℕ, List, OnOk, IfOk, false};
+ghost use Rattle.std.specs.Prelude.{◌≡◌, ◌<◌, ℕ, List, OnOk, IfOk, false};
 ghost use Rattle.events.specs.declared.event.Event.{Event};
 ghost use Rattle.events.specs.declared.event.Event.TheVariants as event;
-ghost use Rattle.totals.specs.LookBack.{Game, with_event};
-ghost use Rattle.history.specs.Sound.{IsSound};
+ghost use Rattle.totals.specs.LookBack.{Game, with_event, with_events};
+ghost use Rattle.history.specs.Games.{IsGame};
 ghost use Rattle.history.specs.Record.{left_recorded};
+ghost use Rattle.history.specs.Sound.{IsSound};
 ghost use Rattle.sheets.specs.Part.{line_unread};
 ghost use Rattle.tables.specs.declared.round.Round.{Round};
 ghost use Rattle.tables.specs.declared.seat.Seat.{Seat};
@@ -42,9 +43,8 @@ pub trait TurnRules {
     ) -> Result<(), AllocError>
         requires small { IsSmallReading (line_unread line).reading }
         requires underway { holds history.old }
-        ensures seats { OnOk result (history.new.seats ≡ history.old.seats) }
-        ensures events { OnOk result (history.new.events
-            ≡ rules.standing seat history.old.events (line_unread line.entry)) }
+        ensures after { OnOk result (history.new ≡ with_events history.old
+            (rules.standing seat history.old.events (line_unread line.entry))) }
         ensures underway { OnOk result (holds history.new) };
 
     /// Returns what a seat has done before the first line of its turn.
@@ -61,7 +61,6 @@ pub trait TurnRules {
         order: &mut Order,
         actions: Self::TurnActions,
     ) -> Result<Self::TurnActions, AllocError>
-        requires few { history.old.seats ≤ 6 }
         requires at_table { seat.0 < history.old.seats }
         requires small { IsSmallReading (line_unread line).reading }
         requires underway { holds history.old }
@@ -81,20 +80,18 @@ pub trait TurnRules {
 
     /// Carries out what follows the turns.
     fn close(&self, history: &mut History) -> Result<(), AllocError>
-        requires few { history.old.seats ≤ 6 }
         requires some { 0 < history.old.seats }
         requires underway { holds history.old }
-        ensures seats { OnOk result (history.new.seats ≡ history.old.seats) }
-        ensures events { OnOk result (history.new.events
-            ≡ rules.closed history.old.seats history.old.events) }
+        ensures after { OnOk result (history.new
+            ≡ with_events history.old (rules.closed history.old.seats history.old.events)) }
         ensures underway { OnOk result (holds history.new) };
 
-    /// The list is sound all through the round.
-    ghost stays_sound: { (game : Game) → holds game → IsSound game };
+    /// It is a game all through the round: at most six seats, and a sound list.
+    ghost stays_game: { (game : Game) → holds game → IsGame game };
 
     /// The ROUND event begins it.
     ghost begins: { (game : Game) (round : Round) → may_begin game.events
-        → IsSound (with_event game (event.Round round))
+        → IsGame (with_event game (event.Round round))
         → holds (with_event game (event.Round round)) };
 
     /// A pass keeps `holds` true.

@@ -1,5 +1,5 @@
 //! The turn of a seat, which rules the lines of its next written turn.
-ghost use Rattle.std.specs.Prelude.{◌≡◌, ◌≤◌, ◌<◌, OnOk, IfOk, drop};
+ghost use Rattle.std.specs.Prelude.{◌≡◌, ◌<◌, OnOk, IfOk, drop};
 ghost use Rattle.sheets.specs.Part.{written_turns_of};
 ghost use Rattle.tables.specs.Turns.{next_written_turn};
 ghost use Rattle.turns.specs.RoundOfTurns.{after_written_turn, in_turn, turned};
@@ -20,7 +20,6 @@ pub(crate) fn take_turn<T: TurnRules>(
     seat: Seat,
     sheet: &mut PartsLeft,
 ) -> Result<bool, AllocError>
-    requires few { history.old.seats ≤ 6 }
     requires at_table { seat.0 < history.old.seats }
     requires ready { IsReady sheet.old }
     requires underway { T.holds history.old }
@@ -48,7 +47,6 @@ pub fn rule_lines<T: TurnRules>(
     seat: Seat,
     sheet: &mut PartsLeft,
 ) -> Result<T::TurnActions, AllocError>
-    requires few { history.old.seats ≤ 6 }
     requires at_table { seat.0 < history.old.seats }
     requires small { PartsAreSmall sheet.old }
     requires underway { T.holds history.old }

@@ -4,5 +4,4 @@ use Rattle.stock_round.proofs.closing.move_up_if_sold_out.Goals as goal
 
 pub returns-clause-game : goal.returns-clause-game
 returns-clause-game c =
-    move_game up_of c.args.history.now c.move_token_up.new.history c.args.company c.in_ok-move_token_up.ensures.seats
-    c.in_ok-move_token_up.ensures.events c.requires
+    move_game up_of c.args.history.now c.move_token_up.new.history c.args.company c.in_ok-move_token_up.ensures c.requires

@@ -1,6 +1,7 @@
 use Rattle.std.proofs.Common.{◌≡◌, drop}
-use Rattle.certs.specs.Games.{IsGame, with_events}
 use Rattle.stock_round.specs.Closing.{all_risen}
+use Rattle.history.specs.Games.{IsGame}
+use Rattle.totals.specs.LookBack.{with_events}
 use Rattle.stock_round.proofs.closing.raise_all.Given as goal
 
 -- the companies that are left lead from here where all lead from the start

@@ -1,9 +1,7 @@
 use Rattle.std.proofs.Common.{◌≡◌, Result, Ok, Err, sym, ap, ◌∙◌}
-use Rattle.std.proofs.lemmas.Result.{on_ok_weaker}
-use Rattle.certs.specs.Games.{with_events}
 use Rattle.events.specs.declared.event.Event.TheVariants as event
 use Rattle.events.specs.declared.ruling.Ruling.TheVariants.{Faulty}
-use Rattle.totals.specs.LookBack.{Game, with_event}
+use Rattle.totals.specs.LookBack.{Game, with_event, with_events}
 use Rattle.order_grammar.specs.declared.fault.Fault.{Fault}
 use Rattle.order_grammar.specs.declared.order.Order.{Order}
 use Rattle.sheets.specs.Part.{Numbered, line_unread}
@@ -30,10 +28,5 @@ recorded_is seat line fault old new is recorded =
 
 pub returns-clause-after : goal.returns-clause-after
 returns-clause-after c =
-    let line : Numbered = line_unread c.args.line in
-    let fault : Fault = c.fault_out_of_place-fault.result in
-    let old : Game = c.args.history.now in
-    let new : Game = c.record_fault.new.history in
-    on_ok_weaker {P = new ≡ with_event old (event.Ruled c.args.seat line.number (Faulty fault))}
-    {Q = new ≡ with_events old (after_stock_standing_line c.args.seat old.events line)} c.record_fault.result
-    (recorded_is c.args.seat line fault old new c.fault_out_of_place-fault.ensures) c.record_fault.ensures.ruling
+    recorded_is c.args.seat (line_unread c.args.line) c.fault_out_of_place-fault.result c.args.history.now
+    c.record_fault.new.history c.fault_out_of_place-fault.ensures c.in_ok-record_fault.ensures.ruling

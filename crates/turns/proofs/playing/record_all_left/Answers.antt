@@ -2,7 +2,8 @@ use Rattle.std.proofs.Common.{◌≡◌, ◌+◌, ◌<◌, ℕ, List, [], ◌++�
 use Rattle.std.proofs.Math.Seq.{drop-cons}
 use Rattle.std.proofs.lemmas.List.Elements.{All-get_or}
 use Rattle.history.proofs.Recording.{left_first}
-use Rattle.totals.specs.LookBack.{Game}
+use Rattle.totals.specs.LookBack.{Game, with_events}
+use Rattle.events.specs.declared.event.Event.{Event}
 use Rattle.history.specs.Record.{with_left}
 use Rattle.sheets.proofs.TakenLemmas.{left_goes_on}
 use Rattle.sheets.specs.Part.{SheetParts, written_turns_of, lines_in}
@@ -21,17 +22,20 @@ loop-seat-preserved g c =
     let all = c.args.unruled.now in
     let i = c.loop-seat.seat in
     let d = c.index-unruled-seat.result in
-    let old = c.loop-seat.history.events in
-    let said = ap (λ (game : Game). game.events) c.in_ok-record_seat_left.ensures.recorded in
+    let here = c.loop-seat.history in
     let ready : IsReady (get_or all i d) = All-get_or IsReady all i d c.loop-seat-test.true c.requires.ready in
     record {
-      seats = ap (λ (game : Game). game.seats) c.in_ok-record_seat_left.ensures.recorded ∙ c.loop-seat.invariant.seats;
-      events =
-          left_goes_on with_left left_first old c.record_seat_left.new.history.events i c.count.result
-          (get_or all i d) (drop (i + 1) all) (said ∙ ap (λ (s : Seat). old ++ with_left s c.count.result [])
-          c.at.ensures) (c.count.ensures ∙ ap lines_in c.index-unruled-seat.is) ready.is_at_head
-          ∙ ap (λ (left : List SheetParts). old ++ left_from i (map written_turns_of left))
-          (sym (next_sheet all i d c.loop-seat-test.true))
-          ∙ c.loop-seat.invariant.events;
+      after =
+          ap (λ (game : Game). with_events game
+          (game.events ++ left_from (i + 1) (map written_turns_of (drop (i + 1) all))))
+          c.in_ok-record_seat_left.ensures.recorded
+          ∙ ap (λ (events : List Event). with_events here events)
+          (left_goes_on with_left left_first here.events (here.events ++ with_left c.at.result c.count.result []) i
+          c.count.result (get_or all i d) (drop (i + 1) all)
+          (ap (λ (s : Seat). here.events ++ with_left s c.count.result []) c.at.ensures)
+          (c.count.ensures ∙ ap lines_in c.index-unruled-seat.is) ready.is_at_head
+          ∙ ap (λ (left : List SheetParts). here.events ++ left_from i (map written_turns_of left))
+          (sym (next_sheet all i d c.loop-seat-test.true)))
+          ∙ c.loop-seat.invariant.after;
       underway = c.in_ok-record_seat_left.ensures.underway;
     }

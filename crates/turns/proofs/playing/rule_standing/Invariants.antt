@@ -1,15 +1,16 @@
 use Rattle.std.proofs.Common.{◌≡◌, length}
 use Rattle.sheets.specs.Taken.{after_each}
+use Rattle.totals.specs.LookBack.{with_events}
 use Rattle.turns.specs.Small.{PartsAreSmall}
 use Rattle.turns.proofs.playing.rule_standing.Given as goal
 
 -- the lines that are left lead from here where all lead from the start
 abbrev pub invariant-loop-line : goal.invariant-loop-line
 invariant-loop-line g l = record {
-  seats : l.history.seats ≡ l.fn.history.seats;
-  events :
-      after_each (g.T.TurnRules.rules.standing l.seat) l.history.events l.sheet.before
-      ≡ after_each (g.T.TurnRules.rules.standing l.seat) l.fn.history.events l.fn.sheet.before;
+  after :
+      with_events l.history (after_each (g.T.TurnRules.rules.standing l.seat) l.history.events l.sheet.before)
+      ≡ with_events l.fn.history
+      (after_each (g.T.TurnRules.rules.standing l.seat) l.fn.history.events l.fn.sheet.before);
   opened : l.sheet.opened ≡ l.fn.sheet.opened;
   small : PartsAreSmall l.sheet;
   underway : g.T.TurnRules.holds l.history;
