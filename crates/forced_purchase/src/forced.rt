@@ -4,7 +4,7 @@
 //! lines of the company's orders, then one share at a time. A president who still falls short is
 //! bankrupt.
 ghost use Rattle.std.specs.Prelude.{◌≡◌, ◌≤◌, ◌<◌, OnOk, false};
-ghost use Rattle.certs.specs.Games.{IsGame};
+ghost use Rattle.history.specs.Games.{IsGame};
 ghost use Rattle.history.specs.Sound.{IsSound};
 ghost use Rattle.totals.specs.Trains.{at_least_zero as as_many};
 ghost use Rattle.forced_purchase.specs.Forced.{after_forced, concluded, first_to_sell, next_to_sell, one_share};

@@ -6,7 +6,7 @@
 //! presidency of the company.
 ghost use Rattle.std.specs.Prelude.{◌≡◌, ◌<◌, ◌++◌, ◌∷◌, [], OnOk};
 ghost use Rattle.std.specs.Option.{option_copied};
-ghost use Rattle.certs.specs.Games.{IsGame};
+ghost use Rattle.history.specs.Games.{IsGame};
 ghost use Rattle.forced_purchase.specs.Raise.{after_raise_line, after_raises, needed_rule, raise_rule, raises_in};
 ghost use Rattle.forced_purchase.specs.Raise.{sale_rule};
 ghost use Rattle.sheets.specs.Part.{line_with};

@@ -31,7 +31,7 @@ pub fn lack(history: &History, company: Company) -> Money
 /// both sell it.
 #[tactic(auto, unfolding(crate::specs::Shortfall::cheapest))]
 pub fn cheapest(view: &GameView) -> TrainPurchase
-    ensures purchase { result ≡ cheapest view.now.events.now }
+    ensures purchase { result ≡ cheapest view.now.events }
     ensures small { IsSmallPurchase result }
 {
     first_on_sale(view, &NUMBERED)
@@ -41,7 +41,7 @@ pub fn cheapest(view: &GameView) -> TrainPurchase
 /// is.
 #[tactic(auto, unfolding(crate::specs::Shortfall::first_on_sale))]
 fn first_on_sale(view: &GameView, kinds: &[Kind]) -> TrainPurchase
-    ensures purchase { result ≡ first_on_sale view.now.events.now kinds.now }
+    ensures purchase { result ≡ first_on_sale view.now.events kinds.now }
     ensures small { IsSmallPurchase result }
 {
     for kind in kinds {

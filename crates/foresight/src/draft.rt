@@ -6,6 +6,7 @@ ghost use Rattle.forced_purchase.specs.Raise.{raises_in};
 ghost use Rattle.history.specs.Sound.{IsSound};
 ghost use Rattle.operating.specs.CompanyOrders.{LinesLead};
 ghost use Rattle.operating.specs.CompanyTurn.{IsInOrder, state};
+ghost use Rattle.totals.specs.LookBack.{with_events};
 ghost use Rattle.totals.specs.Shares.{president_of};
 
 use best_run::Search;
@@ -97,9 +98,8 @@ impl Draft<'_> {
     /// Rules the standing lines of the sheet that is looked at, if one is.
     fn rule_standing(&self, history: &mut History, round: Round) -> Result<(), AllocError>
         requires { IsSound history.old }
-        ensures seats { OnOk result (history.new.seats ≡ history.old.seats) }
-        ensures events { OnOk result (history.new.events
-            ≡ after_standing_of self.now.sheets.now self.now.drafter round history.old.events) }
+        ensures after { OnOk result (history.new ≡ with_events history.old
+            (after_standing_of self.now.sheets.now self.now.drafter round history.old.events)) }
         ensures sound { OnOk result (IsSound history.new) }
     {
         match self.drafter {

@@ -4,7 +4,6 @@
 use Rattle.std.proofs.Common.{◌≡◌, ℕ, zero, suc, ◌*◌, ◌==◌, Bool, true, false, if◌then◌else◌, List, [], ◌∷◌, ◌++◌}
 use Rattle.std.proofs.Common.{Option, Some, None, is_some, is_none, Result, Ok, inl, inr, pos, refl, sym, subst}
 use Rattle.std.specs.Int.Signed.{lt_z}
-use Rattle.certs.specs.Games.{with_events}
 use Rattle.certs.specs.President.{successor_of}
 use Rattle.certs.specs.Purchase.{market_price_of}
 use Rattle.certs.specs.SaleAct.{sold, with_president, with_successor}
@@ -15,7 +14,7 @@ use Rattle.events.specs.declared.event.Event.TheVariants as event
 use Rattle.events.specs.declared.ruling.Refusal.{Refusal}
 use Rattle.events.specs.declared.ruling.Ruling.{Ruling}
 use Rattle.events.specs.declared.ruling.Ruling.TheVariants.{Obeyed, Refused}
-use Rattle.totals.specs.LookBack.{Game, with_event}
+use Rattle.totals.specs.LookBack.{Game, with_event, with_events}
 use Rattle.totals.specs.Shares.{president_of, square_of}
 use Rattle.history.specs.Record.{breaks}
 use Rattle.totals.specs.Trains.{at_least_zero}

@@ -1,15 +1,13 @@
 -- What a company withholds keeps a list sound, and leaves the seats as they are.
 use Rattle.std.proofs.Common.{◌≡◌, ℕ, refl, sym, subst, ap, ◌∙◌, Bool, true, false, if◌then◌else◌}
 use Rattle.certs.proofs.Dividends.{broken_sound}
-use Rattle.certs.proofs.Games.{moved_there}
-use Rattle.certs.specs.Games.{token_moved}
 use Rattle.events.specs.declared.event.Event.TheVariants as event
 use Rattle.history.proofs.Payments.{withholding_sound}
 use Rattle.history.specs.Record.{broken_recorded}
 use Rattle.history.specs.Sound.{IsSound}
 use Rattle.market.proofs.Tokens.{move_sound}
 use Rattle.market.specs.Moves.{square_left_of}
-use Rattle.market.specs.Token.{with_move}
+use Rattle.market.specs.Token.{token_moved}
 use Rattle.operating.specs.Pay.{withheld, withheld_if_unpaid}
 use Rattle.operating.specs.Progress.{is_unpaid, pay_done}
 use Rattle.operating.specs.TurnState.{TurnState, turn_state}
@@ -21,18 +19,15 @@ pub withheld_sound : (game new : Game) (company : Company) (amount : ℕ) → ne
     → IsSound game → IsSound new
 withheld_sound game new company amount is sound =
     let recorded = broken_recorded (with_event game (event.Withheld company amount)) in
-    subst IsSound (sym is)
-    (move_sound square_left_of recorded (withheld game company amount) company refl refl
-    (broken_sound (with_event game (event.Withheld company amount)) (withholding_sound game company amount sound)))
+    move_sound square_left_of recorded new company is
+    (broken_sound (with_event game (event.Withheld company amount)) (withholding_sound game company amount sound))
 
 -- what a withholding brings, step by step
 pub withheld_steps : (game paid recorded new : Game) (company : Company) (amount : ℕ)
     → paid ≡ with_event game (event.Withheld company amount) → recorded ≡ broken_recorded paid
-    → new.seats ≡ recorded.seats → new.events ≡ with_move square_left_of recorded.events company
-    → new ≡ withheld game company amount
-withheld_steps game paid recorded new company amount is_paid is_recorded seats events =
-    moved_there square_left_of recorded new company seats events
-    ∙ ap (λ (game : Game). token_moved square_left_of game company) (is_recorded ∙ ap broken_recorded is_paid)
+    → new ≡ token_moved square_left_of recorded company → new ≡ withheld game company amount
+withheld_steps game paid recorded new company amount is_paid is_recorded moved =
+    moved ∙ ap (λ (game : Game). token_moved square_left_of game company) (is_recorded ∙ ap broken_recorded is_paid)
 
 -- what the company withholds by itself leaves the seats as they are
 pub withheld_seats : (company : Company) (turn : TurnState)

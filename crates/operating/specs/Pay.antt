@@ -5,7 +5,6 @@
 -- orders end.
 use Rattle.std.specs.Prelude.{Bool, ◌==◌, ◌||◌, List, [], ◌∷◌, Option, ℕ, option_map, if◌then◌else◌}
 use Rattle.certs.specs.Dividend.{paid_out}
-use Rattle.certs.specs.Games.{token_moved}
 use Rattle.events.specs.declared.event.Event.TheVariants as event
 use Rattle.events.specs.declared.ruling.PayRule.{PayRule}
 use Rattle.events.specs.declared.ruling.PayRule.TheVariants.{NothingToPay}
@@ -20,6 +19,7 @@ use Rattle.order_grammar.specs.declared.order.Order.{Order}
 use Rattle.sheets.specs.Part.{Numbered}
 use Rattle.tables.specs.Rules.{Rule, first_broken}
 use Rattle.tables.specs.declared.roster.Company.{Company}
+use Rattle.market.specs.Token.{token_moved}
 use Rattle.totals.specs.LookBack.{Game, with_event}
 
 -- a rule of PAY and WITHHOLD, and whether it is broken

@@ -3,7 +3,7 @@
 //! of it from the bank, and its token on the chart moves left. A company that has done neither
 //! withholds by itself before it buys a train, and when its orders end.
 ghost use Rattle.std.specs.Prelude.{◌≡◌, ◌≤◌, OnOk};
-ghost use Rattle.certs.specs.Games.{IsGame};
+ghost use Rattle.history.specs.Games.{IsGame};
 ghost use Rattle.history.specs.Sound.{IsSound};
 ghost use Rattle.operating.specs.CompanyTurn.{GoesOn, IsInOrder, state};
 ghost use Rattle.operating.specs.Pay.{after_pay, after_withhold, pay_judgement, withheld};

@@ -156,7 +156,7 @@ fn amount(money: Money) -> Amount
 
 /// Returns the trains that a company has, kind by kind. Fails only if allocation fails.
 fn trains_of(alloc: Global, view: &GameView, company: Company) -> Result<CompanyTrains, AllocError>
-    ensures { IfOk result (λ trains. trains.items ≡ trains_now view.now.events.now company) }
+    ensures { IfOk result (λ trains. trains.items ≡ trains_now view.now.events company) }
 {
     let mut trains = CompanyTrains::new(alloc);
     for &kind in &Kind::ALL {

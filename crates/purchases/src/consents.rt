@@ -22,7 +22,7 @@ pub enum Consents {
 impl Consents {
     /// Returns whether a seat consents to a sale to another.
     pub(crate) fn agrees(self, view: &GameView, giver: Seat, taker: Seat, sale: Offer) -> bool
-        ensures { result ≡ agrees_by self view.now.events.now giver taker sale }
+        ensures { result ≡ agrees_by self view.now.events giver taker sale }
     {
         match self {
             Consents::OfGame => view.has_consent(giver, taker, sale),

@@ -35,7 +35,7 @@ pub(crate) fn judge_discard(
 
 /// Returns whether the seat is not president of the company, or the company has no such train.
 fn is_no_discard(view: &GameView, seat: Seat, company: Company, kind: Kind) -> bool
-    ensures { result ≡ is_no_discard view.now.events.now seat company kind }
+    ensures { result ≡ is_no_discard view.now.events seat company kind }
 {
     !is_president(view.president(company), seat) || !has_train(view, company, kind)
 }
@@ -49,7 +49,7 @@ pub fn is_president(president: Option<Seat>, seat: Seat) -> bool
 
 /// Returns whether a company has a train of a kind.
 pub fn has_train(view: &GameView, company: Company, kind: Kind) -> bool
-    ensures { result ≡ has_train view.now.events.now company kind }
+    ensures { result ≡ has_train view.now.events company kind }
 {
     view.trains(Some(company), kind) > 0
 }
@@ -90,7 +90,7 @@ fn next_discard(
 
 /// Returns the first of these kinds that a company has a train of.
 fn first_held(view: &GameView, company: Company, kinds: &[Kind]) -> Option<Kind>
-    ensures { result ≡ first_held view.now.events.now company kinds.now }
+    ensures { result ≡ first_held view.now.events company kinds.now }
 {
     for kind in kinds {
         if has_train(view, company, *kind) {
@@ -109,10 +109,10 @@ fn discard_lines_left(
     president: Option<Seat>,
 ) -> Result<Vec<Kind>, AllocError>
     ensures { IfOk result (λ lines. lines.items
-        ≡ discard_lines_left view.now.events.now company president) }
+        ≡ discard_lines_left view.now.events company president) }
 {
     match president {
-        Some(seat) => lines_in(alloc, view.events, company, seat),
+        Some(seat) => lines_in(alloc, view.events(), company, seat),
         None => Ok(Vec::new(alloc)),
     }
 }

@@ -38,7 +38,7 @@ fn judge_terms(
     consents: Consents,
 ) -> Option<PrivateRule>
     ensures { result ≡ private_judgement_by consents
-        (record { seats = view.now.seats; events = view.now.events.now }) company private price }
+        view.now company private price }
 {
     tables::rules! { PrivateRule
         TooEarly: is_too_early(view),
@@ -52,14 +52,14 @@ fn judge_terms(
 /// Returns whether a company has less cash than a price.
 fn private_costs_too_much(view: &GameView, company: Company, price: Amount) -> bool
     ensures { result ≡ private_costs_too_much
-        (record { seats = view.now.seats; events = view.now.events.now }) company price }
+        view.now company price }
 {
     view.cash(Party::of_company(company)) < Money::from(price)
 }
 
 /// Returns whether phase 3 has not begun.
 fn is_too_early(view: &GameView) -> bool
-    ensures { result ≡ is_too_early view.now.events.now }
+    ensures { result ≡ is_too_early view.now.events }
 {
     view.phase().index() < Kind::Three.index()
 }
@@ -81,7 +81,7 @@ fn is_given(
     price: Amount,
     consents: Consents,
 ) -> bool
-    ensures { result ≡ is_given_by consents view.now.events.now buyer private price }
+    ensures { result ≡ is_given_by consents view.now.events buyer private price }
 {
     let sale = Offer::Private {
         private,
@@ -106,7 +106,7 @@ fn owner_agrees(
     sale: Offer,
     consents: Consents,
 ) -> bool
-    ensures { result ≡ owner_agrees_by consents view.now.events.now owner taker sale }
+    ensures { result ≡ owner_agrees_by consents view.now.events owner taker sale }
 {
     match (owner, taker) {
         (Some(Holder::Seat(giver)), Some(taker)) => consents.agrees(view, giver, taker, sale),

@@ -7,6 +7,7 @@ ghost use Rattle.purchases.specs.Standing.{after_all_standing_lines, after_opera
 ghost use Rattle.purchases.specs.Standing.{has_place_before_companies, operating_standing_judgement};
 ghost use Rattle.sheets.specs.File.{players_of};
 ghost use Rattle.sheets.specs.Taken.{after_each, after_lines_before};
+ghost use Rattle.totals.specs.LookBack.{with_events};
 
 use crate::discard::judge_discard;
 use crate::offer::judge_offer;
@@ -25,10 +26,9 @@ pub fn rule_standing_lines(
     round: Round,
 ) -> Result<(), AllocError>
     requires { IsSound history.old }
-    ensures seats { OnOk result (history.new.seats ≡ history.old.seats) }
-    ensures events { OnOk result (history.new.events
-        ≡ after_all_standing_lines (length (players_of sheets.now)) sheets.now round
-        history.old.events) }
+    ensures after { OnOk result (history.new ≡ with_events history.old
+        (after_all_standing_lines (length (players_of sheets.now)) sheets.now round
+        history.old.events)) }
     ensures sound { OnOk result (IsSound history.new) }
 {
     for seat in 0..sheets.seats() {
@@ -47,10 +47,9 @@ pub fn rule_standing_lines_of(
     seat: Seat,
 ) -> Result<(), AllocError>
     requires { IsSound history.old }
-    ensures seats { OnOk result (history.new.seats ≡ history.old.seats) }
-    ensures events { OnOk result (history.new.events
-        ≡ after_lines_before after_operating_standing_line sheets.now round history.old.events
-        seat.0) }
+    ensures after { OnOk result (history.new ≡ with_events history.old
+        (after_lines_before after_operating_standing_line sheets.now round history.old.events
+        seat.0)) }
     ensures sound { OnOk result (IsSound history.new) }
 {
     rule_standing(history, seat, &mut sheets.parts(seat, round))
@@ -59,9 +58,8 @@ pub fn rule_standing_lines_of(
 /// Rules the standing lines of a seat's sheet, the lines before its first head.
 fn rule_standing(history: &mut History, seat: Seat, sheet: &mut PartsLeft) -> Result<(), AllocError>
     requires { IsSound history.old }
-    ensures seats { OnOk result (history.new.seats ≡ history.old.seats) }
-    ensures events { OnOk result (history.new.events
-        ≡ after_each (after_operating_standing_line seat) history.old.events sheet.old.before) }
+    ensures after { OnOk result (history.new ≡ with_events history.old
+        (after_each (after_operating_standing_line seat) history.old.events sheet.old.before)) }
     ensures sound { OnOk result (IsSound history.new) }
 {
     let mut order = Order::Blank;

@@ -96,7 +96,7 @@ fn judge_terms(
 ) -> Option<TrainRule>
     requires { IsSmallPurchase purchase }
     ensures { result ≡ train_judgement_by consents
-        (record { seats = view.now.seats; events = view.now.events.now }) company purchase }
+        view.now company purchase }
 {
     let (kind, from, trade_in) = (purchase.kind, purchase.from, purchase.trade_in);
     tables::rules! { TrainRule
@@ -111,7 +111,7 @@ fn judge_terms(
 
 /// Returns whether such a train is on sale there.
 fn is_on_sale(view: &GameView, from: TrainSeller, kind: Kind) -> bool
-    ensures { result ≡ is_on_sale view.now.events.now from kind }
+    ensures { result ≡ is_on_sale view.now.events from kind }
 {
     match from {
         TrainSeller::Bank => sells(view, kind),
@@ -122,14 +122,14 @@ fn is_on_sale(view: &GameView, from: TrainSeller, kind: Kind) -> bool
 
 /// Returns whether the bank sells trains of a kind.
 pub fn sells(view: &GameView, kind: Kind) -> bool
-    ensures { result ≡ sells view.now.events.now kind }
+    ensures { result ≡ sells view.now.events kind }
 {
     first_left(view) == Some(kind) || (kind == Kind::Diesel && sells_diesels(view))
 }
 
 /// Returns whether the bank sells a D: it has sold a 6.
 fn sells_diesels(view: &GameView) -> bool
-    ensures { result ≡ sells_diesels view.now.events.now }
+    ensures { result ≡ sells_diesels view.now.events }
 {
     view.trains_sold(Kind::Six) > 0
 }
@@ -139,14 +139,14 @@ pub const NUMBERED: [Kind; 5] = [Kind::Two, Kind::Three, Kind::Four, Kind::Five,
 
 /// Returns the lowest kind from 2 to 6 that the bank has left.
 fn first_left(view: &GameView) -> Option<Kind>
-    ensures { result ≡ first_left view.now.events.now }
+    ensures { result ≡ first_left view.now.events }
 {
     first_of(view, &NUMBERED)
 }
 
 /// Returns the first of these kinds that the bank has left.
 fn first_of(view: &GameView, kinds: &[Kind]) -> Option<Kind>
-    ensures { result ≡ first_left_of view.now.events.now kinds.now }
+    ensures { result ≡ first_left_of view.now.events kinds.now }
 {
     for kind in kinds {
         if is_left(view, *kind) {
@@ -158,7 +158,7 @@ fn first_of(view: &GameView, kinds: &[Kind]) -> Option<Kind>
 
 /// Returns whether the bank has trains of a kind left.
 fn is_left(view: &GameView, kind: Kind) -> bool
-    ensures { result ≡ is_left view.now.events.now kind }
+    ensures { result ≡ is_left view.now.events kind }
 {
     match train(kind).number {
         None => true,
@@ -169,7 +169,7 @@ fn is_left(view: &GameView, kind: Kind) -> bool
 /// Returns whether a company would have more trains than the phase allows. A train to be traded in
 /// does not count, whether or not the company has it.
 fn is_full(view: &GameView, company: Company, trade_in: Option<Kind>) -> bool
-    ensures { result ≡ is_at_train_limit view.now.events.now company trade_in }
+    ensures { result ≡ is_at_train_limit view.now.events company trade_in }
 {
     let kept = Money::from(view.train_count(Some(company))) - traded_count(trade_in);
     kept >= limit(view.phase()) as Money
@@ -189,7 +189,7 @@ fn traded_count(trade_in: Option<Kind>) -> Money
 fn train_costs_too_much(view: &GameView, company: Company, purchase: TrainPurchase) -> bool
     requires { IsSmallPurchase purchase }
     ensures { result ≡ train_costs_too_much
-        (record { seats = view.now.seats; events = view.now.events.now }) company purchase }
+        view.now company purchase }
 {
     view.cash(Party::of_company(company)) < Money::from(purchase.price())
 }
@@ -225,7 +225,7 @@ fn lacks_consent(
     consents: Consents,
 ) -> bool
     requires { IsSmallPurchase purchase }
-    ensures { result ≡ lacks_consent_by consents view.now.events.now buyer purchase }
+    ensures { result ≡ lacks_consent_by consents view.now.events buyer purchase }
 {
     let TrainSeller::Company(seller) = purchase.from else {
         return false;
@@ -250,7 +250,7 @@ fn presidents_agree(
     sale: Offer,
     consents: Consents,
 ) -> bool
-    ensures { result ≡ presidents_agree_by consents view.now.events.now giver taker sale }
+    ensures { result ≡ presidents_agree_by consents view.now.events giver taker sale }
 {
     match (giver, taker) {
         (Some(giver), Some(taker)) => consents.agrees(view, giver, taker, sale),
@@ -260,7 +260,7 @@ fn presidents_agree(
 
 /// Returns whether the selling company has no train of the kind, or is the buyer.
 fn is_not_sellers(view: &GameView, buyer: Company, kind: Kind, from: TrainSeller) -> bool
-    ensures { result ≡ is_not_sellers view.now.events.now buyer kind from }
+    ensures { result ≡ is_not_sellers view.now.events buyer kind from }
 {
     match from {
         TrainSeller::Company(seller) => !has_train(view, seller, kind) || buyer == seller,
@@ -270,7 +270,7 @@ fn is_not_sellers(view: &GameView, buyer: Company, kind: Kind, from: TrainSeller
 
 /// Returns whether the train to be traded in is missing, or may not be traded in.
 fn is_no_trade_in(view: &GameView, company: Company, kind: Kind, trade_in: Option<Kind>) -> bool
-    ensures { result ≡ is_no_trade_in view.now.events.now company kind trade_in }
+    ensures { result ≡ is_no_trade_in view.now.events company kind trade_in }
 {
     match trade_in {
         None => false,
@@ -280,7 +280,7 @@ fn is_no_trade_in(view: &GameView, company: Company, kind: Kind, trade_in: Optio
 
 /// Returns whether a train that the company has may be traded in for one of this kind.
 fn may_trade(view: &GameView, company: Company, kind: Kind, trade_in: Kind) -> bool
-    ensures { result ≡ may_trade view.now.events.now company kind trade_in }
+    ensures { result ≡ may_trade view.now.events company kind trade_in }
 {
     kind == Kind::Diesel && may_be_traded(trade_in) && view.trains(Some(company), trade_in) > 0
 }
@@ -294,7 +294,7 @@ pub fn may_be_traded(kind: Kind) -> bool
 
 /// Returns whether a company has a train.
 pub fn has_trains(view: &GameView, company: Company) -> bool
-    ensures { result ≡ has_trains view.now.events.now company }
+    ensures { result ≡ has_trains view.now.events company }
 {
     view.train_count(Some(company)) > 0
 }

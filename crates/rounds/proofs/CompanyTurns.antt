@@ -5,7 +5,7 @@ use Rattle.std.proofs.Common.{◌≡◌, ℕ, ◌+◌, ◌<◌, ◌≤◌, Bool,
 use Rattle.std.proofs.Common.{List, [], ◌∷◌, length, Option, Some, None, refl, sym, ap, ◌∙◌, arith}
 use Rattle.std.proofs.Common.{zero, suc, ◌++◌, is_some, subst, ◌-◌, ◌==◌, append_assoc}
 use Rattle.events.specs.declared.event.Event.{Event}
-use Rattle.totals.specs.LookBack.{bankrupt_in, Game, in_round, with_event}
+use Rattle.totals.specs.LookBack.{bankrupt_in, Game, in_round, with_event, with_events}
 use Rattle.totals.specs.Operating.{has_operated, turn_said, rulings_in_round}
 use Rattle.market.specs.OperatingOrder.{IsOperatingOrder, next_company, operating_order_of, times}
 use Rattle.operating.proofs.Idle.{all_have_operated, fewer_idle, idle_few, idle_of, next_is_idle}
@@ -231,40 +231,33 @@ operate_once operates_too ordered file round old new played =
           operating);
     }
 
--- two games are the same if their parts are
-same_game : (a b : Game) → a.seats ≡ b.seats → a.events ≡ b.events → a ≡ b
-same_game a b seats events = λ i. record { seats = seats i; events = events i }
-
 -- the ROUND event, the standing lines and the revenues open a round
 pub round_opened : (file : List ℕ) (round : Round) (old recorded ruled paid : Game)
     → old.seats ≡ length (players_of file) → recorded ≡ with_event old (event.Round round)
-    → ruled.seats ≡ recorded.seats → ruled.events ≡ after_all_standing_lines (length (players_of file)) file round recorded.events
+    → ruled ≡ with_events recorded (after_all_standing_lines (length (players_of file)) file round recorded.events)
     → paid ≡ revenues_recorded ruled → paid ≡ operating_round_opened file round old
-round_opened file round old recorded ruled paid players is_recorded ruled_seats is_ruled is_paid =
-    let start : List Event = old.events ++ event.Round round ∷ [] in
-    let events : ruled.events ≡ after_all_standing_lines old.seats file round start =
-    is_ruled
-    ∙ ap (λ (game : Game). after_all_standing_lines (length (players_of file)) file round game.events) is_recorded
-    ∙ ap (λ (seats : ℕ). after_all_standing_lines seats file round start) (sym players)
-    in
-    let is : ruled ≡ record { seats = old.seats; events = after_all_standing_lines old.seats file round start } =
-    same_game ruled (record { seats = old.seats; events = after_all_standing_lines old.seats file round start })
-    (ruled_seats ∙ ap (λ (game : Game). game.seats) is_recorded) events
-    in
-    is_paid ∙ ap revenues_recorded is
+round_opened file round old recorded ruled paid players is_recorded is_ruled is_paid =
+    let ruled_at : ℕ → Game → Game = λ seats game.
+    with_events game (after_all_standing_lines seats file round game.events) in
+    is_paid ∙ ap revenues_recorded (is_ruled ∙ ap (ruled_at (length (players_of file))) is_recorded
+    ∙ ap (λ (seats : ℕ). ruled_at seats (with_event old (event.Round round))) (sym players))
 
 -- what opened a round, the turns of the companies and what was left are a round
 pub whole_round : (file : List ℕ) (round : Round) (old paid turned new : Game) → old.seats ≡ length (players_of file)
     → paid ≡ operating_round_opened file round old → TurnsLead file round paid turned → turned.seats ≡ paid.seats
-    → new.seats ≡ turned.seats → new.events ≡ operating_round_finished file round (length (players_of file)) turned.events
+    → new ≡ with_events turned (operating_round_finished file round (length (players_of file)) turned.events)
     → IsOperatingRound file round old new
-whole_round file round old paid turned new players is_paid lead turned_seats new_seats is_new =
-    let seats : new.seats ≡ old.seats = new_seats ∙ turned_seats ∙ ap (λ (game : Game). game.seats) is_paid in
+whole_round file round old paid turned new players is_paid lead turned_seats is_new =
+    let finished : ℕ → ℕ → Game = λ table seats.
+    record { seats = table; events = operating_round_finished file round seats turned.events } in
     record {
       turned = turned;
       turns = subst (λ (game : Game). TurnsLead file round game turned) is_paid lead;
-      after = same_game new (record { seats = old.seats; events = operating_round_finished file round old.seats turned.events }) seats
-          (is_new ∙ ap (λ (seats : ℕ). operating_round_finished file round seats turned.events) (sym players));
+      after =
+          is_new
+          ∙ ap (λ (table : ℕ). finished table (length (players_of file)))
+          (turned_seats ∙ ap (λ (game : Game). game.seats) is_paid)
+          ∙ ap (finished old.seats) (sym players);
     }
 
 -- a count of lines that were left adds no ruling

@@ -1,9 +1,10 @@
 //! An operating round: the standing lines, the revenues of the privates, and then the turn of each
 //! company in operating order.
-ghost use Rattle.std.specs.Prelude.{◌≡◌, ◌++◌, [], IfErr, IfOk, OnOk, length, true};
+ghost use Rattle.std.specs.Prelude.{◌≡◌, IfErr, IfOk, OnOk, length, true};
+ghost use Rattle.totals.specs.LookBack.{with_events};
 ghost use Rattle.totals.specs.Shares.{is_floated};
 ghost use Rattle.history.specs.Sound.{IsSound};
-ghost use Rattle.history.specs.Record.{with_left};
+ghost use Rattle.history.specs.Record.{left_recorded};
 ghost use Rattle.operating.specs.Calls.{Makes};
 ghost use Rattle.operating.specs.GameAndBoard.{IsLaidOut, game_on};
 ghost use Rattle.operating.specs.Turn.{IsCompanyTurn};
@@ -120,10 +121,9 @@ fn take_turn<R: Runner>(
 /// Records how many lines of each sheet were not taken up; heads do not count.
 fn record_all_left(history: &mut History, sheets: &Sheets, round: Round) -> Result<(), AllocError>
     requires { IsSound history.old }
-    ensures seats { OnOk result (history.new.seats ≡ history.old.seats) }
-    ensures events { OnOk result (history.new.events
-        ≡ operating_round_finished sheets.now round (length (players_of sheets.now))
-        history.old.events) }
+    ensures after { OnOk result (history.new ≡ with_events history.old
+        (operating_round_finished sheets.now round (length (players_of sheets.now))
+        history.old.events)) }
     ensures sound { OnOk result (IsSound history.new) }
 {
     // A law, which does nothing when it runs: recording the lines left does not change the count of
@@ -143,9 +143,8 @@ fn record_left(
     seat: Seat,
 ) -> Result<(), AllocError>
     requires { IsSound history.old }
-    ensures seats { OnOk result (history.new.seats ≡ history.old.seats) }
-    ensures events { OnOk result (history.new.events ≡ history.old.events
-        ++ with_left seat (lines_left sheets.now round history.old.events seat) []) }
+    ensures after { OnOk result (history.new
+        ≡ left_recorded seat (lines_left sheets.now round history.old.events seat) history.old) }
     ensures sound { OnOk result (IsSound history.new) }
 {
     let lines = sheets.parts(seat, round).count() as usize;

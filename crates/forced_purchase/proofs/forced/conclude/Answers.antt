@@ -15,7 +15,7 @@ aid-requires-clause-enough c = sym c.falls_short.ensures ∙ c.if-falls_short.fa
 pub buy_train-requires-clause-may : goal.buy_train-requires-clause-may
 buy_train-requires-clause-may c =
     subst (λ (purchase : TrainPurchase). train_judgement c.aid.new.history c.args.by.company purchase ≡ None)
-    (sym (c.cheapest-purchase.ensures.purchase ∙ ap cheapest c.now.ensures.events))
+    (sym (c.cheapest-purchase.ensures.purchase ∙ ap (λ (game : Game). cheapest game.events) c.now.ensures))
     (subst (λ (game : Game). train_judgement game c.args.by.company (cheapest c.args.history.now.events) ≡ None)
     (sym c.in_ok-aid.ensures.after) (forced_allowed c.args.by c.args.history.now c.requires.none))
 
@@ -28,5 +28,5 @@ pub returns-clause-after : goal.returns-clause-after
 returns-clause-after c =
     on_ok_weaker c.buy_train.result (bought_then c.args.by c.args.history.now c.aid.new.history c.buy_train.new.history
     c.cheapest-purchase.result (sym c.falls_short.ensures ∙ c.if-falls_short.false)
-    (c.cheapest-purchase.ensures.purchase ∙ ap cheapest c.now.ensures.events) c.in_ok-aid.ensures.after)
+    (c.cheapest-purchase.ensures.purchase ∙ ap (λ (game : Game). cheapest game.events) c.now.ensures) c.in_ok-aid.ensures.after)
     c.buy_train.ensures.after

@@ -1,8 +1,8 @@
 -- This many times a share was sold, or none was to be.
 use Rattle.std.proofs.Common.{◌≡◌}
-use Rattle.certs.specs.Games.{IsGame}
 use Rattle.forced_purchase.specs.Forced.{sold_further}
 use Rattle.tables.specs.Steps.{iterate}
+use Rattle.history.specs.Games.{IsGame}
 use Rattle.forced_purchase.proofs.forced.sell_singly.Given as goal
 
 abbrev pub invariant-loop : goal.invariant-loop

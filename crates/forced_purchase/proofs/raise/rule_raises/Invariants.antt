@@ -1,8 +1,8 @@
 -- What the lines that are left bring from here, all bring from the start.
 use Rattle.std.proofs.Common.{◌≡◌, length}
 use Rattle.std.specs.Vec.Iter.{into_iter_items, into_iter_len}
-use Rattle.certs.specs.Games.{IsGame}
 use Rattle.forced_purchase.specs.Raise.{after_raises}
+use Rattle.history.specs.Games.{IsGame}
 use Rattle.forced_purchase.proofs.raise.rule_raises.Given as goal
 
 abbrev pub invariant-loop-held : goal.invariant-loop-held

@@ -5,4 +5,4 @@ use Rattle.forced_purchase.proofs.shortfall.first_on_sale.Given as goal
 
 abbrev pub invariant-loop-kind : goal.invariant-loop-kind
 invariant-loop-kind l =
-    first_on_sale l.view.events.now (drop l.kind-index l.kinds) ≡ first_on_sale l.view.events.now l.kinds
+    first_on_sale l.view.events (drop l.kind-index l.kinds) ≡ first_on_sale l.view.events l.kinds

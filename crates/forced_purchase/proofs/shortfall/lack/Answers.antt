@@ -3,7 +3,7 @@ use Rattle.std.proofs.Common.{◌≡◌, ◌≤◌, ℕ, ℤ, pos, ◌-ℤ◌, a
 use Rattle.std.proofs.lemmas.Int.{ints}
 use mir.Syntax.{w128}
 use mir.Val.{of_z, to_z}
-use Rattle.totals.specs.LookBack.{IsModerate, cash_of}
+use Rattle.totals.specs.LookBack.{IsModerate, cash_of, Game}
 use Rattle.forced_purchase.specs.Shortfall.{cheapest, lack_of}
 use Rattle.purchases.specs.Train.{train_purchase_cost}
 use Rattle.forced_purchase.proofs.shortfall.lack.Goals as goal
@@ -23,6 +23,6 @@ returns c =
     c.from.ensures
     ∙ difference_kept c.price-cost.result c.cash.result (omega (arith, price.small)) cash.within
     ∙ ap (λ (n : ℕ). pos n -ℤ c.cash.result) (price.price
-    ∙ ap train_purchase_cost (c.cheapest.ensures.purchase ∙ ap cheapest c.now.ensures.events))
+    ∙ ap train_purchase_cost (c.cheapest.ensures.purchase ∙ ap (λ (game : Game). cheapest game.events) c.now.ensures))
     ∙ ap (λ (z : ℤ). pos (train_purchase_cost (cheapest view.events)) -ℤ z)
     (cash.sum ∙ ap (cash_of view.seats view.events) c.of_company.ensures)

@@ -15,8 +15,7 @@ loop-seat-init c =
     let old : Game = c.args.history in
     let first : c.priority-next.result ≡ priority_of old.seats old.events =
     c.priority-next.ensures
-    ∙ ap (λ (seats : ℕ). priority_of seats c.now.result.events.now) c.now.ensures.seats
-    ∙ ap (priority_of old.seats) c.now.ensures.events in
+    ∙ ap (λ (game : Game). priority_of game.seats game.events) c.now.ensures in
     let its = c.requires.at_table in
     let some : 0 < old.seats = omega arith in
     let within : c.priority-next.result.0 < old.seats =

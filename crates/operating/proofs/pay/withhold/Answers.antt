@@ -7,5 +7,5 @@ returns-clause-sound c =
     let new = c.move_token_left.new.history in
     withheld_sound game new c.args.company c.args.amount
     (withheld_steps game c.append.new.self c.record_broken.new.self new c.args.company c.args.amount
-    c.in_ok-append.ensures.ok c.in_ok-record_broken.ensures.ok c.in_ok-move_token_left.ensures.seats
-    c.in_ok-move_token_left.ensures.events) c.requires.sound
+    c.in_ok-append.ensures.ok c.in_ok-record_broken.ensures.ok c.in_ok-move_token_left.ensures)
+    c.requires.sound

@@ -30,7 +30,7 @@ pub play-requires-clause-at_table : goal.play-requires-clause-at_table
 play-requires-clause-at_table g c =
     let president : Some c.in-Some.president ≡ president_of c.args.game.history.events c.args.company =
     sym c.in-Some.is ∙ c.president-president.ensures
-    ∙ ap (λ events. president_of events c.args.company) c.now.ensures.events in
+    ∙ ap (λ (game : Game). president_of game.events c.args.company) c.now.ensures in
     subst (λ (by : Operator). by.president.0 < c.begin-turn.result.history.seats) (sym c.begin-turn.ensures.by)
     (subst (λ (game : Game). c.in-Some.president.0 < game.seats) (sym c.begin-turn.ensures.history)
     (president_there c.args.game.history c.place_home.new.history c.args.company (Some c.in-Some.president)
@@ -61,7 +61,7 @@ returns-clause-turn g c =
     in
     let president : Some c.in-Some.president ≡ president_of c.args.game.history.events c.args.company =
     sym c.in-Some.is ∙ c.president-president.ensures
-    ∙ ap (λ events. president_of events c.args.company) c.now.ensures.events in
+    ∙ ap (λ (game : Game). president_of game.events c.args.company) c.now.ensures in
     played c.args.sheets.now c.args.round c.args.company c.in-Some.president c.place_home.new.history
     c.begin-turn.result c.company_orders-orders.result.before begun c.args.game.history c.play.new.self.history
     president c.in_ok-place_home.ensures.event c.in_ok-play.ensures.turn
@@ -85,7 +85,7 @@ returns-clause-calls g c =
     in
     let president : Some c.in-Some.president ≡ president_of c.args.game.history.events c.args.company =
     sym c.in-Some.is ∙ c.president-president.ensures
-    ∙ ap (λ events. president_of events c.args.company) c.now.ensures.events in
+    ∙ ap (λ (game : Game). president_of game.events c.args.company) c.now.ensures in
     called c.args.sheets.now c.args.round c.args.company c.in-Some.president c.place_home.new.history
     c.begin-turn.result c.company_orders-orders.result.before begun g.R.Runner.earns c.args.game.history
     (Ok c.play.new.self.history) c.args.runner.now c.play.new.runner president c.in_ok-place_home.ensures.event
@@ -108,7 +108,7 @@ returns-in_err-play-clause-calls g c =
     in
     let president : Some c.in-Some.president ≡ president_of c.args.game.history.events c.args.company =
     sym c.in-Some.is ∙ c.president-president.ensures
-    ∙ ap (λ events. president_of events c.args.company) c.now.ensures.events in
+    ∙ ap (λ (game : Game). president_of game.events c.args.company) c.now.ensures in
     subst (λ (met : Result GameAndBoard RunnerFault). Makes g.R.Runner.earns c.args.runner.now
     (TurnCalls c.args.sheets.now c.args.round c.args.company c.args.game.history (game_on met)) c.play.new.runner)
     (sym is)

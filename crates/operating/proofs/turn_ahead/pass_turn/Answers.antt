@@ -22,7 +22,7 @@ pub finish-requires-clause-at_table : goal.finish-requires-clause-at_table
 finish-requires-clause-at_table c =
     let president : Some c.in-Some.president ≡ president_of c.args.game.history.events c.args.company =
     sym c.in-Some.is ∙ c.president-president.ensures
-    ∙ ap (λ events. president_of events c.args.company) c.now.ensures.events in
+    ∙ ap (λ (game : Game). president_of game.events c.args.company) c.now.ensures in
     subst (λ (by : Operator). by.president.0 < c.begin-turn.result.history.seats) (sym c.begin-turn.ensures.by)
     (subst (λ (game : Game). c.in-Some.president.0 < game.seats) (sym c.begin-turn.ensures.history)
     (president_there c.args.game.history c.place_home.new.history c.args.company (Some c.in-Some.president)
@@ -53,7 +53,7 @@ returns-clause-turn c =
     in
     let president : Some c.in-Some.president ≡ president_of c.args.game.history.events c.args.company =
     sym c.in-Some.is ∙ c.president-president.ensures
-    ∙ ap (λ events. president_of events c.args.company) c.now.ensures.events in
+    ∙ ap (λ (game : Game). president_of game.events c.args.company) c.now.ensures in
     played [] c.args.round c.args.company c.in-Some.president c.place_home.new.history turn [] begun
     c.args.game.history c.in_ok-next.next.history president c.in_ok-place_home.ensures.event (
       state turn,

@@ -1,9 +1,9 @@
 -- A purchase is due where the company has no train, and can run by the map state.
-use Rattle.std.proofs.Common.{◌≡◌, true, false, List, ap, sym, subst, ◌∙◌}
+use Rattle.std.proofs.Common.{◌≡◌, true, false, ap, sym, subst, ◌∙◌}
 use Rattle.board_state.specs.MapState.{MapState, position_of}
 use Rattle.legal_runs.specs.TwoTrain.{CanRun}
-use Rattle.events.specs.declared.event.Event.{Event}
 use Rattle.purchases.specs.Train.{has_trains}
+use Rattle.totals.specs.LookBack.{Game}
 use Rattle.operating.proofs.turn_end.is_due.Goals as goal
 
 pub returns-then-has_trains-clause-due : goal.returns-then-has_trains-clause-due
@@ -11,14 +11,14 @@ returns-then-has_trains-clause-due c = (
   λ wrong. absurd cc,
   λ due.
       let wrong : true ≡ false = sym c.if-has_trains.true ∙ c.has_trains.ensures
-      ∙ ap (λ (events : List Event). has_trains events c.args.company) c.now.ensures.events ∙ due.0 in
+      ∙ ap (λ (game : Game). has_trains game.events c.args.company) c.now.ensures ∙ due.0 in
       absurd cc,
 )
 
 pub returns-clause-due : goal.returns-clause-due
 returns-clause-due c = (
   λ yes. (
-    ap (λ (events : List Event). has_trains events c.args.company) (sym c.now.ensures.events)
+    ap (λ (game : Game). has_trains game.events c.args.company) (sym c.now.ensures)
         ∙ sym c.has_trains.ensures ∙ c.if-has_trains.false,
     subst
         (λ (laid : MapState). CanRun (position_of laid) c.args.company) c.in_ok-update_map_state.ensures.map_state

@@ -5,11 +5,12 @@ use Rattle.purchases.specs.Discard.{discard_lines_left, first_held, next_discard
 use Rattle.totals.specs.Shares.{president_of}
 use Rattle.tables.specs.Train.{kinds}
 use Rattle.tables.specs.declared.rolling_stock.Kind.{Kind}
+use Rattle.totals.specs.LookBack.{Game}
 use Rattle.purchases.proofs.discard.next_discard.Goals as goal
 
 pub returns : goal.returns
 returns c =
-    let events = c.now-now.result.events.now in
+    let events = c.now-now.result.events in
     let company = c.args.company in
     let lines = c.as_slice.ensures.value ∙ (c.in_ok-lines.ensures ∙ ap (discard_lines_left events company) c.president.ensures) in
     let none : None ≡ first_held events company (discard_lines_left events company (president_of events company)) =
@@ -17,4 +18,4 @@ returns c =
     in
     c.first_held-in-None.ensures
     ∙ (ap (λ (first : Option Kind). option_or first (first_held events company kinds)) none
-    ∙ ap (λ list. next_discard list company) c.now-now.ensures.events)
+    ∙ ap (λ (game : Game). next_discard game.events company) c.now-now.ensures)

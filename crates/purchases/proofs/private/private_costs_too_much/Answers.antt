@@ -13,4 +13,4 @@ returns c =
     let view = c.args.view.now in
     rw (to_z-of_z w128 c.cash.result cash, to_z-of_z w128 c.from.result price, c.from.ensures)
     (ap (λ (z : ℤ). lt_z z (pos c.args.price)) (c.cash.ensures.sum
-    ∙ ap (cash_of view.seats view.events.now) c.of_company.ensures))
+    ∙ ap (cash_of view.seats view.events) c.of_company.ensures))

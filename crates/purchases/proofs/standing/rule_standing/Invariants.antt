@@ -2,14 +2,16 @@ use Rattle.std.proofs.Common.{◌≡◌, length}
 use Rattle.history.specs.Sound.{IsSound}
 use Rattle.purchases.specs.Standing.{after_operating_standing_line}
 use Rattle.sheets.specs.Taken.{after_each}
+use Rattle.totals.specs.LookBack.{with_events}
 use Rattle.purchases.proofs.standing.rule_standing.Given as goal
 
 -- the lines that are left lead from here where all lead from the start
 abbrev pub invariant-loop-line : goal.invariant-loop-line
 invariant-loop-line l = record {
-  seats : l.history.seats ≡ l.fn.history.seats;
-  events : after_each (after_operating_standing_line l.seat) l.history.events l.sheet.before
-      ≡ after_each (after_operating_standing_line l.seat) l.fn.history.events l.fn.sheet.before;
+  after :
+      with_events l.history (after_each (after_operating_standing_line l.seat) l.history.events l.sheet.before)
+      ≡ with_events l.fn.history
+      (after_each (after_operating_standing_line l.seat) l.fn.history.events l.fn.sheet.before);
   sound : IsSound l.history;
 }
 

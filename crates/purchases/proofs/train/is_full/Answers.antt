@@ -17,5 +17,5 @@ returns c =
     c.train_count.ensures.within c.traded_count.ensures c.limit.ensures
     ∙ (ap (λ trains. not (lt_z (trains -ℤ pos (traded_count c.args.trade_in)) (pos (limit_of c.phase.result))))
     c.train_count.ensures.sum
-    ∙ ap (λ phase. not (lt_z (train_count c.args.view.now.events.now (Some c.args.company) -ℤ pos
+    ∙ ap (λ phase. not (lt_z (train_count c.args.view.now.events (Some c.args.company) -ℤ pos
     (traded_count c.args.trade_in)) (pos (limit_of phase)))) c.phase.ensures)

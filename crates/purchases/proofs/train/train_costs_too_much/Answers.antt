@@ -14,6 +14,6 @@ returns c =
     let view = c.args.view.now in
     rw (to_z-of_z w128 c.cash.result cash, to_z-of_z w128 c.from.result price, c.from.ensures)
     (ap (λ (z : ℤ). lt_z z (pos c.price.result)) (c.cash.ensures.sum
-    ∙ ap (cash_of view.seats view.events.now) c.of_company.ensures)
-    ∙ ap (λ (n : ℕ). lt_z (cash_of view.seats view.events.now (party_of_company c.args.company)) (pos n))
+    ∙ ap (cash_of view.seats view.events) c.of_company.ensures)
+    ∙ ap (λ (n : ℕ). lt_z (cash_of view.seats view.events (party_of_company c.args.company)) (pos n))
     c.price.ensures.price)

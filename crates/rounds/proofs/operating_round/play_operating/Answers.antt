@@ -15,7 +15,7 @@ returns-clause-round g c =
     let is = c.in_ok-open.ensures.opened in
     whole_round c.args.sheets.now c.args.round c.args.history c.open.new.history c.in_ok-history.history
     c.record_all_left.new.history c.requires.seats is c.in_ok-history.ensures.turns c.in_ok-history.ensures.seats
-    c.in_ok-record_all_left.ensures.seats c.in_ok-record_all_left.ensures.events
+    c.in_ok-record_all_left.ensures.after
 
 pub returns-in_err-open-clause-calls : goal.returns-in_err-open-clause-calls
 returns-in_err-open-clause-calls g c =

@@ -4,6 +4,7 @@ use Rattle.board_state.specs.MapState.{position_of}
 use Rattle.operating.proofs.RunBestCalls.{answered_fault, answered_revenue}
 use Rattle.operating.proofs.RunBestLemmas.{answered_greatest, same_sum, small_sum}
 use Rattle.operating.specs.RunBest.{trains_now}
+use Rattle.totals.specs.LookBack.{Game}
 use Rattle.operating.proofs.company_turn.CompanyTurn.best_revenue.Goals as goal
 
 pub amount-requires-clause-most : goal.amount-requires-clause-most
@@ -15,15 +16,15 @@ pub returns-clause-greatest : goal.returns-clause-greatest
 returns-clause-greatest g c =
     (answered_greatest c.a_greatest_exists.ensures c.one_greatest.ensures _ _ c.args.self.now.by.company _ _
     c.in_ok-money.money c.amount.result c.in_ok-update_map_state.ensures.map_state
-    (c.as_slice.ensures ∙ c.in_ok-trains.ensures ∙ ap (λ events. trains_now events c.args.self.now.by.company)
-    c.now.ensures.events) c.keeps_laws.ensures c.amount.ensures c.in_ok-money.ensures.greatest).0
+    (c.as_slice.ensures ∙ c.in_ok-trains.ensures ∙ ap (λ (game : Game). trains_now game.events c.args.self.now.by.company)
+    c.now.ensures) c.keeps_laws.ensures c.amount.ensures c.in_ok-money.ensures.greatest).0
 
 pub returns-clause-small : goal.returns-clause-small
 returns-clause-small g c =
     (answered_greatest c.a_greatest_exists.ensures c.one_greatest.ensures _ _ c.args.self.now.by.company _ _
     c.in_ok-money.money c.amount.result c.in_ok-update_map_state.ensures.map_state
-    (c.as_slice.ensures ∙ c.in_ok-trains.ensures ∙ ap (λ events. trains_now events c.args.self.now.by.company)
-    c.now.ensures.events) c.keeps_laws.ensures c.amount.ensures c.in_ok-money.ensures.greatest).1
+    (c.as_slice.ensures ∙ c.in_ok-trains.ensures ∙ ap (λ (game : Game). trains_now game.events c.args.self.now.by.company)
+    c.now.ensures) c.keeps_laws.ensures c.amount.ensures c.in_ok-money.ensures.greatest).1
 
 pub returns-in_err-money-clause-calls : goal.returns-in_err-money-clause-calls
 returns-in_err-money-clause-calls g c =
@@ -31,8 +32,8 @@ returns-in_err-money-clause-calls g c =
     answered_fault g.R.Runner.earns c.args.self.now.history.events _ c.args.self.now.round c.args.self.now.by.company _
     c.earn.result _ _ c.args.runner.now c.earn.new.self
     (ap position_of c.in_ok-update_map_state.ensures.map_state)
-    (c.as_slice.ensures ∙ c.in_ok-trains.ensures ∙ ap (λ events. trains_now events c.args.self.now.by.company)
-    c.now.ensures.events)
+    (c.as_slice.ensures ∙ c.in_ok-trains.ensures ∙ ap (λ (game : Game). trains_now game.events c.args.self.now.by.company)
+    c.now.ensures)
     (c.in_err-money.was ∙ ap Err (sym fault_is.2)) fault_is.1 c.earn.ensures.earns
 
 pub returns-clause-calls : goal.returns-clause-calls
@@ -40,8 +41,8 @@ returns-clause-calls g c =
     answered_revenue g.R.Runner.earns c.args.self.now.history.events _ c.args.self.now.round c.args.self.now.by.company
     _ c.earn.result _ c.args.runner.now c.earn.new.self
     (ap position_of c.in_ok-update_map_state.ensures.map_state)
-    (c.as_slice.ensures ∙ c.in_ok-trains.ensures ∙ ap (λ events. trains_now events c.args.self.now.by.company)
-    c.now.ensures.events)
+    (c.as_slice.ensures ∙ c.in_ok-trains.ensures ∙ ap (λ (game : Game). trains_now game.events c.args.self.now.by.company)
+    c.now.ensures)
     (c.in_ok-money.was ∙ ap Ok (same_sum c.a_greatest_exists.ensures c.one_greatest.ensures _
     c.args.self.now.by.company _ c.in_ok-money.money c.amount.result c.keeps_laws.ensures c.amount.ensures
     c.in_ok-money.ensures.greatest)) (returns-clause-greatest g c) c.earn.ensures.earns
