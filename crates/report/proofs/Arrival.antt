@@ -31,6 +31,7 @@ use Rattle.rounds.specs.declared.game.End.TheVariants.{Awaiting, Bank, Bankrupt}
 use Rattle.sheets.specs.File.{Content, content_of, players_of, sheet_of, unread_of, version_of}
 use Rattle.sheets.specs.Laws.{ArrivalChangesNothing}
 use Rattle.sheets.specs.declared.fault.FileFault.{FileFault}
+use Rattle.totals.specs.LookBack.{Game}
 use Rattle.tables.specs.declared.round.Round as table
 
 -- the same holder is printed the same
@@ -75,10 +76,10 @@ event_same f g (Bankrupt seat) players = rw players refl
 event_same f g Broken players = refl
 
 -- the same players have the same lines
-players_same : (f g : List ℕ) (seats : ℕ) (events : List Event) → players_of f ≡ players_of g
-    → player_lines f seats events ≡ player_lines g seats events
+players_same : (f g : List ℕ) (game : Game) → players_of f ≡ players_of g
+    → player_lines f game ≡ player_lines g game
 unfolding player_lines player_line
-players_same f g seats events players = rw players refl
+players_same f g game players = rw players refl
 
 -- the same president has the same name
 president_same : (f g : List ℕ) (president : Option Seat) → players_of f ≡ players_of g
@@ -87,37 +88,37 @@ president_same f g None players = refl
 president_same f g (Some seat) players = rw players refl
 
 -- the same company has the same line
-company_same : (f g : List ℕ) (seats : ℕ) (events : List Event) (company : Company) (square : Option Square)
-    → players_of f ≡ players_of g → line_on_square f seats events company square
-    ≡ line_on_square g seats events company square
+company_same : (f g : List ℕ) (game : Game) (company : Company) (square : Option Square)
+    → players_of f ≡ players_of g → line_on_square f game company square
+    ≡ line_on_square g game company square
 unfolding company_line
-company_same f g seats events company None players = refl
-company_same f g seats events company (Some square) players =
-    rw (president_same f g (president_of events company) players) refl
+company_same f g game company None players = refl
+company_same f g game company (Some square) players =
+    rw (president_same f g (president_of game.events company) players) refl
 
 -- the same of these companies have the same lines
-companies_same : (f g : List ℕ) (seats : ℕ) (events : List Event) (list : List Company) → players_of f ≡ players_of g
-    → flat_map (λ company. started_line f seats events company) list
-    ≡ flat_map (λ company. started_line g seats events company) list
-companies_same f g seats events [] players = refl
-companies_same f g seats events (company ∷ others) players =
+companies_same : (f g : List ℕ) (game : Game) (list : List Company) → players_of f ≡ players_of g
+    → flat_map (λ company. started_line f game company) list
+    ≡ flat_map (λ company. started_line g game company) list
+companies_same f g game [] players = refl
+companies_same f g game (company ∷ others) players =
     rw (
-      company_same f g seats events company (square_of events company) players,
-      companies_same f g seats events
+      company_same f g game company (square_of game.events company) players,
+      companies_same f g game
           others players,
     ) refl
 
 -- the same companies have the same lines
-company_lines_same : (f g : List ℕ) (seats : ℕ) (events : List Event) → players_of f ≡ players_of g
-    → company_lines f seats events ≡ company_lines g seats events
+company_lines_same : (f g : List ℕ) (game : Game) → players_of f ≡ players_of g
+    → company_lines f game ≡ company_lines g game
 unfolding company_lines
-company_lines_same f g seats events players = companies_same f g seats events companies players
+company_lines_same f g game players = companies_same f g game companies players
 
 -- the same events give the same statement
-statement_same : (f g : List ℕ) (seats : ℕ) (events : List Event) → players_of f ≡ players_of g
-    → statement f seats events ≡ statement g seats events
-statement_same f g seats events players =
-    rw (players_same f g seats events players, company_lines_same f g seats events players) refl
+statement_same : (f g : List ℕ) (game : Game) → players_of f ≡ players_of g
+    → statement f game ≡ statement g game
+statement_same f g game players =
+    rw (players_same f g game players, company_lines_same f g game players) refl
 
 -- the same events are printed the same
 events_same : (f g : List ℕ) (events : List Event) → players_of f ≡ players_of g
@@ -132,7 +133,7 @@ rounds_same f g seats before [] players = refl
 rounds_same f g seats before (round ∷ rounds) players =
     rw (
       events_same f g round players,
-      statement_same f g seats (before ++ round) players,
+      statement_same f g (record { seats = seats; events = before ++ round }) players,
       rounds_same f g seats
           (before ++ round) rounds players,
     )
@@ -167,34 +168,34 @@ owing_same f g round players same =
     players
 
 -- the same players are worth the same
-worths_same : (f g : List ℕ) (seats : ℕ) (events : List Event) → players_of f ≡ players_of g
-    → worth_lines f seats events ≡ worth_lines g seats events
+worths_same : (f g : List ℕ) (game : Game) → players_of f ≡ players_of g
+    → worth_lines f game ≡ worth_lines g game
 unfolding worth_lines
-worths_same f g seats events players = rw players refl
+worths_same f g game players = rw players refl
 
 -- the same end is printed the same
-end_same : (f g : List ℕ) (seats : ℕ) (events : List Event) (end : End) → AreReadAlike f g →
-    end_text f seats events end ≡ end_text g seats events end
-end_same f g seats events (Awaiting round) same = rw (owing_same f g round same.players (same.sheets round))
-end_same f g seats events Bank same = rw (worths_same f g seats events same.players) refl
-end_same f g seats events Bankrupt same = rw (worths_same f g seats events same.players) refl
+end_same : (f g : List ℕ) (game : Game) (end : End) → AreReadAlike f g →
+    end_text f game end ≡ end_text g game end
+end_same f g game (Awaiting round) same = rw (owing_same f g round same.players (same.sheets round))
+end_same f g game Bank same = rw (worths_same f g game same.players) refl
+end_same f g game Bankrupt same = rw (worths_same f g game same.players) refl
 
 -- what is after the first line of the report of a file whose game has these events and this end
-abbrev behind : List ℕ → ℕ → List Event → End → List ℕ
-behind file seats events end =
-    players_line file ++ rounds_text file seats events ++ unread_lines 0 (unread_of file)
-    ++ end_text file seats events end
+abbrev behind : List ℕ → Game → End → List ℕ
+behind file game end =
+    players_line file ++ rounds_text file game ++ unread_lines 0 (unread_of file)
+    ++ end_text file game end
 
 -- it is the same of the same game
-behind_same : (f g : List ℕ) (seats : ℕ) (events : List Event) (end : End) → AreReadAlike f g
+behind_same : (f g : List ℕ) (game : Game) (end : End) → AreReadAlike f g
     → unread_of f ≡ unread_of g →
-    behind f seats events end ≡ behind g seats events end
-behind_same f g seats events end same unread =
+    behind f game end ≡ behind g game end
+behind_same f g game end same unread =
     rw (
       same.players,
-      rounds_same f g seats [] (rounds_in events) same.players,
+      rounds_same f g game.seats [] (rounds_in game.events) same.players,
       unread,
-      end_same f g seats events end
+      end_same f g game end
           same,
     )
 
@@ -206,13 +207,13 @@ first_of_five a b c d e =
     ∙ append_assoc a (b ++ c ++ d) e
 
 -- the report is the first line and that
-in_two : (file : List ℕ) (seats : ℕ) (events : List Event) (end : End) →
-    report_text file seats events end ≡ game_line (version_of file) ++ behind file seats events end
+in_two : (file : List ℕ) (game : Game) (end : End) →
+    report_text file game end ≡ game_line (version_of file) ++ behind file game end
 unfolding header
-in_two file seats events end =
-    first_of_five (game_line (version_of file)) (players_line file) (rounds_text file seats events)
+in_two file game end =
+    first_of_five (game_line (version_of file)) (players_line file) (rounds_text file game)
     (unread_lines 0 (unread_of file))
-    (end_text file seats events end)
+    (end_text file game end)
 
 -- a report is that of the other file with its version
 report_carried : SamePartsSameGame → (f g : List ℕ) (of_f of_g : Result Content FileFault) → IsOk of_f → IsOk of_g
@@ -222,19 +223,19 @@ report_carried same_game f g (Ok a) (Ok b) ok_f ok_g is_g same unread text repor
     let last : Between = report.last in
     let end : End = end_of last.next last.game.events in
     record {
-      rest = behind f last.game.seats last.game.events end;
-      is = report.is ∙ in_two f last.game.seats last.game.events end;
+      rest = behind f last.game end;
+      is = report.is ∙ in_two f last.game end;
       report =
           subst (λ (content : Result Content FileFault). IsReportOf g content
-          (game_line (version_of g) ++ behind f last.game.seats last.game.events end))
+          (game_line (version_of g) ++ behind f last.game end))
           (sym is_g)
           (record {
             last = last;
             game = same_game f g same last report.game;
             is =
                 ap (λ (rest : List ℕ). game_line (version_of g) ++ rest)
-                (behind_same f g last.game.seats last.game.events end same unread)
-                ∙ sym (in_two g last.game.seats last.game.events end);
+                (behind_same f g last.game end same unread)
+                ∙ sym (in_two g last.game end);
           });
     }
 report_carried same_game f g (Ok a) (Err fault) ok_f ok_g is_g same unread text report = absurd cc

@@ -13,6 +13,7 @@ use Rattle.report.specs.Line.{event_line}
 use Rattle.report.specs.Parts.{last_round, last_round_text}
 use Rattle.report.specs.Report.{ends_round, lines_of_round, rounds_in, rounds_text, texts_of_rounds}
 use Rattle.report.specs.Report.{with_event_in_round}
+use Rattle.totals.specs.LookBack.{Game}
 use Rattle.report.specs.Statement.{statement}
 
 -- an event begins a round
@@ -123,11 +124,15 @@ cut_before (first ∷ next ∷ old) more event is none =
     ap (with_event_in_round first (begins next)) (cut_before (next ∷ old) more event is none)
     ∙ one_more_in_front first (begins next) (rounds_in (next ∷ old)) some.1 some.0 (event ∷ more) some.2
 
+-- a game of this many seats with this list
+abbrev of_table : ℕ → List Event → Game
+of_table seats events = record { seats = seats; events = events }
+
 -- the text of a list that a round is added to: that of the list, and then that of the round
 texts_grow :
     (file : List ℕ) (seats : ℕ) (old more : List Event) (event : Event) → begins event ≡ true
     → list_any begins more ≡ false →
-    rounds_text file seats (old ++ event ∷ more) ≡ rounds_text file seats old
+    rounds_text file (of_table seats (old ++ event ∷ more)) ≡ rounds_text file (of_table seats old)
     ++ lines_of_round file seats old (event ∷ more)
 texts_grow file seats old more event is none =
     ap (texts_of_rounds file seats []) (cut_before old more event is none)
@@ -136,7 +141,7 @@ texts_grow file seats old more event is none =
 -- the text of the round that began last, where there is an event
 some_last : (file : List ℕ) (seats : ℕ) (old more : List Event) (event : Event)
     → last_round_text file seats (old ++ event ∷ more) ≡
-    flat_map (event_line file) (last_round (old ++ event ∷ more)) ++ statement file seats (old ++ event ∷ more)
+    flat_map (event_line file) (last_round (old ++ event ∷ more)) ++ statement file (of_table seats (old ++ event ∷ more))
 some_last file seats [] more event = refl
 some_last file seats (first ∷ old) more event = refl
 
@@ -144,15 +149,15 @@ some_last file seats (first ∷ old) more event = refl
 pub grows_by_last :
     (file : List ℕ) (seats : ℕ) (old more : List Event) (event : Event) → begins event ≡ true
     → list_any begins more ≡ false →
-    rounds_text file seats (old ++ event ∷ more) ≡ rounds_text file seats old
+    rounds_text file (of_table seats (old ++ event ∷ more)) ≡ rounds_text file (of_table seats old)
     ++ last_round_text file seats (old ++ event ∷ more)
 grows_by_last file seats old more event is none =
     let last : last_round_text file seats (old ++ event ∷ more) ≡ lines_of_round file seats old (event ∷ more) =
     some_last file seats old more event
-    ∙ ap (λ (events : List Event). flat_map (event_line file) events ++ statement file seats (old ++ event ∷ more))
+    ∙ ap (λ (events : List Event). flat_map (event_line file) events ++ statement file (of_table seats (old ++ event ∷ more)))
     (begins_last old more event is none)
     in
-    texts_grow file seats old more event is none ∙ ap (λ (text : List ℕ). rounds_text file seats old ++ text) (sym last)
+    texts_grow file seats old more event is none ∙ ap (λ (text : List ℕ). rounds_text file (of_table seats old) ++ text) (sym last)
 
 -- the events from a place on are those of the round that began last, if the first of them begins a
 -- round and no later one does

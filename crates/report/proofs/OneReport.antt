@@ -13,7 +13,7 @@ one_report_of : ((file : List ℕ) (a b : Between) → Plays file a → Plays fi
 one_report_of one_game file (Err fault) a b of_a of_b = of_a ∙ sym of_b
 one_report_of one_game file (Ok content) a b of_a of_b =
     of_a.is
-    ∙ ap (λ (last : Between). report_text file last.game.seats last.game.events (end_of last.next last.game.events))
+    ∙ ap (λ (last : Between). report_text file last.game (end_of last.next last.game.events))
     (one_game file of_a.last of_b.last of_a.game of_b.game)
     ∙ sym of_b.is
 
@@ -30,7 +30,7 @@ some_report_of some_game file (Err fault) is = (refusal_line fault, refl)
 some_report_of some_game file (Ok content) is =
     let accepted : IsAccepted file = subst (λ (r : Result Content FileFault). IsOk r) (sym is) refl in
     let played : (last : Between) × Plays file last = some_game file accepted in (
-      report_text file played.0.game.seats played.0.game.events (end_of played.0.next played.0.game.events),
+      report_text file played.0.game (end_of played.0.next played.0.game.events),
       record { last = played.0; game = played.1; is = refl },
     )
 

@@ -7,9 +7,9 @@ use Rattle.std.proofs.lemmas.Grind.{common_steps}
 use Rattle.std.proofs.lemmas.List.{take_more, drop_more, drop-drop, drop-take, take-append-drop}
 use Rattle.events.specs.declared.event.Event.{Event}
 use Rattle.report.specs.Report.{ends_round, is_round, lines_of_round, rounds_in, text_of_one, texts_of_rounds}
-use Rattle.report.specs.Report.{round_with_statement_at, text_between, with_event_in_round}
+use Rattle.report.specs.Report.{round_with_statement, text_between, with_event_in_round}
 use Rattle.rounds.specs.Play.{Played}
-use Rattle.totals.specs.declared.look_back.GameView.{GameView}
+use Rattle.totals.specs.LookBack.{Game}
 use Rattle.tables.specs.declared.round.Round as table
 
 -- events before rounds: of the first of them, or a round by themselves where that ends with them
@@ -85,12 +85,12 @@ up_to_the_end events begun end ordered within =
     rw (← prefix, ← part) (take-append-drop begun (take end events))
 
 -- the text of a round by the game as it stood after it
-pub text_as_it_stood : (played : Played) (file : List ℕ) (view : GameView) (begun end : ℕ) (events : List Event)
-    → file ≡ played.file → view.seats ≡ played.game.seats → view.events.now ≡ take end played.game.events
+pub text_as_it_stood : (played : Played) (file : List ℕ) (view : Game) (begun end : ℕ) (events : List Event)
+    → file ≡ played.file → view ≡ record { seats = played.game.seats; events = take end played.game.events }
     → events ≡ slice_range played.game.events begun end → begun ≤ end → end ≤ length played.game.events
-    → round_with_statement_at file view events ≡ text_between played begun end
-text_as_it_stood played file view begun end events is_file is_seats stood sliced ordered within =
-    rw (is_file, is_seats, stood, sliced, ← up_to_the_end played.game.events begun end ordered within)
+    → round_with_statement file view events ≡ text_between played begun end
+text_as_it_stood played file view begun end events is_file stood sliced ordered within =
+    rw (is_file, stood, sliced, ← up_to_the_end played.game.events begun end ordered within)
     refl
 
 -- the first of the rounds from a place on, by its place in the whole list

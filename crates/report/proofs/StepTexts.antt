@@ -19,30 +19,26 @@ use Rattle.rounds.specs.declared.game.End.{End}
 use Rattle.sheets.specs.File.{Content, IsAccepted, content_of, unread_of}
 use Rattle.sheets.specs.declared.fault.FileFault.{FileFault}
 
--- the text of the rounds of a game
-abbrev text_of : List ℕ → Game → List ℕ
-text_of file game = rounds_text file game.seats game.events
-
 -- a round adds its own text
 round_written : RoundsOnlyAdd → (file f : List ℕ) (old new : Between) → IsRound f old new
-    → text_of file new.game ≡ text_of file old.game ++ text_of_last file (Some new.game)
+    → rounds_text file new.game ≡ rounds_text file old.game ++ text_of_last file (Some new.game)
 round_written adds file f old new played =
     let added = adds f old new played in
-    subst (λ (game : Game). text_of file game ≡ text_of file old.game ++ text_of_last file (Some game))
+    subst (λ (game : Game). rounds_text file game ≡ rounds_text file old.game ++ text_of_last file (Some game))
     (sym added.added)
     (grows_by_last file old.game.seats old.game.events added.more (event.Round played.round) refl added.no_round)
 
 -- so do some rounds
 rounds_written : RoundsOnlyAdd → (file f : List ℕ) (rounds : ℕ) (old new : Between) → AreRounds f rounds old new
-    → (more : List ℕ) × (text_of file new.game ≡ text_of file old.game ++ more)
+    → (more : List ℕ) × (rounds_text file new.game ≡ rounds_text file old.game ++ more)
 rounds_written adds file f zero old new played =
-    ([], ap (λ (at : Between). text_of file at.game) (sym played) ∙ sym (append-nil (text_of file old.game)))
+    ([], ap (λ (at : Between). rounds_text file at.game) (sym played) ∙ sym (append-nil (rounds_text file old.game)))
 rounds_written adds file f (suc rounds) old new played =
     let before = rounds_written adds file f rounds old played.0 played.1 in
     let last = text_of_last file (Some new.game) in (
       before.0 ++ last,
       round_written adds file f played.0 new played.2 ∙ ap (λ (text : List ℕ). text ++ last) before.1
-          ∙ append_assoc (text_of file old.game) before.0 last,
+          ∙ append_assoc (rounds_text file old.game) before.0 last,
     )
 
 -- where steps have led, and what was written of them
@@ -50,7 +46,7 @@ record IsTextSoFar (file : List ℕ) (play : Underway) (text : List ℕ) : Type 
   of_file : play.file ≡ file
   at : Between
   there : play.there ≡ Ok at
-  is : text ≡ text_of file at.game
+  is : text ≡ rounds_text file at.game
 
 -- a step adds the text of its round
 step_written : RoundsOnlyAdd → (file : List ℕ) (old new : Underway) (before text : List ℕ) (round : _)
@@ -64,7 +60,7 @@ step_written adds file old new before text round written step is =
     ap (λ (at : Result Between PlayFault). text_of_last new.file (game_there at)) there
     ∙ ap (λ (f : List ℕ). text_of_last f (Some step.to.game)) of_file
     in
-    let before_is : before ≡ text_of file step.from.game = written.is ∙ ap (λ (at : Between). text_of file at.game)
+    let before_is : before ≡ rounds_text file step.from.game = written.is ∙ ap (λ (at : Between). rounds_text file at.game)
     same in
     record {
       of_file = of_file;
@@ -115,14 +111,14 @@ as_report file whole (Err fault) accepted report = absurd cc
 -- what follows the rounds of a game
 abbrev after_rounds : List ℕ → Between → List ℕ
 after_rounds file last = unread_lines 0 (unread_of file)
-    ++ end_text file last.game.seats last.game.events (end_of last.next last.game.events)
+    ++ end_text file last.game (end_of last.next last.game.events)
 
 -- the report of a game is its header, its rounds, and what follows them
-in_parts : (file : List ℕ) (last : Between) → report_text file last.game.seats last.game.events
-    (end_of last.next last.game.events) ≡ (header file ++ text_of file last.game) ++ after_rounds file last
+in_parts : (file : List ℕ) (last : Between) → report_text file last.game
+    (end_of last.next last.game.events) ≡ (header file ++ rounds_text file last.game) ++ after_rounds file last
 in_parts file last =
-    append_assoc (header file ++ text_of file last.game) (unread_lines 0 (unread_of file))
-    (end_text file last.game.seats last.game.events (end_of last.next last.game.events))
+    append_assoc (header file ++ rounds_text file last.game) (unread_lines 0 (unread_of file))
+    (end_text file last.game (end_of last.next last.game.events))
 
 -- what is written so far is a prefix of the report
 pub text_is_prefix : OneGame → RoundsOnlyAdd → StepsPlayTheGame → PartsAreAPrefix
@@ -134,15 +130,15 @@ text_is_prefix one adds steps_play file steps play text whole accepted stepped r
     let of_last = of_game file whole (content_of file) accepted report in
     let last : of_last.last ≡ up_to.last = one file of_last.last up_to.last of_last.game up_to.plays in
     let more = rounds_written adds file file up_to.later led.0 up_to.last up_to.ahead in
-    let rounds : text_of file up_to.last.game ≡ text ++ more.0 =
+    let rounds : rounds_text file up_to.last.game ≡ text ++ more.0 =
     more.1 ∙ ap (λ (prefix : List ℕ). prefix ++ more.0)
-    (ap (λ (at : Between). text_of file at.game) (sym same) ∙ sym written.is)
+    (ap (λ (at : Between). rounds_text file at.game) (sym same) ∙ sym written.is)
     in
     record {
       rest = more.0 ++ after_rounds file up_to.last;
       is =
           of_last.is
-          ∙ ap (λ (at : Between). report_text file at.game.seats at.game.events (end_of at.next at.game.events)) last
+          ∙ ap (λ (at : Between). report_text file at.game (end_of at.next at.game.events)) last
           ∙ in_parts file up_to.last
           ∙ ap (λ (prefix : List ℕ). (header file ++ prefix) ++ after_rounds file up_to.last) rounds
           ∙ ap (λ (prefix : List ℕ). prefix ++ after_rounds file up_to.last)
@@ -166,7 +162,7 @@ text_is_report adds steps_play file steps before play end text accepted stepped 
     }
     in
     let why : Some end ≡ Some (end_of last.next last.game.events) = stays.why ∙ ap end_there stays.over.there in
-    let rounds : text ≡ text_of file last.game = written.is ∙ ap (λ (at : Between). text_of file at.game) same in
+    let rounds : text ≡ rounds_text file last.game = written.is ∙ ap (λ (at : Between). rounds_text file at.game) same in
     let end_is : end_text_of play ≡ after_rounds file last =
     ap end_text_of stays.after
     ∙ ap (λ (f : List ℕ). unread_lines 0 (unread_of f) ++ end_text_if f (game_there before.there) (Some end))
@@ -180,6 +176,6 @@ text_is_report adds steps_play file steps before play end text accepted stepped 
       game = plays;
       is =
           ap (λ (prefix : List ℕ). (header file ++ prefix) ++ end_text_of play) rounds
-          ∙ ap (λ (back : List ℕ). (header file ++ text_of file last.game) ++ back) end_is
+          ∙ ap (λ (back : List ℕ). (header file ++ rounds_text file last.game) ++ back) end_is
           ∙ sym (in_parts file last);
     })

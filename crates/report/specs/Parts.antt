@@ -21,7 +21,8 @@ last_round (event ∷ events) = if list_any (λ other. is_some (round_begun_by o
 -- the lines of its events, and the statement as the game stands; nothing before the first round
 abbrev pub last_round_text : List ℕ → ℕ → List Event → List ℕ
 last_round_text file seats [] = []
-last_round_text file seats (event ∷ events) = round_with_statement file seats (event ∷ events) (last_round (event ∷ events))
+last_round_text file seats (event ∷ events) =
+    round_with_statement file (record { seats = seats; events = event ∷ events }) (last_round (event ∷ events))
 
 -- the text of the round that began last in a game, if there is a game
 abbrev pub text_of_last : List ℕ → Option Game → List ℕ
@@ -35,7 +36,7 @@ next_text_of play = text_of_last play.file (game_so_far play)
 
 -- why play of a game stopped, if that is known
 abbrev pub end_text_if : List ℕ → Option Game → Option End → List ℕ
-end_text_if file (Some game) (Some end) = end_text file game.seats game.events end
+end_text_if file (Some game) (Some end) = end_text file game end
 end_text_if file (Some game) None = []
 end_text_if file None end = []
 

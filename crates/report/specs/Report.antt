@@ -19,7 +19,7 @@ use Rattle.rounds.specs.declared.game.End.TheVariants.{Awaiting, Bank, Bankrupt}
 use Rattle.sheets.specs.File.{Content, content_of, code_of_fault, sheet_of, players_of, unread_of, version_of}
 use Rattle.sheets.specs.declared.fault.FileFault.{FileFault}
 use Rattle.tables.specs.Round.{same_round}
-use Rattle.totals.specs.declared.look_back.GameView.{GameView}
+use Rattle.totals.specs.LookBack.{Game}
 use Rattle.tables.specs.declared.round.Round as round
 
 -- the line of a refused file
@@ -58,17 +58,14 @@ abbrev pub rounds_in : List Event → List (List Event)
 rounds_in [] = []
 rounds_in (event ∷ events) = with_event_in_round event (ends_round events) (rounds_in events)
 
--- the text of a round: the lines of its events, and the statement of all events up to its end
-abbrev pub round_with_statement : List ℕ → ℕ → List Event → List Event → List ℕ
-round_with_statement file seats all events = flat_map (event_line file) events ++ statement file seats all
-
--- the text of a round whose events are the last of a game as it stood
-abbrev pub round_with_statement_at : List ℕ → GameView → List Event → List ℕ
-round_with_statement_at file view events = round_with_statement file view.seats view.events.now events
+-- the text of a round: the lines of its events, and the statement of the game at its end
+abbrev pub round_with_statement : List ℕ → Game → List Event → List ℕ
+round_with_statement file game events = flat_map (event_line file) events ++ statement file game
 
 -- the text of a round whose events come after these
 abbrev pub lines_of_round : List ℕ → ℕ → List Event → List Event → List ℕ
-lines_of_round file seats before events = round_with_statement file seats (before ++ events) events
+lines_of_round file seats before events =
+    round_with_statement file (record { seats = seats; events = before ++ events }) events
 
 -- the texts of some rounds, in order
 abbrev pub texts_of_rounds : List ℕ → ℕ → List Event → List (List Event) → List ℕ
@@ -77,8 +74,8 @@ texts_of_rounds file seats before (round ∷ rounds) =
     lines_of_round file seats before round ++ texts_of_rounds file seats (before ++ round) rounds
 
 -- the text of a game's rounds
-abbrev pub rounds_text : List ℕ → ℕ → List Event → List ℕ
-rounds_text file seats events = texts_of_rounds file seats [] (rounds_in events)
+abbrev pub rounds_text : List ℕ → Game → List ℕ
+rounds_text file game = texts_of_rounds file game.seats [] (rounds_in game.events)
 
 -- the text of the round whose events are at these places of a game
 abbrev pub text_between : Played → ℕ → ℕ → List ℕ
@@ -135,33 +132,33 @@ abbrev pub awaiting_text : List ℕ → round.Round → List ℕ
 awaiting_text file round = codes "AWAITING " ++ text_of_round round ++ owing file round ++ 10 ∷ []
 
 -- the text that says that the game is over, why, and what each player is worth
-abbrev pub over_text : List ℕ → ℕ → List Event → List ℕ → List ℕ
-over_text file seats events word = line_of (codes "END") (word ∷ []) ++ worth_lines file seats events
+abbrev pub over_text : List ℕ → Game → List ℕ → List ℕ
+over_text file game word = line_of (codes "END") (word ∷ []) ++ worth_lines file game
 
 -- why play stopped
-abbrev pub end_text : List ℕ → ℕ → List Event → End → List ℕ
-end_text file seats events (Awaiting round) = awaiting_text file round
-end_text file seats events Bank = over_text file seats events (codes "BANK")
-end_text file seats events Bankrupt = over_text file seats events (codes "BANKRUPT")
+abbrev pub end_text : List ℕ → Game → End → List ℕ
+end_text file game (Awaiting round) = awaiting_text file round
+end_text file game Bank = over_text file game (codes "BANK")
+end_text file game Bankrupt = over_text file game (codes "BANKRUPT")
 
 -- why play of a game stopped
 abbrev pub end_of_play : Played → List ℕ
-end_of_play played = end_text played.file played.game.seats played.game.events played.end
+end_of_play played = end_text played.file played.game played.end
 
--- the report of a file whose game has these events and this end
-abbrev pub report_text : List ℕ → ℕ → List Event → End → List ℕ
-report_text file seats events end =
-    header file ++ rounds_text file seats events ++ unread_lines 0 (unread_of file) ++ end_text file seats events end
+-- the report of a file whose game has led to this one and this end
+abbrev pub report_text : List ℕ → Game → End → List ℕ
+report_text file game end =
+    header file ++ rounds_text file game ++ unread_lines 0 (unread_of file) ++ end_text file game end
 
 -- the report of a game that was played
 abbrev pub report_of : Played → List ℕ
-report_of played = report_text played.file played.game.seats played.game.events played.end
+report_of played = report_text played.file played.game played.end
 
 -- the report of a file that is not refused
 pub record IsGameReport (file text : List ℕ) : Type 0 where
   pub last : Between
   pub game : Plays file last
-  pub is : text ≡ report_text file last.game.seats last.game.events (end_of last.next last.game.events)
+  pub is : text ≡ report_text file last.game (end_of last.next last.game.events)
 
 -- the text is the report of the file, by what the file says
 abbrev pub IsReportOf : List ℕ → Result Content FileFault → List ℕ → Type 0

@@ -12,11 +12,10 @@ use Rattle.events.specs.declared.event.Party.{Party}
 use Rattle.events.specs.declared.event.Party.TheVariants as party
 use Rattle.events.specs.declared.event.Shareholder.{Shareholder}
 use Rattle.events.specs.declared.event.Shareholder.TheVariants.{InitialOffering, BankPool, Seat as OfSeat}
-use Rattle.totals.specs.LookBack.{cash_of, is_owner, owner_in, owner_of}
+use Rattle.totals.specs.LookBack.{Game, cash_of, is_owner, owner_in, owner_of}
 use Rattle.totals.specs.Operating.{tokens_placed}
 use Rattle.totals.specs.Shares.{president_of, shares_of, square_of}
 use Rattle.totals.specs.Trains.{at_least_zero, trains_held}
-use Rattle.totals.specs.declared.look_back.GameView.{GameView}
 use Rattle.totals.specs.declared.owners.Owners.{Owners}
 use Rattle.report.specs.Column.{left_aligned, right_aligned}
 use Rattle.report.specs.Line.{name_of}
@@ -46,12 +45,8 @@ unfoldable pub shares_column : List Event → Company → Shareholder → List �
 shares_column events company place = right_aligned 3 (signed_decimal (shares_of events company place))
 
 -- what a party has, in its column
-unfoldable pub cash_column : ℕ → List Event → Party → List ℕ
-cash_column seats events party = right_aligned 6 (signed_decimal (cash_of seats events party))
-
--- what a party has in a game as it stood, in its column
-abbrev pub cash_column_at : GameView → Party → List ℕ
-cash_column_at view party = cash_column view.seats view.events.now party
+unfoldable pub cash_column : Game → Party → List ℕ
+cash_column game party = right_aligned 6 (signed_decimal (cash_of game.seats game.events party))
 
 -- how many of a seat's certificates count, in their column
 unfoldable pub counted_column : List Event → Seat → List ℕ
@@ -62,15 +57,11 @@ unfoldable pub holdings : List Event → Seat → List ℕ
 holdings events seat = flat_map (λ company. shares_column events company (OfSeat seat)) companies
 
 -- a player's line
-unfoldable pub player_line : List ℕ → ℕ → List Event → Seat → List ℕ
-player_line file seats events seat =
-    codes "PLAYER " ++ left_aligned 8 (name_of file seat) ++ cash_column seats events (party_at seat)
-    ++ counted_column events seat ++ holdings events seat
-    ++ codes_owned events seat ++ 10 ∷ []
-
--- a player's line in a game as it stood
-abbrev pub player_line_at : List ℕ → GameView → Seat → List ℕ
-player_line_at file view seat = player_line file view.seats view.events.now seat
+unfoldable pub player_line : List ℕ → Game → Seat → List ℕ
+player_line file game seat =
+    codes "PLAYER " ++ left_aligned 8 (name_of file seat) ++ cash_column game (party_at seat)
+    ++ counted_column game.events seat ++ holdings game.events seat
+    ++ codes_owned game.events seat ++ 10 ∷ []
 
 -- the name of a company's president
 abbrev pub president_name : List ℕ → Option Seat → List ℕ
@@ -79,16 +70,12 @@ president_name file (Some seat) = name_of file seat
 
 -- a company's cash, the price of its square, its shares in the initial offering and the bank pool,
 -- and the tokens that it has placed
-unfoldable pub company_figures : ℕ → List Event → Company → Square → List ℕ
-company_figures seats events company square =
-    cash_column seats events (party.Holder (holder.Company company))
+unfoldable pub company_figures : Game → Company → Square → List ℕ
+company_figures game company square =
+    cash_column game (party.Holder (holder.Company company))
     ++ right_aligned 4 (decimal (price_of square))
-    ++ shares_column events company InitialOffering ++ shares_column events company BankPool
-    ++ right_aligned 2 (decimal (tokens_placed events company))
-
--- a company's figures in a game as it stood
-abbrev pub company_figures_at : GameView → Company → Square → List ℕ
-company_figures_at view company square = company_figures view.seats view.events.now company square
+    ++ shares_column game.events company InitialOffering ++ shares_column game.events company BankPool
+    ++ right_aligned 2 (decimal (tokens_placed game.events company))
 
 -- a kind after a space, this many times
 abbrev pub codes_of_kind : Kind → ℕ → List ℕ
@@ -104,58 +91,32 @@ unfoldable pub trains_text : List Event → Company → List ℕ
 trains_text events company = flat_map (λ kind. codes_of_trains events company kind) kinds
 
 -- the line of a company on this square
-unfoldable pub company_line : List ℕ → ℕ → List Event → Company → Square → List ℕ
-company_line file seats events company square =
-    codes "COMPANY " ++ left_aligned 4 (code_of_company company) ++ company_figures seats events company square
-    ++ 32 ∷ president_name file (president_of events company) ++ trains_text events company ++ 10 ∷ []
-
--- the line of a company on this square in a game as it stood
-abbrev pub company_line_at : List ℕ → GameView → Company → Square → List ℕ
-company_line_at file view company square = company_line file view.seats view.events.now company square
+unfoldable pub company_line : List ℕ → Game → Company → Square → List ℕ
+company_line file game company square =
+    codes "COMPANY " ++ left_aligned 4 (code_of_company company) ++ company_figures game company square
+    ++ 32 ∷ president_name file (president_of game.events company) ++ trains_text game.events company ++ 10 ∷ []
 
 -- the line of a company on a square, if it is on one
-abbrev pub line_on_square : List ℕ → ℕ → List Event → Company → Option Square → List ℕ
-line_on_square file seats events company None = []
-line_on_square file seats events company (Some square) = company_line file seats events company square
+abbrev pub line_on_square : List ℕ → Game → Company → Option Square → List ℕ
+line_on_square file game company None = []
+line_on_square file game company (Some square) = company_line file game company square
 
 -- the line of a company, if it is started: if its token has a square
-abbrev pub started_line : List ℕ → ℕ → List Event → Company → List ℕ
-started_line file seats events company = line_on_square file seats events company (square_of events company)
-
--- the line of a company that is started, in a game as it stood
-abbrev pub started_line_at : List ℕ → GameView → Company → List ℕ
-started_line_at file view company = started_line file view.seats view.events.now company
+abbrev pub started_line : List ℕ → Game → Company → List ℕ
+started_line file game company = line_on_square file game company (square_of game.events company)
 
 -- the lines of the started companies, in roster order
-unfoldable pub company_lines : List ℕ → ℕ → List Event → List ℕ
-company_lines file seats events = flat_map (λ company. started_line file seats events company) companies
-
--- the lines of the started companies in a game as it stood
-abbrev pub company_lines_at : List ℕ → GameView → List ℕ
-company_lines_at file view = company_lines file view.seats view.events.now
+unfoldable pub company_lines : List ℕ → Game → List ℕ
+company_lines file game = flat_map (λ company. started_line file game company) companies
 
 -- the bank's line
-unfoldable pub bank_line : ℕ → List Event → List ℕ
-bank_line seats events = codes "BANK " ++ cash_column seats events party.Bank ++ 10 ∷ []
-
--- the bank's line in a game as it stood
-abbrev pub bank_line_at : GameView → List ℕ
-bank_line_at view = bank_line view.seats view.events.now
+unfoldable pub bank_line : Game → List ℕ
+bank_line game = codes "BANK " ++ cash_column game party.Bank ++ 10 ∷ []
 
 -- the players' lines
-unfoldable pub player_lines : List ℕ → ℕ → List Event → List ℕ
-player_lines file seats events = flat_map (λ seat. player_line file seats events (record { 0 = seat }))
-    (range_with_len 0 seats)
+unfoldable pub player_lines : List ℕ → Game → List ℕ
+player_lines file game = flat_map (λ seat. player_line file game (record { 0 = seat })) (range_with_len 0 game.seats)
 
--- the players' lines in a game as it stood
-abbrev pub player_lines_at : List ℕ → GameView → List ℕ
-player_lines_at file view = player_lines file view.seats view.events.now
-
--- the statement of a list of events
-abbrev pub statement : List ℕ → ℕ → List Event → List ℕ
-statement file seats events =
-    player_lines file seats events ++ company_lines file seats events ++ bank_line seats events
-
--- the statement of a game as it stood
-abbrev pub statement_at : List ℕ → GameView → List ℕ
-statement_at file view = statement file view.seats view.events.now
+-- the statement of a game
+abbrev pub statement : List ℕ → Game → List ℕ
+statement file game = player_lines file game ++ company_lines file game ++ bank_line game

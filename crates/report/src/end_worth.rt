@@ -2,7 +2,7 @@
 ghost use Rattle.std.specs.Prelude.{◌≡◌, ◌≤◌, ◌^◌, OnOk, length};
 ghost use Rattle.report.specs.Column.{Adds};
 ghost use Rattle.report.specs.Statement.{AreOwnersIn};
-ghost use Rattle.report.specs.EndWorth.{worth_line_at, worth_lines_at, worth_of, worth_of_all_shares, worth_of_private};
+ghost use Rattle.report.specs.EndWorth.{worth_line, worth_lines, worth_of, worth_of_all_shares, worth_of_private};
 ghost use Rattle.report.specs.EndWorth.{worth_of_privates, worth_of_shares};
 ghost use Rattle.sheets.specs.File.{players_of};
 
@@ -23,7 +23,7 @@ pub(crate) fn push_worths(
     view: &GameView,
 ) -> Result<(), AllocError>
     requires { view.now.seats ≡ length (players_of sheets.now) }
-    ensures { OnOk result (Adds out.old out.new (worth_lines_at sheets.now view.now)) }
+    ensures { OnOk result (Adds out.old out.new (worth_lines sheets.now view.now)) }
 {
     for seat in 0..sheets.seats() {
         push_worth(out, sheets, view, Seat(seat as u8))?;
@@ -38,7 +38,7 @@ fn push_worth(
     view: &GameView,
     seat: Seat,
 ) -> Result<(), AllocError>
-    ensures { OnOk result (Adds out.old out.new (worth_line_at sheets.now view.now seat)) }
+    ensures { OnOk result (Adds out.old out.new (worth_line sheets.now view.now seat)) }
 {
     out.extend_from_slice(b"WORTH ")?;
     push_name(out, sheets, seat)?;
@@ -51,7 +51,7 @@ fn push_worth(
 /// Returns what a seat is worth, in dollars: its cash, its shares at the market price, and its
 /// privates at their face value.
 pub fn player_worth(view: &GameView, seat: Seat) -> Money
-    ensures { result ≡ worth_of view.now.seats view.now.events.now seat }
+    ensures { result ≡ worth_of view.now seat }
 {
     let owned = shares_worth(view, seat) + u128::from(privates_worth(view, seat));
     view.cash(Party::of_seat(seat)) + owned as Money
@@ -59,7 +59,7 @@ pub fn player_worth(view: &GameView, seat: Seat) -> Money
 
 /// Returns what all shares of a seat are worth, in dollars.
 fn shares_worth(view: &GameView, seat: Seat) -> u128
-    ensures sum { result ≡ worth_of_all_shares view.now.events.now seat }
+    ensures sum { result ≡ worth_of_all_shares view.now.events seat }
     ensures small { result ≤ 2 ^ 112 }
 {
     let mut sum = 0;
@@ -72,7 +72,7 @@ fn shares_worth(view: &GameView, seat: Seat) -> u128
 /// Returns what a seat's shares of a company are worth, in dollars; 0 if the company has no market
 /// price.
 fn company_worth(view: &GameView, seat: Seat, company: Company) -> u128
-    ensures worth { result ≡ worth_of_shares view.now.events.now seat company }
+    ensures worth { result ≡ worth_of_shares view.now.events seat company }
     ensures small { result ≤ 2 ^ 109 }
 {
     let shares = at_least_zero(view.shares(company, Shareholder::Seat(seat)));
@@ -81,7 +81,7 @@ fn company_worth(view: &GameView, seat: Seat, company: Company) -> u128
 
 /// Returns what all privates of a seat are worth, in dollars.
 fn privates_worth(view: &GameView, seat: Seat) -> Amount
-    ensures sum { result ≡ worth_of_privates view.now.events.now seat }
+    ensures sum { result ≡ worth_of_privates view.now.events seat }
     ensures small { result ≤ 1320 }
 {
     let owners = view.owners();
@@ -94,8 +94,8 @@ fn privates_worth(view: &GameView, seat: Seat) -> Amount
 
 /// Returns what a private is worth to a seat, in dollars; 0 if the seat does not own it.
 fn private_worth(view: &GameView, owners: &Owners, seat: Seat, private: Private) -> Amount
-    requires { AreOwnersIn view.now.events.now owners.now }
-    ensures worth { result ≡ worth_of_private view.now.events.now seat private }
+    requires { AreOwnersIn view.now.events owners.now }
+    ensures worth { result ≡ worth_of_private view.now.events seat private }
     ensures small { result ≤ 220 }
 {
     if owns(owners, seat, private) {

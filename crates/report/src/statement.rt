@@ -5,10 +5,10 @@ ghost use Rattle.std.specs.Option.{ForSome};
 ghost use Rattle.events.specs.declared.event.Shareholder.TheVariants.{Seat as OfSeat};
 ghost use Rattle.totals.specs.LookBack.{is_owner, owner_in};
 ghost use Rattle.report.specs.Column.{Adds, right_aligned};
-ghost use Rattle.report.specs.Statement.{AreOwnersIn, bank_line_at, cash_column_at, code_owned, codes_owned};
-ghost use Rattle.report.specs.Statement.{company_figures_at, company_line_at, company_lines_at, counted_column};
-ghost use Rattle.report.specs.Statement.{holdings, codes_of_kind, codes_of_trains, player_line_at};
-ghost use Rattle.report.specs.Statement.{player_lines_at, president_name, started_line_at, statement_at, shares_column};
+ghost use Rattle.report.specs.Statement.{AreOwnersIn, bank_line, cash_column, code_owned, codes_owned};
+ghost use Rattle.report.specs.Statement.{company_figures, company_line, company_lines, counted_column};
+ghost use Rattle.report.specs.Statement.{holdings, codes_of_kind, codes_of_trains, player_line};
+ghost use Rattle.report.specs.Statement.{player_lines, president_name, started_line, statement, shares_column};
 ghost use Rattle.report.specs.Statement.{trains_text};
 ghost use Rattle.sheets.specs.File.{players_of};
 
@@ -46,7 +46,7 @@ pub(crate) fn push_statement(
     view: &GameView,
 ) -> Result<(), AllocError>
     requires { view.now.seats ≡ length (players_of sheets.now) }
-    ensures { OnOk result (Adds out.old out.new (statement_at sheets.now view.now)) }
+    ensures { OnOk result (Adds out.old out.new (statement sheets.now view.now)) }
 {
     push_players(out, sheets, view)?;
     push_companies(out, sheets, view)?;
@@ -57,7 +57,7 @@ pub(crate) fn push_statement(
 #[tactic(auto, unfolding(crate::specs::Statement::player_lines))]
 fn push_players(out: &mut Vec<u8>, sheets: &Sheets, view: &GameView) -> Result<(), AllocError>
     requires { view.now.seats ≡ length (players_of sheets.now) }
-    ensures { OnOk result (Adds out.old out.new (player_lines_at sheets.now view.now)) }
+    ensures { OnOk result (Adds out.old out.new (player_lines sheets.now view.now)) }
 {
     for seat in 0..sheets.seats() {
         push_player(out, sheets, view, Seat(seat as u8))?;
@@ -68,7 +68,7 @@ fn push_players(out: &mut Vec<u8>, sheets: &Sheets, view: &GameView) -> Result<(
 /// Adds the lines of the started companies.
 #[tactic(auto, unfolding(crate::specs::Statement::company_lines))]
 fn push_companies(out: &mut Vec<u8>, sheets: &Sheets, view: &GameView) -> Result<(), AllocError>
-    ensures { OnOk result (Adds out.old out.new (company_lines_at sheets.now view.now)) }
+    ensures { OnOk result (Adds out.old out.new (company_lines sheets.now view.now)) }
 {
     for company in &Company::ALL {
         push_company(out, sheets, view, *company)?;
@@ -79,7 +79,7 @@ fn push_companies(out: &mut Vec<u8>, sheets: &Sheets, view: &GameView) -> Result
 /// Adds the bank's line.
 #[tactic(auto, unfolding(crate::specs::Statement::bank_line))]
 fn push_bank(out: &mut Vec<u8>, view: &GameView) -> Result<(), AllocError>
-    ensures { OnOk result (Adds out.old out.new (bank_line_at view.now)) }
+    ensures { OnOk result (Adds out.old out.new (bank_line view.now)) }
 {
     out.extend_from_slice(b"BANK ")?;
     push_cash(out, view, Party::Bank)?;
@@ -96,7 +96,7 @@ fn push_player(
     seat: Seat,
 ) -> Result<(), AllocError>
     ensures { OnOk result
-        (Adds out.old out.new (player_line_at sheets.now view.now seat)) }
+        (Adds out.old out.new (player_line sheets.now view.now seat)) }
 {
     out.extend_from_slice(b"PLAYER ")?;
     push_left(out, name(sheets, seat), NAME_WIDTH)?;
@@ -111,7 +111,7 @@ fn push_player(
 /// Adds the shares of each company that a seat holds, in roster order.
 #[tactic(auto, unfolding(crate::specs::Statement::holdings))]
 fn push_holdings(out: &mut Vec<u8>, view: &GameView, seat: Seat) -> Result<(), AllocError>
-    ensures { OnOk result (Adds out.old out.new (holdings view.now.events.now seat)) }
+    ensures { OnOk result (Adds out.old out.new (holdings view.now.events seat)) }
 {
     push_four(
         out,
@@ -145,10 +145,10 @@ fn push_four(
     fourth: Company,
 ) -> Result<(), AllocError>
     ensures { OnOk result (Adds out.old out.new
-        (shares_column view.now.events.now first (OfSeat seat)
-        ++ shares_column view.now.events.now second (OfSeat seat)
-        ++ shares_column view.now.events.now third (OfSeat seat)
-        ++ shares_column view.now.events.now fourth (OfSeat seat))) }
+        (shares_column view.now.events first (OfSeat seat)
+        ++ shares_column view.now.events second (OfSeat seat)
+        ++ shares_column view.now.events third (OfSeat seat)
+        ++ shares_column view.now.events fourth (OfSeat seat))) }
 {
     let place = Shareholder::Seat(seat);
     push_counts(
@@ -163,7 +163,7 @@ fn push_four(
 /// Adds the codes of a seat's privates, each after a space.
 #[tactic(auto, unfolding(crate::specs::Statement::codes_owned))]
 fn push_privates(out: &mut Vec<u8>, view: &GameView, seat: Seat) -> Result<(), AllocError>
-    ensures { OnOk result (Adds out.old out.new (codes_owned view.now.events.now seat)) }
+    ensures { OnOk result (Adds out.old out.new (codes_owned view.now.events seat)) }
 {
     let owners = view.owners();
     for private in &Private::ALL {
@@ -180,9 +180,9 @@ fn push_private(
     seat: Seat,
     private: Private,
 ) -> Result<(), AllocError>
-    requires { AreOwnersIn view.now.events.now owners.now }
+    requires { AreOwnersIn view.now.events owners.now }
     ensures { OnOk result
-        (Adds out.old out.new (code_owned view.now.events.now seat private)) }
+        (Adds out.old out.new (code_owned view.now.events seat private)) }
 {
     if owns(owners, seat, private) {
         out.push(b' ')?;
@@ -210,7 +210,7 @@ fn push_company(
     company: Company,
 ) -> Result<(), AllocError>
     ensures { OnOk result
-        (Adds out.old out.new (started_line_at sheets.now view.now company)) }
+        (Adds out.old out.new (started_line sheets.now view.now company)) }
 {
     match view.square(company) {
         None => Ok(()),
@@ -228,7 +228,7 @@ fn push_started(
     square: Square,
 ) -> Result<(), AllocError>
     ensures { OnOk result
-        (Adds out.old out.new (company_line_at sheets.now view.now company square)) }
+        (Adds out.old out.new (company_line sheets.now view.now company square)) }
 {
     out.extend_from_slice(b"COMPANY ")?;
     push_left(out, company.code().as_bytes(), CODE_WIDTH)?;
@@ -249,7 +249,7 @@ fn push_figures(
     square: Square,
 ) -> Result<(), AllocError>
     ensures { OnOk result
-        (Adds out.old out.new (company_figures_at view.now company square)) }
+        (Adds out.old out.new (company_figures view.now company square)) }
 {
     push_cash(out, view, Party::of_company(company))?;
     push_right(out, price(square), PRICE_WIDTH)?;
@@ -261,7 +261,7 @@ fn push_figures(
 /// Adds the cash of a party in its column.
 #[tactic(auto, unfolding(crate::specs::Statement::cash_column))]
 fn push_cash(out: &mut Vec<u8>, view: &GameView, party: Party) -> Result<(), AllocError>
-    ensures { OnOk result (Adds out.old out.new (cash_column_at view.now party)) }
+    ensures { OnOk result (Adds out.old out.new (cash_column view.now party)) }
 {
     push_right(out, view.cash(party), CASH_WIDTH)
 }
@@ -275,7 +275,7 @@ fn push_shares(
     place: Shareholder,
 ) -> Result<(), AllocError>
     ensures { OnOk result
-        (Adds out.old out.new (shares_column view.now.events.now company place)) }
+        (Adds out.old out.new (shares_column view.now.events company place)) }
 {
     push_count(out, view.shares(company, place))
 }
@@ -284,7 +284,7 @@ fn push_shares(
 #[tactic(auto, unfolding(crate::specs::Statement::counted_column))]
 fn push_counted(out: &mut Vec<u8>, view: &GameView, seat: Seat) -> Result<(), AllocError>
     ensures { OnOk result
-        (Adds out.old out.new (counted_column view.now.events.now seat)) }
+        (Adds out.old out.new (counted_column view.now.events seat)) }
 {
     push_count(out, counted_now(view, seat))
 }
@@ -421,7 +421,7 @@ fn push_president(
 #[tactic(auto, unfolding(crate::specs::Statement::trains_text))]
 fn push_trains(out: &mut Vec<u8>, view: &GameView, company: Company) -> Result<(), AllocError>
     ensures { OnOk result
-        (Adds out.old out.new (trains_text view.now.events.now company)) }
+        (Adds out.old out.new (trains_text view.now.events company)) }
 {
     for kind in &Kind::ALL {
         push_trains_of_kind(out, view, company, *kind)?;
@@ -437,7 +437,7 @@ fn push_trains_of_kind(
     kind: Kind,
 ) -> Result<(), AllocError>
     ensures { OnOk result
-        (Adds out.old out.new (codes_of_trains view.now.events.now company kind)) }
+        (Adds out.old out.new (codes_of_trains view.now.events company kind)) }
 {
     push_kind(
         out,

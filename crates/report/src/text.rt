@@ -4,7 +4,7 @@ ghost use Rattle.report.specs.Column.{Adds};
 ghost use Rattle.report.specs.Parts.{last_round, last_round_text};
 ghost use Rattle.report.specs.Report.{IsLengthOfRound, awaiting_text, end_text, ends_round, game_line, header};
 ghost use Rattle.report.specs.Report.{is_round, name_owing, over_text, refusal_line, report_of, round_text_of};
-ghost use Rattle.report.specs.Report.{round_with_statement_at, rounds_text, text_between, unread_lines};
+ghost use Rattle.report.specs.Report.{round_with_statement, rounds_text, text_between, unread_lines};
 ghost use Rattle.sheets.specs.File.{players_of};
 
 use crate::end_worth::push_worths;
@@ -87,7 +87,7 @@ fn game_line(version: Version) -> &'static [u8]
 /// Adds the texts of all rounds of a game.
 fn push_rounds(out: &mut Vec<u8>, game: &Game) -> Result<(), AllocError>
     ensures { OnOk result (Adds out.old out.new
-        (rounds_text game.now.file game.now.game.seats game.now.game.events)) }
+        (rounds_text game.now.file game.now.game)) }
 {
     let history = game.history();
     let events = history.events();
@@ -150,7 +150,7 @@ fn push_round(
 ) -> Result<(), AllocError>
     requires { stood.now.seats ≡ length (players_of sheets.now) }
     ensures { OnOk result
-        (Adds out.old out.new (round_with_statement_at sheets.now stood.now events.now)) }
+        (Adds out.old out.new (round_with_statement sheets.now stood.now events.now)) }
 {
     for event in events {
         push_event(out, sheets, event)?;
@@ -232,7 +232,7 @@ pub(crate) fn push_end(
 ) -> Result<(), AllocError>
     requires { history.now.seats ≡ length (players_of sheets.now) }
     ensures { OnOk result (Adds out.old out.new
-        (end_text sheets.now history.now.seats history.now.events end)) }
+        (end_text sheets.now history.now end)) }
 {
     match end {
         End::Awaiting(round) => push_awaiting(out, sheets, &round),
@@ -250,7 +250,7 @@ fn push_over(
 ) -> Result<(), AllocError>
     requires { history.now.seats ≡ length (players_of sheets.now) }
     ensures { OnOk result (Adds out.old out.new
-        (over_text sheets.now history.now.seats history.now.events word.now)) }
+        (over_text sheets.now history.now word.now)) }
 {
     out.extend_from_slice(b"END ")?;
     out.extend_from_slice(word.as_bytes())?;

@@ -8,17 +8,20 @@ use Rattle.report.specs.EndWorth.{worth_of}
 use Rattle.tables.specs.Seat.{seat_at}
 use Rattle.tables.specs.declared.roster.Company.TheVariants.{Pennsylvania}
 use Rattle.tables.specs.declared.roster.Private.TheVariants.{CamdenAmboy}
-use Rattle.totals.specs.LookBack.{sv_price_of}
+use Rattle.totals.specs.LookBack.{Game, sv_price_of}
 
 abbrev happened : List Event
 happened = event.Sold CamdenAmboy (seat_at 0) 160 ∷ event.Given Pennsylvania (seat_at 0) 1 ∷ []
 
+abbrev game : List Event → Game
+game events = record { seats = 3; events = events }
+
 -- 640 in cash, 160 for CA, nothing for the share
-pub ann_is_worth : worth_of 3 happened (seat_at 0) ≡ pos 800
+pub ann_is_worth : worth_of (game happened) (seat_at 0) ≡ pos 800
 ann_is_worth = refl
 
 -- BOB starts PRR at 67, and her share counts 67
-pub ann_is_worth_more : worth_of 3 (happened ++ event.Par Pennsylvania 67 ∷ []) (seat_at 0) ≡ pos 867
+pub ann_is_worth_more : worth_of (game (happened ++ event.Par Pennsylvania 67 ∷ [])) (seat_at 0) ≡ pos 867
 ann_is_worth_more = refl
 
 -- SV costs 20 at first, and 5 less after an opening round in which all pass

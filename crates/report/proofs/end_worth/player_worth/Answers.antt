@@ -13,11 +13,11 @@ returns c =
     let view = c.args.view.now in
     let shares : ℕ = c.shares_worth.result in
     let privates : ℕ = c.privates_worth.result in
-    let cash : ℤ = cash_of view.seats view.events.now (party_at c.args.seat) in
+    let cash : ℤ = cash_of view.seats view.events (party_at c.args.seat) in
     ap (λ (n : ℕ). to_z w128 (of_z w128 (to_z w128 (of_z w128 c.cash.result) +ℤ to_z w128 (shares + n)))) c.from.ensures
     ∙ wealth_fits c.cash.result shares privates c.cash.ensures.within c.shares_worth.ensures.small
     c.privates_worth.ensures.small
     ∙ ap (λ (z : ℤ). z +ℤ pos (shares + privates))
-    (c.cash.ensures.sum ∙ ap (cash_of view.seats view.events.now) c.of_seat.ensures)
+    (c.cash.ensures.sum ∙ ap (cash_of view.seats view.events) c.of_seat.ensures)
     ∙ ap (λ (n : ℕ). cash +ℤ pos (n + privates)) c.shares_worth.ensures.sum
-    ∙ ap (λ (n : ℕ). cash +ℤ pos (worth_of_all_shares view.events.now c.args.seat + n)) c.privates_worth.ensures.sum
+    ∙ ap (λ (n : ℕ). cash +ℤ pos (worth_of_all_shares view.events c.args.seat + n)) c.privates_worth.ensures.sum

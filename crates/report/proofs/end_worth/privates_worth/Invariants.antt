@@ -7,5 +7,5 @@ use Rattle.report.proofs.end_worth.privates_worth.Given as goal
 abbrev pub invariant-loop-private : goal.invariant-loop-private
 invariant-loop-private l =
     (l.private-items ≡ privates)
-    × (l.sum ≡ sum_by (worth_of_private l.view.events.now l.seat) (take l.private-index l.private-items))
+    × (l.sum ≡ sum_by (worth_of_private l.view.events l.seat) (take l.private-index l.private-items))
     × (l.sum ≤ 220 * l.private-index)

@@ -6,5 +6,5 @@ use Rattle.report.proofs.end_worth.push_worths.Given as goal
 -- the players so far
 abbrev pub invariant-loop-seat : goal.invariant-loop-seat
 invariant-loop-seat l =
-    l.out.items ≡ l.fn.out.items ++ flat_map (λ seat. worth_line l.sheets l.view.seats l.view.events.now
+    l.out.items ≡ l.fn.out.items ++ flat_map (λ seat. worth_line l.sheets l.view
     (record { 0 = seat })) (range_with_len 0 l.seat)

@@ -9,7 +9,7 @@ loop-company-preserved c =
     let before = c.loop-company.invariant in
     let one = c.company_worth-sum.ensures in (
       refl,
-      sum_step (worth_of_shares c.args.view.now.events.now c.args.seat) companies c.loop-company.company-index _
+      sum_step (worth_of_shares c.args.view.now.events c.args.seat) companies c.loop-company.company-index _
           c.loop-company.sum _
           c.loop-company-test.true before.1 one.worth,
       omega (arith, before.2, one.small),

@@ -7,5 +7,5 @@ use Rattle.report.proofs.end_worth.shares_worth.Given as goal
 abbrev pub invariant-loop-company : goal.invariant-loop-company
 invariant-loop-company l =
     (l.company-items ≡ companies)
-    × (l.sum ≡ sum_by (worth_of_shares l.view.events.now l.seat) (take l.company-index l.company-items))
+    × (l.sum ≡ sum_by (worth_of_shares l.view.events l.seat) (take l.company-index l.company-items))
     × (l.sum ≤ 2 ^ 109 * l.company-index)

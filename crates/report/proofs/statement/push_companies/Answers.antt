@@ -5,6 +5,5 @@ use Rattle.tables.specs.Roster.{companies}
 
 pub loop-company-preserved : goal.loop-company-preserved
 loop-company-preserved c =
-    elements_step (λ company. started_line c.args.sheets.now c.args.view.now.seats
-    c.args.view.now.events.now company) companies c.loop-company.company-index _ _ _ _
+    elements_step (λ company. started_line c.args.sheets.now c.args.view.now company) companies c.loop-company.company-index _ _ _ _
     c.loop-company-test.true c.loop-company.invariant c.in_ok-push_company.ensures

@@ -7,5 +7,4 @@ use Rattle.tables.specs.Roster.{companies}
 -- the companies so far
 abbrev pub invariant-loop-company : goal.invariant-loop-company
 invariant-loop-company l =
-    l.out.items ≡ l.fn.out.items ++ flat_map (λ company. started_line l.sheets l.view.seats
-    l.view.events.now company) (take l.company-index companies)
+    l.out.items ≡ l.fn.out.items ++ flat_map (λ company. started_line l.sheets l.view company) (take l.company-index companies)

@@ -5,6 +5,6 @@ use Rattle.tables.specs.Roster.{privates}
 
 pub loop-private-preserved : goal.loop-private-preserved
 loop-private-preserved c =
-    elements_step (λ private. code_owned c.args.view.now.events.now c.args.seat private) privates
+    elements_step (λ private. code_owned c.args.view.now.events c.args.seat private) privates
     c.loop-private.private-index _ _ _ _
     c.loop-private-test.true c.loop-private.invariant c.in_ok-push_private.ensures

@@ -7,5 +7,5 @@ use Rattle.tables.specs.Roster.{privates}
 -- the privates so far
 abbrev pub invariant-loop-private : goal.invariant-loop-private
 invariant-loop-private l =
-    l.out.items ≡ l.fn.out.items ++ flat_map (λ private. code_owned l.view.events.now l.seat private)
+    l.out.items ≡ l.fn.out.items ++ flat_map (λ private. code_owned l.view.events l.seat private)
     (take l.private-index privates)

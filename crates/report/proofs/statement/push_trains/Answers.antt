@@ -5,6 +5,6 @@ use Rattle.tables.specs.Train.{kinds}
 
 pub loop-kind-preserved : goal.loop-kind-preserved
 loop-kind-preserved c =
-    elements_step (λ kind. codes_of_trains c.args.view.now.events.now c.args.company kind) kinds
+    elements_step (λ kind. codes_of_trains c.args.view.now.events c.args.company kind) kinds
     c.loop-kind.kind-index _ _ _ _
     c.loop-kind-test.true c.loop-kind.invariant c.in_ok-push_trains_of_kind.ensures

@@ -7,5 +7,5 @@ use Rattle.tables.specs.Train.{kinds}
 -- the kinds so far
 abbrev pub invariant-loop-kind : goal.invariant-loop-kind
 invariant-loop-kind l =
-    l.out.items ≡ l.fn.out.items ++ flat_map (λ kind. codes_of_trains l.view.events.now l.company kind)
+    l.out.items ≡ l.fn.out.items ++ flat_map (λ kind. codes_of_trains l.view.events l.company kind)
     (take l.kind-index kinds)

@@ -8,7 +8,7 @@ pub record Added (l : goal.Live-loop-begun) : Type 0 where
   pub along : l.walk.events.now ≡ l.game.game.events
   pub text : l.out.items ++ texts_of_rounds l.game.file l.game.game.seats (take l.begun l.game.game.events)
       (rounds_in (drop l.begun l.game.game.events))
-      ≡ l.fn.out.items ++ rounds_text l.game.file l.game.game.seats l.game.game.events
+      ≡ l.fn.out.items ++ rounds_text l.game.file l.game.game
 
 abbrev pub invariant-loop-begun : goal.invariant-loop-begun
 invariant-loop-begun l = Added l
