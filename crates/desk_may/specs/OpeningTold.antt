@@ -21,7 +21,7 @@ use Rattle.order_grammar.specs.declared.order.Order.TheVariants.{Bid, BuyPrivate
 use Rattle.privates.specs.Bank.{is_cheapest, price_of_private}
 use Rattle.tables.specs.declared.seat.Seat.{Seat}
 use Rattle.totals.specs.Bids.{free_for}
-use Rattle.totals.specs.LookBack.{is_sold}
+use Rattle.totals.specs.LookBack.{is_sold, Game}
 
 -- an order is the one that an unsold private needs
 abbrev pub is_asked : List Event → Order → Bool
@@ -42,23 +42,23 @@ price_on events (Bid private amount) = Some (pos amount)
 price_on events other = None
 
 -- what the player can spend on the private of an order
-abbrev pub cash_on : ℕ → List Event → Seat → Order → Held
-cash_on seats events seat (BuyPrivate private) = YourCash (free_for seats events seat private)
-cash_on seats events seat (Bid private amount) = YourCash (free_for seats events seat private)
-cash_on seats events seat other = Unsaid
+abbrev pub cash_on : Game → Seat → Order → Held
+cash_on game seat (BuyPrivate private) = YourCash (free_for game.seats game.events seat private)
+cash_on game seat (Bid private amount) = YourCash (free_for game.seats game.events seat private)
+cash_on game seat other = Unsaid
 
 -- what is told of one that a rule refuses: if the player has too little, also the price and what they have
-abbrev pub not_told : ℕ → List Event → Seat → Order → Refusal → Told
-not_told seats events seat order rule =
-    if lacks_money rule then Not rule (price_on events order) (cash_on seats events seat order) else not_by rule
+abbrev pub not_told : Game → Seat → Order → Refusal → Told
+not_told game seat order rule =
+    if lacks_money rule then Not rule (price_on game.events order) (cash_on game seat order) else not_by rule
 
 -- what is told of an order of which this becomes
-abbrev pub told_of_answer : ℕ → List Event → Seat → Order → Answer → Option Told
-told_of_answer seats events seat order (Obeyed price) = Some (May price (note_on order))
-told_of_answer seats events seat order (WithConsent price giver sale) = None
-told_of_answer seats events seat order (Refused rule) = Some (not_told seats events seat order rule)
+abbrev pub told_of_answer : Game → Seat → Order → Answer → Option Told
+told_of_answer game seat order (Obeyed price) = Some (May price (note_on order))
+told_of_answer game seat order (WithConsent price giver sale) = None
+told_of_answer game seat order (Refused rule) = Some (not_told game seat order rule)
 
 -- what is told of a row
-abbrev pub told_in_opening : ℕ → List Event → Seat → Row → Option Told
-told_in_opening seats events seat row =
-    if is_asked events row.order then told_of_answer seats events seat row.order row.answer else None
+abbrev pub told_in_opening : Game → Seat → Row → Option Told
+told_in_opening game seat row =
+    if is_asked game.events row.order then told_of_answer game seat row.order row.answer else None

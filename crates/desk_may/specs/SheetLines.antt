@@ -19,7 +19,7 @@ standing_lines file game round seat = row_lines file (standing_rows game.events 
 -- the rows of a seat's turn: of an opening, or else of a stock round
 abbrev pub turn_rows : TurnAhead → Round → Seat → List Row
 turn_rows turn (Opening number) seat =
-    map (opening_row turn.history.seats turn.history.events seat turn.used) (opening_orders turn.history.events)
+    map (opening_row turn.history seat turn.used) (opening_orders turn.history.events)
 turn_rows turn other seat =
     map (stock_row turn.history seat turn.bought) (stock_orders turn.history.events seat)
 

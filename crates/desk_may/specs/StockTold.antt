@@ -41,7 +41,7 @@ use Rattle.tables.specs.declared.squares.Square.{Square}
 use Rattle.tables.specs.declared.squares.Zone.{Zone}
 use Rattle.tables.specs.declared.squares.Zone.TheVariants.{Brown}
 use Rattle.totals.specs.Bids.{free_cash_of}
-use Rattle.totals.specs.LookBack.{is_owner, owner_of}
+use Rattle.totals.specs.LookBack.{is_owner, owner_of, Game}
 use Rattle.totals.specs.Shares.{is_started, shares_of, square_of}
 
 -- a zone is the brown one
@@ -128,22 +128,22 @@ held_by_rule events seat order (refusal.Stock rule) = held_by events seat order 
 held_by_rule events seat order other = Unsaid
 
 -- what the player has of which the rule speaks
-abbrev pub held_of : ℕ → List Event → Seat → Order → Refusal → Held
-held_of seats events seat order rule =
-    if lacks_money rule then YourCash (free_cash_of seats events seat) else held_by_rule events seat order rule
+abbrev pub held_of : Game → Seat → Order → Refusal → Held
+held_of game seat order rule =
+    if lacks_money rule then YourCash (free_cash_of game.seats game.events seat) else held_by_rule game.events seat order rule
 
 -- what is told of an order that a rule refuses
-abbrev pub not_told : ℕ → List Event → Seat → Order → Refusal → Told
-not_told seats events seat order rule =
-    Not rule (cost_of_order events order) (held_of seats events seat order rule)
+abbrev pub not_told : Game → Seat → Order → Refusal → Told
+not_told game seat order rule =
+    Not rule (cost_of_order game.events order) (held_of game seat order rule)
 
 -- what is told of an order of which this becomes
-abbrev pub told_of_answer : ℕ → List Event → Seat → Order → Answer → Option Told
-told_of_answer seats events seat order (Obeyed price) = Some (May price (note_on events order))
-told_of_answer seats events seat order (WithConsent price giver sale) = None
-told_of_answer seats events seat order (Refused rule) =
-    if is_expected events seat order then Some (not_told seats events seat order rule) else None
+abbrev pub told_of_answer : Game → Seat → Order → Answer → Option Told
+told_of_answer game seat order (Obeyed price) = Some (May price (note_on game.events order))
+told_of_answer game seat order (WithConsent price giver sale) = None
+told_of_answer game seat order (Refused rule) =
+    if is_expected game.events seat order then Some (not_told game seat order rule) else None
 
 -- what is told of a row
-abbrev pub told_in_stock : ℕ → List Event → Seat → Row → Option Told
-told_in_stock seats events seat row = told_of_answer seats events seat row.order row.answer
+abbrev pub told_in_stock : Game → Seat → Row → Option Told
+told_in_stock game seat row = told_of_answer game seat row.order row.answer

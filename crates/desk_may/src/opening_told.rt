@@ -22,7 +22,7 @@ pub(crate) struct OpeningTeller<'a> {
 
 impl Teller for OpeningTeller<'_> {
     ghost told = { λ teller row.
-        told_in_opening teller.history.now.seats teller.history.now.events teller.seat row };
+        told_in_opening teller.history.now teller.seat row };
 
     fn tell(&self, row: &Row) -> Option<Told> {
         told_in_opening(self.history, self.seat, row)
@@ -31,7 +31,7 @@ impl Teller for OpeningTeller<'_> {
 
 /// Returns what is said about a row of an opening.
 fn told_in_opening(history: &History, seat: Seat, row: &Row) -> Option<Told>
-    ensures { result ≡ told_in_opening history.now.seats history.now.events seat row.now }
+    ensures { result ≡ told_in_opening history.now seat row.now }
 {
     if !is_asked(history, &row.order) {
         return None;
@@ -68,7 +68,7 @@ fn is_cheapest(history: &History, private: Private) -> bool
 /// Returns what is said about an order with this outcome.
 fn told_of_answer(history: &History, seat: Seat, order: &Order, answer: Answer) -> Option<Told>
     ensures { result
-        ≡ told_of_answer history.now.seats history.now.events seat order.now answer }
+        ≡ told_of_answer history.now seat order.now answer }
 {
     match answer {
         Answer::Obeyed { price } => {
@@ -82,7 +82,7 @@ fn told_of_answer(history: &History, seat: Seat, order: &Order, answer: Answer) 
 
 /// Returns what is said about an order that a rule refuses.
 fn not_told(history: &History, seat: Seat, order: &Order, rule: Refusal) -> Told
-    ensures { result ≡ not_told history.now.seats history.now.events seat order.now rule }
+    ensures { result ≡ not_told history.now seat order.now rule }
 {
     if !lacks_money(rule) {
         return not_by(rule);
@@ -115,7 +115,7 @@ fn price_on(history: &History, order: &Order) -> Option<Money>
 
 /// Returns what the player can spend on the private of an order.
 fn cash_on(history: &History, seat: Seat, order: &Order) -> Held
-    ensures { result ≡ cash_on history.now.seats history.now.events seat order.now }
+    ensures { result ≡ cash_on history.now seat order.now }
 {
     match order {
         Order::BuyPrivate(private) => Held::YourCash(history.now().free_for(seat, *private)),

@@ -27,7 +27,7 @@ pub(crate) struct StockTeller<'a> {
 
 impl Teller for StockTeller<'_> {
     ghost told = { λ teller row.
-        told_in_stock teller.history.now.seats teller.history.now.events teller.seat row };
+        told_in_stock teller.history.now teller.seat row };
 
     fn tell(&self, row: &Row) -> Option<Told> {
         told_in_stock(self.history, self.seat, row)
@@ -36,7 +36,7 @@ impl Teller for StockTeller<'_> {
 
 /// Returns what is said about a row of a stock round.
 fn told_in_stock(history: &History, seat: Seat, row: &Row) -> Option<Told>
-    ensures { result ≡ told_in_stock history.now.seats history.now.events seat row.now }
+    ensures { result ≡ told_in_stock history.now seat row.now }
 {
     match row.answer {
         Answer::Obeyed { price } => {
@@ -152,7 +152,7 @@ fn holds_mohawk(history: &History, seat: Seat) -> bool
 
 /// Returns what is said about an order that a rule refuses.
 fn not_told(history: &History, seat: Seat, order: &Order, rule: Refusal) -> Told
-    ensures { result ≡ not_told history.now.seats history.now.events seat order.now rule }
+    ensures { result ≡ not_told history.now seat order.now rule }
 {
     let price = cost_of_order(history, order);
     let held = held_of(history, seat, order, rule);
@@ -178,7 +178,7 @@ fn cost_of_order(history: &History, order: &Order) -> Option<Money>
 
 /// Returns what a player has too little or too much of by a rule: cash, or shares of the company.
 fn held_of(history: &History, seat: Seat, order: &Order, rule: Refusal) -> Held
-    ensures { result ≡ held_of history.now.seats history.now.events seat order.now rule }
+    ensures { result ≡ held_of history.now seat order.now rule }
 {
     if lacks_money(rule) {
         return Held::YourCash(history.now().free_cash(seat));

@@ -47,10 +47,10 @@ pub(crate) fn opening_told(
     used: bool,
 ) -> Result<ToldRows, AllocError>
     ensures rows { IfOk result (λ list. list.rows.items
-        ≡ map (opening_row history.now.seats history.now.events seat used)
+        ≡ map (opening_row history.now seat used)
         (opening_orders history.now.events)) }
     ensures told { IfOk result (λ list. list.told.items
-        ≡ map (told_in_opening history.now.seats history.now.events seat) list.rows.items) }
+        ≡ map (told_in_opening history.now seat) list.rows.items) }
 {
     let rows = opening_rows(alloc, history, seat, used)?;
     let teller = OpeningTeller { history, seat };
@@ -70,7 +70,7 @@ pub(crate) fn stock_told(
         ≡ map (stock_row history.now seat bought)
         (stock_orders history.now.events seat)) }
     ensures told { IfOk result (λ list. list.told.items
-        ≡ map (told_in_stock history.now.seats history.now.events seat) list.rows.items) }
+        ≡ map (told_in_stock history.now seat) list.rows.items) }
 {
     let rows = stock_rows(alloc, history, seat, bought)?;
     let teller = StockTeller { history, seat };

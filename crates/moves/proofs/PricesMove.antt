@@ -341,10 +341,12 @@ moves_in_opening seats events seat number done (order.Bid its amount) price cost
 moves_in_opening seats events seat number done other price costs = tt
 
 pub opening_prices_move : OpeningPricesMove
-opening_prices_move seats events seat used line its price has orders told =
+opening_prices_move game seat used line its price has orders told =
+    let seats : ℕ = game.seats in
+    let events : List Event = game.events in
     let done : Ruling = ruling.Obeyed line.condition its in
     let is_done : opening_line_ruling seats seat (in_turn events used) line ≡ done =
-    opening_ruled seats events seat used line its has orders
+    opening_ruled game seat used line its has orders
     ∙ ap (λ (answer : Answer). judged line.condition its (rule_told answer)) told in
     subst (λ (r : Ruling). MovesInOpening seats seat its price events
     (after_opening_ruling seats seat (in_turn events used) line.number r).events) (sym is_done)

@@ -81,9 +81,9 @@ ruled_as_told has_place judgement events line order price has its =
     ∙ ap (judged line.condition order) (sym (told_of price (judgement order)))
 
 pub opening_ruled : OpeningRowsAreRuled
-opening_ruled seats events seat used line order has its =
-    ruled_as_told has_place_in_turn (opening_refusal seats events seat used) events line order
-    (pos (opening_cost events order)) has its
+opening_ruled game seat used line order has its =
+    ruled_as_told has_place_in_turn (opening_refusal game.seats game.events seat used) game.events line order
+    (pos (opening_cost game.events order)) has its
 
 pub stock_ruled : StockRowsAreRuled
 stock_ruled game seat deals line order has its =

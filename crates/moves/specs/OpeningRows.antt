@@ -15,6 +15,7 @@ use Rattle.privates.specs.Bank.{price_of_private}
 use Rattle.privates.specs.Turn.{opening_refusal}
 use Rattle.tables.specs.Roster.{privates}
 use Rattle.tables.specs.declared.roster.Private.{Private}
+use Rattle.totals.specs.LookBack.{Game}
 use Rattle.tables.specs.declared.seat.Seat.{Seat}
 
 -- the orders of a private: to buy it, to make the least bid, and to bid a dollar less
@@ -33,11 +34,11 @@ opening_cost events (Bid private amount) = amount
 opening_cost events other = 0
 
 -- what becomes of an order as the next line of a seat's turn, in which it has bought or bid, or has not
-abbrev pub opening_answer : ℕ → List Event → Seat → Bool → Order → Answer
-opening_answer seats events seat used order =
-    answer_of (pos (opening_cost events order)) (opening_refusal seats events seat used order)
+abbrev pub opening_answer : Game → Seat → Bool → Order → Answer
+opening_answer game seat used order =
+    answer_of (pos (opening_cost game.events order)) (opening_refusal game.seats game.events seat used order)
 
 -- the row of an order
-abbrev pub opening_row : ℕ → List Event → Seat → Bool → Order → Row
-opening_row seats events seat used order =
-    record { order = order; answer = opening_answer seats events seat used order }
+abbrev pub opening_row : Game → Seat → Bool → Order → Row
+opening_row game seat used order =
+    record { order = order; answer = opening_answer game seat used order }

@@ -66,10 +66,11 @@ MovesInOpening seats seat other price old new = ⊤
 -- the price of a row of an opening moves as its line is obeyed, or stands as a bid
 abbrev pub OpeningPricesMove : Type 0
 OpeningPricesMove =
-    (seats : ℕ) (events : List Event) (seat : Seat) (used : Bool) (line : Numbered) (order : Order) (price : ℤ) →
-    has_place_in_turn order ≡ true → Orders events line order
-    → opening_answer seats events seat used order ≡ Obeyed price
-    → MovesInOpening seats seat order price events (after_opening_line seats seat (in_turn events used) line).events
+    (game : Game) (seat : Seat) (used : Bool) (line : Numbered) (order : Order) (price : ℤ) →
+    has_place_in_turn order ≡ true → Orders game.events line order
+    → opening_answer game seat used order ≡ Obeyed price
+    → MovesInOpening game.seats seat order price game.events
+    (after_opening_line game.seats seat (in_turn game.events used) line).events
 
 -- the cash of a company
 abbrev pub cash_in : Game → Company → ℤ

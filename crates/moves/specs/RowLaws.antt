@@ -59,10 +59,10 @@ pub record Orders (events : List Event) (line : Numbered) (order : Order) : Type
 -- what the row of an opening tells becomes of the next line of a seat's turn
 abbrev pub OpeningRowsAreRuled : Type 0
 OpeningRowsAreRuled =
-    (seats : ℕ) (events : List Event) (seat : Seat) (used : Bool) (line : Numbered) (order : Order) →
-    has_place_in_turn order ≡ true → Orders events line order
-    → opening_line_ruling seats seat (in_turn events used) line
-    ≡ judged line.condition order (rule_told (opening_answer seats events seat used order))
+    (game : Game) (seat : Seat) (used : Bool) (line : Numbered) (order : Order) →
+    has_place_in_turn order ≡ true → Orders game.events line order
+    → opening_line_ruling game.seats seat (in_turn game.events used) line
+    ≡ judged line.condition order (rule_told (opening_answer game seat used order))
 
 -- so does that of a stock round
 abbrev pub StockRowsAreRuled : Type 0

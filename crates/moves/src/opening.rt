@@ -21,7 +21,7 @@ pub fn opening_rows(
     used: bool,
 ) -> Result<Vec<Row>, AllocError>
     ensures { IfOk result (λ rows. rows.items
-        ≡ map (opening_row history.now.seats history.now.events seat used)
+        ≡ map (opening_row history.now seat used)
         (opening_orders history.now.events)) }
 {
     let mut rows = Vec::new(alloc);
@@ -37,7 +37,7 @@ fn push_privates(
     used: bool,
 ) -> Result<(), AllocError>
     ensures { OnOk result (rows.new.items ≡ rows.old.items
-        ++ map (opening_row history.now.seats history.now.events seat used)
+        ++ map (opening_row history.now seat used)
         (opening_orders history.now.events)) }
 {
     for private in &Private::ALL {
@@ -55,7 +55,7 @@ fn push_private(
     private: Private,
 ) -> Result<(), AllocError>
     ensures { OnOk result (rows.new.items ≡ rows.old.items
-        ++ map (opening_row history.now.seats history.now.events seat used)
+        ++ map (opening_row history.now seat used)
         (orders_on history.now.events private)) }
 {
     let least = least_bid(history, private);
@@ -82,7 +82,7 @@ fn push_order(
     order: Order,
 ) -> Result<(), AllocError>
     ensures { OnOk result (rows.new.items ≡ rows.old.items
-        ++ opening_row history.now.seats history.now.events seat used order ∷ []) }
+        ++ opening_row history.now seat used order ∷ []) }
 {
     let answer = answer_to(history, seat, used, &order);
     push_row(rows, order, answer)
@@ -90,7 +90,7 @@ fn push_order(
 
 /// Returns the outcome of an order as the next line of a seat's turn.
 fn answer_to(history: &History, seat: Seat, used: bool, order: &Order) -> Answer
-    ensures { result ≡ opening_answer history.now.seats history.now.events seat used order.now }
+    ensures { result ≡ opening_answer history.now seat used order.now }
 {
     let broken = judge(history, seat, order, used).map(Refusal::Opening);
     answer_of(cost(history, order), broken)

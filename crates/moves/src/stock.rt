@@ -255,7 +255,7 @@ fn cost(history: &History, order: &Order) -> Money
 
 /// Returns what a sale brings, in dollars: the market price for each share.
 pub fn brought_by(view: &GameView, sale: Sale) -> Money
-    ensures { result ≡ pos (brought_by view.now.events.now sale) }
+    ensures { result ≡ pos (brought_by view.now.events sale) }
 {
     Money::from(sale.shares) * Money::from(market_price(view, sale.company))
 }
