@@ -14,7 +14,7 @@ use tables::{Company, Kind, Private, Seat};
 /// Returns the president of a company, or `Some(None)` if it has none; `None` if the seat itself
 /// presides.
 pub fn other_president(view: &GameView, company: Company, seat: Seat) -> Option<Option<Seat>>
-    ensures { result ≡ other_president view.now.events.now company seat }
+    ensures { result ≡ other_president view.now.events company seat }
 {
     let president = view.president(company);
     if is_president(president, seat) {
@@ -27,7 +27,7 @@ pub fn other_president(view: &GameView, company: Company, seat: Seat) -> Option<
 /// Returns why a seat may not give this order, with the rule that it breaks: the seat does not own
 /// the private, does not preside, or the seller has no such train. `None` if nothing of this holds.
 pub fn objection_by_view(view: &GameView, seat: Seat, order: &Order) -> Option<(Refusal, Objection)>
-    ensures { result ≡ objection_by_view view.now.events.now seat order.now }
+    ensures { result ≡ objection_by_view view.now.events seat order.now }
 {
     match order {
         Order::Offer(offer) => objection_to_offer(view, seat, offer),
@@ -39,7 +39,7 @@ pub fn objection_by_view(view: &GameView, seat: Seat, order: &Order) -> Option<(
 
 /// Returns why a seat may not make this offer.
 fn objection_to_offer(view: &GameView, seat: Seat, offer: &Offer) -> Option<(Refusal, Objection)>
-    ensures { result ≡ objection_to_offer view.now.events.now seat offer.now }
+    ensures { result ≡ objection_to_offer view.now.events seat offer.now }
 {
     match offer {
         Offer::Private { private, .. } => objection_to_owner(seat, *private, view.owner(*private)),
@@ -54,7 +54,7 @@ fn objection_to_seller(
     seller: Company,
     kind: Kind,
 ) -> Option<(Refusal, Objection)>
-    ensures { result ≡ objection_to_seller view.now.events.now seat seller kind }
+    ensures { result ≡ objection_to_seller view.now.events seat seller kind }
 {
     objection_by_president(view, Refusal::Train(TrainRule::NoConsent), seat, seller).or(
         objection_to_train(view, Refusal::Train(TrainRule::NotSellers), seller, kind),
@@ -68,7 +68,7 @@ fn objection_to_discard(
     company: Company,
     kind: Kind,
 ) -> Option<(Refusal, Objection)>
-    ensures { result ≡ objection_to_discard view.now.events.now seat company kind }
+    ensures { result ≡ objection_to_discard view.now.events seat company kind }
 {
     let rule = Refusal::Train(TrainRule::NoDiscard);
     objection_by_president(view, rule, seat, company).or(objection_to_train(
@@ -82,7 +82,7 @@ fn objection_to_source(
     kind: Kind,
     from: &TrainSource,
 ) -> Option<(Refusal, Objection)>
-    ensures { result ≡ objection_to_source view.now.events.now kind from.now }
+    ensures { result ≡ objection_to_source view.now.events kind from.now }
 {
     match from {
         TrainSource::Company { seller, .. } => {
@@ -127,7 +127,7 @@ fn objection_by_president(
     seat: Seat,
     company: Company,
 ) -> Option<(Refusal, Objection)>
-    ensures { result ≡ objection_by_president view.now.events.now rule seat company }
+    ensures { result ≡ objection_by_president view.now.events rule seat company }
 {
     match other_president(view, company, seat) {
         Some(president) => Some((rule, Objection::President(company, president))),
@@ -142,7 +142,7 @@ fn objection_to_train(
     company: Company,
     kind: Kind,
 ) -> Option<(Refusal, Objection)>
-    ensures { result ≡ objection_to_train view.now.events.now rule company kind }
+    ensures { result ≡ objection_to_train view.now.events rule company kind }
 {
     if has_train(view, company, kind) {
         return None;

@@ -19,7 +19,7 @@ use tables::{Company, Kind, Money};
 pub fn view_behind<'a>(walk: &'a mut Walk, passed: usize, seats: usize) -> GameView<'a>
     ensures seats { result.seats ≡ seats }
     ensures events { passed ≤ length walk.old.events.now →
-        result.events.now ≡ take passed walk.old.events.now }
+        result.events ≡ take passed walk.old.events.now }
 {
     go_behind(walk, passed);
     walk.view(seats)
@@ -37,10 +37,10 @@ fn go_behind(walk: &mut Walk, passed: usize)
 
 /// Returns the board of a game. Fails only if allocation fails.
 pub fn board_at(alloc: Global, view: &GameView) -> Result<Board, AllocError>
-    ensures { IfOk result (λ board. board ≡ map_state_now view.now.events.now) }
+    ensures { IfOk result (λ board. board ≡ map_state_now view.now.events) }
 {
     let mut board = Board::empty(alloc, view.phase());
-    for event in view.events {
+    for event in view.events() {
         lay(&mut board, event)?;
     }
     Ok(board)
@@ -62,9 +62,9 @@ fn lay(board: &mut Board, event: &Event) -> Result<(), AllocError>
 /// Returns the best runs of a company's trains in this state of the game, with what they earn, in
 /// dollars. Fails only if allocation fails.
 pub fn best_at(alloc: Global, view: &GameView, company: Company) -> Result<Claim, AllocError>
-    ensures holds { let events = view.now.events.now in
+    ensures holds { let events = view.now.events in
         IfOk result (ClaimHolds (position_now events) company (trains_now events company)) }
-    ensures greatest { let events = view.now.events.now in
+    ensures greatest { let events = view.now.events in
         IfOk result (λ claim.
         IsGreatest (position_now events) company (trains_now events company) claim.revenue) }
 {
@@ -76,7 +76,7 @@ pub fn best_at(alloc: Global, view: &GameView, company: Company) -> Result<Claim
 
 /// Returns the trains of a company, kind by kind. Fails only if allocation fails.
 pub fn trains_of(alloc: Global, view: &GameView, company: Company) -> Result<Vec<Kind>, AllocError>
-    ensures { IfOk result (λ trains. trains.items ≡ trains_now view.now.events.now company) }
+    ensures { IfOk result (λ trains. trains.items ≡ trains_now view.now.events company) }
 {
     let mut trains = Vec::new(alloc);
     for &kind in &Kind::ALL {

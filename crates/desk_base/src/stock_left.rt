@@ -13,14 +13,14 @@ use tables::{Company, Kind, tokens, train};
 
 /// Returns how many tokens a company has not placed.
 pub fn tokens_left(view: &GameView, company: Company) -> usize
-    ensures { result ≡ tokens_left view.now.events.now company }
+    ensures { result ≡ tokens_left view.now.events company }
 {
     tokens(company).saturating_sub(view.tokens_placed(company))
 }
 
 /// Returns how many trains of a kind the bank has not sold; `None` if their number has no limit.
 pub fn trains_left(view: &GameView, kind: Kind) -> Option<usize>
-    ensures { result ≡ trains_left view.now.events.now kind }
+    ensures { result ≡ trains_left view.now.events kind }
 {
     let number = train(kind).number?;
     Some(usize::from(number).saturating_sub(view.trains_sold(kind)))

@@ -30,6 +30,7 @@ use Rattle.tables.specs.declared.rolling_stock.Kind.TheVariants.{Diesel}
 use Rattle.tables.specs.declared.roster.Company.{Company}
 use Rattle.tables.specs.declared.round.Round.{Round}
 use Rattle.tables.specs.declared.round.Round.TheVariants as round
+use Rattle.totals.specs.LookBack.{Game}
 use Rattle.tables.specs.declared.seat.Seat.{Seat}
 
 -- of a line that has no place above the first head of a sheet for this round
@@ -121,20 +122,20 @@ cause_of_trade_in (order.BuyTrain kind (source.Trade trade_in)) = Some (cause_of
 cause_of_trade_in other = None
 
 -- of a sale by a president who must stay: nobody else has two shares, or a presidency would move
-abbrev pub cause_of_sale : ℕ → List Event → Seat → Sale → Cause
-cause_of_sale seats events seat sale =
-    if none_is_left seats events seat sale then cause.NobodyElse else cause.PresidencyMoves
+abbrev pub cause_of_sale : Game → Seat → Sale → Cause
+cause_of_sale game seat sale =
+    if none_is_left game.seats game.events seat sale then cause.NobodyElse else cause.PresidencyMoves
 
 -- of a sale of so many shares of a company
-abbrev pub cause_of_shares : ℕ → List Event → Seat → Company → ℕ → Cause
-cause_of_shares seats events seat company shares =
-    cause_of_sale seats events seat (record { company = company; shares = shares })
+abbrev pub cause_of_shares : Game → Seat → Company → ℕ → Cause
+cause_of_shares game seat company shares =
+    cause_of_sale game seat (record { company = company; shares = shares })
 
 -- of an order to sell
-abbrev pub cause_of_stay : ℕ → List Event → Seat → Order → Option Cause
-cause_of_stay seats events seat (order.Sell company shares) = Some (cause_of_shares seats events seat company shares)
-cause_of_stay seats events seat (order.Raise company shares) = Some (cause_of_shares seats events seat company shares)
-cause_of_stay seats events seat other = None
+abbrev pub cause_of_stay : Game → Seat → Order → Option Cause
+cause_of_stay game seat (order.Sell company shares) = Some (cause_of_shares game seat company shares)
+cause_of_stay game seat (order.Raise company shares) = Some (cause_of_shares game seat company shares)
+cause_of_stay game seat other = None
 
 -- of a rule that refused an order in a turn: the turn has no such order
 abbrev pub cause_in_turn : Refusal → Option Cause
@@ -160,7 +161,7 @@ cause_there events (place.Orders company) its rule = cause_in_orders events comp
 
 -- of a rule that refused an order of a seat at this place; none if the rule has one cause alone, or
 -- what is told beside it says which it was
-abbrev pub cause_of : ℕ → List Event → Seat → LinePlace → Order → Refusal → Option Cause
-cause_of seats events seat there its (refusal.Train NoConsent) = cause_of_price_if (price_named its)
-cause_of seats events seat there its (refusal.Stock PresidentMustStay) = cause_of_stay seats events seat its
-cause_of seats events seat there its other = cause_there events there its other
+abbrev pub cause_of : Game → Seat → LinePlace → Order → Refusal → Option Cause
+cause_of game seat there its (refusal.Train NoConsent) = cause_of_price_if (price_named its)
+cause_of game seat there its (refusal.Stock PresidentMustStay) = cause_of_stay game seat its
+cause_of game seat there its other = cause_there game.events there its other

@@ -18,20 +18,21 @@ use Rattle.map_tables.specs.declared.lay.Lay.{Lay}
 use Rattle.map_tables.specs.declared.tiles.Colour.{Colour}
 use Rattle.order_grammar.specs.declared.condition.Condition.{Condition}
 use Rattle.order_grammar.specs.declared.order.Order.{Order}
+use Rattle.totals.specs.LookBack.{Game}
 use Rattle.tables.specs.declared.seat.Seat.{Seat}
 
 -- the cause, if it is known where the order stands
-abbrev pub cause_at : ℕ → List Event → Seat → Option LinePlace → Order → Refusal → Option Cause
-cause_at seats events seat None its rule = None
-cause_at seats events seat (Some place) its rule = cause_of seats events seat place its rule
+abbrev pub cause_at : Game → Seat → Option LinePlace → Order → Refusal → Option Cause
+cause_at game seat None its rule = None
+cause_at game seat (Some place) its rule = cause_of game seat place its rule
 
 -- the figures and the cause of a rule that refused an order of a seat with its condition, which stands there
 abbrev pub detail_of :
-    ℕ → List Event → Seat → Option LinePlace → Option Condition → Order → Refusal → Detail
-detail_of seats events seat place condition its rule =
+    Game → Seat → Option LinePlace → Option Condition → Order → Refusal → Detail
+detail_of game seat place condition its rule =
     record {
-      figures = figures_of seats events seat condition its rule;
-      cause = cause_at seats events seat place its rule;
+      figures = figures_of game seat condition its rule;
+      cause = cause_at game seat place its rule;
     }
 
 -- the colour of a hex with this tile, if one is laid, and it is laid there

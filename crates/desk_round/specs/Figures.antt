@@ -31,23 +31,23 @@ use Rattle.tables.specs.declared.roster.Company.{Company}
 use Rattle.tables.specs.declared.roster.Private.{Private}
 use Rattle.tables.specs.declared.seat.Seat.{Seat}
 use Rattle.totals.specs.Bids.{bids_elsewhere_of, free_cash_of, greatest_bid_of}
-use Rattle.totals.specs.LookBack.{cash_of, cheapest_of, owner_of}
+use Rattle.totals.specs.LookBack.{cash_of, cheapest_of, owner_of, Game}
 use Rattle.totals.specs.Shares.{is_started, shares_of}
 use Rattle.totals.specs.Operating.{tokens_placed}
 use Rattle.totals.specs.Trains.{phase_of}
 
 -- of a rule of an opening, for an order of a seat about a private: its owner if it is sold, the
 -- cheapest private, the face value and the highest bid, or the cash and what is bid elsewhere
-abbrev pub opening_figures : ℕ → List Event → Seat → Private → OpeningRule → Option Figures
-opening_figures seats events seat private opening.Sold = option_map figures.Owner (owner_of events private)
-opening_figures seats events seat private opening.NotCheapest = option_map figures.Cheapest (cheapest_of events)
-opening_figures seats events seat private opening.BidForCheapest = option_map figures.Cheapest (cheapest_of events)
-opening_figures seats events seat private opening.BidTooLow =
-    Some (figures.Bids (face_of private) (unwrap_or (greatest_bid_of events private) 0))
-opening_figures seats events seat private opening.CashTooSmall =
-    Some (figures.Tied (cash_of seats events (party_at seat)) (pos (bids_elsewhere_of events seat private)))
-opening_figures seats events seat private opening.NotOfOpening = None
-opening_figures seats events seat private opening.TurnUsed = None
+abbrev pub opening_figures : Game → Seat → Private → OpeningRule → Option Figures
+opening_figures game seat private opening.Sold = option_map figures.Owner (owner_of game.events private)
+opening_figures game seat private opening.NotCheapest = option_map figures.Cheapest (cheapest_of game.events)
+opening_figures game seat private opening.BidForCheapest = option_map figures.Cheapest (cheapest_of game.events)
+opening_figures game seat private opening.BidTooLow =
+    Some (figures.Bids (face_of private) (unwrap_or (greatest_bid_of game.events private) 0))
+opening_figures game seat private opening.CashTooSmall =
+    Some (figures.Tied (cash_of game.seats game.events (party_at seat)) (pos (bids_elsewhere_of game.events seat private)))
+opening_figures game seat private opening.NotOfOpening = None
+opening_figures game seat private opening.TurnUsed = None
 
 -- the shares of a company in the initial offering, and in the bank pool
 abbrev pub offered : List Event → Company → Figures
@@ -63,19 +63,19 @@ cost_of_order events other = pos 0
 -- of a rule of a stock round, for an order of a seat about a company: the shares that the seat has,
 -- those in the initial offering and in the pool, whether the company is started, what the order
 -- costs and the cash that no bid ties, or the certificates that count and their limit
-abbrev pub stock_figures : ℕ → List Event → Seat → Order → Company → StockRule → Option Figures
-stock_figures seats events seat its company stock.NotHeld = Some (figures.Held (shares_of events company (OfSeat seat)))
-stock_figures seats events seat its company stock.OverSixShares =
-    Some (figures.Held (shares_of events company (OfSeat seat)))
-stock_figures seats events seat its company stock.PoolFull = Some (offered events company)
-stock_figures seats events seat its company stock.NoneThere = Some (offered events company)
-stock_figures seats events seat its company stock.WrongStart =
-    Some (figures.Started company (is_started events company))
-stock_figures seats events seat its company stock.CashTooSmall =
-    Some (figures.Cost (cost_of_order events its) (free_cash_of seats events seat))
-stock_figures seats events seat its company stock.CertificateLimit =
-    Some (figures.Certificates (counted_of events seat) (certificate_limit_of seats))
-stock_figures seats events seat its company other = None
+abbrev pub stock_figures : Game → Seat → Order → Company → StockRule → Option Figures
+stock_figures game seat its company stock.NotHeld = Some (figures.Held (shares_of game.events company (OfSeat seat)))
+stock_figures game seat its company stock.OverSixShares =
+    Some (figures.Held (shares_of game.events company (OfSeat seat)))
+stock_figures game seat its company stock.PoolFull = Some (offered game.events company)
+stock_figures game seat its company stock.NoneThere = Some (offered game.events company)
+stock_figures game seat its company stock.WrongStart =
+    Some (figures.Started company (is_started game.events company))
+stock_figures game seat its company stock.CashTooSmall =
+    Some (figures.Cost (cost_of_order game.events its) (free_cash_of game.seats game.events seat))
+stock_figures game seat its company stock.CertificateLimit =
+    Some (figures.Certificates (counted_of game.events seat) (certificate_limit_of game.seats))
+stock_figures game seat its company other = None
 
 -- the first of some kinds of trains that the bank sells
 abbrev pub first_sold : List Event → List Kind → Option Kind
@@ -135,14 +135,14 @@ company_in (order.Raise company shares) = Some company
 company_in other = None
 
 -- of a rule of an opening, if the order is about a private
-abbrev pub opening_figures_if : ℕ → List Event → Seat → Option Private → OpeningRule → Option Figures
-opening_figures_if seats events seat None rule = None
-opening_figures_if seats events seat (Some private) rule = opening_figures seats events seat private rule
+abbrev pub opening_figures_if : Game → Seat → Option Private → OpeningRule → Option Figures
+opening_figures_if game seat None rule = None
+opening_figures_if game seat (Some private) rule = opening_figures game seat private rule
 
 -- of a rule of a stock round, if the order is about a company
-abbrev pub stock_figures_if : ℕ → List Event → Seat → Order → Option Company → StockRule → Option Figures
-stock_figures_if seats events seat its None rule = None
-stock_figures_if seats events seat its (Some company) rule = stock_figures seats events seat its company rule
+abbrev pub stock_figures_if : Game → Seat → Order → Option Company → StockRule → Option Figures
+stock_figures_if game seat its None rule = None
+stock_figures_if game seat its (Some company) rule = stock_figures game seat its company rule
 
 -- of a condition, if the order has one
 abbrev pub condition_figures_if : List Event → Option Condition → Option Figures
@@ -150,10 +150,10 @@ condition_figures_if events None = None
 condition_figures_if events (Some its) = condition_figures events its
 
 -- of the rule by which an order of a seat, with its condition, was refused
-abbrev pub figures_of : ℕ → List Event → Seat → Option Condition → Order → Refusal → Option Figures
-figures_of seats events seat its_condition its (refusal.Opening rule) =
-    opening_figures_if seats events seat (private_in its) rule
-figures_of seats events seat its_condition its (refusal.Stock rule) =
-    stock_figures_if seats events seat its (company_in its) rule
-figures_of seats events seat its_condition its refusal.Condition = condition_figures_if events its_condition
-figures_of seats events seat its_condition its other = operating_figures events its other
+abbrev pub figures_of : Game → Seat → Option Condition → Order → Refusal → Option Figures
+figures_of game seat its_condition its (refusal.Opening rule) =
+    opening_figures_if game seat (private_in its) rule
+figures_of game seat its_condition its (refusal.Stock rule) =
+    stock_figures_if game seat its (company_in its) rule
+figures_of game seat its_condition its refusal.Condition = condition_figures_if game.events its_condition
+figures_of game seat its_condition its other = operating_figures game.events its other

@@ -281,7 +281,7 @@ impl Telling<'_> {
         company: Company,
     ) -> Result<(), AllocError> {
         let mut text = Vec::new(self.alloc);
-        if let Some(Event::Ruled { ruling, .. }) = last_ruled(view.events) {
+        if let Some(Event::Ruled { ruling, .. }) = last_ruled(view.events()) {
             push_ran(self.alloc, &mut text, view, company, &ruling.ruling())?;
         }
         push_wrapped_lines(out, BROUGHT, text.as_slice())

@@ -51,7 +51,7 @@ pub(crate) fn cause_of(
     rule: Refusal,
 ) -> Option<Cause>
     ensures { result
-        ≡ cause_of view.now.seats view.now.events.now seat place order.now rule }
+        ≡ cause_of view.now seat place order.now rule }
 {
     match rule {
         Refusal::Train(TrainRule::NoConsent) => cause_of_price(price_named(order)?),
@@ -63,7 +63,7 @@ pub(crate) fn cause_of(
 /// Returns the cause for which a rule refused an order, for a rule whose cause depends on where the
 /// order is.
 fn cause_there(view: &GameView, place: LinePlace, order: &Order, rule: Refusal) -> Option<Cause>
-    ensures { result ≡ cause_there view.now.events.now place order.now rule }
+    ensures { result ≡ cause_there view.now.events place order.now rule }
 {
     match place {
         LinePlace::Standing => None,
@@ -86,11 +86,11 @@ fn cause_in_turn(rule: Refusal) -> Option<Cause>
 /// Returns the cause for which a rule refused an order of a company.
 fn cause_in_orders(view: &GameView, company: Company, order: &Order, rule: Refusal) -> Option<Cause>
     ensures { result
-        ≡ cause_in_orders view.now.events.now company order.now rule }
+        ≡ cause_in_orders view.now.events company order.now rule }
 {
     match rule {
-        Refusal::Lay(LayRule::StepUsed) => Some(cause_of_lay(last_done(view.events, company))),
-        Refusal::Pay(_) => Some(cause_of_pay(last_done(view.events, company))),
+        Refusal::Lay(LayRule::StepUsed) => Some(cause_of_lay(last_done(view.events(), company))),
+        Refusal::Pay(_) => Some(cause_of_pay(last_done(view.events(), company))),
         Refusal::Run(RunRule::NoTrain) => Some(cause_of_run(view, company, order)),
         Refusal::Stock(StockRule::NotOfStock) => Some(cause_of_raise(view, company)),
         Refusal::Train(TrainRule::NotSellers) => cause_of_seller(view, order),
@@ -124,7 +124,7 @@ fn cause_of_pay(done: Option<Done>) -> Cause
 /// Returns why a company has no train left to run, for an order to run one of a kind or to run the
 /// best.
 fn cause_of_run(view: &GameView, company: Company, order: &Order) -> Cause
-    ensures { result ≡ cause_of_run view.now.events.now company order.now }
+    ensures { result ≡ cause_of_run view.now.events company order.now }
 {
     match order {
         Order::Run { kind, .. } => cause_of_kind(view, company, *kind),
@@ -134,7 +134,7 @@ fn cause_of_run(view: &GameView, company: Company, order: &Order) -> Cause
 
 /// Returns why a company has no train of a kind left to run.
 fn cause_of_kind(view: &GameView, company: Company, kind: Kind) -> Cause
-    ensures { result ≡ cause_of_kind view.now.events.now company kind }
+    ensures { result ≡ cause_of_kind view.now.events company kind }
 {
     if has_train(view, company, kind) {
         Cause::AllHaveRun
@@ -145,7 +145,7 @@ fn cause_of_kind(view: &GameView, company: Company, kind: Kind) -> Cause
 
 /// Returns why the trains of a company cannot run their best.
 fn cause_of_best(view: &GameView, company: Company) -> Cause
-    ensures { result ≡ cause_of_best view.now.events.now company }
+    ensures { result ≡ cause_of_best view.now.events company }
 {
     if has_trains(view, company) {
         Cause::SomeHaveRun
@@ -156,12 +156,12 @@ fn cause_of_best(view: &GameView, company: Company) -> Cause
 
 /// Returns why no money may be raised for a company's train.
 fn cause_of_raise(view: &GameView, company: Company) -> Cause
-    ensures { result ≡ cause_of_raise view.now.events.now company }
+    ensures { result ≡ cause_of_raise view.now.events company }
 {
     if has_trains(view, company) {
         Cause::HasTrain
     } else {
-        cause_of_purchase(last_done(view.events, company))
+        cause_of_purchase(last_done(view.events(), company))
     }
 }
 
@@ -203,7 +203,7 @@ fn cause_of_price(price: Amount) -> Option<Cause>
 
 /// Returns why a company may not sell a train that it has: it is the buyer. `None` if it has none.
 fn cause_of_seller(view: &GameView, order: &Order) -> Option<Cause>
-    ensures { result ≡ cause_of_seller view.now.events.now order.now }
+    ensures { result ≡ cause_of_seller view.now.events order.now }
 {
     match order {
         Order::BuyTrain { kind, from } => cause_of_source(view, *kind, *from),
@@ -213,7 +213,7 @@ fn cause_of_seller(view: &GameView, order: &Order) -> Option<Cause>
 
 /// Returns the same for a train of a kind, given where it is bought.
 fn cause_of_source(view: &GameView, kind: Kind, from: TrainSource) -> Option<Cause>
-    ensures { result ≡ cause_of_source view.now.events.now kind from }
+    ensures { result ≡ cause_of_source view.now.events kind from }
 {
     match from {
         TrainSource::Company { seller, .. } => cause_of_owner(has_train(view, seller, kind)),
@@ -259,7 +259,7 @@ fn cause_of_trade(kind: Kind, trade_in: Kind) -> Cause
 /// Returns why a president who orders a sale must stay; `None` for other orders.
 fn cause_of_stay(view: &GameView, seat: Seat, order: &Order) -> Option<Cause>
     ensures { result
-        ≡ cause_of_stay view.now.seats view.now.events.now seat order.now }
+        ≡ cause_of_stay view.now seat order.now }
 {
     match order {
         Order::Sell { company, shares } => Some(cause_of_shares(view, seat, *company, *shares)),
@@ -271,7 +271,7 @@ fn cause_of_stay(view: &GameView, seat: Seat, order: &Order) -> Option<Cause>
 /// Returns why a president who would sell this many shares of a company must stay.
 fn cause_of_shares(view: &GameView, seat: Seat, company: Company, shares: Amount) -> Cause
     ensures { result
-        ≡ cause_of_shares view.now.seats view.now.events.now seat company shares }
+        ≡ cause_of_shares view.now seat company shares }
 {
     cause_of_sale(view, seat, Sale { company, shares })
 }
@@ -279,7 +279,7 @@ fn cause_of_shares(view: &GameView, seat: Seat, company: Company, shares: Amount
 /// Returns why a president who would make this sale must stay.
 fn cause_of_sale(view: &GameView, seat: Seat, sale: Sale) -> Cause
     ensures { result
-        ≡ cause_of_sale view.now.seats view.now.events.now seat sale }
+        ≡ cause_of_sale view.now seat sale }
 {
     if none_is_left(view, seat, sale) {
         Cause::NobodyElse

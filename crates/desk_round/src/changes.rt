@@ -29,8 +29,8 @@ pub(crate) struct Change {
 
 /// Returns how the cash of a party changed between two states of a game; `None` if it did not.
 fn cash_change(before: &GameView, after: &GameView, party: Party) -> Option<Change>
-    ensures { result ≡ change_of (cash_of before.now.seats before.now.events.now party)
-        (cash_of after.now.seats after.now.events.now party) }
+    ensures { result ≡ change_of (cash_of before.now.seats before.now.events party)
+        (cash_of after.now.seats after.now.events party) }
 {
     change_of(before.cash(party), after.cash(party))
 }
@@ -38,8 +38,8 @@ fn cash_change(before: &GameView, after: &GameView, party: Party) -> Option<Chan
 /// Returns how the free cash of a seat, which is not tied up in bids, changed between two states of
 /// a game; `None` if it did not.
 fn free_change(before: &GameView, after: &GameView, seat: Seat) -> Option<Change>
-    ensures { result ≡ change_of (free_cash_of before.now.seats before.now.events.now seat)
-        (free_cash_of after.now.seats after.now.events.now seat) }
+    ensures { result ≡ change_of (free_cash_of before.now.seats before.now.events seat)
+        (free_cash_of after.now.seats after.now.events seat) }
 {
     change_of(before.free_cash(seat), after.free_cash(seat))
 }

@@ -69,7 +69,7 @@ pub(crate) fn figures_of(
     rule: Refusal,
 ) -> Option<Figures>
     ensures { seat.0 < 6 → result
-        ≡ figures_of view.now.seats view.now.events.now seat condition order.now rule }
+        ≡ figures_of view.now seat condition order.now rule }
 {
     match rule {
         Refusal::Opening(rule) => opening_figures(view, seat, private_in(order)?, rule),
@@ -112,7 +112,7 @@ fn opening_figures(
     rule: OpeningRule,
 ) -> Option<Figures>
     ensures { result
-        ≡ opening_figures view.now.seats view.now.events.now seat private rule }
+        ≡ opening_figures view.now seat private rule }
 {
     match rule {
         OpeningRule::Sold => Some(Figures::Owner(view.owner(private)?)),
@@ -140,7 +140,7 @@ fn stock_figures(
     rule: StockRule,
 ) -> Option<Figures>
     ensures { seat.0 < 6 → result
-        ≡ stock_figures view.now.seats view.now.events.now seat order.now company rule }
+        ≡ stock_figures view.now seat order.now company rule }
 {
     match rule {
         StockRule::NotHeld | StockRule::OverSixShares => {
@@ -152,7 +152,7 @@ fn stock_figures(
             Some(Figures::Cost(cost_of_order(view, order), view.free_cash(seat)))
         }
         StockRule::CertificateLimit => {
-            let most = certificate_limit(view.seats);
+            let most = certificate_limit(view.seats());
             Some(Figures::Certificates(counted(view, seat), most))
         }
         _ => None,
@@ -161,7 +161,7 @@ fn stock_figures(
 
 /// Returns the shares of a company in the initial offering, and in the bank pool.
 fn offered(view: &GameView, company: Company) -> Figures
-    ensures { result ≡ offered view.now.events.now company }
+    ensures { result ≡ offered view.now.events company }
 {
     Figures::Offered(
         view.shares(company, Shareholder::InitialOffering),
@@ -171,7 +171,7 @@ fn offered(view: &GameView, company: Company) -> Figures
 
 /// Returns how many certificates of a seat count against the limit. The seat is one of six.
 fn counted(view: &GameView, seat: Seat) -> ShareCount
-    ensures { seat.0 < 6 → result ≡ counted_of view.now.events.now seat }
+    ensures { seat.0 < 6 → result ≡ counted_of view.now.events seat }
 {
     // A law, which does nothing when it runs: the tables count what the events say.
     certs::laws::counted_by_the_game();
@@ -181,7 +181,7 @@ fn counted(view: &GameView, seat: Seat) -> ShareCount
 /// Returns what an order that starts a company or buys a share costs, in dollars; 0 for other
 /// orders.
 fn cost_of_order(view: &GameView, order: &Order) -> Money
-    ensures { result ≡ cost_of_order view.now.events.now order.now }
+    ensures { result ≡ cost_of_order view.now.events order.now }
 {
     match order {
         Order::Par { price, .. } => 2 * Money::from(*price),
@@ -192,7 +192,7 @@ fn cost_of_order(view: &GameView, order: &Order) -> Money
 
 /// Returns the figures of a rule of an operating round.
 fn operating_figures(view: &GameView, order: &Order, rule: Refusal) -> Option<Figures>
-    ensures { result ≡ operating_figures view.now.events.now order.now rule }
+    ensures { result ≡ operating_figures view.now.events order.now rule }
 {
     match rule {
         Refusal::Lay(LayRule::ColourClosed) | Refusal::Private(PrivateRule::TooEarly) => {
@@ -230,7 +230,7 @@ fn face_figures(order: &Order) -> Option<Figures>
 
 /// Returns the first of some kinds of trains that the bank sells; `None` if it sells none of them.
 fn first_sold(view: &GameView, kinds: &[Kind]) -> Option<Kind>
-    ensures { result ≡ first_sold view.now.events.now kinds.now }
+    ensures { result ≡ first_sold view.now.events kinds.now }
 {
     match kinds {
         [] => None,
@@ -241,7 +241,7 @@ fn first_sold(view: &GameView, kinds: &[Kind]) -> Option<Kind>
 
 /// Returns the figures of a condition that does not hold.
 fn condition_figures(view: &GameView, condition: Condition) -> Option<Figures>
-    ensures { result ≡ condition_figures view.now.events.now condition }
+    ensures { result ≡ condition_figures view.now.events condition }
 {
     match condition {
         Condition::Price(company, _) => {
@@ -254,7 +254,7 @@ fn condition_figures(view: &GameView, condition: Condition) -> Option<Figures>
 
 /// Returns what an order of a company's turn costs, in dollars; `None` if the order costs no money.
 pub(crate) fn cost_in_turn(view: &GameView, company: Company, order: &Order) -> Option<Amount>
-    ensures { result ≡ cost_in_turn view.now.events.now company order.now }
+    ensures { result ≡ cost_in_turn view.now.events company order.now }
 {
     match order {
         Order::Lay(lay) => Some(terrain_cost(lay.hex)),
@@ -277,12 +277,6 @@ fn cost_of_train(kind: Kind, from: TrainSource) -> Amount
     }
 }
 
-/// Words with up to three pieces to fill in; unused pieces are empty.
-type Phrase<'a> = (&'static str, [Piece<'a>; 3]);
-
-/// No piece.
-const NONE: Piece<'static> = Words("");
-
 /// Adds the figures that a rule compared, for an order of the player of a seat.
 pub(crate) fn push_figures(
     out: &mut Vec<u8>,
@@ -290,67 +284,52 @@ pub(crate) fn push_figures(
     seat: Seat,
     figures: Figures,
 ) -> Result<(), AllocError> {
-    let (words, pieces) = phrase(sheets, Bytes(name(sheets, seat)), figures);
-    fill(out, words, &pieces)
-}
-
-/// Returns the figures in words, for an order of this player.
-fn phrase<'a>(sheets: &'a Sheets, player: Piece<'a>, figures: Figures) -> Phrase<'a> {
+    let player = Bytes(name(sheets, seat));
     match figures {
-        Figures::Owner(owner) => {
-            let owner = match owner {
-                Holder::Seat(owner) => Bytes(name(sheets, owner)),
-                Holder::Company(owner) => Words(owner.code()),
-            };
-            (" (% owns it)", [owner, NONE, NONE])
+        Figures::Owner(Holder::Seat(owner)) => {
+            fill(out, " (% owns it)", &[Bytes(name(sheets, owner))])
         }
-        Figures::Cheapest(private) => (" (that is %)", [Words(private.code()), NONE, NONE]),
-        Figures::Bids(face, highest) => (
-            " (the face value is %, the highest bid %)",
-            [
-                Number(Money::from(face)),
-                Number(Money::from(highest)),
-                NONE,
-            ],
-        ),
-        Figures::Tied(cash, bids) => (
-            " (% has %, less % bid elsewhere)",
-            [player, Number(cash), Number(bids)],
-        ),
-        Figures::Held(shares) => (" (% has %)", [player, Number(shares), NONE]),
-        Figures::Offered(ipo, pool) => (
-            " (% are in IPO, % in POOL)",
-            [Number(ipo), Number(pool), NONE],
-        ),
-        Figures::Started(company, is_started) => {
-            let not = if is_started { "" } else { "not " };
-            (
-                " (% is %started)",
-                [Words(company.code()), Words(not), NONE],
+        Figures::Owner(Holder::Company(owner)) => fill(out, " (% owns it)", &[Words(owner.code())]),
+        Figures::Cheapest(private) => fill(out, " (that is %)", &[Words(private.code())]),
+        Figures::Bids(face, highest) => {
+            let figures = [Number(Money::from(face)), Number(Money::from(highest))];
+            fill(out, " (the face value is %, the highest bid %)", &figures)
+        }
+        Figures::Tied(cash, bids) => {
+            let figures = [player, Number(cash), Number(bids)];
+            fill(out, " (% has %, less % bid elsewhere)", &figures)
+        }
+        Figures::Held(shares) => fill(out, " (% has %)", &[player, Number(shares)]),
+        Figures::Offered(ipo, pool) => {
+            fill(
+                out,
+                " (% are in IPO, % in POOL)",
+                &[Number(ipo), Number(pool)],
             )
         }
-        Figures::Cost(cost, cash) => (
-            " (it costs %, % has %)",
-            [Number(cost), player, Number(cash)],
-        ),
-        Figures::Certificates(counted, most) => (
-            " (% has % of %)",
-            [player, Number(counted), Count(most)],
-        ),
-        Figures::Price(company, 0) => (" (% has no price)", [Words(company.code()), NONE, NONE]),
-        Figures::Price(company, price) => (
-            " (the price of % is %)",
-            [Words(company.code()), Number(Money::from(price)), NONE],
-        ),
-        Figures::Phase(phase) => (" (the phase is %)", [Words(phase.code()), NONE, NONE]),
-        Figures::OnSale(kind) => (" (the bank sells a %)", [Words(kind.code()), NONE, NONE]),
-        Figures::Stops(most) | Figures::Trains(most) => (
-            " (which is %)",
-            [Count(most), NONE, NONE],
-        ),
-        Figures::Face(face) => (
-            " (the face value is %)",
-            [Number(Money::from(face)), NONE, NONE],
-        ),
+        Figures::Started(company, true) => fill(out, " (% is started)", &[Words(company.code())]),
+        Figures::Started(company, false) => {
+            fill(out, " (% is not started)", &[Words(company.code())])
+        }
+        Figures::Cost(cost, cash) => {
+            let figures = [Number(cost), player, Number(cash)];
+            fill(out, " (it costs %, % has %)", &figures)
+        }
+        Figures::Certificates(counted, most) => {
+            fill(
+                out,
+                " (% has % of %)",
+                &[player, Number(counted), Count(most)],
+            )
+        }
+        Figures::Price(company, 0) => fill(out, " (% has no price)", &[Words(company.code())]),
+        Figures::Price(company, price) => {
+            let figures = [Words(company.code()), Number(Money::from(price))];
+            fill(out, " (the price of % is %)", &figures)
+        }
+        Figures::Phase(phase) => fill(out, " (the phase is %)", &[Words(phase.code())]),
+        Figures::OnSale(kind) => fill(out, " (the bank sells a %)", &[Words(kind.code())]),
+        Figures::Stops(most) | Figures::Trains(most) => fill(out, " (which is %)", &[Count(most)]),
+        Figures::Face(face) => fill(out, " (the face value is %)", &[Number(Money::from(face))]),
     }
 }

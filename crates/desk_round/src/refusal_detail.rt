@@ -62,7 +62,7 @@ pub(crate) struct Detail {
 /// Returns what is told of a ruling that refused an order for a rule. The seat is one of six.
 fn detail_of(ruled: Ruled, condition: Option<Condition>, order: &Order, rule: Refusal) -> Detail
     ensures { let view = ruled.entry.view.now in ruled.entry.seat.0 < 6 → result
-        ≡ detail_of view.seats view.events.now ruled.entry.seat ruled.entry.place condition
+        ≡ detail_of view ruled.entry.seat ruled.entry.place condition
         order.now rule }
 {
     Detail {
@@ -79,7 +79,7 @@ fn cause_at(
     order: &Order,
     rule: Refusal,
 ) -> Option<Cause>
-    ensures { result ≡ cause_at view.now.seats view.now.events.now seat place order.now rule }
+    ensures { result ≡ cause_at view.now seat place order.now rule }
 {
     match place {
         Some(place) => cause_of(view, seat, place, order, rule),
@@ -285,7 +285,7 @@ fn push_full(
 /// Adds the colour of a hex at a moment of the game.
 fn push_colour(out: &mut Vec<u8>, view: &GameView, hex: Hex) -> Result<(), AllocError> {
     let code = hex.text();
-    let colour = Words(colour_name(colour_after(view.events, hex)));
+    let colour = Words(colour_name(colour_after(view.events(), hex)));
     fill(out, " (% is % now)", &[Bytes(code.as_slice()), colour])
 }
 

@@ -25,18 +25,18 @@ use Rattle.tables.specs.declared.rolling_stock.Kind.{Kind}
 use Rattle.tables.specs.declared.seat.Seat.{Seat}
 use Rattle.tables.specs.declared.squares.Square.{Square}
 use Rattle.totals.specs.Bids.{free_cash_of}
-use Rattle.totals.specs.LookBack.{cash_of, is_sold, owner_of, priority_of}
+use Rattle.totals.specs.LookBack.{cash_of, is_sold, owner_of, priority_of, Game}
 use Rattle.totals.specs.Shares.{is_started, par_of, president_of, shares_of, square_of}
 use Rattle.totals.specs.Trains.{phase_of, trains_held}
 
 -- of the game: the phase, who has priority, and the limits of certificates and of trains
-abbrev pub game_row : ℕ → List Event → GameRow
-game_row seats events =
+abbrev pub game_row : Game → GameRow
+game_row game =
     record {
-      phase = phase_of events;
-      priority = priority_of seats events;
-      certificates = certificate_limit_of seats;
-      trains = limit_of (phase_of events);
+      phase = phase_of game.events;
+      priority = priority_of game.seats game.events;
+      certificates = certificate_limit_of game.seats;
+      trains = limit_of (phase_of game.events);
     }
 
 -- of a private: its face, its price, whether it is sold, and who owns it
@@ -50,14 +50,14 @@ private_row events private =
     }
 
 -- of a company: where its token is, who presides over it, whether it is started and operates, and its cash
-abbrev pub company_row : ℕ → List Event → Company → CompanyRow
-company_row seats events company =
+abbrev pub company_row : Game → Company → CompanyRow
+company_row game company =
     record {
-      square = square_of events company;
-      president = president_of events company;
-      is_started = is_started events company;
-      operates = operates events company;
-      cash = cash_of seats events (party_of_company company);
+      square = square_of game.events company;
+      president = president_of game.events company;
+      is_started = is_started game.events company;
+      operates = operates game.events company;
+      cash = cash_of game.seats game.events (party_of_company company);
     }
 
 -- its par, and the shares that no player has
@@ -75,15 +75,15 @@ above_on events company None = 0
 above_on events company (Some square) = before_in_stack events square company
 
 -- all of a company that is a cell of its own
-abbrev pub company_line : ℕ → List Event → Company → CompanyLine
-company_line seats events company =
+abbrev pub company_line : Game → Company → CompanyLine
+company_line game company =
     record {
       company = company;
-      row = company_row seats events company;
-      above = above_on events company (square_of events company);
-      earnings = earnings_of company events;
-      shares = share_row events company;
-      tokens = tokens_left events company;
+      row = company_row game company;
+      above = above_on game.events company (square_of game.events company);
+      earnings = earnings_of company game.events;
+      shares = share_row game.events company;
+      tokens = tokens_left game.events company;
     }
 
 -- of a kind of train: how many the bank has left, how many are in the pool, and the price

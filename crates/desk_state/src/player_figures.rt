@@ -30,7 +30,7 @@ pub fn purse_of(history: &History, seat: Seat) -> Purse
     ensures cash { result.cash ≡ cash_of history.now.seats history.now.events (party_at seat) }
     ensures free { result.free ≡ free_cash_of history.now.seats history.now.events seat }
     ensures certificates { result.certificates ≡ counted_of history.now.events seat }
-    ensures worth { result.worth ≡ worth_of history.now.seats history.now.events seat }
+    ensures worth { result.worth ≡ worth_of history.now seat }
 {
     // A law, which does nothing when it runs: the tables count what the events say.
     certs::laws::counted_by_the_game();

@@ -28,12 +28,12 @@ pub(crate) struct GameRow {
 
 /// Returns the figures of a game.
 pub(crate) fn game_row(view: &GameView) -> GameRow
-    ensures { result ≡ game_row view.now.seats view.now.events.now }
+    ensures { result ≡ game_row view.now }
 {
     GameRow {
         phase: view.phase(),
         priority: view.priority(),
-        certificates: certificate_limit(view.seats),
+        certificates: certificate_limit(view.seats()),
         trains: limit(view.phase()),
     }
 }
@@ -53,7 +53,7 @@ pub(crate) struct PrivateRow {
 
 /// Returns the figures of a private.
 pub(crate) fn private_row(view: &GameView, private: Private) -> PrivateRow
-    ensures { result ≡ private_row view.now.events.now private }
+    ensures { result ≡ private_row view.now.events private }
 {
     PrivateRow {
         face: face(private),
@@ -80,7 +80,7 @@ pub(crate) struct CompanyRow {
 
 /// Returns the figures of a company.
 pub(crate) fn company_row(view: &GameView, company: Company) -> CompanyRow
-    ensures { result ≡ company_row view.now.seats view.now.events.now company }
+    ensures { result ≡ company_row view.now company }
 {
     CompanyRow {
         square: view.square(company),
@@ -104,7 +104,7 @@ pub(crate) struct ShareRow {
 
 /// Returns the shares of a company that no player has.
 pub(crate) fn share_row(view: &GameView, company: Company) -> ShareRow
-    ensures { result ≡ share_row view.now.events.now company }
+    ensures { result ≡ share_row view.now.events company }
 {
     ShareRow {
         par: view.par(company),
@@ -128,14 +128,14 @@ pub(crate) struct CompanyLine {
 
 /// Returns all of a company that is a cell of its own.
 pub(crate) fn company_line(view: &GameView, company: Company) -> CompanyLine
-    ensures row { result ≡ company_line view.now.seats view.now.events.now company }
+    ensures row { result ≡ company_line view.now company }
     ensures small { result.earnings.dollars < 2 ^ 127 }
 {
     CompanyLine {
         company,
         row: company_row(view, company),
         above: above_on(view, company, view.square(company)),
-        earnings: earnings_of(view.events, company),
+        earnings: earnings_of(view.events(), company),
         shares: share_row(view, company),
         tokens: tokens_left(view, company),
     }
@@ -143,7 +143,7 @@ pub(crate) fn company_line(view: &GameView, company: Company) -> CompanyLine
 
 /// Returns how many tokens are above a company's own, if it has this square.
 fn above_on(view: &GameView, company: Company, square: Option<Square>) -> usize
-    ensures { result ≡ above_on view.now.events.now company square }
+    ensures { result ≡ above_on view.now.events company square }
 {
     match square {
         Some(square) => before_in_stack(view, square, company),
@@ -164,7 +164,7 @@ pub(crate) struct TrainRow {
 
 /// Returns the figures of a kind of train.
 pub(crate) fn train_row(view: &GameView, kind: Kind) -> TrainRow
-    ensures { result ≡ train_row view.now.events.now kind }
+    ensures { result ≡ train_row view.now.events kind }
 {
     TrainRow {
         left: trains_left(view, kind),

@@ -5,4 +5,4 @@ use Rattle.desk_base.proofs.belongings.objection_by_view.Goals as goal
 pub returns-in-Discard : goal.returns-in-Discard
 returns-in-Discard c =
     c.objection_to_discard.ensures
-    ∙ ap (objection_by_view c.args.view.now.events.now c.args.seat) (sym c.in-Discard.is)
+    ∙ ap (objection_by_view c.args.view.now.events c.args.seat) (sym c.in-Discard.is)

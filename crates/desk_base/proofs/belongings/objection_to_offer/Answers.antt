@@ -5,4 +5,4 @@ use Rattle.desk_base.proofs.belongings.objection_to_offer.Goals as goal
 pub returns-in-Train : goal.returns-in-Train
 returns-in-Train c =
     c.objection_to_seller.ensures
-    ∙ ap (objection_to_offer c.args.view.now.events.now c.args.seat) (sym c.in-Train.is)
+    ∙ ap (objection_to_offer c.args.view.now.events c.args.seat) (sym c.in-Train.is)

@@ -5,4 +5,4 @@ use Rattle.desk_base.proofs.belongings.objection_to_source.Goals as goal
 pub returns-in-Company : goal.returns-in-Company
 returns-in-Company c =
     c.objection_to_train.ensures
-    ∙ ap (objection_to_source c.args.view.now.events.now c.args.kind) (sym c.in-Company.is)
+    ∙ ap (objection_to_source c.args.view.now.events c.args.kind) (sym c.in-Company.is)

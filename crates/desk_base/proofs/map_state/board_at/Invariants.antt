@@ -8,4 +8,4 @@ use Rattle.desk_base.proofs.map_state.board_at.Given as goal
 -- the map state by the events so far
 abbrev pub invariant-loop-event : goal.invariant-loop-event
 invariant-loop-event l =
-    l.board ≡ fold laid_then (map_state_of [] [] (phase_of l.view.events.now)) (take l.event-index l.view.events.now)
+    l.board ≡ fold laid_then (map_state_of [] [] (phase_of l.view.events)) (take l.event-index l.view.events)

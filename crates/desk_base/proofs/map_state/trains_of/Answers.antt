@@ -10,7 +10,7 @@ use Rattle.tables.specs.Train.{kinds}
 pub loop-kind-preserved : goal.loop-kind-preserved
 loop-kind-preserved c =
     let count = to_z-of_z w64 c.trains.result (record { sfits = c.trains.type_inv }) ∙ c.trains.ensures.sum in
-    fold_goes_on (with_those_held c.args.view.now.events.now c.args.company) [] c.loop-kind.trains.items
+    fold_goes_on (with_those_held c.args.view.now.events c.args.company) [] c.loop-kind.trains.items
     c.push_trains.new.trains.items kinds c.loop-kind.kind-index _
     c.loop-kind-test.true c.loop-kind.invariant
     (c.in_ok-push_trains.ensures ∙ same_count c.loop-kind.trains.items _ _ _ count)

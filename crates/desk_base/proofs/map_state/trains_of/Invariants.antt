@@ -6,4 +6,4 @@ use Rattle.tables.specs.Train.{kinds}
 
 -- those of the kinds so far are there
 abbrev pub invariant-loop-kind : goal.invariant-loop-kind
-invariant-loop-kind l = l.trains.items ≡ fold (with_those_held l.view.events.now l.company) [] (take l.kind-index kinds)
+invariant-loop-kind l = l.trains.items ≡ fold (with_those_held l.view.events l.company) [] (take l.kind-index kinds)

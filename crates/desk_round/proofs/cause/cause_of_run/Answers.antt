@@ -5,5 +5,5 @@ use Rattle.desk_round.proofs.cause.cause_of_run.Goals as goal
 
 pub returns-in-Run : goal.returns-in-Run
 returns-in-Run c =
-    subst (λ (order : Order). c.cause_of_kind.result ≡ cause_of_run c.args.view.now.events.now c.args.company order)
+    subst (λ (order : Order). c.cause_of_kind.result ≡ cause_of_run c.args.view.now.events c.args.company order)
     (sym c.in-Run.is) c.cause_of_kind.ensures

@@ -5,6 +5,6 @@ use Rattle.desk_round.proofs.figures.counted.Goals as goal
 -- the certificates that the tables count are those that the events say
 pub returns : goal.returns
 returns c below =
-    let same : c.counted.result ≡ counted_of c.args.view.now.events.now c.args.seat =
+    let same : c.counted.result ≡ counted_of c.args.view.now.events c.args.seat =
     c.counted.ensures ∙ c.counted_by_the_game.ensures _ _ _ c.at.ensures below in
     search (rules, same)

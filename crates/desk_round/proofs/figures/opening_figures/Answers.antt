@@ -7,6 +7,6 @@ use Rattle.desk_round.proofs.figures.opening_figures.Goals as goal
 pub returns-in-CashTooSmall : goal.returns-in-CashTooSmall
 returns-in-CashTooSmall c =
     let view = c.args.view.now in
-    let cash : c.cash-cash.result ≡ cash_of view.seats view.events.now (party_at c.args.seat) =
-    c.cash-cash.ensures.sum ∙ ap (cash_of view.seats view.events.now) c.of_seat.ensures in
+    let cash : c.cash-cash.result ≡ cash_of view.seats view.events (party_at c.args.seat) =
+    c.cash-cash.ensures.sum ∙ ap (cash_of view.seats view.events) c.of_seat.ensures in
     search (rules, cash, c.bids_elsewhere.ensures.sum, c.in-CashTooSmall.is)

@@ -3,7 +3,7 @@ use Rattle.certs.specs.Counted.{counted_of}
 use Rattle.events.specs.Event.{party_at}
 use Rattle.report.specs.EndWorth.{worth_of}
 use Rattle.totals.specs.Bids.{free_cash_of}
-use Rattle.totals.specs.LookBack.{cash_of}
+use Rattle.totals.specs.LookBack.{cash_of, Game}
 use Rattle.desk_state.proofs.player_figures.purse_of.Goals as goal
 
 pub returns-clause-cash : goal.returns-clause-cash
@@ -18,8 +18,7 @@ returns-clause-free c =
     let history = c.args.history.now in
     let same : c.free_cash.result ≡ free_cash_of history.seats history.events c.args.seat =
     c.free_cash.ensures
-    ∙ ap (λ seats. free_cash_of seats c.now.result.events.now c.args.seat) c.now.ensures.seats
-    ∙ ap (λ events. free_cash_of history.seats events c.args.seat) c.now.ensures.events in
+    ∙ ap (λ (game : Game). free_cash_of game.seats game.events c.args.seat) c.now.ensures in
     search (rules, same)
 
 pub returns-clause-certificates : goal.returns-clause-certificates
@@ -31,8 +30,7 @@ returns-clause-certificates c =
 pub returns-clause-worth : goal.returns-clause-worth
 returns-clause-worth c =
     let history = c.args.history.now in
-    let same : c.player_worth.result ≡ worth_of history.seats history.events c.args.seat =
+    let same : c.player_worth.result ≡ worth_of history c.args.seat =
     c.player_worth.ensures
-    ∙ ap (λ seats. worth_of seats c.now-2.result.events.now c.args.seat) c.now-2.ensures.seats
-    ∙ ap (λ events. worth_of history.seats events c.args.seat) c.now-2.ensures.events in
+    ∙ ap (λ (game : Game). worth_of game c.args.seat) c.now-2.ensures in
     search (rules, same)

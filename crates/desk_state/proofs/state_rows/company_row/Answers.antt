@@ -7,6 +7,6 @@ use Rattle.desk_state.proofs.state_rows.company_row.Goals as goal
 pub returns : goal.returns
 returns c =
     let view = c.args.view.now in
-    let same : c.cash.result ≡ cash_of view.seats view.events.now (party_of_company c.args.company) =
-    c.cash.ensures.sum ∙ ap (cash_of view.seats view.events.now) c.of_company.ensures in
+    let same : c.cash.result ≡ cash_of view.seats view.events (party_of_company c.args.company) =
+    c.cash.ensures.sum ∙ ap (cash_of view.seats view.events) c.of_company.ensures in
     search (rules, same)
