@@ -1,6 +1,9 @@
 -- The steps of a company's turn that the orders of a sheet have passed: an order of a step before the last of those is not
 -- obeyed, nor a PAY where nothing is to run, nor a run beside RUN BEST. Orders under a condition count for runs alone.
-use Rattle.std.specs.Prelude.{ℕ, Bool, true, false, ◌&&◌, ◌||◌, not, nat_lt, max, if◌then◌else◌, Option, Some, None, unwrap_or}
+use Rattle.std.specs.Prelude.{Bool, true, false, ◌||◌, nat_le, nat_lt, if◌then◌else◌, Option, Some, None}
+use Rattle.board.specs.Turn.{place_of_step}
+use Rattle.board.specs.declared.turn.TurnStep.{TurnStep}
+use Rattle.board.specs.declared.turn.TurnStep.TheVariants as step
 use Rattle.desk_base.specs.declared.objection.Objection.{Objection}
 use Rattle.desk_base.specs.declared.objection.Objection.TheVariants as objection
 use Rattle.desk_check.specs.declared.check_orders.Block.{Block}
@@ -14,14 +17,14 @@ use Rattle.order_grammar.specs.declared.order.Order.{Order}
 use Rattle.order_grammar.specs.declared.order.Order.TheVariants as order
 
 -- the step of an order: its lay, its token, its runs, what it pays, its trains; none, if it may come at any step
-abbrev pub step_of : Order → Option ℕ
-step_of (order.Lay lay) = Some 0
-step_of (order.Token place) = Some 1
-step_of (order.Run kind run) = Some 2
-step_of order.RunBest = Some 2
-step_of order.Pay = Some 3
-step_of order.Withhold = Some 3
-step_of (order.BuyTrain kind from) = Some 4
+abbrev pub step_of : Order → Option TurnStep
+step_of (order.Lay lay) = Some step.Lay
+step_of (order.Token place) = Some step.Token
+step_of (order.Run kind run) = Some step.Run
+step_of order.RunBest = Some step.Run
+step_of order.Pay = Some step.Pay
+step_of order.Withhold = Some step.Pay
+step_of (order.BuyTrain kind from) = Some step.Trains
 step_of other = None
 
 -- the order has trains run
@@ -35,9 +38,14 @@ abbrev pub is_best : Order → Bool
 is_best order.RunBest = true
 is_best other = false
 
+-- the later of a step and another, if there is another
+abbrev pub later : TurnStep → Option TurnStep → TurnStep
+later one None = one
+later one (Some other) = if nat_le (place_of_step one) (place_of_step other) then other else one
+
 -- no order has come
 abbrev pub no_orders : Block
-no_orders = record { step = 0; has_run = false; has_best = false }
+no_orders = record { step = step.Lay; has_run = false; has_best = false }
 
 -- one more order has, under a condition or not
 abbrev pub block_then : Block → Order → Bool → Block
@@ -45,7 +53,7 @@ block_then block its is_conditional =
     if is_conditional
     then record { step = block.step; has_run = block.has_run || is_run its; has_best = block.has_best }
     else record {
-      step = max (unwrap_or (step_of its) 0) block.step;
+      step = later block.step (step_of its);
       has_run = block.has_run || is_run its;
       has_best = block.has_best || is_best its;
     }
@@ -81,9 +89,9 @@ objection_in_step block order.RunBest = beside_best block.has_best
 objection_in_step block other = None
 
 -- the step of an order, if it has one, is before that of the orders so far
-abbrev pub is_past : Block → Option ℕ → Bool
+abbrev pub is_past : Block → Option TurnStep → Bool
 is_past block None = false
-is_past block (Some step) = nat_lt step block.step
+is_past block (Some one) = nat_lt (place_of_step one) (place_of_step block.step)
 
 -- why an order is not obeyed behind these
 abbrev pub objection_behind : Block → Order → Option (Refusal × Objection)

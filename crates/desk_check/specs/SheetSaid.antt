@@ -43,7 +43,7 @@ use Rattle.tables.specs.declared.seat.Seat.{Seat}
 
 -- the events of the game as the round begins, where that is known
 abbrev pub game_of : Reader → Option (List Event)
-game_of reader = option_map (λ view. view.events.now) (option_copied reader.view)
+game_of reader = option_map (λ view. view.events) (option_copied reader.view)
 
 -- no line has come
 abbrev pub nothing_read : Read

@@ -1,30 +1,20 @@
 //! The steps of a company's turn that the orders of a sheet have passed.
 ghost use Rattle.std.specs.Prelude.{◌≡◌};
 ghost use Rattle.desk_check.specs.OrderSteps.{beside_best, block_then, is_best, is_past, is_run, no_orders};
-ghost use Rattle.desk_check.specs.OrderSteps.{objection_behind, objection_in_step, passed_by, passed_rule};
+ghost use Rattle.desk_check.specs.OrderSteps.{later, objection_behind, objection_in_step, passed_by, passed_rule};
 ghost use Rattle.desk_check.specs.OrderSteps.{step_of, without_run};
 
+use board::TurnStep;
 use desk_base::Objection;
 use history::{PayRule, Refusal};
 use map_tables::{LayRule, RunRule, TokenRule};
 use order_grammar::Order;
 
-/// The steps of a company's turn.
-const LAY: u8 = 0;
-
-const TOKEN: u8 = 1;
-
-const RUN: u8 = 2;
-
-const PAY: u8 = 3;
-
-const TRAIN: u8 = 4;
-
 /// The step that the orders of a company's turn have reached. Conditional orders do not count.
 #[derive(Clone, Copy)]
 pub(crate) struct Block {
     /// The last step of these orders.
-    step: u8,
+    step: TurnStep,
     /// Whether a RUN is among them, even a conditional one.
     has_run: bool,
     /// Whether RUN BEST is among them.
@@ -32,16 +22,26 @@ pub(crate) struct Block {
 }
 
 /// Returns the step of an order; `None` if it may come at any step.
-fn step_of(order: &Order) -> Option<u8>
+fn step_of(order: &Order) -> Option<TurnStep>
     ensures { result ≡ step_of order.now }
 {
     match order {
-        Order::Lay(_) => Some(LAY),
-        Order::Token(_) => Some(TOKEN),
-        Order::Run { .. } | Order::RunBest => Some(RUN),
-        Order::Pay | Order::Withhold => Some(PAY),
-        Order::BuyTrain { .. } => Some(TRAIN),
+        Order::Lay(_) => Some(TurnStep::Lay),
+        Order::Token(_) => Some(TurnStep::Token),
+        Order::Run { .. } | Order::RunBest => Some(TurnStep::Run),
+        Order::Pay | Order::Withhold => Some(TurnStep::Pay),
+        Order::BuyTrain { .. } => Some(TurnStep::Trains),
         _ => None,
+    }
+}
+
+/// Returns the later of a step and another, if there is another.
+fn later(step: TurnStep, other: Option<TurnStep>) -> TurnStep
+    ensures { result ≡ later step other }
+{
+    match other {
+        Some(other) if other.number() >= step.number() => other,
+        _ => step,
     }
 }
 
@@ -110,7 +110,7 @@ impl Block {
         ensures { result ≡ no_orders }
     {
         Block {
-            step: LAY,
+            step: TurnStep::Lay,
             has_run: false,
             has_best: false,
         }
@@ -125,7 +125,7 @@ impl Block {
             return Block { has_run, ..self };
         }
         Block {
-            step: step_of(order).unwrap_or(LAY).max(self.step),
+            step: later(self.step, step_of(order)),
             has_run,
             has_best: self.has_best || is_best(order),
         }
@@ -143,11 +143,11 @@ impl Block {
     }
 
     /// Returns whether a step, if there is one, is before that of the orders so far.
-    fn is_past(self, step: Option<u8>) -> bool
+    fn is_past(self, step: Option<TurnStep>) -> bool
         ensures { result ≡ is_past self step }
     {
         match step {
-            Some(step) => step < self.step,
+            Some(step) => step.number() < self.step.number(),
             None => false,
         }
     }

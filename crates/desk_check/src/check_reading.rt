@@ -12,6 +12,7 @@ ghost use Rattle.desk_check.specs.SheetSaid.{silent_in, silent_one, wrong_by_gam
 ghost use Rattle.desk_check.specs.Unplayed.{has_place, look_of};
 ghost use Rattle.sheets.specs.Limits.{lines_most};
 ghost use Rattle.sheets.specs.Part.{line_read};
+ghost use Rattle.totals.specs.LookBack.{Game};
 
 use crate::check_found::{Found, Matter, Said};
 use crate::check_lines::{FileLine, FileLines};
@@ -60,7 +61,7 @@ pub(crate) fn look_at_sheet<'a>(
     head: &Head<'a>,
     found: &mut Found<'a>,
 ) -> Result<(), AllocError>
-    ensures { let game = option_map (λ view. view.events.now) (option_copied view.entry) in
+    ensures { let game = option_map (λ (view : Game). view.events) (option_copied view.entry) in
         OnOk result (Adds found.old found.new
         (shown_of_sheet version game found.old.from head.now)) }
 {

@@ -134,7 +134,7 @@ fn push_others(
     };
     let (sheets, view) = (ruled.sheets, ruled.view);
     if let Trial::All = trial {
-        return push_taker(out, sheets, view.events, ruled.seat, order, *rule);
+        return push_taker(out, sheets, view.events(), ruled.seat, order, *rule);
     }
     let place = find_line(ruled.lines, ruled.seat, number).map(|line| line.place);
     match place.and_then(|place| place.company()) {
