@@ -7,10 +7,12 @@ use tables::{Kind, Money, limit, rounds_in_set, rusts, same_kind};
 
 /// Returns the colours of the tiles that may be laid in a phase.
 pub fn colours_of(phase: Kind) -> &'static str {
-    match phase {
-        Kind::Two => "yellow",
-        Kind::Three | Kind::Four => "yellow, green",
-        Kind::Five | Kind::Six | Kind::Diesel => "yellow, green, brown",
+    if phase.index() < Kind::Three.index() {
+        "yellow"
+    } else if phase.index() < Kind::Five.index() {
+        "yellow, green"
+    } else {
+        "yellow, green, brown"
     }
 }
 
@@ -52,10 +54,10 @@ fn put_phase(out: &mut Writer, phase: Kind, is_now: bool) {
     out.element_as(Tag::Cell, "num", &[Number(rounds)]);
     put_rusting(out, phase);
     let also = match phase {
-        Kind::Two | Kind::Four | Kind::Diesel => "",
         Kind::Three => "companies may buy privates",
         Kind::Five => "all privates close",
         Kind::Six => "a D may be bought",
+        _ => "",
     };
     out.element(Tag::Cell, &[Words(also)]);
     out.end();

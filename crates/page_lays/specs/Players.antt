@@ -16,7 +16,7 @@ use Rattle.totals.specs.LookBack.{Game, priority_of}
 
 -- the orders of a seat's turn at its head: of an opening, or else of a stock round
 abbrev pub head_rows : Game → Round → Seat → List Row
-head_rows game (Opening number) seat = map (opening_row game.seats game.events seat false) (opening_orders game.events)
+head_rows game (Opening number) seat = map (opening_row game seat false) (opening_orders game.events)
 head_rows game other seat = map (stock_row game seat None) (stock_orders game.events seat)
 
 -- what is told of a player at the head of their turn: their standing lines, and the orders of the turn

@@ -183,7 +183,7 @@ pub fn put_stops(out: &mut Writer, scene: &Scene, look: &Look) {
 
 /// Adds the two values of a red area, the present one white on black, and its name.
 fn put_area(out: &mut Writer, scene: &Scene, hex: Hex) {
-    let is_late = matches!(scene.history.phase(), Kind::Five | Kind::Six | Kind::Diesel);
+    let is_late = scene.history.phase().index() >= Kind::Five.index();
     let (left, right) = if is_late {
         (("o", "f"), ("x", "pw"))
     } else {

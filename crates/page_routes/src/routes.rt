@@ -260,7 +260,7 @@ fn add_at(
     company: Company,
     event: Option<&Event>,
 ) -> Result<(), AllocError>
-    ensures { OnOk result (AddsAt view.now.events.now company (option_copied event.entry)
+    ensures { OnOk result (AddsAt view.now.events company (option_copied event.entry)
         routes.old.items routes.new.items) }
 {
     match event {
@@ -277,7 +277,7 @@ fn add_by(
     company: Company,
     event: &Event,
 ) -> Result<(), AllocError>
-    ensures { OnOk result (AddsBy view.now.events.now company event.now
+    ensures { OnOk result (AddsBy view.now.events company event.now
         routes.old.items routes.new.items) }
 {
     match event {
@@ -294,7 +294,7 @@ fn add_ruled(
     company: Company,
     ruling: &Ruling,
 ) -> Result<(), AllocError>
-    ensures { OnOk result (AddsRuled view.now.events.now company ruling.now
+    ensures { OnOk result (AddsRuled view.now.events company ruling.now
         routes.old.items routes.new.items) }
 {
     match ruling {
@@ -311,7 +311,7 @@ fn add_ordered(
     company: Company,
     order: &Order,
 ) -> Result<(), AllocError>
-    ensures { OnOk result (AddsOrdered view.now.events.now company order.now
+    ensures { OnOk result (AddsOrdered view.now.events company order.now
         routes.old.items routes.new.items) }
 {
     match order {
@@ -332,7 +332,7 @@ fn add_best(
     company: Company,
 ) -> Result<(), AllocError>
     ensures { OnOk result
-        (AddsBest view.now.events.now company routes.old.items routes.new.items) }
+        (AddsBest view.now.events company routes.old.items routes.new.items) }
 {
     let claim = best_at(alloc, view, company)?;
     let board = board_at(alloc, view)?;

@@ -12,8 +12,7 @@ loop-init c =
     let old : Game = c.args.history in
     let first : c.priority-seat.result ≡ priority_of old.seats old.events =
     c.priority-seat.ensures
-    ∙ ap (λ (seats : ℕ). priority_of seats c.now.result.events.now) c.now.ensures.seats
-    ∙ ap (priority_of old.seats) c.now.ensures.events in
+    ∙ ap (λ (game : Game). priority_of game.seats game.events) c.now.ensures in
     record {
       count = 0;
       counted = refl;
