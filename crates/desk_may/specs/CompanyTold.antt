@@ -3,7 +3,7 @@
 -- it may be, and who must offer it, if another player does. Of those that are refused the player is told of
 -- each kind of train that the bank sells, and of each private that a player owns: by which rule, if whoever
 -- is asked consents; and if the company has too little, with the price and what it has.
-use Rattle.std.specs.Prelude.{ℕ, ◌*◌, ◌/◌, ◌==◌, not, if◌then◌else◌, List, Option, Some, None, ℤ, pos, is_none}
+use Rattle.std.specs.Prelude.{ℕ, ◌*◌, ◌/◌, ◌==◌, if◌then◌else◌, List, Option, Some, None, ℤ, pos, is_none}
 use Rattle.std.specs.Int.Signed.{le_z}
 use Rattle.desk_may.specs.Offerers.{as_offered}
 use Rattle.desk_may.specs.Told.{lacks_money, not_by}

@@ -2,7 +2,7 @@
 -- buy the cheapest, and the least bid on each other. It is told with its price if it is obeyed, and
 -- otherwise with the rule that refuses it; if the player has too little for it, with its price and with
 -- what they could spend on that private.
-use Rattle.std.specs.Prelude.{ℕ, ◌==◌, Bool, false, not, ◌&&◌, if◌then◌else◌, List, Option, Some, None, ℤ, pos}
+use Rattle.std.specs.Prelude.{◌==◌, Bool, false, not, ◌&&◌, if◌then◌else◌, List, Option, Some, None, ℤ, pos}
 use Rattle.desk_may.specs.Told.{lacks_money, not_by}
 use Rattle.desk_may.specs.declared.told.Held.{Held}
 use Rattle.desk_may.specs.declared.told.Held.TheVariants.{Unsaid, YourCash}

@@ -33,7 +33,7 @@ use Rattle.order_grammar.specs.declared.order.Order.{Order}
 use Rattle.order_grammar.specs.declared.order.Order.TheVariants.{Par, BuyShare, Sell, ExchangeMohawk}
 use Rattle.order_grammar.specs.declared.order.ShareSource.{ShareSource}
 use Rattle.stock_round.specs.Exchange.{exchange_source}
-use Rattle.tables.specs.Chart.{zone_of}
+use Rattle.tables.specs.Chart.{least_par, zone_of}
 use Rattle.tables.specs.declared.roster.Company.{Company}
 use Rattle.tables.specs.declared.roster.Private.TheVariants.{MohawkHudson}
 use Rattle.tables.specs.declared.seat.Seat.{Seat}
@@ -96,7 +96,7 @@ holds_mohawk events seat = is_owner seat (owner_of events MohawkHudson)
 
 -- an order may have been expected
 abbrev pub is_expected : List Event → Seat → Order → Bool
-is_expected events seat (Par company price) = price == 67 && not (is_started events company)
+is_expected events seat (Par company price) = price == least_par && not (is_started events company)
 is_expected events seat (BuyShare company from) = is_on_offer events company from
 is_expected events seat (Sell company shares) = shares == 1 && has_shares events seat company
 is_expected events seat ExchangeMohawk = holds_mohawk events seat

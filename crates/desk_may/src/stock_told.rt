@@ -13,10 +13,7 @@ use market::fall;
 use moves::{Answer, Row};
 use order_grammar::{Order, ShareSource};
 use stock_round::exchange_source;
-use tables::{Amount, Company, Money, PAR_VALUES, Private, Seat, Zone, zone};
-
-/// The least par value.
-const LEAST_PAR: Amount = PAR_VALUES[0];
+use tables::{Amount, Company, LEAST_PAR, Money, Private, Seat, Zone, zone};
 
 /// A seat in a stock round, at the head of its turn.
 #[derive(Clone, Copy)]

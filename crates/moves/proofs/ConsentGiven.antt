@@ -1,11 +1,11 @@
 -- What lacks a consent alone is obeyed once that is given.
-use Rattle.std.proofs.Common.{◌≡◌, ℕ, ◌==◌, Bool, true, false, not, ◌||◌, ◌&&◌, if◌then◌else◌, List, [], ◌∷◌, ◌++◌}
+use Rattle.std.proofs.Common.{◌≡◌, ℕ, ◌==◌, Bool, true, false, not, ◌||◌, if◌then◌else◌, List, [], ◌∷◌, ◌++◌}
 use Rattle.std.proofs.Common.{nat_lt, Option, Some, None, ℤ, pos, is_some, unwrap_or, refl, sym, ap, subst, ◌∙◌, option_map, arith}
 use Rattle.std.proofs.lemmas.Bool.Decides.{nat_tests}
 use Rattle.std.specs.Int.Signed.{lt_z}
 use Rattle.std.specs.Option.{option_flatten, option_or}
 use Rattle.std.proofs.lemmas.Bool.{eq-eqb, or_parts}
-use Rattle.events.specs.Event.{obeyed_of, party_of_company, round_begun_by}
+use Rattle.events.specs.Event.{obeyed_of, party_of_company}
 use Rattle.events.specs.Offers.{offered_in, same_offer}
 use Rattle.events.specs.Orders.{said_by}
 use Rattle.events.specs.RuleCodes.{code_of_private_rule, code_of_train_rule}
@@ -21,15 +21,14 @@ use Rattle.events.specs.declared.ruling.Ruling.{Ruling}
 use Rattle.events.specs.declared.ruling.Ruling.TheVariants as ruling
 use Rattle.events.specs.declared.ruling.TrainRule.{TrainRule}
 use Rattle.events.specs.declared.ruling.TrainRule.TheVariants as train_rule
-use Rattle.forced_purchase.specs.declared.operator.Operator.{Operator}
-use Rattle.moves.proofs.OneMoreRuling.{same_cash, same_full, same_owner, same_phase, same_president, same_sale}
-use Rattle.moves.proofs.OneMoreRuling.{same_seller, same_trade}
+use Rattle.moves.proofs.OneMoreRuling.{same_cash, same_full, same_owner, same_phase, same_president}
+use Rattle.moves.proofs.OneMoreRuling.{same_seller}
 use Rattle.moves.proofs.RowRulings.{none_is_not, told_private, told_train}
 use Rattle.moves.specs.CompanyRows.{asked_for_private, asked_for_train, asked_of_owner, private_answer}
 use Rattle.moves.specs.CompanyRows.{private_refusal_by, train_answer, train_cost, train_refusal_by}
-use Rattle.moves.specs.ConsentLaws.{IsOffered, NoRoundBegins, OfferedPrivatesAreObeyed, OfferedPrivatesAreTold}
+use Rattle.moves.specs.ConsentLaws.{NoRoundBegins, OfferedPrivatesAreObeyed, OfferedPrivatesAreTold}
 use Rattle.moves.specs.ConsentLaws.{OfferedTrainsAreObeyed, OfferedTrainsAreTold, offer_line}
-use Rattle.moves.specs.RowLaws.{private_told, rule_told, train_told}
+use Rattle.moves.specs.RowLaws.{private_told, train_told}
 use Rattle.moves.specs.Rows.{answer_if_given}
 use Rattle.moves.specs.declared.row.Answer.{Answer}
 use Rattle.moves.specs.declared.row.Answer.TheVariants.{Obeyed, WithConsent, Refused}
@@ -52,9 +51,9 @@ use Rattle.purchases.specs.Train.{train_purchase_rules_by}
 use Rattle.purchases.specs.declared.consents.Consents.TheVariants.{All, OfGame}
 use Rattle.purchases.specs.declared.train.TrainPurchase.{TrainPurchase}
 use Rattle.tables.proofs.Rules.{not_broken}
-use Rattle.tables.specs.Roster.{same_company, same_private}
+use Rattle.tables.specs.Roster.{same_private}
 use Rattle.tables.specs.Rules.{first_broken}
-use Rattle.tables.specs.Train.{index_of_kind, same_kind}
+use Rattle.tables.specs.Train.{index_of_kind}
 use Rattle.tables.specs.declared.rolling_stock.Kind.{Kind}
 use Rattle.tables.specs.declared.rolling_stock.Kind.TheVariants.{Three}
 use Rattle.tables.specs.declared.roster.Company.{Company}
@@ -62,7 +61,7 @@ use Rattle.tables.specs.declared.roster.Private.{Private}
 use Rattle.tables.specs.declared.roster.Private.TheVariants.{BaltimoreOhio}
 use Rattle.tables.specs.declared.seat.Seat.{Seat}
 use Rattle.totals.proofs.EventAtEnd.{option_or_assoc}
-use Rattle.totals.specs.LookBack.{Game, cash_of, in_round, last_said, owner_of}
+use Rattle.totals.specs.LookBack.{Game, in_round, last_said, owner_of}
 use Rattle.totals.specs.Offers.{has_offered}
 use Rattle.totals.specs.Shares.{president_of}
 

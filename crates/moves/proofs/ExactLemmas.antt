@@ -1,12 +1,11 @@
 -- A list of what is allowed has exactly that, where the rules judge each candidate in one way and
 -- every thing is a candidate.
-use Rattle.std.proofs.Common.{◌≡◌, ℕ, zero, suc, Bool, true, false, ◌↔◌, IsTrue, inl, inr, List, [], ◌∷◌, ◌++◌}
+use Rattle.std.proofs.Common.{◌≡◌, ℕ, zero, suc, Bool, true, false, inl, inr, List, [], ◌∷◌, ◌++◌}
 use Rattle.std.proofs.Common.{Option, Some, None, Result, Ok, Err, ℤ, refl, sym, ap, subst, ◌∙◌, flat_map}
 use Rattle.std.specs.Prelude.{slice_get}
 use Rattle.operating.proofs.Outcome.{same_break, same_tests}
 use Rattle.board.proofs.KeptHomes.{among_first}
 use Rattle.moves.proofs.RowRulings.{none_is_not}
-use Rattle.board.proofs.RuleTables.{earlier}
 use Rattle.board.specs.LayRules.{IsConnected, IsLayAnswer, cost_or, lay_cost_of, lay_reach_rules}
 use Rattle.board.specs.LayRules.{map_rules}
 use Rattle.board.specs.TokenRules.{IsReachedPlace, IsTokenAnswer, slot_rules, token_cost_of, token_reach_rules}
@@ -31,7 +30,6 @@ use Rattle.moves.specs.Exact.{LaysAreExact, TokensAreExact}
 use Rattle.moves.specs.Listed.{AreListed, priced_if}
 use Rattle.moves.specs.declared.priced.Priced.{Priced}
 use Rattle.reach.specs.Position.{IsAmong}
-use Rattle.tables.specs.Rules.{Rule, first_broken}
 
 -- what is found at a place is among a list
 among_got : {A : Type 0} (xs : List A) (i : ℕ) (x : A) → slice_get xs i ≡ Some x → IsAmong x xs

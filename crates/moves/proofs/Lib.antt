@@ -3,6 +3,7 @@ pub mod LeastBid
 pub mod ExactLemmas
 pub mod TurnLemmas
 pub mod RowLemmas
+mod ParRows
 pub mod LimitLemmas
 pub mod RowRulings
 pub mod OneMoreRuling

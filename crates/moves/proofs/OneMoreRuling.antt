@@ -1,13 +1,12 @@
 -- A ruling among the events of a game says nothing of what anybody has, wherever it stands.
 use Rattle.std.proofs.Common.{◌≡◌, ℕ, ◌+◌, Bool, not, nat_lt, if◌then◌else◌, ◌||◌, ◌&&◌, cond, List, [], ◌∷◌, ◌++◌}
-use Rattle.std.proofs.Common.{Option, Some, None, ℤ, pos, ◌-ℤ◌, ◌+ℤ◌, unwrap_or, sum_by, refl, sym, ap, ◌∙◌, arith}
+use Rattle.std.proofs.Common.{Option, Some, None, ℤ, pos, ◌-ℤ◌, ◌+ℤ◌, unwrap_or, sum_by, refl, ap, ◌∙◌, arith}
 use Rattle.std.proofs.lemmas.List.Sums.{sum_by-append, sum_by-cons}
 use Rattle.std.specs.Int.Signed.{lt_z}
 use Rattle.std.specs.Option.{option_flatten, option_or}
 use Rattle.events.specs.Event.{office_of, ownership_of, payment_of, phase_set, train_moved, train_owner_place}
 use Rattle.events.specs.declared.event.Event.{Event}
 use Rattle.events.specs.declared.event.Event.TheVariants.{Ruled}
-use Rattle.events.specs.declared.event.Holder.{Holder}
 use Rattle.events.specs.declared.event.Party.{Party}
 use Rattle.events.specs.declared.event.TrainPlace.TheVariants as train_place
 use Rattle.events.specs.declared.event.TrainSeller.{TrainSeller}

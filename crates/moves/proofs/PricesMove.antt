@@ -1,48 +1,44 @@
 -- The price of a row is the money that moves by its order.
-use Rattle.std.proofs.Common.{◌≡◌, ℕ, zero, suc, ◌*◌, ◌+◌, ◌==◌, Bool, true, false, ◌||◌, ◌&&◌, if◌then◌else◌, List, [], ◌∷◌}
+use Rattle.std.proofs.Common.{◌≡◌, ℕ, zero, suc, ◌*◌, ◌+◌, ◌==◌, Bool, true, false, ◌&&◌, if◌then◌else◌, List, [], ◌∷◌}
 use Rattle.std.proofs.Common.{◌++◌, Option, Some, None, ℤ, pos, ◌-ℤ◌, ◌+ℤ◌, is_some, unwrap_or, option_map, refl, sym, ap}
 use Rattle.std.proofs.Common.{subst, ◌∙◌, append_assoc, arith, true≢false}
-use Rattle.std.proofs.lemmas.Bool.Decides.{nat_tests}
 use Rattle.std.proofs.lemmas.Int.{ints}
 use Rattle.std.proofs.lemmas.List.{append-nil}
 use Rattle.std.specs.List.{fold}
 use Rattle.std.proofs.lemmas.Bool.{eq-eqb}
 use Rattle.totals.proofs.Privates.{private_itself}
 use Rattle.certs.specs.Purchase.{price_on, share_price_of}
-use Rattle.certs.specs.SaleAct.{sold, succeeded, with_president, with_successor}
+use Rattle.certs.specs.SaleAct.{sold, with_president, with_successor}
 use Rattle.certs.specs.President.{successor_of}
-use Rattle.events.specs.Event.{party_at, party_of_company, party_of_seller, payment_of}
+use Rattle.events.specs.Event.{party_at, party_of_company, payment_of}
 use Rattle.events.specs.declared.event.Event.{Event}
 use Rattle.events.specs.declared.event.Event.TheVariants as event
 use Rattle.events.specs.declared.event.Holder.{Holder}
 use Rattle.events.specs.declared.event.Holder.TheVariants as holder
 use Rattle.events.specs.declared.event.Party.{Party}
-use Rattle.events.specs.declared.event.TrainSeller.{TrainSeller}
 use Rattle.events.specs.declared.ruling.PrivateRule.TheVariants as private_rule
 use Rattle.events.specs.declared.ruling.Refusal.{Refusal}
 use Rattle.events.specs.declared.ruling.Refusal.TheVariants as refusal
 use Rattle.events.specs.declared.ruling.Ruling.{Ruling}
 use Rattle.events.specs.declared.ruling.Ruling.TheVariants as ruling
-use Rattle.forced_purchase.specs.declared.operator.Operator.{Operator}
 use Rattle.history.specs.Record.{breaks, with_broken}
 use Rattle.market.specs.Moves.{fallen}
-use Rattle.market.specs.Token.{moved_from, same_square, with_move}
+use Rattle.market.specs.Token.{moved_from, same_square}
 use Rattle.moves.proofs.ConsentGiven.{unmapped}
-use Rattle.moves.proofs.RowRulings.{none_is_not, opening_ruled, stock_ruled, told_private, told_train}
-use Rattle.moves.specs.CompanyRows.{asked_for_private, asked_for_train, private_answer, private_refusal_by}
-use Rattle.moves.specs.CompanyRows.{train_answer, train_cost, train_refusal_by}
-use Rattle.moves.specs.OpeningRows.{opening_answer, opening_cost}
-use Rattle.moves.specs.PriceLaws.{IsBid, IsPaidFor, MovesInOpening, OpeningPricesMove, PrivatePricesMove}
+use Rattle.moves.proofs.RowRulings.{opening_ruled, stock_ruled}
+use Rattle.moves.specs.CompanyRows.{asked_for_private, asked_for_train, private_refusal_by}
+use Rattle.moves.specs.CompanyRows.{train_cost, train_refusal_by}
+use Rattle.moves.specs.OpeningRows.{opening_cost}
+use Rattle.moves.specs.PriceLaws.{MovesInOpening, OpeningPricesMove, PrivatePricesMove}
 use Rattle.moves.specs.PriceLaws.{StockPricesMove, TrainPricesMove, cash_in, left_after}
-use Rattle.moves.specs.RowLaws.{private_told, rule_told, train_told}
+use Rattle.moves.specs.RowLaws.{rule_told}
 use Rattle.moves.specs.Rows.{answer_if_given, answer_of}
-use Rattle.moves.specs.StockRows.{stock_answer, stock_cost}
+use Rattle.moves.specs.StockRows.{stock_cost}
 use Rattle.moves.specs.declared.row.Answer.{Answer}
-use Rattle.moves.specs.declared.row.Answer.TheVariants.{Obeyed, WithConsent, Refused}
+use Rattle.moves.specs.declared.row.Answer.TheVariants.{Obeyed}
 use Rattle.operating.specs.Pay.{withheld}
 use Rattle.operating.specs.Progress.{pay_done}
 use Rattle.operating.specs.TurnState.{TurnState, ruled, turn_state}
-use Rattle.order_grammar.specs.declared.condition.Condition.{Condition}
 use Rattle.order_grammar.specs.declared.order.Offer.{Offer}
 use Rattle.order_grammar.specs.declared.order.Order.{Order}
 use Rattle.order_grammar.specs.declared.order.Order.TheVariants as order
@@ -51,29 +47,26 @@ use Rattle.order_grammar.specs.declared.order.ShareSource.TheVariants.{InitialOf
 use Rattle.order_grammar.specs.declared.order.TrainSource.{TrainSource}
 use Rattle.order_grammar.specs.declared.order.TrainSource.TheVariants as source
 use Rattle.privates.specs.Bank.{price_of_private}
-use Rattle.privates.specs.Bid.{after_bid}
 use Rattle.privates.specs.ParOfBo.{par_set_by}
-use Rattle.privates.specs.Sale.{after_private_sale, gifts, settled}
+use Rattle.privates.specs.Sale.{after_private_sale, gifts}
 use Rattle.privates.specs.Turn.{after_opening_order, after_opening_ruling, opening_line_ruling, opening_refusal}
 use Rattle.purchases.proofs.ConsentLemmas.{companies_agree, owners_agree}
 use Rattle.purchases.specs.Discard.{next_discard, with_discarded, with_next_discarded}
 use Rattle.purchases.specs.Phases.{excess_of, rusts_at, with_all_closed, with_closed, with_company_rusted, with_kind_rusted}
-use Rattle.purchases.specs.Phases.{with_kind_rusted_at, with_limit_kept, with_limits_kept, with_one_rusted, with_phase}
+use Rattle.purchases.specs.Phases.{with_kind_rusted_at, with_limit_kept, with_one_rusted, with_phase}
 use Rattle.purchases.specs.Phases.{with_privates_closed, with_rusted, with_trains_rusted}
 use Rattle.purchases.specs.Private.{private_bought, private_judgement, sold_by}
 use Rattle.purchases.specs.Train.{after_train, begins_phase, purchase_of, train_bought, train_judgement}
-use Rattle.purchases.specs.Train.{train_purchase_cost, with_bop_closed, with_trade}
+use Rattle.purchases.specs.Train.{train_purchase_cost, with_trade}
 use Rattle.purchases.specs.declared.consents.Consents.TheVariants.{All, OfGame}
 use Rattle.purchases.specs.declared.train.TrainPurchase.{TrainPurchase}
-use Rattle.sheets.specs.Part.{Numbered}
 use Rattle.stock_round.specs.Buy.{share_bought}
 use Rattle.stock_round.specs.Exchange.{exchange_source, exchanged}
 use Rattle.stock_round.specs.Float.{floated_at, is_to_float, with_float}
 use Rattle.stock_round.specs.Orders.{after_stock_order, stock_refusal}
 use Rattle.stock_round.specs.Par.{president_shares}
 use Rattle.stock_round.specs.Turn.{after_stock_ruling, stock_line_ruling}
-use Rattle.stock_round.specs.declared.deals.ShareDeals.{ShareDeals}
-use Rattle.tables.specs.Roster.{companies, privates, same_company, same_private}
+use Rattle.tables.specs.Roster.{companies, privates, same_company}
 use Rattle.tables.specs.Steps.{iterate}
 use Rattle.tables.specs.Train.{kinds, rusting_of, same_kind}
 use Rattle.tables.specs.declared.rolling_stock.Kind.{Kind}
@@ -92,7 +85,7 @@ use Rattle.totals.specs.LookBack.{Game, cash_of, owner_of, paid_by, paid_to, wit
 use Rattle.totals.specs.Shares.{par_of, president_of, square_of}
 use Rattle.totals.specs.Trains.{at_least_zero, trains_held}
 use Rattle.turns.specs.RoundOfTurns.{in_turn}
-use Rattle.turns.specs.Ruling.{has_place_in_turn, judged}
+use Rattle.turns.specs.Ruling.{judged}
 use Rattle.tables.proofs.Companies.{company_itself}
 use Rattle.operating.proofs.Idle.{same_either_way}
 

@@ -8,16 +8,14 @@ use Rattle.events.specs.declared.ruling.PrivateRule.{PrivateRule}
 use Rattle.events.specs.declared.ruling.PrivateRule.TheVariants as private_rule
 use Rattle.events.specs.declared.ruling.Refusal.{Refusal}
 use Rattle.events.specs.declared.ruling.Refusal.TheVariants as refusal
-use Rattle.events.specs.declared.ruling.Ruling.{Ruling}
 use Rattle.events.specs.declared.ruling.TrainRule.{TrainRule}
 use Rattle.events.specs.declared.ruling.TrainRule.TheVariants as train_rule
-use Rattle.history.specs.Conditions.{is_met}
 use Rattle.moves.specs.CompanyRows.{asked_for_private, asked_for_train, asked_of_owner, private_answer}
 use Rattle.moves.specs.CompanyRows.{private_refusal_by, train_answer, train_cost, train_refusal_by}
 use Rattle.moves.specs.OpeningRows.{opening_cost}
 use Rattle.moves.specs.RowLaws.{OpeningRowsAreRuled, Orders, PrivateRowsAreRuled, RowsBeforeAreRuled}
 use Rattle.moves.specs.RowLaws.{StandingRowsAreRuled, StockRowsAreRuled, TrainRowsAreRuled, consent_rule}
-use Rattle.moves.specs.RowLaws.{private_told, rule_told, train_told}
+use Rattle.moves.specs.RowLaws.{rule_told}
 use Rattle.moves.specs.Rows.{answer_if_given, answer_of}
 use Rattle.moves.specs.StandingRows.{before_cost}
 use Rattle.moves.specs.StockRows.{stock_cost}

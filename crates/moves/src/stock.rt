@@ -12,7 +12,7 @@ use history::{GameView, History, Refusal, ShareCount, Shareholder, StockRule};
 use order_grammar::{Order, ShareSource};
 use std::alloc::{AllocError, Global};
 use stock_round::is_no_exchange;
-use tables::{Amount, Company, Money, PAR_VALUES, Seat};
+use tables::{Amount, CHART_ROWS, Company, Money, Seat, par_value};
 
 /// The numbers of shares whose sale is considered: a company has ten, and a sale of one more is
 /// refused.
@@ -87,7 +87,7 @@ fn push_company(
     Ok(())
 }
 
-/// Adds the rows of the six par values of a company.
+/// Adds a row for each par value of a company, from the least.
 fn push_starts(
     rows: &mut Vec<Row>,
     history: &History,
@@ -98,9 +98,10 @@ fn push_starts(
     ensures { OnOk result (rows.new.items ≡ rows.old.items
         ++ map (stock_row history.now seat bought) (starts_of company)) }
 {
-    for price in &PAR_VALUES {
-        let price = *price;
-        push_order(rows, history, seat, bought, Order::Par { company, price })?;
+    for row in (0..CHART_ROWS).rev() {
+        if let Some(price) = par_value(row) {
+            push_order(rows, history, seat, bought, Order::Par { company, price })?;
+        }
     }
     Ok(())
 }

@@ -4,8 +4,8 @@ ghost use Rattle.std.specs.Prelude.{pos, negsuc, ◌≤ℤ◌};
 use markup::PagePiece::{At, Letter, Number, Point as To, Words};
 use markup::{Attr, Point, Tag, Writer};
 use tables::{
-    CHART_COLUMNS_END, CHART_ROWS, Company, Money, PerCompany, Square, Zone, par_square, price,
-    square, zone,
+    CHART_COLUMNS_END, CHART_ROWS, Company, Money, PerCompany, Square, Zone, is_par, price, square,
+    zone,
 };
 
 /// The token of a company on the chart.
@@ -117,7 +117,7 @@ fn put_row(out: &mut Writer, tokens: &ChartTokens, row: u8) {
 /// Adds a square with its tokens.
 fn put_square(out: &mut Writer, tokens: &ChartTokens, square: Square) {
     let corner = corner_of(square);
-    let is_par = is_par_square(square);
+    let is_par = is_par(square);
     let (class, mark) = match zone(square) {
         Zone::White if is_par => ("cw", " p"),
         Zone::White => ("cw", ""),
@@ -147,11 +147,6 @@ fn put_price(out: &mut Writer, corner: Point, square: Square, mark: &'static str
         out.element_as(Tag::TextSpan, "zl", &[Words(mark)]);
     }
     out.end();
-}
-
-/// Returns whether a square is that of a par value.
-fn is_par_square(square: Square) -> bool {
-    matches!(par_square(price(square)), Some(par) if par == square)
 }
 
 /// Returns the upper left corner of a square.

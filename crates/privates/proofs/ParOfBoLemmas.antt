@@ -11,7 +11,7 @@ use Rattle.totals.specs.Orders.{par_ordered_of}
 use Rattle.order_grammar.specs.declared.order.Order.{Order}
 use Rattle.order_grammar.specs.declared.order.Order.TheVariants as order
 use Rattle.privates.specs.ParOfBo.{par_set_by}
-use Rattle.tables.specs.Chart.{par_squares, price_of}
+use Rattle.tables.specs.Chart.{least_par, par_squares, price_of}
 use Rattle.tables.specs.Roster.{same_company}
 use Rattle.tables.specs.declared.roster.Company.TheVariants.{BaltimoreOhio}
 use Rattle.tables.specs.declared.seat.Seat.{Seat}
@@ -58,9 +58,9 @@ par_listed (event ∷ events) seat said named =
     later_par (par_ordered_of events seat) (said_by seat par_of_baltimore_in (obeyed_of event)) said
     (par_listed events seat) (par_obeyed seat (obeyed_of event)) named
 
--- an ordered par value, or 67
+-- an ordered par value, or the least
 ordered_par : (ordered : Option ℕ) → ((n : ℕ) → ordered ≡ Some n → is_par_value n ≡ true)
-    → is_par_value (unwrap_or ordered 67) ≡ true
+    → is_par_value (unwrap_or ordered least_par) ≡ true
 ordered_par None is = refl
 ordered_par (Some par) is = is par refl
 

@@ -6,6 +6,7 @@ use Rattle.events.specs.declared.event.Event.{Event}
 use Rattle.events.specs.declared.ruling.OpeningRule.{OpeningRule}
 use Rattle.events.specs.declared.ruling.OpeningRule.TheVariants.{NotOfOpening}
 use Rattle.totals.specs.Orders.{par_ordered_of}
+use Rattle.tables.specs.Chart.{least_par}
 use Rattle.tables.specs.Roster.{same_company}
 use Rattle.tables.specs.Rules.{Rule}
 use Rattle.tables.specs.declared.roster.Company.{Company}
@@ -23,6 +24,6 @@ abbrev pub par_rules : Company → ℕ → List (Rule OpeningRule)
 par_rules company price = record { code = NotOfOpening; broken = not (is_par_of_baltimore company price) } ∷ []
 
 -- the par value that a buyer of BOP sets for BO: that of their last obeyed order to set it,
--- otherwise 67
+-- otherwise the least
 abbrev pub par_set_by : List Event → Seat → ℕ
-par_set_by events buyer = unwrap_or (par_ordered_of events buyer) 67
+par_set_by events buyer = unwrap_or (par_ordered_of events buyer) least_par

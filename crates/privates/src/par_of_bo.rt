@@ -5,10 +5,7 @@ ghost use Rattle.privates.specs.ParOfBo.{is_par_of_baltimore, par_rules, par_set
 ghost use Rattle.tables.specs.Rules.{first_broken};
 
 use history::{GameView, OpeningRule};
-use tables::{Amount, Company, Seat, par_square, rules};
-
-/// The par value of BO if the buyer of BOP did not order one, in dollars.
-const PAR_UNLESS_ORDERED: Amount = 67;
+use tables::{Amount, Company, LEAST_PAR, Seat, par_square, rules};
 
 /// Returns the rule that a PAR breaks.
 pub(crate) fn judge_par(company: Company, price: Amount) -> Option<OpeningRule>
@@ -27,10 +24,10 @@ fn is_par_of_baltimore(company: Company, price: Amount) -> bool
 }
 
 /// Returns the par value that a buyer of BOP sets for BO, in dollars: the one in their last obeyed
-/// PAR line, or else 67.
+/// PAR line, or else the least.
 pub(crate) fn par_set_by(view: &GameView, buyer: Seat) -> Amount
     ensures par { result ≡ par_set_by view.now.events buyer }
     ensures small { result ≤ 1000000 }
 {
-    view.par_ordered(buyer).unwrap_or(PAR_UNLESS_ORDERED)
+    view.par_ordered(buyer).unwrap_or(LEAST_PAR)
 }

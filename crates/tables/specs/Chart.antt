@@ -1,7 +1,7 @@
 -- The stock market. Each square has a price, and some lie in a zone: y is yellow, o orange, b
 -- brown. p marks the par values, w a square without a mark, and x is no square.
 use Rattle.std.specs.Prelude.{ℕ, zero, suc, ◌+◌, ◌==◌, Bool, true, false, if◌then◌else◌, List, [], ◌∷◌, ◌++◌, map}
-use Rattle.std.specs.Prelude.{Option, Some, None, slice_get, unwrap_or, is_some, find}
+use Rattle.std.specs.Prelude.{Option, Some, None, slice_get, unwrap_or, is_some, find, reverse, drop}
 use Rattle.tables.specs.declared.chart.Entry.{Entry}
 use Rattle.tables.specs.declared.squares.Square.{Square}
 use Rattle.tables.specs.declared.squares.Zone.{Zone}
@@ -11,42 +11,36 @@ use Rattle.tables.specs.declared.squares.Zone.TheVariants.{White, Yellow, Orange
 abbrev pub price_most : ℕ
 price_most = 350
 
--- what is printed at a place of the chart: a price in a zone, or no square; and whether it is
--- marked as a par value
-pub record Printed : Type 0 where
-  pub entry : Option Entry
-  pub par : Bool
-
--- a square of this zone and price
-abbrev in_zone : Zone → ℕ → Printed
-in_zone zone price = record { entry = Some (record { price = price; zone = zone }); par = false }
+-- a square of this zone and price, which is no par value
+abbrev in_zone : Zone → ℕ → Option Entry
+in_zone zone price = Some (record { price = price; zone = zone; is_par = false })
 
 -- a square without a mark
-abbrev w : ℕ → Printed
+abbrev w : ℕ → Option Entry
 w price = in_zone White price
 
 -- a square in the yellow zone
-abbrev y : ℕ → Printed
+abbrev y : ℕ → Option Entry
 y price = in_zone Yellow price
 
 -- a square in the orange zone
-abbrev o : ℕ → Printed
+abbrev o : ℕ → Option Entry
 o price = in_zone Orange price
 
 -- a square in the brown zone
-abbrev b : ℕ → Printed
+abbrev b : ℕ → Option Entry
 b price = in_zone Brown price
 
 -- a square that is marked as a par value
-abbrev p : ℕ → Printed
-p price = record { entry = Some (record { price = price; zone = White }); par = true }
+abbrev p : ℕ → Option Entry
+p price = Some (record { price = price; zone = White; is_par = true })
 
 -- no square
-abbrev x : Printed
-x = record { entry = None; par = false }
+abbrev x : Option Entry
+x = None
 
 -- the rows of the chart, A to K downwards; each from column 1
-abbrev pub chart : List (List Printed)
+abbrev pub chart : List (List (Option Entry))
 chart =
     (y 60 ∷ w 67 ∷ w 71 ∷ w 76 ∷ w 82 ∷ w 90 ∷ p 100 ∷ w 112 ∷ w 126 ∷ w 142 ∷ w 160 ∷ w 180 ∷ w 200 ∷ w 225 ∷ w 250
     ∷ w 275 ∷ w 300 ∷ w 325 ∷ w 350 ∷ [])
@@ -66,7 +60,7 @@ chart =
 
 -- the squares of a row of the chart, from column 1
 abbrev pub row_at : ℕ → List (Option Entry)
-row_at row = map (λ printed. printed.entry) (unwrap_or (slice_get chart row) [])
+row_at row = unwrap_or (slice_get chart row) []
 
 -- what a row has at a column
 abbrev pub entry_in : List (Option Entry) → ℕ → Option Entry
@@ -104,27 +98,45 @@ zone_in (Some entry) = entry.zone
 abbrev pub zone_of : Square → Zone
 zone_of square = zone_in (entry_at square.row square.column)
 
+-- an entry is marked as a par value
+abbrev pub is_par : Option Entry → Bool
+is_par None = false
+is_par (Some entry) = entry.is_par
+
 -- the squares of a row that are marked as par values, from a column on
-abbrev pub par_squares_in : ℕ → ℕ → List Printed → List Square
+abbrev pub par_squares_in : ℕ → ℕ → List (Option Entry) → List Square
 par_squares_in row column [] = []
-par_squares_in row column (printed ∷ others) =
-    if printed.par
+par_squares_in row column (entry ∷ others) =
+    if is_par entry
     then record { row = row; column = column } ∷ par_squares_in row (column + 1) others
     else par_squares_in row (column + 1) others
 
 -- the squares of some rows that are marked as par values
-abbrev pub par_squares_from : ℕ → List (List Printed) → List Square
+abbrev pub par_squares_from : ℕ → List (List (Option Entry)) → List Square
 par_squares_from row [] = []
-par_squares_from row (printed ∷ rows) = par_squares_in row 1 printed ++ par_squares_from (row + 1) rows
+par_squares_from row (entries ∷ rows) = par_squares_in row 1 entries ++ par_squares_from (row + 1) rows
 
 -- the squares that are marked as par values, from the upper row on
 abbrev pub par_squares : List Square
 par_squares = par_squares_from 0 chart
 
--- the par values, from the least, in dollars
-abbrev pub par_values : List ℕ
-par_values = 67 ∷ 71 ∷ 76 ∷ 82 ∷ 90 ∷ 100 ∷ []
-
 -- the square of a par value: that which is marked and has this price
 abbrev pub par_square_of : ℕ → Option Square
 par_square_of par = find (λ square. price_of square == par) par_squares
+
+-- the par value that is marked in a row, in the column of par values
+abbrev pub par_value_of : ℕ → Option ℕ
+par_value_of row =
+    if is_par (entry_in (row_at row) 7) then Some (price_in (entry_in (row_at row) 7)) else None
+
+-- the par values of a row and of those below it, from the least, in dollars: the upper six rows have one each
+abbrev pub par_values_from : ℕ → List ℕ
+par_values_from row = map price_of (reverse (drop row par_squares))
+
+-- the par values, from the least, in dollars
+abbrev pub par_values : List ℕ
+par_values = par_values_from 0
+
+-- the least par value, in dollars
+abbrev pub least_par : ℕ
+least_par = 67

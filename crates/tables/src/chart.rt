@@ -1,8 +1,8 @@
 //! The chart of the stock market: the price and the zone of each square, and the squares of the par
 //! values.
 ghost use Rattle.std.specs.Prelude.{◌≡◌, IfSome, true};
-ghost use Rattle.tables.specs.Chart.{entry_at, entry_in, is_on_chart, par_square_of, price_of, row_at, square_at};
-ghost use Rattle.tables.specs.Chart.{zone_of};
+ghost use Rattle.tables.specs.Chart.{entry_at, entry_in, is_on_chart, is_par, par_square_of, par_value_of, price_of};
+ghost use Rattle.tables.specs.Chart.{row_at, square_at, zone_of};
 
 use crate::seat::Amount;
 use crate::squares::{Square, Zone};
@@ -13,8 +13,11 @@ pub const CHART_ROWS: u8 = 11;
 /// The column after the last of the longest row of the chart; the first is 1.
 pub const CHART_COLUMNS_END: u8 = 20;
 
-/// The par values, from the least, in dollars.
-pub const PAR_VALUES: [Amount; 6] = [67, 71, 76, 82, 90, 100];
+/// The column of the chart in which the par values are marked.
+const PAR_COLUMN: u8 = 7;
+
+/// The least par value, in dollars.
+pub const LEAST_PAR: Amount = 67;
 
 /// Returns the square at a row from 0 (the printed A) and a column from 1; `None` if the chart has
 /// none.
@@ -39,22 +42,33 @@ pub fn zone(square: Square) -> Zone
     entry_at(square).map_or(Zone::White, |entry| entry.zone)
 }
 
+/// Returns whether a square is marked as that of a par value; no square off the chart is.
+pub fn is_par(square: Square) -> bool
+    ensures { result ≡ is_par (entry_at square.row square.column) }
+{
+    entry_at(square).is_some_and(|entry| entry.is_par)
+}
+
+/// Returns the par value that is marked in a row of the chart, in dollars; `None` if none is.
+pub fn par_value(row: u8) -> Option<Amount>
+    ensures { result ≡ par_value_of row }
+{
+    let entry = entry_in(row_at(row), PAR_COLUMN)?;
+    entry.is_par.then_some(entry.price)
+}
+
 /// Returns the square of a par value; `None` if it is no par value.
 pub fn par_square(par: Amount) -> Option<Square>
     ensures square { result ≡ par_square_of par }
     ensures price { IfSome result (λ square. price_of square ≡ par) }
     ensures on_chart { IfSome result (λ square. is_on_chart square ≡ true) }
 {
-    let row = match par {
-        100 => 0,
-        90 => 1,
-        82 => 2,
-        76 => 3,
-        71 => 4,
-        67 => 5,
-        _ => return None,
-    };
-    Some(Square { row, column: 7 })
+    for row in 0..CHART_ROWS {
+        if par_value(row) == Some(par) {
+            return square(row, PAR_COLUMN);
+        }
+    }
+    None
 }
 
 /// What the chart has on a square.
@@ -62,17 +76,22 @@ pub fn par_square(par: Amount) -> Option<Square>
 struct Entry {
     price: Amount,
     zone: Zone,
+    /// Whether it is marked as a par value.
+    is_par: bool,
 }
 
 /// What a mark and a price on the chart stand for: `y`, `o` and `b` a zone, `p` a par value, `w`
 /// none of these, and `x` no square.
 macro_rules! entry {
-    (w $price:literal) => { Some(Entry { price: $price, zone: Zone::White }) };
-    (p $price:literal) => { entry!(w $price) };
-    (y $price:literal) => { Some(Entry { price: $price, zone: Zone::Yellow }) };
-    (o $price:literal) => { Some(Entry { price: $price, zone: Zone::Orange }) };
-    (b $price:literal) => { Some(Entry { price: $price, zone: Zone::Brown }) };
+    (w $price:literal) => { entry!($price, White, false) };
+    (p $price:literal) => { entry!($price, White, true) };
+    (y $price:literal) => { entry!($price, Yellow, false) };
+    (o $price:literal) => { entry!($price, Orange, false) };
+    (b $price:literal) => { entry!($price, Brown, false) };
     (x $price:literal) => { None };
+    ($price:literal, $zone:ident, $is_par:literal) => {
+        Some(Entry { price: $price, zone: Zone::$zone, is_par: $is_par })
+    };
 }
 
 /// A row of the chart, from column 1.

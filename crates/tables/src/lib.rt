@@ -19,7 +19,9 @@ mod rule_table;
 mod seat;
 mod squares;
 
-pub use chart::{CHART_COLUMNS_END, CHART_ROWS, PAR_VALUES, par_square, price, square, zone};
+pub use chart::{
+    CHART_COLUMNS_END, CHART_ROWS, LEAST_PAR, is_par, par_square, par_value, price, square, zone,
+};
 pub use rolling_stock::{
     KINDS, Kind, PerKind, Trains, limit, rounds_in_set, rusts, same_kind, train,
 };

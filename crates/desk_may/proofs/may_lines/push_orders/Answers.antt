@@ -1,4 +1,4 @@
-use Rattle.std.proofs.Common.{◌≡◌, ◌↔◌, IsTrue, [], ◌++◌, List, ℕ, if◌then◌else◌, refl, ap, ◌∙◌, subst}
+use Rattle.std.proofs.Common.{◌↔◌, IsTrue, [], ◌++◌, List, ℕ, if◌then◌else◌, refl, ap, ◌∙◌, subst}
 use Rattle.desk_may.proofs.OperatingLemmas.{lines_added, raise_lines_by_test}
 use Rattle.desk_may.specs.OperatingLines.{company_head, private_rows_of, raise_lines, train_lines}
 use Rattle.desk_may.specs.RowLines.{row_lines}

@@ -1,4 +1,4 @@
-use Rattle.std.proofs.Common.{◌≡◌, [], inl, inr, refl, sym, ◌∙◌}
+use Rattle.std.proofs.Common.{[], inr, refl, sym, ◌∙◌}
 use Rattle.std.proofs.lemmas.List.{append-nil}
 use Rattle.std.proofs.lemmas.Result.{IfOk-weaker}
 use Rattle.desk_may.proofs.may_lines.push_turn.Goals as goal

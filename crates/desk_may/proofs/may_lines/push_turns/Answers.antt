@@ -1,4 +1,4 @@
-use Rattle.std.proofs.Common.{◌≡◌, ℕ, List, ◌++◌, inl, sym, ap, ◌∙◌, append_assoc, arith}
+use Rattle.std.proofs.Common.{ℕ, List, ◌++◌, inl, sym, ap, ◌∙◌, append_assoc, arith}
 use Rattle.desk_may.proofs.OperatingLemmas.{one_more_written}
 use Rattle.desk_may.proofs.may_lines.push_turns.Goals as goal
 
