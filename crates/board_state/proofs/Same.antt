@@ -1,15 +1,12 @@
 -- Hexes and stops that pass for one are one.
 use Rattle.std.proofs.Common.{◌≡◌, ◌∙◌, ap, refl, Bool, true, false, ◌&&◌, ◌||◌}
-use Rattle.std.proofs.lemmas.Bool.{and_parts, eq-eqb, eqb-true}
+use Rattle.std.proofs.lemmas.Bool.{eq-eqb}
 use Rattle.std.specs.Prelude.{◌==◌}
 use Rattle.map_tables.specs.OnMap.{same_stop}
 use Rattle.map_tables.specs.Hex.{same_hex}
-use Rattle.map_tables.specs.Place.{stop_at, stop_index_of}
-use Rattle.map_tables.specs.declared.hex.Hex.{Hex}
+use Rattle.map_tables.specs.Place.{stop_index_of}
 use Rattle.map_tables.specs.declared.place.Stop.{Stop}
-use Rattle.map_tables.specs.declared.place.StopNumber.{StopNumber}
-use Rattle.map_tables.proofs.HexTables.{same_hex-same, same_hex-true}
-use Rattle.reach.proofs.Hexes.{same_stop_index}
+use Rattle.map_tables.proofs.HexTables.{same_hex-same}
 
 -- and one passes for itself
 pub stop_is_same : (a b : Stop) → a ≡ b → same_stop a b ≡ true

@@ -1,5 +1,5 @@
 -- What the choices at a node are: steps that enter a link where the head is, and that pass a test.
-use Rattle.std.proofs.Common.{◌≡◌, ℕ, ◌==◌, Bool, true, false, not, ◌&&◌, inl, inr, Option, Some, None, is_some}
+use Rattle.std.proofs.Common.{◌≡◌, ℕ, ◌==◌, Bool, true, false, not, inl, inr, Option, Some, None, is_some}
 use Rattle.std.proofs.Common.{option_map, if◌then◌else◌, List, [], ◌∷◌, refl, ap, sym, ◌∙◌, subst, arith}
 use Rattle.std.proofs.lemmas.Bool.{and_from, and_parts, eq-eqb, eqb-true, not-true}
 use Rattle.map_tables.specs.Border.{neighbour_of}

@@ -1,7 +1,7 @@
 -- What holds at each node of the choice tree. Its assigned runs are legal and share no border. The
 -- run begun could be finished as a legal one. The trains that ran and those to come are no more
 -- than there are. Each choice keeps it, and has no greater bound.
-use Rattle.std.proofs.Common.{◌≡◌, ℕ, suc, ◌+◌, ◌<◌, ◌≤◌, Bool, true, false, not, ltb, ◌&&◌, ◌||◌, ◌⊎◌, inl, inr}
+use Rattle.std.proofs.Common.{◌≡◌, ℕ, suc, ◌+◌, ◌<◌, ◌≤◌, Bool, true, false, not, ltb, ◌||◌, inl, inr}
 use Rattle.std.proofs.Common.{Option, Some, None, IfSome, if◌then◌else◌, List, [], ◌∷◌, ◌++◌, length, refl, ap, sym}
 use Rattle.std.proofs.Common.{◌∙◌, subst, arith}
 use Rattle.std.specs.List.{AllByRecursion, list_any}

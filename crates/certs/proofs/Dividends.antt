@@ -18,7 +18,7 @@ use Rattle.totals.specs.Shares.{held_by, shares_of}
 use Rattle.history.specs.Sound.{IsSound, SharesAreHeld}
 use Rattle.history.specs.Record.{breaks, broken_recorded}
 use Rattle.market.specs.Moves.{right_of}
-use Rattle.market.specs.Token.{with_move, token_moved}
+use Rattle.market.specs.Token.{token_moved}
 use Rattle.history.proofs.NearlySound.{broken_quiet, quiet_sound}
 use Rattle.certs.specs.Dividend.{all_paid, dividend_paid_to, paid_for, paid_out, paid_to_seats}
 use Rattle.tables.specs.Seat.{all_seats, seat_at}

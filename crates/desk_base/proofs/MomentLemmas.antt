@@ -1,5 +1,5 @@
 -- Where a play stands that has come from the start of its file: after the round that it played last, before what follows it.
-use Rattle.std.proofs.Common.{◌≡◌, ℕ, zero, suc, ◌<◌, ◌≤◌, Bool, true, false, if◌then◌else◌, List, Result, Ok, Option, Some, None, refl, sym, ap, subst}
+use Rattle.std.proofs.Common.{◌≡◌, ℕ, zero, suc, ◌<◌, ◌≤◌, Bool, true, false, if◌then◌else◌, List, Ok, Option, Some, None, refl, sym, ap, subst}
 use Rattle.std.proofs.Common.{◌∙◌, length, arith, true≢false}
 use Rattle.std.proofs.lemmas.Bool.{and_parts, eqb-true}
 use Rattle.std.specs.Prelude.{◌==◌}
@@ -12,11 +12,10 @@ use Rattle.desk_base.specs.declared.between_rounds.Stood.{Stood}
 use Rattle.desk_base.specs.declared.next_round.Coming.{Coming}
 use Rattle.events.specs.declared.event.Event.{Event}
 use Rattle.rounds.proofs.Forward.{posted_small}
-use Rattle.rounds.proofs.StepByStep.{Reached, same_place, steps_reach}
+use Rattle.rounds.proofs.StepByStep.{same_place, steps_reach}
 use Rattle.rounds.specs.Begun.{RoundsOnlyAdd}
 use Rattle.rounds.specs.Play.{AreRounds, Between, IsRound, before_play, coming, end_of}
 use Rattle.rounds.specs.Steps.{ComesNext, PlaysNext, StepsPlay, Underway, game_so_far, game_there, started}
-use Rattle.rounds.specs.declared.fault.PlayFault.{PlayFault}
 use Rattle.rounds.specs.declared.following.Next.{Next}
 use Rattle.rounds.specs.declared.following.Next.TheVariants as next
 use Rattle.rounds.specs.declared.game.End.{End}

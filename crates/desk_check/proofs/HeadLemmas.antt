@@ -6,18 +6,17 @@ use Rattle.std.proofs.lemmas.Bool.{and_parts, cases_Bool, eqb-true, ltb-false, l
 use Rattle.std.proofs.lemmas.List.{append-nil, map-append}
 use Rattle.std.specs.Map.{lookup}
 use Rattle.std.specs.Option.{option_or}
-use Rattle.desk_check.specs.SheetLines.{HeadAt, ReplaceTheLast, complete_by, first_line, head_at, head_here, heads_in}
+use Rattle.desk_check.specs.SheetLines.{HeadAt, ReplaceTheLast, complete_by, first_line, head_at}
 use Rattle.desk_check.specs.SheetLines.{last_line, later_of, sheet_key_of, same_sent}
 use Rattle.desk_check.specs.declared.check_sheets.Head.{Head}
 use Rattle.desk_check.specs.declared.check_sheets.Sent.{Sent}
-use Rattle.sheets.specs.File.{begins, sheet_key_at, same_sheet_key}
+use Rattle.sheets.specs.File.{sheet_key_at, same_sheet_key}
 use Rattle.sheets.specs.declared.sheet_key.SheetKey.{SheetKey}
 use Rattle.std.specs.Prelude.{◌==◌, if◌then◌else◌, nat_lt}
 use Rattle.totals.proofs.EventAtEnd.{option_or_assoc, option_or_none}
 use Rattle.desk_base.proofs.MomentLemmas.{same_round_is}
 use Rattle.tables.specs.Round.{same_round}
 use Rattle.tables.specs.declared.round.Round.{Round}
-use Rattle.tables.specs.declared.round.Round.TheVariants.{Opening, Stock, Operating}
 
 -- the line of a head, if it begins this sheet
 abbrev pub line_if : SheetKey → HeadAt → Option ℕ

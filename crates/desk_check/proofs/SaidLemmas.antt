@@ -5,7 +5,7 @@ use Rattle.std.proofs.lemmas.Bool.{ltb-false, or_parts}
 use Rattle.std.proofs.lemmas.List.{append-nil, flat_map_more, take_more}
 use Rattle.std.specs.List.{flat_map}
 use Rattle.std.specs.Prelude.{nat_lt}
-use Rattle.desk_check.specs.SheetFaults.{ends_sheet, number_then}
+use Rattle.desk_check.specs.SheetFaults.{ends_sheet}
 use Rattle.desk_check.specs.SheetSaid.{Adds, Shown, next_read, nothing_read, read_behind, read_by, read_then, said_of_line}
 use Rattle.desk_check.specs.SheetSaid.{shown, shown_from, shown_in, silent_in}
 use Rattle.desk_check.specs.Unplayed.{look_of}

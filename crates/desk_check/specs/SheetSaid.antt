@@ -1,7 +1,7 @@
 -- All that is said of a sheet before its round is played: of each of its lines that has a fault, is out of its place, breaks
 -- a rule by the orders before it, by the map and the tables, or by the game as the round begins, or begins orders that are
 -- ignored; and of each company that it leaves without orders.
-use Rattle.std.specs.Prelude.{◌≡◌, ℕ, ◌+◌, ◌≤◌, Bool, true, false, ◌&&◌, nat_lt, if◌then◌else◌, List, [], ◌∷◌, ◌++◌, map}
+use Rattle.std.specs.Prelude.{◌≡◌, ℕ, ◌+◌, ◌≤◌, Bool, true, false, ◌&&◌, nat_lt, if◌then◌else◌, List, [], ◌∷◌, ◌++◌}
 use Rattle.std.specs.Prelude.{Option, Some, None, is_none, is_some, option_copied, option_map, unwrap_or, slice_get, slice_set, Result, Ok, Err, replicate}
 use Rattle.std.specs.List.{flat_map}
 use Rattle.std.specs.Option.{option_or}
@@ -11,7 +11,7 @@ use Rattle.desk_base.specs.declared.objection.Objection.{Objection}
 use Rattle.desk_check.specs.Looked.{has_to_order}
 use Rattle.desk_check.specs.Mail.{is_mail}
 use Rattle.desk_check.specs.OrderSteps.{block_then, no_orders, objection_behind}
-use Rattle.desk_check.specs.SheetFaults.{ends_sheet, number_then, said_of_fault}
+use Rattle.desk_check.specs.SheetFaults.{ends_sheet, said_of_fault}
 use Rattle.desk_check.specs.Unplayed.{look_of}
 use Rattle.desk_check.specs.declared.check_found.Finding.{Finding}
 use Rattle.desk_check.specs.declared.check_found.Found.{Found}

@@ -1,6 +1,6 @@
 -- What is told of a ruling that refused an order, beside its rule: the figures that the rule compared, the cause if the rule
 -- has several, and the colour of a hex.
-use Rattle.std.specs.Prelude.{ℕ, if◌then◌else◌, List, Option, Some, None}
+use Rattle.std.specs.Prelude.{if◌then◌else◌, List, Option, Some, None}
 use Rattle.std.specs.List.{fold}
 use Rattle.desk_base.specs.declared.cause.Cause.{Cause}
 use Rattle.desk_round.specs.Cause.{cause_of}

@@ -9,7 +9,7 @@ ghost use Rattle.purchases.specs.Train.{purchase_of, train_purchase_cost};
 
 use certs::{Holdings, market_price, share_price};
 use desk_base::Piece::{Bytes, Count, Number, Words};
-use desk_base::{Piece, fill};
+use desk_base::fill;
 use history::{
     GameView, Holder, LayRule, OpeningRule, Party, PrivateRule, Refusal, RunRule, ShareCount,
     Shareholder, StockRule, TrainRule,

@@ -1,9 +1,7 @@
 -- The rows of a state, cell by cell: of the game, a player, a private, a company and a kind of train.
 use Rattle.std.specs.Prelude.{ℕ, List, Option, Some, None, option_map, pos}
-use Rattle.certs.specs.Counted.{counted_of}
 use Rattle.desk_state.specs.Earnings.{earnings_of}
 use Rattle.desk_state.specs.Stack.{before_in_stack}
-use Rattle.desk_state.specs.declared.player_figures.Purse.{Purse}
 use Rattle.desk_state.specs.declared.state_rows.CompanyLine.{CompanyLine}
 use Rattle.desk_state.specs.declared.state_rows.CompanyRow.{CompanyRow}
 use Rattle.desk_state.specs.declared.state_rows.GameRow.{GameRow}
@@ -11,20 +9,17 @@ use Rattle.desk_state.specs.declared.state_rows.PrivateRow.{PrivateRow}
 use Rattle.desk_state.specs.declared.state_rows.ShareRow.{ShareRow}
 use Rattle.desk_state.specs.declared.state_rows.TrainRow.{TrainRow}
 use Rattle.desk_base.specs.StockLeft.{tokens_left, trains_left}
-use Rattle.events.specs.Event.{party_at, party_of_company}
+use Rattle.events.specs.Event.{party_of_company}
 use Rattle.events.specs.declared.event.Event.{Event}
 use Rattle.events.specs.declared.event.Shareholder.TheVariants.{BankPool, InitialOffering}
 use Rattle.market.specs.OperatingOrder.{operates}
 use Rattle.privates.specs.Bank.{price_of_private}
-use Rattle.report.specs.EndWorth.{worth_of}
 use Rattle.tables.specs.Roster.{certificate_limit_of, face_of}
 use Rattle.tables.specs.Train.{limit_of, trains_of}
 use Rattle.tables.specs.declared.roster.Company.{Company}
 use Rattle.tables.specs.declared.roster.Private.{Private}
 use Rattle.tables.specs.declared.rolling_stock.Kind.{Kind}
-use Rattle.tables.specs.declared.seat.Seat.{Seat}
 use Rattle.tables.specs.declared.squares.Square.{Square}
-use Rattle.totals.specs.Bids.{free_cash_of}
 use Rattle.totals.specs.LookBack.{cash_of, is_sold, owner_of, priority_of, Game}
 use Rattle.totals.specs.Shares.{is_started, par_of, president_of, shares_of, square_of}
 use Rattle.totals.specs.Trains.{phase_of, trains_held}

@@ -1,6 +1,6 @@
 -- What a statement looks at beside the rows: what happened before the round that began last, and the companies that are
 -- started.
-use Rattle.std.specs.Prelude.{ℕ, ◌+◌, Bool, if◌then◌else◌, List, [], ◌∷◌, Option, is_some}
+use Rattle.std.specs.Prelude.{ℕ, ◌+◌, if◌then◌else◌, List, [], ◌∷◌, is_some}
 use Rattle.std.specs.List.{flat_map, fold}
 use Rattle.events.specs.Event.{round_begun_by}
 use Rattle.events.specs.declared.event.Event.{Event}

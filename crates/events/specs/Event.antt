@@ -4,7 +4,7 @@
 -- train, and begin a phase or a round. It may rule a line of a seat, obey an order, and say that
 -- the bank is broken or that a president is bankrupt. Every fact about a game looks back over one
 -- of them.
-use Rattle.std.specs.Prelude.{◌≡◌, ℕ, Bool, true, false, List, Option, Some, None, if◌then◌else◌, is_some}
+use Rattle.std.specs.Prelude.{◌≡◌, ℕ, Bool, true, false, Option, Some, None, if◌then◌else◌, is_some}
 pub use Rattle.order_grammar.specs.declared.order.Order.{Order}
 use Rattle.order_grammar.specs.declared.order.Order.TheVariants as order
 use Rattle.order_grammar.specs.declared.order.ShareSource.{ShareSource}

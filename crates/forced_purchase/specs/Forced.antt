@@ -5,7 +5,7 @@
 -- While they fall short they sell: by the RAISE lines of the company's orders, and then one share
 -- at a time, of the first company in roster order of which they may sell one. If they still fall
 -- short they are bankrupt, and nothing is bought.
-use Rattle.std.specs.Prelude.{ℕ, true, if◌then◌else◌, List, Option, Some, None, is_none, find, pos}
+use Rattle.std.specs.Prelude.{true, if◌then◌else◌, List, Option, Some, None, is_none, find, pos}
 use Rattle.std.specs.Int.Signed.{lt_z}
 use Rattle.certs.specs.declared.share_deal.Sale.{Sale}
 use Rattle.events.specs.declared.event.Event.TheVariants as event

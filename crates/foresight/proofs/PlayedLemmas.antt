@@ -1,27 +1,22 @@
 -- An operating round begins in play as it is told, and its turns are those that are told.
-use Rattle.std.proofs.Common.{◌≡◌, ℕ, ◌+◌, ◌<◌, ◌≤◌, Bool, true, false, ◌==◌, if◌then◌else◌, List, [], ◌∷◌, ◌++◌, Option, Some}
+use Rattle.std.proofs.Common.{◌≡◌, ℕ, ◌+◌, ◌<◌, Bool, true, false, ◌==◌, if◌then◌else◌, List, [], ◌∷◌, ◌++◌, Option, Some}
 use Rattle.std.proofs.Common.{None, IfSome, refl, sym, ap, subst, ◌∙◌, arith}
 use Rattle.std.proofs.lemmas.Bool.Decides.{nat_tests}
-use Rattle.std.specs.List.{range_with_len}
 use Rattle.events.specs.declared.event.Event.{Event}
 use Rattle.events.specs.declared.event.Event.TheVariants as event
-use Rattle.forced_purchase.specs.declared.operator.Operator.{Operator}
 use Rattle.foresight.proofs.ReachedLemmas.{none_standing, one_standing}
-use Rattle.foresight.specs.Ahead.{AheadState, HasTurn}
 use Rattle.foresight.specs.Draft.{after_standing_of, file_of, is_drafters}
 use Rattle.foresight.specs.Reached.{HasNoLine, IsAllLookedAt, OrdersArePlayedSo, RoundsBeginSo, TurnsArePlayedSo}
 use Rattle.history.specs.Record.{revenues_recorded}
 use Rattle.operating.proofs.NoSheet.{no_orders}
 use Rattle.operating.specs.CompanyOrders.{LinesLead}
-use Rattle.operating.specs.Turn.{CompanyOrdersEnd, CompanyOrdersLead, IsCompanyTurn, begun}
+use Rattle.operating.specs.Turn.{CompanyOrdersEnd, CompanyOrdersLead, begun}
 use Rattle.operating.specs.Pay.{withheld_if_unpaid}
 use Rattle.operating.specs.TurnEnd.{EndLeads}
 use Rattle.operating.specs.TurnState.{TurnState}
-use Rattle.purchases.specs.Discard.{is_president}
 use Rattle.purchases.specs.Standing.{after_all_standing_lines, after_operating_standing_line}
 use Rattle.sheets.specs.CompanyOrders.{company_orders_for, company_orders_in}
-use Rattle.sheets.specs.Part.{Numbered, SheetParts, parts_for}
-use Rattle.tables.specs.Seat.{seat_at}
+use Rattle.sheets.specs.Part.{Numbered, SheetParts}
 use Rattle.tables.specs.declared.roster.Company.{Company}
 use Rattle.tables.specs.declared.round.Round.{Round}
 use Rattle.tables.specs.declared.seat.Seat.{Seat}

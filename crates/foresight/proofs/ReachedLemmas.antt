@@ -11,8 +11,7 @@ use Rattle.events.specs.Event.{ownership_of}
 use Rattle.events.specs.declared.event.Event.{Event}
 use Rattle.events.specs.declared.event.Event.TheVariants as event
 use Rattle.foresight.specs.FirstTurn.{after_passes, begun_for, seat_after}
-use Rattle.foresight.specs.Reached.{ComesToTurn, FirstTurnsAreReached, HeadsAreReached, IsAlone}
-use Rattle.privates.specs.Closing.{all_sold}
+use Rattle.foresight.specs.Reached.{FirstTurnsAreReached, HeadsAreReached, IsAlone}
 use Rattle.privates.specs.Turn.{opening_rules}
 use Rattle.sheets.specs.Part.{Numbered, SheetParts, parts_for, written_turns_of}
 use Rattle.sheets.specs.Taken.{after_all_before, after_each, after_lines_before, in_play, written_turns_for}
@@ -26,7 +25,7 @@ use Rattle.tables.specs.declared.seat.Seat.{Seat}
 use Rattle.totals.proofs.EventAtEnd.{last_said_before}
 use Rattle.totals.specs.LookBack.{first_unsold, is_sold, owner_said, priority_of}
 use Rattle.turns.proofs.Turns.{priority_within}
-use Rattle.turns.specs.RoundOfTurns.{RoundRules, after_standing, opened, turns_of}
+use Rattle.turns.specs.RoundOfTurns.{RoundRules, opened, turns_of}
 
 -- a seat without standing lines changes nothing before the turns
 no_standing : {State : Type 0} (step : Seat → State → Numbered → State) (file : List ℕ) (round : Round) (state : State)

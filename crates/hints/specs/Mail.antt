@@ -1,5 +1,5 @@
 -- What a mail does to a line.
-use Rattle.std.specs.Prelude.{ℕ, Bool, if◌then◌else◌}
+use Rattle.std.specs.Prelude.{ℕ, if◌then◌else◌}
 use Rattle.order_grammar.specs.Words.{is_printable}
 
 -- a byte, or a space in place of a stray one

@@ -2,7 +2,7 @@
 -- bought.
 use Rattle.std.proofs.Common.{◌≡◌, ℕ, ◌≤◌, ◌==◌, inl, inr, Bool, true, false, if◌then◌else◌, List, [], ◌∷◌, ◌++◌, Some}
 use Rattle.std.proofs.Common.{None, pos, ◌≤ℤ◌, refl, sym, ap, ◌∙◌, arith}
-use Rattle.std.proofs.lemmas.Bool.Decides.{Decides-eqb, nat_tests}
+use Rattle.std.proofs.lemmas.Bool.Decides.{nat_tests}
 use Rattle.std.proofs.lemmas.Int.{ints}
 use Rattle.std.specs.Option.{option_or}
 use Rattle.events.specs.Event.{floated_by, is_par_value, office_of, par_set, placement_on}
@@ -24,7 +24,7 @@ use Rattle.totals.specs.Shares.{is_floated, par_of, par_said, president_of, pres
 use Rattle.totals.specs.Shares.{square_said}
 use Rattle.history.specs.Sound.{IsLed, IsSound, least_offered}
 use Rattle.tables.specs.Chart.{par_square_of}
-use Rattle.tables.specs.Roster.{index_of_company, same_company}
+use Rattle.tables.specs.Roster.{same_company}
 use Rattle.tables.specs.declared.roster.Company.{Company}
 use Rattle.tables.specs.declared.roster.Company.TheVariants.{Pennsylvania, NewYorkCentral}
 use Rattle.tables.specs.declared.roster.Private.TheVariants.{CamdenAmboy, MohawkHudson}

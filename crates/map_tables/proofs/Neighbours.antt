@@ -1,5 +1,5 @@
 -- The table of neighbours says of each side of each hex what the definition says.
-use Rattle.std.proofs.Common.{◌≡◌, Option, None, [], get_or, refl}
+use Rattle.std.proofs.Common.{◌≡◌, None, [], get_or, refl}
 use Rattle.map_tables.specs.declared.border.TheConstants.{NEIGHBOURS}
 use Rattle.map_tables.specs.declared.hex.Hex.{Hex}
 use Rattle.map_tables.specs.declared.hex.Hex.TheVariants.{A9}

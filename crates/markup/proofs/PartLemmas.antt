@@ -1,6 +1,6 @@
 -- A text whose elements are all ended reads within other elements as it does by itself.
 use Rattle.std.specs.Prelude.{◌≡◌, ℕ, List, [], ◌∷◌, ◌++◌, ◌⊎◌, refl, fold, bytes_eq, true, false, Bool, ◌==◌, if◌then◌else◌}
-use Rattle.std.proofs.Common.{◌∙◌, ap, sym, subst, inl, inr, arith}
+use Rattle.std.proofs.Common.{◌∙◌, ap, sym, subst, inl, inr}
 use Rattle.markup.specs.Reading.{IsWellFormed, Read, WriterPlace, between, closed, closing, ending, inside, inside_then, lost, named, naming, opened, read_at, reading, step, step_at, valued, valued_then}
 use Rattle.markup.specs.Tags.{is_void}
 use Rattle.markup.proofs.ReadLemmas.{on_from}

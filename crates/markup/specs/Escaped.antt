@@ -1,7 +1,7 @@
 -- A text of any bytes as it is written in a page, and a reader that knows nothing of what wrote it.
 -- Four signs have a meaning in a page: `&`, 38, `<`, 60, `>`, 62, and the quotation mark, 34. In
 -- their place references are written: a `&`, a name and a `;`, 59.
-use Rattle.std.specs.Prelude.{◌≡◌, ℕ, Bool, ◌==◌, ◌||◌, if◌then◌else◌, List, [], ◌∷◌, ◌++◌, Option, Some, None, bytes_eq, codes}
+use Rattle.std.specs.Prelude.{◌≡◌, ℕ, ◌==◌, ◌||◌, if◌then◌else◌, List, [], ◌∷◌, ◌++◌, Option, Some, None, bytes_eq, codes}
 use Rattle.std.specs.List.{flat_map, fold}
 
 -- what is written of a byte

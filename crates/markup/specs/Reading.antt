@@ -2,7 +2,7 @@
 -- and keeps the names of the elements that are open, the innermost first. A text is well-formed if
 -- none is open at its end, and nothing was out of its place: each end tag names the element that is
 -- open innermost, and no value of a start tag holds a `<`.
-use Rattle.std.specs.Prelude.{◌≡◌, ℕ, List, [], ◌∷◌, ◌++◌, Bool, ◌==◌, if◌then◌else◌, bytes_eq, fold, length, ◌||◌, not, ◌&&◌}
+use Rattle.std.specs.Prelude.{◌≡◌, ℕ, List, [], ◌∷◌, ◌++◌, ◌==◌, if◌then◌else◌, bytes_eq, fold}
 use Rattle.markup.specs.Tags.{is_void}
 
 -- where in the text the reader is

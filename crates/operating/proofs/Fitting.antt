@@ -1,7 +1,7 @@
 -- What lies on the map by a list still fits after a lay, a token or a home token of a company's
 -- turn. A home token keeps a list sound.
-use Rattle.std.proofs.Common.{◌≡◌, ℕ, List, [], ◌∷◌, ◌++◌, ap, ◌∙◌, Option, None}
-use Rattle.std.proofs.Common.{unwrap_or, refl, sym, subst, false}
+use Rattle.std.proofs.Common.{◌≡◌, ℕ, List, [], ◌∷◌, ◌++◌, ap, ◌∙◌, None}
+use Rattle.std.proofs.Common.{refl, sym, subst, false}
 use Rattle.std.proofs.lemmas.List.{append-nil}
 use Rattle.purchases.proofs.Complete.{phase_kept}
 use Rattle.board.proofs.FitLaws.{home_keeps_fit, lay_keeps_fit, token_keeps_fit}
@@ -26,11 +26,9 @@ use Rattle.operating.specs.HomeToken.{has_home_token}
 use Rattle.operating.specs.MapState.{map_state_now}
 use Rattle.sheets.specs.Part.{Numbered}
 use Rattle.tables.specs.Rules.{first_broken}
-use Rattle.tables.specs.declared.rolling_stock.Kind.{Kind}
-use Rattle.tables.specs.declared.rolling_stock.Kind.TheVariants.{Two}
 use Rattle.tables.specs.declared.roster.Company.{Company}
 use Rattle.tables.specs.declared.seat.Seat.{Seat}
-use Rattle.totals.proofs.EventAtEnd.{cash_of_before, last_said_before}
+use Rattle.totals.proofs.EventAtEnd.{cash_of_before}
 use Rattle.totals.proofs.InOrder.{lays_before, lays_grow, tokens_before, tokens_grow}
 use Rattle.totals.specs.LookBack.{Game, cash_of, with_event}
 use Rattle.totals.specs.Operating.{lays_of, tokens_of}

@@ -1,5 +1,5 @@
 -- What a company withholds keeps a list sound, and leaves the seats as they are.
-use Rattle.std.proofs.Common.{◌≡◌, ℕ, refl, sym, subst, ap, ◌∙◌, Bool, true, false, if◌then◌else◌}
+use Rattle.std.proofs.Common.{◌≡◌, ℕ, refl, ap, ◌∙◌, Bool, true, false, if◌then◌else◌}
 use Rattle.certs.proofs.Dividends.{broken_sound}
 use Rattle.events.specs.declared.event.Event.TheVariants as event
 use Rattle.history.proofs.Payments.{withholding_sound}

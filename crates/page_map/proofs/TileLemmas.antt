@@ -7,7 +7,6 @@ use Rattle.desk_base.specs.StockLeft.{tiles_left}
 use Rattle.map_tables.specs.Hex.{hexes}
 use Rattle.map_tables.specs.OnMap.{tile_on}
 use Rattle.map_tables.specs.Tile.{entry_of}
-use Rattle.map_tables.specs.declared.hex.Hex.{Hex}
 use Rattle.map_tables.specs.declared.lay.Lay.{Lay}
 use Rattle.map_tables.specs.declared.tiles.TileNo.{TileNo}
 

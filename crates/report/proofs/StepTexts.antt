@@ -6,17 +6,17 @@ use Rattle.std.proofs.lemmas.List.{append-nil}
 use Rattle.rounds.proofs.StepByStep.{same_place}
 use Rattle.events.specs.declared.event.Event.TheVariants as event
 use Rattle.totals.specs.LookBack.{Game}
-use Rattle.report.specs.Laws.{IsPrefix, PartsAreAPrefix, PartsAreTheReport}
-use Rattle.report.specs.Parts.{IsTextOfSteps, end_text_if, end_text_of, last_round_text, next_text_of, text_of_last}
-use Rattle.report.specs.Report.{IsGameReport, IsReport, IsReportOf, end_text, header, report_text, rounds_text}
+use Rattle.report.specs.Laws.{PartsAreAPrefix, PartsAreTheReport}
+use Rattle.report.specs.Parts.{IsTextOfSteps, end_text_if, end_text_of, next_text_of, text_of_last}
+use Rattle.report.specs.Report.{IsGameReport, IsReportOf, end_text, header, report_text, rounds_text}
 use Rattle.report.specs.Report.{unread_lines}
 use Rattle.report.proofs.LastRound.{grows_by_last}
 use Rattle.rounds.specs.Begun.{RoundsOnlyAdd}
 use Rattle.rounds.specs.Play.{AreRounds, Between, IsRound, OneGame, Plays, before_play, end_of, goes_on}
-use Rattle.rounds.specs.Steps.{IsUpTo, PlaysNext, StepsPlay, StepsPlayTheGame, Underway, end_there, game_there, started}
+use Rattle.rounds.specs.Steps.{PlaysNext, StepsPlay, StepsPlayTheGame, Underway, end_there, game_there, started}
 use Rattle.rounds.specs.declared.fault.PlayFault.{PlayFault}
 use Rattle.rounds.specs.declared.game.End.{End}
-use Rattle.sheets.specs.File.{Content, IsAccepted, content_of, unread_of}
+use Rattle.sheets.specs.File.{Content, content_of, unread_of}
 use Rattle.sheets.specs.declared.fault.FileFault.{FileFault}
 
 -- a round adds its own text

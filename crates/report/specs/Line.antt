@@ -2,7 +2,6 @@
 use Rattle.std.specs.Prelude.{ℕ, Bool, if◌then◌else◌, List, [], ◌∷◌, ◌++◌, Option, Some, None, codes, decimal}
 use Rattle.std.specs.Prelude.{unwrap_or, slice_get}
 use Rattle.events.specs.RuleCodes.{code_of_refusal}
-use Rattle.events.specs.RulingText.{order_text}
 use Rattle.events.specs.declared.event.Event.{Event}
 use Rattle.events.specs.declared.event.Event.TheVariants.{Round, Ruled, Passes, Left, Sold, Bids, Price, Revenue, Given}
 use Rattle.events.specs.declared.event.Event.TheVariants.{Par, President, Bought, Sells, Exchanged, Floats, Moves, Home}

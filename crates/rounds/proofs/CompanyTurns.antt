@@ -5,7 +5,7 @@ use Rattle.std.proofs.Common.{◌≡◌, ℕ, ◌+◌, ◌<◌, ◌≤◌, Bool,
 use Rattle.std.proofs.Common.{List, [], ◌∷◌, length, Option, Some, None, refl, sym, ap, ◌∙◌, arith}
 use Rattle.std.proofs.Common.{zero, suc, ◌++◌, is_some, subst, ◌-◌, ◌==◌, append_assoc}
 use Rattle.events.specs.declared.event.Event.{Event}
-use Rattle.totals.specs.LookBack.{bankrupt_in, Game, in_round, with_event, with_events}
+use Rattle.totals.specs.LookBack.{Game, in_round, with_event, with_events}
 use Rattle.totals.specs.Operating.{has_operated, turn_said, rulings_in_round}
 use Rattle.market.specs.OperatingOrder.{IsOperatingOrder, next_company, operating_order_of, times}
 use Rattle.operating.proofs.Idle.{all_have_operated, fewer_idle, idle_few, idle_of, next_is_idle}

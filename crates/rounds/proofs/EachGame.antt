@@ -1,7 +1,7 @@
 -- What holds after each round of each game: those who bid sit at the table and bids rise, a private
 -- that is closed has no owner, sellers have agreed, and trains and tiles are all there.
 use Rattle.std.proofs.Common.{◌≡◌, ℕ, ◌<◌, Bool, true, false, nat_lt, List, [], ◌∷◌, ◌++◌, Option}
-use Rattle.std.proofs.Common.{Some, None, unwrap_or, refl, sym, ◌∙◌, if◌then◌else◌, ◌||◌, is_none}
+use Rattle.std.proofs.Common.{Some, None, refl, sym, ◌∙◌, if◌then◌else◌, ◌||◌, is_none}
 use Rattle.std.proofs.Common.{length, ap, subst, arith, ◌≤◌}
 use Rattle.std.proofs.lemmas.Bool.{and_parts}
 use Rattle.events.specs.Event.{bidding_of}

@@ -1,7 +1,7 @@
 -- A position as it is laid out: what leads from each spot are the steps of walks, and all numbers
 -- are within bounds.
 use Rattle.std.proofs.Common.{◌≡◌, ℕ, zero, suc, ◌%◌, ◌<◌, true, false, inl, inr, Option, Some, None, List, [], ◌∷◌}
-use Rattle.std.proofs.Common.{length, slice_get, refl, sym, ap, subst, ◌∙◌, arith, option_map, ◌-◌}
+use Rattle.std.proofs.Common.{length, slice_get, refl, sym, ap, subst, ◌∙◌, arith, option_map}
 use Rattle.std.proofs.lemmas.Option.{slice_get_within}
 use Rattle.map_tables.specs.Place.{joined_stop_of, stop_at}
 use Rattle.map_tables.specs.declared.hex.Hex.{Hex}

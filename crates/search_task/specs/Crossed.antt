@@ -1,5 +1,5 @@
 -- Borders that a segment of track crosses, by their numbers, and which numbers are marked in a set.
-use Rattle.std.specs.Prelude.{ℕ, suc, Bool, true, false, Option, None, Some, List, [], ◌∷◌, not, get_or, set, ◌-◌}
+use Rattle.std.specs.Prelude.{ℕ, suc, Bool, true, false, Option, None, Some, List, [], ◌∷◌, not, get_or, set}
 use Rattle.reach.specs.Position.{IsAmong}
 use Rattle.std.specs.List.{list_any}
 

@@ -1,5 +1,5 @@
 -- What is known of a spot, by its number, and the segments that lead from it.
-use Rattle.std.specs.Prelude.{◌≡◌, ℕ, ◌-◌, Bool, true, false, Option, Some, None, List, slice_get}
+use Rattle.std.specs.Prelude.{◌≡◌, ℕ, Bool, true, false, Option, Some, None, List, slice_get}
 use Rattle.search_task.specs.declared.task.Node.{Node}
 use Rattle.search_task.specs.declared.task.Segment.{Segment}
 use Rattle.search_task.specs.declared.task.Task.{Task}

@@ -14,8 +14,6 @@ use Rattle.sheets.specs.Laws.{SheetsHaveFewTurns}
 use Rattle.sheets.specs.Limits.{lines_most}
 use Rattle.sheets.specs.Part.{SheetParts, written_turns_of, numbered, opens_part, parts_after, reading_at, with_line}
 use Rattle.sheets.specs.Reading.{order_read}
-use Rattle.tables.specs.declared.round.Round.{Round}
-use Rattle.tables.specs.declared.round.Round.TheVariants.{Opening, Stock, Operating}
 use Rattle.sheets.proofs.Heads.{past_opens_none}
 
 module _ (opens : Result Order Fault → Bool) (no_head : opens (Err PastLastLine) ≡ false) where

@@ -1,6 +1,6 @@
 -- What was written after a file is checked, and its report is written.
-use Rattle.std.proofs.Common.{◌≡◌, ℕ, ◌≤◌, List, [], ◌∷◌, ◌++◌, Ok, length, refl, sym, ap, subst}
-use Rattle.std.specs.Prelude.{Option, Some}
+use Rattle.std.proofs.Common.{ℕ, ◌≤◌, List, [], ◌∷◌, ◌++◌, Ok, length, refl, sym, subst}
+use Rattle.std.specs.Prelude.{Option}
 use Rattle.std.specs.List.{AllByRecursion}
 use Rattle.certificate.specs.declared.group.Group.{Group}
 use Rattle.operating.specs.Calls.{Call}
@@ -9,13 +9,13 @@ use Rattle.sheets.specs.File.{IsAccepted}
 use Rattle.umpire.proofs.LawLemmas.{parted_again}
 use Rattle.umpire.proofs.ReadAgain.{begins_alone, reads_back}
 use Rattle.umpire.proofs.VerifyLemmas.{judgement_answers}
-use Rattle.umpire.specs.Certified.{AreCertified, Certifies, CertifyGame}
+use Rattle.umpire.specs.Certified.{AreCertified, Certifies}
 use Rattle.umpire.specs.Groups.{groups_of}
 use Rattle.umpire.specs.Laws.{ArePartedAgain}
 use Rattle.umpire.specs.InputSplit.{certificates_most, certificates_of_input, order_file_of}
 use Rattle.umpire.specs.ReadAgain.{AcceptsWhatWasWritten, AreReadAgain, CanBeWritten, CertifyingCanBeWritten}
 use Rattle.umpire.specs.ReadAgain.{IsReadAgain}
-use Rattle.umpire.specs.Verify.{AnswersGame, AnswersInput, HasAllGroups, HasGroup, HaveGroups}
+use Rattle.umpire.specs.Verify.{HasAllGroups, HasGroup, HaveGroups}
 use Rattle.umpire.specs.Written.{certificates_text}
 
 -- a group that is read again shows what it certifies

@@ -3,7 +3,7 @@
 use Rattle.std.proofs.Common.{◌≡◌, ℕ, List, [], ◌∷◌, ◌++◌, Option, Result, Ok, Err, refl, sym, ap, subst, ◌∙◌}
 use Rattle.certificate.specs.declared.group.Group.{Group}
 use Rattle.operating.specs.Calls.{Call}
-use Rattle.report.specs.Report.{IsReport, refusal_line}
+use Rattle.report.specs.Report.{IsReport}
 use Rattle.rounds.specs.GameCalls.{OneListOfCalls}
 use Rattle.sheets.specs.File.{Content}
 use Rattle.sheets.specs.declared.fault.FileFault.{FileFault}
@@ -12,7 +12,7 @@ use Rattle.tables.specs.declared.round.Round.{Round}
 use Rattle.umpire.specs.Groups.{groups_of}
 use Rattle.umpire.specs.OneAnswer.{OneAnswer}
 use Rattle.umpire.specs.InputSplit.{certificates_of_input, order_file_of}
-use Rattle.umpire.specs.Verify.{AnswersContent, AnswersGame, HasAllGroups, HaveGroups, IsRefusal, LacksGroup}
+use Rattle.umpire.specs.Verify.{AnswersContent, AnswersGame, HasAllGroups, HaveGroups, LacksGroup}
 use Rattle.umpire.specs.Verify.{content_of_input, uncertified_line}
 use Rattle.umpire.specs.declared.fault.Fault.{Fault}
 use Rattle.umpire.specs.declared.fault.Fault.TheVariants.{Read, Write, Memory, File, Certificate}

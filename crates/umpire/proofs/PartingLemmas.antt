@@ -1,7 +1,7 @@
 -- Where the last line that divides is, as a text is read line by line.
 use Rattle.std.proofs.Common.{◌≡◌, ℕ, ◌≤◌, List, [], ◌∷◌, ◌++◌, true, false, cond, length, refl, ◌∙◌, ap, suc, arith}
 use Rattle.std.proofs.Common.{eqb}
-use Rattle.std.specs.Prelude.{Bool, ◌&&◌, Option, Some, None, Result, Ok, Err, codes, ◌↔◌}
+use Rattle.std.specs.Prelude.{Bool, ◌&&◌, Option, Some, None, Result, Ok, codes, ◌↔◌}
 use Rattle.std.specs.Option.{option_or}
 use Rattle.order_grammar.specs.Line.{cert_reading_of}
 use Rattle.order_grammar.specs.Spells.{AreWordsFor, SpellsIn}

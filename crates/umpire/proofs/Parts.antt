@@ -7,7 +7,7 @@ use Rattle.std.proofs.KnownBytes.{Appends-nil, Appends-trans}
 use Rattle.std.proofs.lemmas.Grind.{common_steps}
 use Rattle.std.proofs.lemmas.List.{append-nil}
 use Rattle.report.specs.Laws.{PartsAreAPrefix, PartsAreTheReport}
-use Rattle.report.specs.Parts.{IsTextOfSteps, end_text_of, next_text_of}
+use Rattle.report.specs.Parts.{end_text_of, next_text_of}
 use Rattle.report.specs.Report.{IsReport, header}
 use Rattle.rounds.specs.Steps.{PlaysNext, Underway, started}
 use Rattle.sheets.specs.File.{IsAccepted}

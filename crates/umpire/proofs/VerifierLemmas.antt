@@ -1,9 +1,9 @@
 -- What a verifier answers: by the next group of its text, of which no more runs are read than there
 -- are trains.
-use Rattle.std.proofs.Common.{◌≡◌, ℕ, ◌+◌, ◌<◌, ◌≤◌, inl, inr, suc, ℤ, List, [], ◌∷◌, ◌++◌, length, refl, sym, ap, subst}
+use Rattle.std.proofs.Common.{◌≡◌, ℕ, ◌+◌, ◌<◌, ◌≤◌, inr, suc, ℤ, List, [], ◌∷◌, ◌++◌, length, refl, sym, ap, subst}
 use Rattle.std.proofs.Common.{cond, true, false, arith}
 use Rattle.std.proofs.lemmas.List.{length-append}
-use Rattle.std.specs.Prelude.{pos, Bool, Option, Some, None, Result, Ok, Err}
+use Rattle.std.specs.Prelude.{Bool, Option, Some, None, Result, Ok, Err}
 use Rattle.certificate.specs.Checked.{AnswersBy, AnswersByNext, Shows}
 use Rattle.certificate.specs.declared.group.Group.{Group}
 use Rattle.legal_runs.proofs.Choosing.{no_more_taken}

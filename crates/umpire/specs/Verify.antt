@@ -3,7 +3,7 @@
 -- group of the text. So the k-th RUN BEST that is obeyed is judged by the k-th group, and groups
 -- left over are not looked at.
 use Rattle.std.specs.Prelude.{◌≡◌, ◌⊎◌, ℕ, nat_lt, Bool, true, false, if◌then◌else◌, List, [], ◌∷◌, ◌++◌, length}
-use Rattle.std.specs.Prelude.{codes, Option, Some, None, Result, Ok, Err, IsOk}
+use Rattle.std.specs.Prelude.{codes, Option, Some, None, Result, Ok, Err}
 use Rattle.std.specs.Io.KnownBytes.{Appends, Keeps}
 use Rattle.certificate.specs.Checked.{Shows}
 use Rattle.certificate.specs.declared.group.Group.{Group}

@@ -1,4 +1,4 @@
-use Rattle.std.proofs.Common.{◌≡◌, ℕ, List, ap, sym, ◌∙◌}
+use Rattle.std.proofs.Common.{ℕ, List, ap, sym, ◌∙◌}
 use Rattle.desk_base.proofs.MomentLemmas.{it_comes_next}
 use Rattle.sheets.specs.File.{all_posted}
 use Rattle.desk_base.proofs.between_rounds.comes_next.Goals as goal

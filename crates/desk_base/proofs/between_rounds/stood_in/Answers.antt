@@ -1,4 +1,4 @@
-use Rattle.std.proofs.Common.{◌≡◌, ◌≤◌, ℕ, List, Option, length, ap, sym, subst, ◌∙◌}
+use Rattle.std.proofs.Common.{◌≤◌, ℕ, List, Option, length, ap, sym, subst, ◌∙◌}
 use Rattle.desk_base.proofs.MomentLemmas.{shows_there}
 use Rattle.desk_base.specs.Moments.{IsNumbered, end_shown}
 use Rattle.rounds.specs.declared.game.End.{End}

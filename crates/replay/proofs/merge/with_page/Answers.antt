@@ -2,7 +2,6 @@ use Rattle.std.proofs.Common.{◌≡◌, ◌-◌, List, [], length, take, drop, 
 use Rattle.std.proofs.lemmas.Grind.{common_steps}
 use Rattle.markup.specs.declared.part.Part.{Part}
 use Rattle.replay.specs.Shown.{texts}
-use Rattle.replay.specs.declared.lasting.Lasting.{Lasting}
 use Rattle.replay.proofs.ShownLemmas.{end_merging, merge_step, none_left}
 use Rattle.replay.proofs.merge.with_page.Goals as goal
 

@@ -1,6 +1,6 @@
 use Rattle.std.proofs.Common.{[], refl}
 use Rattle.std.proofs.KnownBytes.{Appends-nil}
-use Rattle.umpire.proofs.CertsLemmas.{all_written, groups_ahead}
+use Rattle.umpire.proofs.CertsLemmas.{groups_ahead}
 use Rattle.umpire.proofs.Parts.{leaves_less, on_err, prefix_of_part}
 use Rattle.umpire.proofs.certificates.write_groups.Goals as goal
 

@@ -1,4 +1,4 @@
-use Rattle.std.proofs.Common.{[], ap, refl, sym, ◌∙◌, arith, length}
+use Rattle.std.proofs.Common.{[], ap, refl, arith, length}
 use Rattle.std.proofs.KnownBytes.{Appends-nil}
 use Rattle.umpire.specs.Written.{marks_lines_within}
 use Rattle.umpire.proofs.CertsLemmas.{all_written}

@@ -1,4 +1,4 @@
-use Rattle.std.proofs.Common.{◌≡◌, Ok, refl, sym, subst}
+use Rattle.std.proofs.Common.{Ok, refl, sym, subst}
 use Rattle.rounds.specs.Steps.{IsUnbroken, PlaysNext, StepLeads}
 use Rattle.rounds.specs.declared.steps.Step.{Step}
 use Rattle.umpire.proofs.Parts.{more_prefix, on_err, writes_more, writes_none, written_prefix}

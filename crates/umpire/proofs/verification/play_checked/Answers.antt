@@ -1,4 +1,4 @@
-use Rattle.std.proofs.Common.{◌≡◌, zero, suc, List, [], ◌++◌, Ok, refl, sym, subst, arith}
+use Rattle.std.proofs.Common.{zero, suc, [], ◌++◌, Ok, refl, sym, subst, arith}
 use Rattle.std.proofs.lemmas.Grind.{common_steps}
 use Rattle.std.proofs.lemmas.Result.{err_from_is_err_and}
 use Rattle.rounds.specs.Steps.{IsUnbroken, PlaysNext, StepLeads, Stays}
