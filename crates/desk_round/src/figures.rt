@@ -277,6 +277,16 @@ fn cost_of_train(kind: Kind, from: TrainSource) -> Amount
     }
 }
 
+/// Adds the words of some figures. Each row has figures, their words, and what stands in place of
+/// each `%`.
+macro_rules! fill_for {
+    ($out:ident, $figures:ident; $($kind:pat => $words:literal, $($piece:expr),+;)*) => {
+        match $figures {
+            $($kind => fill($out, $words, &[$($piece),+]),)*
+        }
+    };
+}
+
 /// Adds the figures that a rule compared, for an order of the player of a seat.
 pub(crate) fn push_figures(
     out: &mut Vec<u8>,
@@ -285,51 +295,28 @@ pub(crate) fn push_figures(
     figures: Figures,
 ) -> Result<(), AllocError> {
     let player = Bytes(name(sheets, seat));
-    match figures {
-        Figures::Owner(Holder::Seat(owner)) => {
-            fill(out, " (% owns it)", &[Bytes(name(sheets, owner))])
-        }
-        Figures::Owner(Holder::Company(owner)) => fill(out, " (% owns it)", &[Words(owner.code())]),
-        Figures::Cheapest(private) => fill(out, " (that is %)", &[Words(private.code())]),
-        Figures::Bids(face, highest) => {
-            let figures = [Number(Money::from(face)), Number(Money::from(highest))];
-            fill(out, " (the face value is %, the highest bid %)", &figures)
-        }
-        Figures::Tied(cash, bids) => {
-            let figures = [player, Number(cash), Number(bids)];
-            fill(out, " (% has %, less % bid elsewhere)", &figures)
-        }
-        Figures::Held(shares) => fill(out, " (% has %)", &[player, Number(shares)]),
-        Figures::Offered(ipo, pool) => {
-            fill(
-                out,
-                " (% are in IPO, % in POOL)",
-                &[Number(ipo), Number(pool)],
-            )
-        }
-        Figures::Started(company, true) => fill(out, " (% is started)", &[Words(company.code())]),
-        Figures::Started(company, false) => {
-            fill(out, " (% is not started)", &[Words(company.code())])
-        }
-        Figures::Cost(cost, cash) => {
-            let figures = [Number(cost), player, Number(cash)];
-            fill(out, " (it costs %, % has %)", &figures)
-        }
-        Figures::Certificates(counted, most) => {
-            fill(
-                out,
-                " (% has % of %)",
-                &[player, Number(counted), Count(most)],
-            )
-        }
-        Figures::Price(company, 0) => fill(out, " (% has no price)", &[Words(company.code())]),
-        Figures::Price(company, price) => {
-            let figures = [Words(company.code()), Number(Money::from(price))];
-            fill(out, " (the price of % is %)", &figures)
-        }
-        Figures::Phase(phase) => fill(out, " (the phase is %)", &[Words(phase.code())]),
-        Figures::OnSale(kind) => fill(out, " (the bank sells a %)", &[Words(kind.code())]),
-        Figures::Stops(most) | Figures::Trains(most) => fill(out, " (which is %)", &[Count(most)]),
-        Figures::Face(face) => fill(out, " (the face value is %)", &[Number(Money::from(face))]),
+    fill_for! { out, figures;
+        Figures::Owner(Holder::Seat(owner)) => " (% owns it)", Bytes(name(sheets, owner));
+        Figures::Owner(Holder::Company(owner)) => " (% owns it)", Words(owner.code());
+        Figures::Cheapest(private) => " (that is %)", Words(private.code());
+        Figures::Bids(face, highest) => " (the face value is %, the highest bid %)",
+            Number(Money::from(face)), Number(Money::from(highest));
+        Figures::Tied(cash, bids) => " (% has %, less % bid elsewhere)",
+            player, Number(cash), Number(bids);
+        Figures::Held(shares) => " (% has %)", player, Number(shares);
+        Figures::Offered(ipo, pool) => " (% are in IPO, % in POOL)", Number(ipo), Number(pool);
+        Figures::Started(company, true) => " (% is started)", Words(company.code());
+        Figures::Started(company, false) => " (% is not started)", Words(company.code());
+        Figures::Cost(cost, cash) => " (it costs %, % has %)",
+            Number(cost), player, Number(cash);
+        Figures::Certificates(counted, most) => " (% has % of %)",
+            player, Number(counted), Count(most);
+        Figures::Price(company, 0) => " (% has no price)", Words(company.code());
+        Figures::Price(company, price) => " (the price of % is %)",
+            Words(company.code()), Number(Money::from(price));
+        Figures::Phase(phase) => " (the phase is %)", Words(phase.code());
+        Figures::OnSale(kind) => " (the bank sells a %)", Words(kind.code());
+        Figures::Stops(most) | Figures::Trains(most) => " (which is %)", Count(most);
+        Figures::Face(face) => " (the face value is %)", Number(Money::from(face));
     }
 }
