@@ -11,7 +11,7 @@ use desk_base::{DeskFault, stood_now};
 use markup::{Part, Writer};
 use page::{Source, source_of};
 use page_map::Scene;
-use rounds::{Play, Step};
+use rounds::{Play, Step, play};
 use sheets::{Sheets, collect};
 use std::alloc::{AllocError, Global};
 use tables::Round;
@@ -137,21 +137,17 @@ fn play_to<'a>(
 fn count_rounds(alloc: Global, sheets: &Sheets, asked: Option<Round>) -> Result<usize, DeskFault>
     ensures { IfErr result IsOfGame }
 {
-    let mut play = Play::start(alloc, sheets)?;
-    let mut search = Search::new(alloc);
+    let game = play(alloc, sheets)?;
     let mut count: usize = 0;
-    loop {
-        match play.step(&mut search) {
-            Ok(Step::Played(round)) => {
-                count = count.saturating_add(1);
-                if asked == Some(round) {
-                    return Ok(count);
-                }
+    for event in game.history().events() {
+        if let Some(round) = event.round() {
+            count = count.saturating_add(1);
+            if asked == Some(round) {
+                return Ok(count);
             }
-            Ok(Step::Ended(_)) => return Ok(count),
-            Err(fault) => return Err(DeskFault::from(fault.want_of_memory())),
         }
     }
+    Ok(count)
 }
 
 /// Returns a game that has ended, or waits for a sheet, unless a requested round was not played.
