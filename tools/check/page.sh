@@ -157,6 +157,7 @@ page_must_fail() {
   desk=$2
   desk=$(desk_but 's,</svg>LAY ,&1,')
   sees 'a lay of another tile' 1 read_lays first-stock-round
+  desk=$2
   desk=$(desk_but 's/class="f1 t1"/class="f1"/')
   sees 'an element that is shown too long' 1 read_all first-dividend
   desk=$2
