@@ -130,7 +130,21 @@ check_page() {
   read_all_lays first-stock-round
   read_tiles
   read_history
+  read_last_rounds
   compare_picture docs/page-map.svg
+}
+
+# read_last_rounds: a page of all rounds up to one has the last 60 of them at most, and its title says how many there were.
+read_last_rounds() {
+  local it up_to first title rounds why=
+  for it in 'PR60 PR1 60 rounds' 'PR61 PR2 the last 60 of 61 rounds' 'PR197 PR138 the last 60 of 197 rounds'; do
+    read -r up_to first title <<< "$it"
+    "$desk" page --all "$up_to" < games/broken-bank.orders > "$scratch/last" 2> "$scratch/err"
+    rounds=$(grep -o 'aria-label="After [A-Z0-9.]*"' "$scratch/last" | tr -dc 'PR0-9\n')
+    [ "$(wc -l <<< "$rounds") ${rounds%%$'\n'*} ${rounds##*$'\n'}" = "60 $first $up_to" ] || why+=" other rounds up to $up_to;"
+    grep -qF "<title>1830: $title</title>" "$scratch/last" || why+=" another title up to $up_to;"
+  done
+  count 'the last rounds of a page' "${why# }"
 }
 
 # turned_page SCRIPT: a page that a script of sed has turned, beside the state and the runs of its game.
@@ -150,6 +164,7 @@ page_must_fail() {
   sees 'the same of another game' 1 read_lays first-dividend
   sees 'a sheet without tiles' 1 read_tiles
   sees 'a history without rounds' 1 read_history
+  sees 'a page without the last rounds' 1 read_last_rounds
   sees 'another picture' 1 compare_picture docs/page-map.svg
   program=$1 desk=$2
   desk=$(desk_but 's/onclick=e/onclick=d/')
