@@ -4,6 +4,7 @@ use Rattle.std.proofs.Common.{◌≡◌, ℕ, ◌+◌, ◌<◌, ◌≤◌, Bool,
 use Rattle.std.proofs.Common.{get_or, set, replicate, slice_get, refl, sym, ap, subst, ◌∙◌, arith, le_trans}
 use Rattle.std.proofs.Common.{get_or-set_same}
 use Rattle.std.proofs.lemmas.Option.{slice_get_within}
+use Rattle.legal_runs.proofs.Earning.{mark_used}
 use Rattle.reach.proofs.Collected.{none_marked}
 use Rattle.reach.proofs.Marking.{set_cases, set_keeps}
 use Rattle.search_task.specs.declared.task.Segment.{Segment}
@@ -16,7 +17,6 @@ use Rattle.best_run.specs.Ahead.{WidensBy, WidensFrom, WidensAt, leads_on}
 use Rattle.best_run.specs.Moves.{can_take}
 use Rattle.search_task.specs.Spots.{ends_in, node_at}
 use Rattle.search_task.specs.Legs.{legs_at}
-use Rattle.search_task.proofs.Marks.{set_fewer}
 use Rattle.search_task.proofs.Places.{below_next, one_leg}
 use Rattle.search_task.proofs.Booleans.{not_both}
 
@@ -166,7 +166,7 @@ module _ (task : Task) (assigned : Assigned) (run : PartialRun) where
             ]
             | inr over ↦ inr over
           ];
-          fewer = omega (arith, from.widens.fewer, set_fewer old there low free);
+          fewer = omega (arith, from.widens.fewer, mark_used old there low free);
         };
         lies = from.widens.kept there (get_or-set_same old there true false low);
       }

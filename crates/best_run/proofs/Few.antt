@@ -9,13 +9,12 @@ use Rattle.reach.specs.declared.walk.WalkStep.{WalkStep}
 use Rattle.tables.specs.Train.{stops_of}
 use Rattle.tables.specs.declared.rolling_stock.Kind.{Kind}
 use Rattle.legal_runs.specs.Legal.{AreAtMost, AreDistinct, crossed, visited}
-use Rattle.legal_runs.proofs.Earning.{few_visited}
+use Rattle.legal_runs.proofs.Earning.{few_visited, mark_used}
 use Rattle.legal_runs.proofs.TallyOfWalk.{crossed_low}
 use Rattle.search_task.specs.Described.{most_of}
 use Rattle.search_task.specs.Fit.{BordersFit, unused}
 use Rattle.search_task.specs.Marks.{IsMarked}
 use Rattle.search_task.proofs.Marked.{length_replicate, mark_more, unused_none}
-use Rattle.search_task.proofs.Marks.{set_fewer}
 
 -- distinct borders leave this many fewer
 marked_count : (used : List Bool) (borders : List ℕ) → length used ≡ 279 → BordersFit borders → AreDistinct borders
@@ -24,7 +23,7 @@ marked_count used [] whole fit distinct free = omega arith
 marked_count used (first ∷ borders) whole fit distinct free =
     let low : first < length used = omega (arith, fit.0) in
     let unset : get_or used first false ≡ false = not_true (get_or used first false) (free first (inl refl)) in
-    let one : unused (set used first true) + 1 ≡ unused used = set_fewer used first low unset in
+    let one : unused (set used first true) + 1 ≡ unused used = mark_used used first low unset in
     let rest : length borders ≤ unused (set used first true) =
     marked_count (set used first true) borders (length-set used first true ∙ whole) fit.1 distinct.1
     (λ border among marked. elim ((mark_more used first border low).0 marked) [

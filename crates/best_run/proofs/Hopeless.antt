@@ -5,6 +5,7 @@ use Rattle.std.proofs.Common.{◌≡◌, ℕ, zero, suc, ◌+◌, ◌-◌, ◌*�
 use Rattle.std.proofs.Common.{Some, inl, inr, List, [], ◌∷◌, length, get_or, set, slice_get, refl, sym}
 use Rattle.std.proofs.Common.{ap, subst, ◌∙◌, arith, length-set, suc-mul}
 use Rattle.std.proofs.lemmas.Bool.{and_from, lt-ltb, not-true}
+use Rattle.std.proofs.Math.Bool.{and-false}
 use Rattle.reach.proofs.Marking.{set_keeps}
 use Rattle.search_task.specs.declared.task.Node.{Node}
 use Rattle.search_task.specs.declared.task.Segment.{Segment}
@@ -42,10 +43,6 @@ but [] visited = []
 but (lies ∷ ahead) [] = []
 but (lies ∷ ahead) (was ∷ visited) = (lies && not was) ∷ but ahead visited
 
-and_false : (b : Bool) → (b && false) ≡ false
-and_false true = refl
-and_false false = refl
-
 pub but_within : (ahead visited : List Bool) → Within (but ahead visited) ahead
 unfolding but
 but_within [] visited = tt
@@ -72,7 +69,7 @@ but_set : (ahead visited : List Bool) (n : ℕ) → n < length visited
 unfolding but
 but_set [] visited n low = refl
 but_set (lies ∷ ahead) [] n low = absurd (omega arith)
-but_set (lies ∷ ahead) (was ∷ visited) zero low = ap (λ (b : Bool). b ∷ but ahead visited) (and_false lies)
+but_set (lies ∷ ahead) (was ∷ visited) zero low = ap (λ (b : Bool). b ∷ but ahead visited) (and-false lies)
 but_set (lies ∷ ahead) (was ∷ visited) (suc n) low =
     ap (λ (bs : List Bool). (lies && not was) ∷ bs) (but_set ahead visited n (omega arith))
 

@@ -3,6 +3,8 @@ use Rattle.std.proofs.Common.{◌≡◌, ℕ, zero, suc, ◌+◌, ◌-◌, ◌�
 use Rattle.std.proofs.Common.{if◌then◌else◌, ◌⊎◌, inl, inr, List, [], ◌∷◌, ◌++◌, refl, sym, ap, ◌∙◌, arith, le_trans}
 use Rattle.std.specs.List.{AllByRecursion}
 use Rattle.std.proofs.lemmas.Bool.{eqb-true, eq-eqb, le-leb}
+use Rattle.best_run.proofs.Split.{either_way}
+use Rattle.legal_runs.proofs.Relabelled.{kind_is}
 use Rattle.reach.specs.Position.{Position, IsAmong}
 use Rattle.tables.specs.Train.{index_of_kind, same_kind, stops_of}
 use Rattle.tables.specs.declared.rolling_stock.Kind.{Kind}
@@ -22,17 +24,6 @@ kind_at (suc (suc zero)) = Four
 kind_at (suc (suc (suc zero))) = Five
 kind_at (suc (suc (suc (suc zero)))) = Six
 kind_at (suc (suc (suc (suc (suc n))))) = Diesel
-
-kind_back : (kind : Kind) → kind_at (index_of_kind kind) ≡ kind
-kind_back Two = refl
-kind_back Three = refl
-kind_back Four = refl
-kind_back Five = refl
-kind_back Six = refl
-kind_back Diesel = refl
-
-pub kind_is : (a b : Kind) → same_kind a b ≡ true → a ≡ b
-kind_is a b same = sym (kind_back a) ∙ (ap kind_at (eqb-true (index_of_kind a) (index_of_kind b) same) ∙ kind_back b)
 
 pub same_itself : (kind : Kind) → same_kind kind kind ≡ true
 same_itself kind = eq-eqb (index_of_kind kind) (index_of_kind kind) refl
@@ -81,12 +72,6 @@ apart_out (first ∷ prefix) run later apart =
     × AllByRecursion (λ other. ShareNoBorder first.steps other.steps) (prefix ++ later) =
     all_out (λ other. ShareNoBorder first.steps other.steps) prefix run later apart.0 in
     ((share_back first run shares.0, rest.0), (shares.1, rest.1))
-
-in_order : (a b : ℕ) → (a ≤ b) ⊎ (b ≤ a)
-in_order zero b = inl (omega arith)
-in_order (suc a) zero = inr (omega arith)
-in_order (suc a) (suc b) = elim (in_order a b)
-    [ inl low ↦ inl (omega (arith, low)) | inr low ↦ inr (omega (arith, low)) ]
 
 -- a run earns no more than a cap, if it is of the kind that the cap is for
 abbrev pub IsWithin : Position → ℕ → ℕ → TrainRun → Type 0
@@ -204,7 +189,7 @@ find_greatest position kind (first ∷ runs) = by_test (find_greatest position k
 
     by_found : same_kind first.kind kind ≡ true → HasGreatest position kind runs
         ⊎ (in_number kind (trains_that_run runs) ≡ 0) → HasGreatest position kind (first ∷ runs)
-    by_found is (inl has) = by_order is has (in_order (earned position has.run.steps) (earned position first.steps))
+    by_found is (inl has) = by_order is has (either_way (earned position has.run.steps) (earned position first.steps))
     by_found is (inr none) =
         record {
           prefix = [];

@@ -2,6 +2,7 @@
 -- numbers. What holds of a walk holds of its part from there on.
 use Rattle.std.proofs.Common.{◌≡◌, ◌↔◌, ℕ, zero, suc, ◌+◌, ◌*◌, ◌<◌, ◌≤◌, Bool, true, false, ◌⊎◌, inl, inr, Some, List}
 use Rattle.std.proofs.Common.{[], ◌∷◌, ◌++◌, length, refl, sym, ap, subst, ◌∙◌, arith, length-append, length-set}
+use Rattle.std.proofs.lemmas.List.{append_assoc}
 use Rattle.map_tables.specs.Hex.{index_of}
 use Rattle.map_tables.specs.Place.{stop_index_of}
 use Rattle.map_tables.specs.declared.place.Stop.{Stop}
@@ -28,7 +29,6 @@ use Rattle.search_task.proofs.Described.{spot_low}
 use Rattle.best_run.proofs.Backwards.{AreCanonical}
 use Rattle.best_run.proofs.Complete.{AreAhead}
 use Rattle.best_run.proofs.Prefix.{Holds, onto}
-use Rattle.search_task.proofs.Copied.{append_together}
 
 -- the number of a stop, which is that of each of its spots
 abbrev pub number_of : Stop → ℕ
@@ -277,7 +277,7 @@ crossed_put : (later before : List WalkStep) → crossed (later ++ before) ≡ c
 crossed_put [] before = refl
 crossed_put (step ∷ later) before =
     ap (λ (bs : List ℕ). border_at (entered_at step).hex (entered_at step).end ++ bs) (crossed_put later before)
-    ∙ sym (append_together (border_at (entered_at step).hex (entered_at step).end) (crossed later) (crossed before))
+    ∙ sym (append_assoc (border_at (entered_at step).hex (entered_at step).end) (crossed later) (crossed before))
 
 -- the part of a walk from a stop on begins there
 visited_put : (step : WalkStep) (later : List WalkStep) (last : WalkStep) (before : List WalkStep) (home : Stop)
@@ -292,7 +292,7 @@ visited_put step [] last before home there begins =
     ap (λ o. listed o ++ rest) (sym enters) ∙ ap (λ (stops : List Stop). stops ++ rest)
     (sym (append_none (listed (stop_of (entered_at step))))) in
     ap (λ (stops : List Stop). here ++ stops) one ∙ sym
-    (append_together here (listed (stop_of (entered_at step)) ++ []) rest)
+    (append_assoc here (listed (stop_of (entered_at step)) ++ []) rest)
   where
     append_none : (xs : List Stop) → xs ++ [] ≡ xs
     append_none [] = refl
@@ -301,7 +301,7 @@ visited_put step (earlier ∷ later) last before home there begins =
     let rest = first_stop before last ++ visited before in
     let here = listed (stop_of (left_at step)) in
     ap (λ (stops : List Stop). here ++ stops) (visited_put earlier later last before home there begins)
-    ∙ sym (append_together here (visited (earlier ∷ later)) rest)
+    ∙ sym (append_assoc here (visited (earlier ∷ later)) rest)
 
 walk_part : (position : Position) (later before : List WalkStep) → IsWalk position (later ++ before) → IsWalk position later
 walk_part position [] before walk = tt

@@ -6,7 +6,8 @@ use Rattle.std.proofs.lemmas.Bool.{and_parts, eq-eqb, eqb-true, eqb-false}
 use Rattle.std.proofs.lemmas.List.Folds.{list_any-append}
 use Rattle.std.proofs.lemmas.List.Sums.{sum_by-append, count_by-le-length}
 use Rattle.std.specs.List.{count_by, list_any}
-use Rattle.board_state.proofs.Same.{or_true, stop_is_same}
+use Rattle.std.proofs.Math.Bool.{or-true, or-false}
+use Rattle.board_state.proofs.Same.{stop_is_same}
 use Rattle.board_state.proofs.Tiles.{last_lies}
 use Rattle.board.specs.Index.{IsIndex, counting, holding, holder_order}
 use Rattle.map_tables.specs.Hex.{index_of, same_hex}
@@ -137,10 +138,6 @@ holder_apart a b of other apart same =
     let company : same_company of other ≡ true = eq-eqb (index_of_company of) (index_of_company other) places in
     let wrong : true ≡ false = sym (ap (λ s. s && same_company of other) alike ∙ company) ∙ apart in cc
 
-or_none : (x : Bool) → (x || false) ≡ x
-or_none true = refl
-or_none false = refl
-
 -- whose tokens lie with one more, at a stop
 holder_next : (holders : List Bool) (part : Stop) (of : Company) (stop : Stop) (company : Company)
     → holder_order (joined_stop_of part) of < length holders → (same : Bool)
@@ -154,17 +151,17 @@ holder_next holders part of stop company low true is =
     (subst (λ (c : Company). get_or (holding (Some part) of holders) (holder_order (joined_stop_of part) c) false
     ≡ (get_or holders (holder_order (joined_stop_of part) c) false || true)) (company_is of company both.1)
     (get_or-set_same holders (holder_order (joined_stop_of part) of) true false low
-    ∙ sym (or_true (get_or holders (holder_order (joined_stop_of part) of) false))))
+    ∙ sym (or-true (get_or holders (holder_order (joined_stop_of part) of) false))))
 holder_next holders part of stop company low false is =
     get_or-set_other holders (holder_order (joined_stop_of part) of) (holder_order stop company) true false
     (holder_apart (joined_stop_of part) stop of company is)
-    ∙ sym (or_none (get_or holders (holder_order stop company) false))
+    ∙ sym (or-false (get_or holders (holder_order stop company) false))
 
 holder_by_stop : (holders : List Bool) (named : Option Stop) (of : Company) (stop : Stop) (company : Company)
     → ((part : Stop) → holder_order (joined_stop_of part) of < length holders)
     → get_or (holding named of holders) (holder_order stop company) false
     ≡ (get_or holders (holder_order stop company) false || (is_part_of stop named && same_company of company))
-holder_by_stop holders None of stop company low = sym (or_none (get_or holders (holder_order stop company) false))
+holder_by_stop holders None of stop company low = sym (or-false (get_or holders (holder_order stop company) false))
 holder_by_stop holders (Some part) of stop company low =
     holder_next holders part of stop company (low part)
     (same_stop (joined_stop_of part) stop && same_company of company) refl
@@ -190,7 +187,7 @@ index_with_token lays laid tiles links counts holders place of so_far many most 
           holder_by_stop holders (stop_of_place place) of stop company
           (λ part. omega (arith, order_low (joined_stop_of part), company_low of))
           ∙ ap (λ h. h || (names stop place && same_company of company)) (so_far.holder stop company)
-          ∙ sym (list_any-append p laid (token ∷ []) ∙ ap (λ b. list_any p laid || b) (or_none (p token)));
+          ∙ sym (list_any-append p laid (token ∷ []) ∙ ap (λ b. list_any p laid || b) (or-false (p token)));
     }
   where
     -- a count with one more at the end

@@ -5,11 +5,12 @@ use Rattle.std.proofs.lemmas.Bool.{and_from, and_parts, leb-false}
 use Rattle.std.proofs.lemmas.List.Folds.{list_any-append}
 use Rattle.std.proofs.lemmas.List.Sums.{sum_by-append, sum_by-cons, sum_by-le-sum_by}
 use Rattle.std.specs.List.{count_by, filter, list_any}
+use Rattle.std.proofs.Math.Bool.{or-true}
 use Rattle.board_state.specs.MapState.{MapState}
 use Rattle.map_tables.specs.OnMap.{has_token, is_part_of, is_stop, names, same_stop, slots_at, slots_on, taken_at}
 use Rattle.map_tables.specs.Fit.{home_token, homes_to_come}
 use Rattle.board.specs.TokenRules.{is_full_at, is_kept_for, kept_at}
-use Rattle.board_state.proofs.Same.{or_true, stop_is_same}
+use Rattle.board_state.proofs.Same.{stop_is_same}
 use Rattle.map_tables.specs.Home.{home_of}
 use Rattle.map_tables.specs.Place.{joined_stop_of, stop_of_place}
 use Rattle.map_tables.specs.declared.place.Place.{Place}
@@ -207,7 +208,7 @@ home_takes_kept tokens company none =
     (company_is_same company company refl)) in
     let lies : has_token more home company ≡ true =
     list_any-append has tokens (home_token company ∷ []) ∙ ap (λ b. list_any has tokens || b) last
-    ∙ or_true (list_any has tokens) in
+    ∙ or-true (list_any has tokens) in
     let not_kept : is_kept_for more home company ≡ false =
     ap (λ b. same_stop home home && not b) lies ∙ ap (λ b. b && false) itself in
     let kept_now : is_kept_for tokens home company ≡ true =

@@ -4,8 +4,8 @@ use Rattle.std.proofs.Common.{length, map, subst}
 use Rattle.std.proofs.lemmas.List.{length-map}
 use Rattle.std.proofs.lemmas.List.Sums.{length-filter}
 use Rattle.std.specs.List.{count_by, filter}
+use Rattle.std.proofs.Math.Bool.{or-true}
 use Rattle.board_state.proofs.Positions.{not_on_map, shown}
-use Rattle.board_state.proofs.Same.{or_true}
 use Rattle.board_state.specs.MapState.{MapState, position_of}
 use Rattle.map_tables.specs.OnMap.{has_token, is_stop, names, tokens_at}
 use Rattle.map_tables.specs.Place.{joined_stop_of}
@@ -54,7 +54,7 @@ is_among (token ∷ later) stop company among =
       | true ↦ λ either. elim either [
         | inl is ↦ ap (λ s. s || has_token later stop company) (company_is_same token.1 company is)
         | inr more ↦ ap (λ h. same_company token.1 company || h) (is_among later stop company more)
-            ∙ or_true (same_company token.1 company)
+            ∙ or-true (same_company token.1 company)
       ]
       | false ↦ λ more. is_among later stop company more
     ]) among

@@ -222,10 +222,6 @@ module _ {S : Type 0} (decides : S → ℕ → Bool → Decision → S → Type 
         ap (may_come position (reached_in tree) []) (drop_all place (trains_of_tree tree) high) in
         omega (arith, at_node.earns, none)
 
-    pub is_no_leaf : (place : ℕ) (trains : List Kind) (kind : Kind)
-        → trains ≡ kind ∷ drop (place + 1) (trains_of_tree tree) → has_no_train trains ≡ false
-    is_no_leaf place trains kind is = ap has_no_train is
-
     kind_first : (place : ℕ) → place < length (trains_of_tree tree)
         → (kind : Kind) × (drop place (trains_of_tree tree) ≡ kind ∷ drop (place + 1) (trains_of_tree tree))
     kind_first place low = (get_or (trains_of_tree tree) place Two, drop_more (trains_of_tree tree) place Two low)

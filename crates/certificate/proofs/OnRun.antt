@@ -96,7 +96,7 @@ no_beyond borders hex (AtSide side) none = by_next (neighbour_of hex side) none
     by_next (Some other) is = cc
 no_beyond borders hex (AtStop number) none = refl
 
-both_false : (a b : Bool) → b ≡ true → (a && not b) ≡ false
+pub both_false : (a b : Bool) → b ≡ true → (a && not b) ≡ false
 both_false true b is = ap not is
 both_false false b is = refl
 
@@ -160,9 +160,6 @@ and_false false b is = refl
 pub and_true : (a b : Bool) → a ≡ true → b ≡ false → (a && not b) ≡ true
 and_true true b is free = ap not free
 and_true false b is free = cc
-
-pub seen_false : (a b : Bool) → b ≡ true → (a && not b) ≡ false
-seen_false a b is = both_false a b is
 
 module _ (position : Position) (tree : Tree) (begun : Begun) (used marks : List Bool) (assigned : List TrainRun)
     (steps : List WalkStep) (stops : List Stop) (at_node : IsOnRun position tree begun used marks assigned steps

@@ -5,6 +5,7 @@ use Rattle.std.proofs.Common.{refl, sym, subst, ap, ◌∙◌, arith}
 use Rattle.std.proofs.lemmas.Bool.Decides.{nat_tests}
 use Rattle.std.proofs.lemmas.Int.{ints}
 use Rattle.std.specs.Int.Signed.{lt_z}
+use Rattle.std.proofs.lemmas.Bool.{or_parts}
 use Rattle.certs.proofs.Presidents.{most_le}
 use Rattle.certs.specs.Counted.{presides}
 use Rattle.certs.specs.President.{others_from, seat_shares_of, successor_of}
@@ -99,11 +100,6 @@ shares_apart game company seat shares price other apart =
     shares_sold game company seat shares price other
     ∙ untaken seat other (seat_shares_of game.events company other) shares apart
 
--- what a seat sells is held
-sale_held : (none short : Bool) → (none || short) ≡ false → short ≡ false
-sale_held true short kept = absurd (cc)
-sale_held false short kept = kept
-
 -- a president who may sell keeps two shares, or another seat has two
 keeps_or_another : (short another : Bool) → ((short && not another) || false) ≡ false
     → (short ≡ false) ⊎ (another ≡ true)
@@ -185,7 +181,7 @@ succeeded_sound game seat sale price old few within may sound is =
     let new = successor_of game.seats after company old in
     let two = successor_has_two game seat sale price old few within may sound is in
     let short : lt_z (seat_shares_of game.events company seat) (pos sale.shares) ≡ false =
-    sale_held (sale.shares == 0) (lt_z (seat_shares_of game.events company seat) (pos sale.shares)) may.held in
+    (or_parts (sale.shares == 0) (lt_z (seat_shares_of game.events company seat) (pos sale.shares)) may.held).1 in
     let held : pos sale.shares ≤ℤ seat_shares_of game.events company seat = grind (arith, ints, short) in
     elim (new.0 == old.0) as (λ (b : Bool). (new.0 == old.0) ≡ b
     → IsSound (record {
@@ -216,7 +212,7 @@ unfolding is_not_held
 unled_sound game seat sale price within may sound none =
     let company = sale.company in
     let short : lt_z (seat_shares_of game.events company seat) (pos sale.shares) ≡ false =
-    sale_held (sale.shares == 0) (lt_z (seat_shares_of game.events company seat) (pos sale.shares)) may.held in
+    (or_parts (sale.shares == 0) (lt_z (seat_shares_of game.events company seat) (pos sale.shares)) may.held).1 in
     let held : pos sale.shares ≤ℤ seat_shares_of game.events company seat = grind (arith, ints, short) in
     block_sound game company seat sale.shares price within held
     (λ president has. let no : None ≡ Some president = sym none ∙ has in absurd (cc)) sound

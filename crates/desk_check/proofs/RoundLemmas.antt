@@ -7,6 +7,7 @@ use Rattle.std.specs.List.{list_any}
 use Rattle.std.specs.Map.{lookup}
 use Rattle.std.specs.Option.{option_or}
 use Rattle.desk_check.proofs.HeadLemmas.{or_by_test}
+use Rattle.rounds.proofs.InOrder.{round_in_front}
 use Rattle.totals.proofs.EventAtEnd.{option_or_assoc, option_or_none}
 use Rattle.desk_check.specs.Heads.{came}
 use Rattle.desk_check.specs.RoundsPlayed.{AreRoundsOf, by_then, by_with, is_begun, ready_among}
@@ -41,18 +42,13 @@ found_by_round round (entry ∷ entries) =
     ap (λ t. cond t (Some entry.1) (lookup (derived.eq-value.it round) entries)) (by_kind round entry.0)
     ∙ ap (λ o. cond (same_round round entry.0) (Some entry.1) o) (found_by_round round entries)
 
--- a round in front of two parts
-with_round_parts : (round : Option Round) (a b : List Round) → with_round round (a ++ b) ≡ with_round round a ++ b
-with_round_parts None a b = refl
-with_round_parts (Some round) a b = refl
-
 -- one more event begins a round, or none
 begun_with_one : (events : List Event) (event : Event)
     → rounds_begun (events ++ event ∷ []) ≡ rounds_begun events ++ with_round (round_begun_by event) []
 begun_with_one [] event = refl
 begun_with_one (first ∷ events) event =
     ap (with_round (round_begun_by first)) (begun_with_one events event)
-    ∙ with_round_parts (round_begun_by first) (rounds_begun events) (with_round (round_begun_by event) [])
+    ∙ round_in_front (round_begun_by first) (rounds_begun events) (with_round (round_begun_by event) [])
 
 -- an event that begins no round
 none_begun : (events : List Event) (event : Event) (round : Round) → round_begun_by event ≡ None

@@ -1,34 +1,14 @@
 -- The lines of the sheets for a round, one after another.
-use Rattle.std.proofs.Common.{◌≡◌, ℕ, zero, suc, ◌+◌, ◌-◌, ◌<◌, ◌≤◌, true, false, List, [], ◌∷◌, ◌++◌, map, take, ap, sym, ◌∙◌, append_assoc, refl, arith}
+use Rattle.std.proofs.Common.{◌≡◌, ℕ, zero, suc, ◌+◌, ◌-◌, ◌<◌, ◌≤◌, false, List, [], ◌∷◌, ◌++◌, map, take, ap, sym, ◌∙◌, append_assoc, refl, arith}
 use Rattle.std.specs.List.{flat_map, range_with_len}
 use Rattle.std.proofs.lemmas.Grind.{common_steps}
 use Rattle.std.proofs.lemmas.List.{append-nil, map-append}
 use Rattle.report.proofs.Seats.{more_numbers}
-use Rattle.sheets.specs.Part.{Numbered, SheetParts, after_head, after_line}
-use Rattle.desk_round.specs.SheetLines.{PlacedLine, lines_left, lines_of_part, place_behind, placed, placed_at}
+use Rattle.sheets.specs.Part.{Numbered, SheetParts}
+use Rattle.desk_round.specs.SheetLines.{PlacedLine, lines_left, lines_of_part, placed, placed_at}
 use Rattle.desk_round.specs.declared.sheet_line.LinePlace.{LinePlace}
 use Rattle.desk_round.specs.declared.sheet_line.SheetLine.{SheetLine}
 use Rattle.tables.specs.declared.seat.Seat.{Seat}
-
--- a line before the next head is the next one
-pub takes_line : (seat : Seat) (place : LinePlace) (old new : SheetParts) (line : Numbered) (kept : SheetLine)
-    → old ≡ after_line line new → placed kept ≡ placed_at seat place false line → kept.place ≡ place
-    → lines_left seat place old ≡ placed kept ∷ lines_left seat kept.place new
-takes_line seat place old new line kept is is_kept here =
-    ap (lines_left seat place) is
-    ∙ ap (λ (first : PlacedLine). first ∷ lines_left seat place new) (sym is_kept)
-    ∙ ap (λ (its : LinePlace). placed kept ∷ lines_left seat its new) (sym here)
-
--- a head is the next one, where no line is before it
-pub takes_head : (seat : Seat) (place its : LinePlace) (old mid new : SheetParts) (head : Numbered) (kept : SheetLine)
-    → mid ≡ old → mid ≡ after_head head new → its ≡ place_behind head.reading
-    → placed kept ≡ placed_at seat its true head → kept.place ≡ its
-    → lines_left seat place old ≡ placed kept ∷ lines_left seat kept.place new
-takes_head seat place its old mid new head kept same is behind is_kept here =
-    ap (lines_left seat place) (sym same ∙ is)
-    ∙ ap (λ (one : LinePlace). placed_at seat one true head ∷ lines_left seat one new) (sym behind)
-    ∙ ap (λ (first : PlacedLine). first ∷ lines_left seat its new) (sym is_kept)
-    ∙ ap (λ (one : LinePlace). placed kept ∷ lines_left seat one new) (sym here)
 
 -- where no line is before the next head, and there is none, no line is left
 pub none_left : (seat : Seat) (place : LinePlace) (old mid : SheetParts) → old.before ≡ [] → mid ≡ old → mid.opened ≡ []

@@ -6,6 +6,7 @@ use Rattle.std.proofs.Common.{◌∙◌, arith}
 use Rattle.std.proofs.lemmas.Bool.Decides.{nat_tests}
 use Rattle.std.proofs.lemmas.Int.{ints}
 use Rattle.std.specs.Int.Signed.{lt_z}
+use Rattle.std.proofs.Math.Bool.{and-false}
 use Rattle.events.specs.Event.{place_of_seller, train_owner_place, train_moved}
 use Rattle.events.specs.declared.event.Event.{Event}
 use Rattle.events.specs.declared.event.Event.TheVariants as event
@@ -45,11 +46,6 @@ rusts_another Four new rusts = grind (arith, nat_tests, rusts)
 rusts_another Five new rusts = absurd cc
 rusts_another Six new rusts = absurd cc
 rusts_another Diesel new rusts = absurd cc
-
--- both of two, where the second is not so
-and_false : (b : Bool) → (b && false) ≡ false
-and_false true = refl
-and_false false = refl
 
 and_true : (b : Bool) → (b && true) ≡ b
 and_true true = refl
@@ -160,8 +156,8 @@ module _ (company : Company) (own : Kind) where
       let place = train_owner_place (Some company) in
       let none : one_if (same_kind discarded kind && same_company other company) ≡ 0 =
       ap (λ (b : Bool). one_if (same_kind discarded kind && b)) apart
-      ∙ ap one_if (and_false (same_kind discarded kind)) in
-      let comes : one_if (same_kind discarded kind && false) ≡ 0 = ap one_if (and_false (same_kind discarded kind)) in
+      ∙ ap one_if (and-false (same_kind discarded kind)) in
+      let comes : one_if (same_kind discarded kind && false) ≡ 0 = ap one_if (and-false (same_kind discarded kind)) in
       omega (arith, ints, trains_at_end game.events (event.Discarded other discarded) place kind, none, comes)
       ∙ one kind
 
@@ -208,7 +204,7 @@ module _ (company : Company) (own : Kind) where
       ap (λ (b : Bool). one_if (same_kind own kind && b)) (company_itself company)
       ∙ ap one_if (and_true (same_kind own kind)) in
       let goes : one_if (same_kind own kind && same_train_place (place_of_seller from) place) ≡ 0 =
-      ap (λ (b : Bool). one_if (same_kind own kind && b)) apart ∙ ap one_if (and_false (same_kind own kind)) in
+      ap (λ (b : Bool). one_if (same_kind own kind && b)) apart ∙ ap one_if (and-false (same_kind own kind)) in
       omega (
         arith,
         ints,

@@ -1,6 +1,6 @@
 -- Play comes to a seat's first turn through the turns of seats that have no lines.
-use Rattle.std.proofs.Common.{◌≡◌, ℕ, zero, suc, ◌+◌, ◌-◌, ◌<◌, ◌≤◌, Bool, true, false, ◌||◌, nat_le, nat_lt, if◌then◌else◌, List}
-use Rattle.std.proofs.Common.{[], ◌∷◌, ◌++◌, map, drop, set, refl, sym, ap, ◌∙◌, zero-add, inl, inr, is_some, is_none, arith}
+use Rattle.std.proofs.Common.{◌≡◌, ℕ, zero, suc, ◌+◌, ◌-◌, ◌<◌, ◌≤◌, Bool, false, nat_lt, if◌then◌else◌, List}
+use Rattle.std.proofs.Common.{[], ◌∷◌, ◌++◌, drop, set, refl, sym, ap, ◌∙◌, zero-add, inl, inr, is_some, is_none, arith}
 use Rattle.std.proofs.lemmas.Bool.{cases_eq}
 use Rattle.std.proofs.lemmas.Bool.Decides.{nat_tests}
 use Rattle.std.proofs.lemmas.List.{set-get_or}
@@ -24,7 +24,7 @@ use Rattle.tables.specs.declared.round.Round.{Round}
 use Rattle.tables.specs.declared.seat.Seat.{Seat}
 use Rattle.totals.proofs.EventAtEnd.{last_said_before}
 use Rattle.totals.specs.LookBack.{first_unsold, is_sold, owner_said, priority_of}
-use Rattle.turns.proofs.Turns.{priority_within}
+use Rattle.turns.proofs.Turns.{priority_within, going_on}
 use Rattle.turns.specs.RoundOfTurns.{RoundRules, opened, turns_of}
 
 -- a seat without standing lines changes nothing before the turns
@@ -166,10 +166,6 @@ still_on rules ends seats first events (suc count) =
     ends (after_passes seats first events count) (seat_after seats first count)
     ∙ still_on rules ends seats first events count
 
--- neither this nor that
-neither : (over : Bool) (seats passes : ℕ) → over ≡ false → passes < seats → (over || nat_le seats passes) ≡ false
-neither over seats passes on few = grind (arith, nat_tests, on)
-
 -- play comes to the first turn of a seat that alone has lines
 pub first_turns_reached : {TurnActions : Type 0} (rules : RoundRules TurnActions) → rules.has_acted rules.nothing ≡ false
     → PassesEndNothing rules → FirstTurnsAreReached rules
@@ -198,7 +194,7 @@ first_turns_reached rules idle ends file round seat old before few its_at alone 
           ∙ ap (λ (seat : Seat). in_play before seat.0 their.count (written_turns_for seats file round)) their.its;
       not_before =
           λ k less. ap (turns_over (turns_of rules seats)) (goes k (omega (arith, less)))
-          ∙ neither (rules.over (after_passes seats first begun k)) seats k
+          ∙ going_on (rules.over (after_passes seats first begun k)) seats k
           (still_on rules ends seats first begun k ∙ on) (omega (arith, less, their.few));
     }
 

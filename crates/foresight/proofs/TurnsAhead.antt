@@ -1,7 +1,8 @@
 -- The turns of companies before a company's own, in a round that comes.
-use Rattle.std.proofs.Common.{◌≡◌, ℕ, ◌<◌, Bool, true, false, ◌&&◌, List, [], ◌∷◌, ◌++◌, Option, Some, None}
+use Rattle.std.proofs.Common.{◌≡◌, ℕ, ◌<◌, true, false, List, [], ◌∷◌, ◌++◌, Option, Some, None}
 use Rattle.std.proofs.Common.{IfSome, refl, sym, ap, subst, ◌∙◌, arith, is_some}
 use Rattle.std.proofs.lemmas.Bool.Decides.{nat_tests}
+use Rattle.std.proofs.lemmas.Bool.{and_parts}
 use Rattle.events.specs.declared.event.Event.{Event}
 use Rattle.foresight.specs.Ahead.{AheadState, HasTurn, drafted_in}
 use Rattle.foresight.specs.Draft.{file_of, orders_of}
@@ -53,18 +54,13 @@ others_too company next old mid new taken is_next turn other =
       others = still_others company taken.before next taken.others other;
     }
 
--- the first of two tests
-first_of : (a b : Bool) → (a && b) ≡ true → a ≡ true
-first_of true b both = refl
-first_of false b both = cc
-
 -- the next company has floated
 pub next_has_floated : ((events : List Event) → IsOperatingOrder events (operating_order_of events))
     → (events : List Event) (company : Company) → next_company events ≡ Some company
     → is_floated events company ≡ true
 next_has_floated ordered events company found =
-    first_of (is_floated events company) (is_some (square_of events company))
-    (next_is_idle ordered events company found).0
+    (and_parts (is_floated events company) (is_some (square_of events company))
+    (next_is_idle ordered events company found).0).0
 
 -- and its turn leaves fewer that have not operated
 pub leaves_fewer : CompanyOperates → ((events : List Event) → IsOperatingOrder events (operating_order_of events))

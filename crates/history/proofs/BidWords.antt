@@ -87,7 +87,7 @@ bid_cases true amount earlier said is = inl (refl, cc)
 bid_cases false amount earlier said is = inr (refl, is)
 
 -- a bid that is after a sale was before it
-sale_cases : (here : Bool) (earlier : Option ℕ) (said : ℕ)
+pub sale_cases : (here : Bool) (earlier : Option ℕ) (said : ℕ)
     → unwrap_or (if here then Some None else None) earlier ≡ Some said → earlier ≡ Some said
 sale_cases true earlier said is = absurd (cc)
 sale_cases false earlier said is = is

@@ -3,11 +3,12 @@ use Rattle.std.proofs.Common.{◌≡◌, ◌||◌, false, if◌then◌else◌, L
 use Rattle.std.proofs.Common.{ap, sym, ◌∙◌}
 use Rattle.std.proofs.lemmas.List.Folds.{list_any-append}
 use Rattle.std.specs.List.{cons_option}
+use Rattle.std.proofs.Math.Bool.{or-false}
 use Rattle.events.specs.Event.{obeyed_of, round_begun_by}
 use Rattle.events.specs.Offers.{offered_in}
 use Rattle.events.specs.Orders.{said_by}
 use Rattle.events.specs.declared.event.Event.{Event}
-use Rattle.totals.proofs.Applied.{or_false, round_flag_applied}
+use Rattle.totals.proofs.Applied.{round_flag_applied}
 use Rattle.totals.specs.Totals.{flag_then}
 use Rattle.totals.specs.Offers.{AreOffersOf, is_among, is_that_offer, says_offer}
 use Rattle.order_grammar.specs.declared.order.Offer.{Offer}
@@ -17,7 +18,7 @@ use Rattle.tables.specs.declared.seat.Seat.{Seat}
 one_said : (seat : Seat) (sale : Offer) (said : Option (Seat × Offer))
     → is_among seat sale (cons_option said []) ≡ says_offer seat sale said
 one_said seat sale None = refl
-one_said seat sale (Some offer) = or_false (is_that_offer seat sale offer)
+one_said seat sale (Some offer) = or-false (is_that_offer seat sale offer)
 
 -- the offers of a round, with that of an event
 pub offer_added :

@@ -51,7 +51,7 @@ fewer false true stays = omega arith
 fewer false false stays = omega arith
 
 -- nothing was said where nothing is
-none_earlier : {A : Type 0} (later earlier : Option A) → option_or later earlier ≡ None → earlier ≡ None
+pub none_earlier : {A : Type 0} (later earlier : Option A) → option_or later earlier ≡ None → earlier ≡ None
 none_earlier None earlier none = none
 none_earlier (Some word) earlier none = absurd (cc)
 

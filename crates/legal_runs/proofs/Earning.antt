@@ -64,7 +64,7 @@ few_visited position lawful (step ∷ []) walk = grind (arith, first_step, order
 few_visited position lawful (step ∷ earlier ∷ before) walk = grind (arith, later_step, ordered, stop_to_stop, few_visited position lawful (earlier ∷ before) walk.2)
 
 -- a new mark leaves one border fewer
-mark_used : (marks : List Bool) (border : ℕ) → border < length marks → get_or marks border false ≡ false
+pub mark_used : (marks : List Bool) (border : ℕ) → border < length marks → get_or marks border false ≡ false
     → unused (set marks border true) + 1 ≡ unused marks
 mark_used [] border low free = absurd (omega arith)
 mark_used (mark ∷ marks) zero low free = grind arith

@@ -2,7 +2,7 @@
 use Rattle.std.proofs.Common.{◌≡◌, ◌↔◌, ℕ, ◌+◌, ◌*◌, ◌<◌, ◌≤◌, ◌==◌, Bool, true, false, ◌||◌, ltb, ◌⊎◌, inl, inr}
 use Rattle.std.proofs.Common.{List, [], ◌∷◌, refl, ap, ◌∙◌, arith}
 use Rattle.std.specs.List.{AllByRecursion, list_any}
-use Rattle.std.proofs.lemmas.Bool.{eq-eqb, eqb-true, ltb-true, or_parts}
+use Rattle.std.proofs.lemmas.Bool.{eq-eqb, eqb-true, ltb-true, or_parts, or_from}
 use Rattle.map_tables.specs.Hex.{index_of}
 use Rattle.map_tables.specs.Place.{stop_index_of}
 use Rattle.map_tables.specs.declared.hex.Hex.{Hex}
@@ -25,9 +25,6 @@ use Rattle.legal_runs.proofs.Marks.{among_is}
 pub fails : {P : Type 0} (test : Bool) → (test ≡ true) ↔ P → (test ≡ false) ↔ (¬ P)
 fails true exact = (λ h. cc, λ none. absurd (none (exact.0 refl)))
 fails false exact = (λ h fact. let wrong : false ≡ true = exact.1 fact in cc, λ none. refl)
-
-pub both_fail : (a b : Bool) → a ≡ false → b ≡ false → (a || b) ≡ false
-both_fail a b first second = ap (λ x. x || b) first ∙ second
 
 -- stops with one place in the order of the map are one
 index_half : (a b x y : ℕ) → 2 * a + x ≡ 2 * b + y → x < 2 → y < 2 → a ≡ b
@@ -68,7 +65,7 @@ stops_distinct (stop ∷ stops) h =
 
 pub distinct_stops : (stops : List Stop) → AreDistinct stops → has_stop_twice stops ≡ false
 distinct_stops [] h = refl
-distinct_stops (stop ∷ stops) h = grind (arith, fails, both_fail, has_stop_is, distinct_stops stops h.1)
+distinct_stops (stop ∷ stops) h = grind (arith, fails, or_from, has_stop_is, distinct_stops stops h.1)
 
 -- the test of a border among borders fails
 not_among_is : (border : ℕ) (borders : List ℕ) → (has_border border borders ≡ false) ↔ (¬ IsAmong border borders)
@@ -90,7 +87,7 @@ borders_distinct used (border ∷ borders) h =
 pub distinct_borders : (used : List ℕ) (borders : List ℕ) → AreDistinct borders
     → AllByRecursion (λ border. ¬ IsAmong border used) borders → has_border_twice used borders ≡ false
 distinct_borders used [] once free = refl
-distinct_borders used (border ∷ borders) once free = grind (arith, both_fail, not_among_is, distinct_borders used borders once.1 free.1)
+distinct_borders used (border ∷ borders) once free = grind (arith, or_from, not_among_is, distinct_borders used borders once.1 free.1)
 
 module _ (P : Stop → Type 0) (test : Stop → Bool) (exact : (stop : Stop) → (test stop ≡ true) ↔ P stop) where
   by_none : (before : List WalkStep) (step : WalkStep) → (goes_through test before step ≡ false)
@@ -109,7 +106,7 @@ module _ (P : Stop → Type 0) (test : Stop → Bool) (exact : (stop : Stop) →
   pub none_passes : (steps : List WalkStep) → PassesOnly (λ s. ¬ P s) steps → passes test steps ≡ false
   none_passes [] h = refl
   none_passes (step ∷ before) h =
-      both_fail (passes test before) (goes_through test before step)
+      or_from (passes test before) (goes_through test before step)
       (none_passes before h.1) ((by_none before step).1 h.0)
 
   first_of_or : (a b : Bool) → (a || b) ≡ true → (a ≡ true) ⊎ (b ≡ true)

@@ -55,7 +55,7 @@ spots_decided a b =
     ]
 
 -- whether one of some things is such
-any_such : {A : Type 0} (P : A → Type 0) → ((thing : A) → Decided (P thing)) → (things : List A)
+pub any_such : {A : Type 0} (P : A → Type 0) → ((thing : A) → Decided (P thing)) → (things : List A)
     → Decided ((thing : A) × IsAmong thing things × P thing)
 any_such P known [] = inr (λ found. found.1)
 any_such P known (thing ∷ things) =

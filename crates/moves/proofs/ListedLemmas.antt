@@ -34,15 +34,6 @@ module _ {A Fault : Type 0} (rules : A → Result ℤ Fault → Type 0) where
     after = y.after ∙ ap (λ l. l ++ y.added) x.after ∙ append_assoc a x.added y.added;
   }
 
-  -- a candidate by its verdict
-  pub lists_one : (one : A) (answer : Result ℤ Fault) (a : List (Priced A)) → rules one answer
-      → Lists rules (one ∷ []) a (a ++ priced_if one answer)
-  lists_one one answer a answered = record {
-    added = priced_if one answer;
-    listed = (answer, [], answered, refl, sym (append-nil (priced_if one answer)));
-    after = refl;
-  }
-
   -- one more of a loop's items, each of which stands for some candidates
   pub lists_next : {X : Type 0} (f : X → List A) (xs : List X) (i : ℕ) (d : X) (a b c : List (Priced A))
       → i < length xs → Lists rules (flat_map f (take i xs)) a b → Lists rules (f (get_or xs i d)) b c
@@ -65,18 +56,6 @@ module _ {A Fault : Type 0} (rules : A → Result ℤ Fault → Type 0) where
       → Lists rules (flat_map f (take i xs)) a b → Lists rules (flat_map f xs) a b
   lists_done {X = X} f xs i a b most lists =
       subst (λ (l : List X). Lists rules (flat_map f l) a b) (take_all i xs most) lists
-
-  -- one more of a loop's items, each of which is a candidate
-  pub lists_more : (xs : List A) (i : ℕ) (d : A) (a b c : List (Priced A)) → i < length xs
-      → Lists rules (take i xs) a b → Lists rules (get_or xs i d ∷ []) b c → Lists rules (take (i + 1) xs) a c
-  lists_more xs i d a b c low x y =
-      subst (λ (l : List A). Lists rules l a c) (sym (take_more xs i d low))
-      (lists_both (take i xs) (get_or xs i d ∷ []) a b c x y)
-
-  -- all of them
-  pub lists_all : (xs : List A) (i : ℕ) (a b : List (Priced A)) → length xs ≤ i → Lists rules (take i xs) a b
-      → Lists rules xs a b
-  lists_all xs i a b most lists = subst (λ (l : List A). Lists rules l a b) (take_all i xs most) lists
 
 -- a candidate with its price, where the rules give that
 pub lists_priced : {A Fault : Type 0} (rules : A → Result ℤ Fault → Type 0) (one : A) (price : ℤ) (a b : List (Priced A))

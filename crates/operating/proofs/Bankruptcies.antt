@@ -4,7 +4,7 @@ use Rattle.std.proofs.Common.{Some, None, pos, refl, sym, ap, ◌∙◌}
 use Rattle.std.proofs.lemmas.Bool.{false≢true}
 use Rattle.std.proofs.lemmas.List.Folds.{list_any-append}
 use Rattle.std.specs.Int.Signed.{lt_z}
-use Rattle.board_state.proofs.Same.{or_true}
+use Rattle.std.proofs.Math.Bool.{or-true, or-false}
 use Rattle.events.specs.Event.{says_bankrupt}
 use Rattle.events.specs.declared.event.Event.{Event}
 use Rattle.events.specs.declared.event.Event.TheVariants as event
@@ -13,7 +13,6 @@ use Rattle.totals.specs.Shares.{president_of}
 use Rattle.operating.proofs.ForcedGames.{OfSales, gained_none, gained_of, of_bought, of_gained, of_raises, of_sale}
 use Rattle.operating.proofs.ForcedGames.{operator}
 use Rattle.forced_purchase.proofs.TrainCounts.{size_before}
-use Rattle.operating.proofs.Operated.{or_false}
 use Rattle.operating.proofs.Presidency.{president_stays}
 use Rattle.purchases.proofs.TrainSteps.{IsPassedOn}
 use Rattle.operating.proofs.TurnEvents.{IsOfTurn}
@@ -44,12 +43,12 @@ one_more : (events : List Event) (its : Event) → says_bankrupt its ≡ false
 one_more events its none =
     list_any-append says_bankrupt events (its ∷ [])
     ∙ ap (λ (b : Bool). bankrupt_in events || (b || false)) none
-    ∙ or_false (bankrupt_in events)
+    ∙ or-false (bankrupt_in events)
 
 -- with a bankruptcy somebody is bankrupt
 pub now_bankrupt : (events : List Event) (seat : Seat) → bankrupt_in (events ++ event.Bankrupt seat ∷ []) ≡ true
 now_bankrupt events seat = list_any-append says_bankrupt events (event.Bankrupt seat ∷ [])
-    ∙ or_true (bankrupt_in events)
+    ∙ or-true (bankrupt_in events)
 
 -- as many are bankrupt
 abbrev Same : Game → Game → Type 0

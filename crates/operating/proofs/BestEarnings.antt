@@ -9,6 +9,7 @@ use Rattle.std.proofs.lemmas.Int.{ints}
 use Rattle.std.specs.Int.Signed.{le_z}
 use Rattle.std.specs.List.{AllByRecursion, fold}
 use Rattle.board_state.specs.MapState.{position_of}
+use Rattle.legal_runs.proofs.InTurn.{all_among}
 use Rattle.legal_runs.proofs.TallyOfWalk.{crossed_used}
 use Rattle.legal_runs.proofs.Marks.{among_both, eqb_not}
 use Rattle.legal_runs.proofs.Relabelled.{kind_is}
@@ -132,12 +133,6 @@ apart_from steps (other ∷ runs) free =
       apart_from steps runs (λ border among there. free border among ((both border).1 (inr there))),
     )
 
--- each of a list
-each_of : (P : ℕ → Type 0) (all : List ℕ) → AllByRecursion P all → (one : ℕ) → IsAmong one all → P one
-each_of P [] such one among = absurd among
-each_of P (first ∷ others) such one (inl is) = subst P is such.0
-each_of P (first ∷ others) such one (inr among) = each_of P others such.1 one among
-
 -- one more of a kind is counted, and no other
 counted_more :
     (counts : List ℤ) (at other n m : ℕ) → at < length counts → get_or counts at (pos 0) ≡ pos m
@@ -222,7 +217,7 @@ module _ (by : Operator) (first : TurnState) where
         legal = (legal_over there by.company kind used [] (λ border among. absurd among) steps legal, set.legal);
         each_once = λ other. enough other (same_kind kind other) refl;
         apart = (
-          apart_from steps runs (each_of (λ border. ¬ IsAmong border used) (crossed steps)
+          apart_from steps runs (all_among (λ border. ¬ IsAmong border used) (crossed steps)
               legal.no_used_border),
           set.apart,
         );

@@ -4,6 +4,7 @@ use Rattle.std.proofs.Common.{refl, ◌∙◌}
 use Rattle.std.proofs.lemmas.Bool.{cases_eq}
 use Rattle.board.specs.LayRules.{IsConnected}
 use Rattle.board.specs.TokenRules.{IsReachedPlace}
+use Rattle.legal_runs.proofs.RunDecided.{any_such}
 use Rattle.map_tables.specs.Lay.{laid_links_of}
 use Rattle.map_tables.specs.Place.{joined_stop_of, stop_at, stop_of_place}
 use Rattle.map_tables.specs.contracts.track.LinkPartialEq.TheImpl.{ghosts as link_ghosts}
@@ -13,7 +14,7 @@ use Rattle.map_tables.specs.declared.place.Stop.{Stop}
 use Rattle.map_tables.specs.declared.place.StopNumber.{StopNumber}
 use Rattle.map_tables.specs.declared.track.TrackEnd.TheVariants.{Stop as AtStop}
 use Rattle.map_tables.specs.declared.track.Link.{Link}
-use Rattle.operating.proofs.Found.{Search, any_among, any_number, found}
+use Rattle.operating.proofs.Found.{Search, any_number, found}
 use Rattle.reach.proofs.Decided.{Decided, among_decided, both_decided, can_enter_decided, decided_by, either_decided}
 use Rattle.reach.proofs.Decided.{mark_decided}
 use Rattle.reach.proofs.Equal.{link_same, same_link}
@@ -82,7 +83,7 @@ module _ (position : Position) (company : Company) (lawful : IsLawful position) 
       tested (IsConnected position company lay)
       (decided_by (by_link ⊎ by_stop) (IsConnected position company lay) (λ piece. record { piece = piece })
       (λ connected. connected.piece)
-      (either_decided by_link by_stop (any_among (ReachesLink position company) link_decided (laid_links_of lay))
+      (either_decided by_link by_stop (any_such (ReachesLink position company) link_decided (laid_links_of lay))
       (any_number (λ number. ReachesStop position company (stop_at lay.hex number))
       (λ number. stop_decided (stop_at lay.hex number)))))
 

@@ -2,9 +2,10 @@
 -- until nothing is added.
 use Rattle.std.proofs.Common.{◌≡◌, ℕ, zero, suc, ◌+◌, ◌<◌, ◌≤◌, Bool, true, false, ◌⊎◌, inl, inr, List, [], ◌∷◌}
 use Rattle.std.proofs.Common.{length, get_or, set, replicate, refl, sym, subst, ◌∙◌, arith}
-use Rattle.std.proofs.lemmas.Bool.{cases_eq}
+use Rattle.std.proofs.lemmas.Bool.{cases_eq, false_from_ne_true}
 use Rattle.std.proofs.lemmas.List.{length-replicate, length-set}
 use Rattle.std.proofs.lemmas.List.Sums.{count_by-le-length}
+use Rattle.legal_runs.proofs.RunDecided.{any_such}
 use Rattle.map_tables.proofs.HexTables.{hexes_at}
 use Rattle.map_tables.specs.Hex.{hexes, index_of}
 use Rattle.map_tables.specs.Place.{joined_stop_of, stop_at}
@@ -30,22 +31,6 @@ use Rattle.reach.specs.Walk.{IsTrack, entered_at, left_at}
 use Rattle.reach.specs.declared.walk.Spot.{Spot}
 use Rattle.reach.specs.declared.walk.WalkStep.{WalkStep}
 use Rattle.tables.specs.declared.roster.Company.{Company}
-
--- one of a list is so
-pub any_among : {A : Type 0} (P : A → Type 0) → ((a : A) → Decided (P a)) → (things : List A)
-    → Decided ((a : A) × IsAmong a things × P a)
-any_among P each [] = inr (λ any. absurd any.1)
-any_among P each (thing ∷ things) =
-    elim (each thing) [
-      | inl is ↦ inl (thing, inl refl, is)
-      | inr off ↦ elim (any_among P each things) [
-        | inl later ↦ inl (later.0, inr later.1, later.2)
-        | inr none ↦ inr (λ any. elim any.1 [
-          | inl here ↦ off (subst P (sym here) any.2)
-          | inr there ↦ none (any.0, there, any.2)
-        ])
-      ]
-    ]
 
 -- one of the numbers under another
 any_under : (P : ℕ → Type 0) → ((n : ℕ) → Decided (P n)) → (count : ℕ) → Decided ((n : ℕ) × (n < count) × P n)
@@ -97,11 +82,6 @@ number_low hex (AtStop number) =
     let joined = joined_stop_of (stop_at hex number) in omega
     (arith, index_low joined.hex, stop_index_low joined.number)
 
--- what is not marked
-unmarked : (mark : Bool) → ¬ (mark ≡ true) → mark ≡ false
-unmarked true off = absurd (off refl)
-unmarked false off = refl
-
 -- marks of all that walks of the company reach
 pub record Search (position : Position) (company : Company) : Type 0 where
   pub marks : List Bool
@@ -150,7 +130,7 @@ module _ (position : Position) (company : Company) (lawful : IsLawful position) 
       × ((link : Link) × IsAmong link (links_of position hex) × IsNewLink marks link))
   new_link marks =
       any_hex (λ hex. (link : Link) × IsAmong link (links_of position hex) × IsNewLink marks link)
-      (λ hex. any_among (IsNewLink marks)
+      (λ hex. any_such (IsNewLink marks)
       (λ link. either_decided (IsNewStep marks (record { link = link; turned = false }))
       (IsNewStep marks (record { link = link; turned = true }))
       (step_decided marks (record { link = link; turned = false }))
@@ -174,7 +154,7 @@ module _ (position : Position) (company : Company) (lawful : IsLawful position) 
         more = omega (
           arith,
           one_more old number (omega (arith, long, number_low stop.hex (AtStop stop.number)))
-              (unmarked (get_or old number false) is.1),
+              (false_from_ne_true (get_or old number false) is.1),
         );
       }
 
@@ -185,7 +165,7 @@ module _ (position : Position) (company : Company) (lawful : IsLawful position) 
   by_step old long arrive step track is =
       let number : ℕ = spot_number (left_at step) in
       let low : number < length old = omega (arith, long, number_low (left_at step).hex (left_at step).end) in
-      let off = unmarked (get_or old number false) is.1 in
+      let off = false_from_ne_true (get_or old number false) is.1 in
       let marking : IsMarking (left_at step) old [] (set old number true) (left_at step ∷ []) =
       record { low = low; marks = rw off refl; waits = rw off refl } in
       let any : Link → Type 0 = λ link. Unit {0} in

@@ -3,7 +3,7 @@ use Rattle.std.proofs.Common.{◌≡◌, Bool, true, false, ◌&&◌, ◌||◌, 
 use Rattle.std.proofs.lemmas.List.{append_assoc}
 use Rattle.std.proofs.lemmas.List.Elements.{filter_map-append}
 use Rattle.std.proofs.lemmas.List.Folds.{list_any-append}
-use Rattle.board_state.proofs.Same.{or_true}
+use Rattle.std.proofs.Math.Bool.{or-true}
 use Rattle.events.specs.Event.{token_placed}
 use Rattle.events.specs.declared.event.Event.{Event}
 use Rattle.events.specs.declared.event.Event.TheVariants as event
@@ -54,7 +54,7 @@ begun_lies game company =
       | true ↦ λ lies. lies
       | false ↦ λ none. by_either (home_of company) company game.events (home ∷ [])
           ∙ ap (λ (b : Bool). has_home_token game.events company || b) (lies_by_home company)
-          ∙ or_true (has_home_token game.events company)
+          ∙ or-true (has_home_token game.events company)
     ]
     refl
 

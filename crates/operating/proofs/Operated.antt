@@ -3,6 +3,8 @@ use Rattle.std.proofs.Common.{◌≡◌, ℕ, ◌==◌, Bool, true, false, not, 
 use Rattle.std.proofs.Common.{Some, None, is_some, refl, sym}
 use Rattle.std.proofs.Common.{ap, subst, ◌∙◌}
 use Rattle.std.specs.Option.{option_flatten, option_map, option_or}
+use Rattle.std.proofs.Math.Bool.{or-true, or-false}
+use Rattle.std.proofs.lemmas.Bool.{or_parts}
 use Rattle.events.specs.Event.{operated_by, round_begun_by}
 use Rattle.events.specs.RuleCodes.{code_of_pay_rule}
 use Rattle.events.specs.declared.event.Event.{Event}
@@ -12,7 +14,6 @@ use Rattle.totals.proofs.EventAtEnd.{last_said_at_end}
 use Rattle.totals.specs.LookBack.{Game, in_round, last_said, with_event}
 use Rattle.totals.specs.Shares.{president_of}
 use Rattle.totals.specs.Operating.{has_operated, turn_said}
-use Rattle.operating.proofs.RunLemmas.{second_false}
 use Rattle.operating.proofs.TurnEvents.{begins_none, own_alone}
 use Rattle.operating.proofs.ForcedGames.{OfForced, forced_begins_none, forced_operates_none, of_game_turn}
 use Rattle.operating.proofs.ForcedGames.{of_orders_end}
@@ -30,23 +31,13 @@ use Rattle.tables.proofs.Rules.{not_broken}
 use Rattle.tables.specs.declared.roster.Company.{Company}
 use Rattle.tables.specs.declared.round.Round.{Round}
 
--- something or nothing is that
-pub or_false : (b : Bool) → (b || false) ≡ b
-or_false true = refl
-or_false false = refl
-
--- something or what is so is so
-or_true : (b : Bool) → (b || true) ≡ true
-or_true true = refl
-or_true false = refl
-
 -- what was said before and by the event at the end, which begins no round
 word_more : (begins : Bool) (word : Option Company) (before : Option (Option Company)) → begins ≡ false →
     is_some (option_flatten (option_or (if begins then Some None else option_map Some word) before))
     ≡ (is_some (option_flatten before) || is_some word)
 word_more true word before none = absurd (cc)
-word_more false None before none = sym (or_false (is_some (option_flatten before)))
-word_more false (Some company) before none = sym (or_true (is_some (option_flatten before)))
+word_more false None before none = sym (or-false (is_some (option_flatten before)))
+word_more false (Some company) before none = sym (or-true (is_some (option_flatten before)))
 
 -- a company has operated once one more event is at the end
 one_more : (company : Company) (events : List Event) (its : Event) → is_some (round_begun_by its) ≡ false →
@@ -78,7 +69,7 @@ by_events company =
     (λ game its is. record {
       others = λ other apart. one_more other game.events its (begins_none company game its is)
           ∙ ap (λ (b : Bool). has_operated game.events other || b) (own_alone company other game its is apart)
-          ∙ or_false (has_operated game.events other);
+          ∙ or-false (has_operated game.events other);
       still = λ other has. one_more other game.events its (begins_none company game its is)
           ∙ ap (λ (b : Bool). b || is_some (turn_said other (operated_by its))) has;
     })
@@ -90,7 +81,7 @@ more_events company game its is no_tile no_train no_phase =
       others = λ other apart. one_more other game.events its (forced_begins_none its is)
           ∙ ap (λ (word : Option Company). has_operated game.events other || is_some (turn_said other word))
           (forced_operates_none its is)
-          ∙ or_false (has_operated game.events other);
+          ∙ or-false (has_operated game.events other);
       still = λ other has. one_more other game.events its (forced_begins_none its is)
           ∙ ap (λ (b : Bool). b || is_some (turn_said other (operated_by its))) has;
     }
@@ -104,7 +95,7 @@ now_has company game its none says =
     ∙ ap (λ (word : Option Company). has_operated game.events company || is_some (turn_said company word)) says
     ∙ ap (λ (b : Bool). has_operated game.events company || is_some (if b then Some company else None))
     (company_is_same company company refl)
-    ∙ or_true (has_operated game.events company)
+    ∙ or-true (has_operated game.events company)
 
 -- the turn is past its pay, or the trains of the company have earned something
 abbrev has_done : Progress → Bool
@@ -117,8 +108,8 @@ Has company turn = has_done turn.progress ≡ true → has_operated turn.game.ev
 -- PAY that is obeyed finds a revenue
 some_revenue : (progress : Progress) → pay_judgement progress ≡ None → (progress.runs.revenue == 0) ≡ false
 some_revenue progress kept =
-    second_false (is_past_pay progress) (progress.runs.revenue == 0)
-    (not_broken code_of_pay_rule (pay_rules progress) kept NothingToPay)
+    (or_parts (is_past_pay progress) (progress.runs.revenue == 0)
+    (not_broken code_of_pay_rule (pay_rules progress) kept NothingToPay)).1
 
 -- each step of a turn keeps it so
 has_steps : (company : Company) → OfSteps company (λ (old new : TurnState). Has company old → Has company new)
@@ -133,12 +124,12 @@ has_steps company =
           (has done);
       placed = λ turn asker at cost is rules has earned. (on.placed turn asker at cost is rules).still company
           (has (ap (λ (b : Bool). not (is_unpaid turn.progress) || b) earned
-          ∙ or_true (not (is_unpaid turn.progress))));
+          ∙ or-true (not (is_unpaid turn.progress))));
       ran = λ turn progress revenue has done. now_has company turn.game (event.Runs company revenue) refl refl;
       paid = λ turn rules has done. (on.paid turn rules).still company
           (has (ap (λ (b : Bool). not (is_unpaid turn.progress) || not b)
           (some_revenue turn.progress rules)
-          ∙ or_true (not (is_unpaid turn.progress))));
+          ∙ or-true (not (is_unpaid turn.progress))));
       kept = λ turn has done. (after_withheld company (Operates company) (by_events company) turn.game
           turn.progress.runs.revenue).still company
           (now_has company turn.game (event.Withheld company turn.progress.runs.revenue) refl refl);
@@ -175,7 +166,7 @@ company_operates file round company old new turn other =
     elim (same_company company other) as (λ (b : Bool). same_company company other ≡ b →
     has_operated new.events other ≡ (has_operated old.events other || b)) [
       | true ↦ λ same. subst (λ (c : Company). has_operated new.events c ≡ true) (company_is company other same)
-          (has_at_end company file round old new turn) ∙ sym (or_true (has_operated old.events other))
-      | false ↦ λ apart. by.others other apart ∙ sym (or_false (has_operated old.events other))
+          (has_at_end company file round old new turn) ∙ sym (or-true (has_operated old.events other))
+      | false ↦ λ apart. by.others other apart ∙ sym (or-false (has_operated old.events other))
     ]
     refl

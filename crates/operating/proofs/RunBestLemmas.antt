@@ -38,10 +38,6 @@ one_behind : {A : Type 0} (thing : A) (n : ℕ) → replicate n thing ++ thing �
 one_behind thing zero = refl
 one_behind thing (suc n) = ap (λ (things : List _). thing ∷ things) (one_behind thing n)
 
-regrouped : {A : Type 0} (xs ys zs : List A) → (xs ++ ys) ++ zs ≡ xs ++ (ys ++ zs)
-regrouped [] ys zs = refl
-regrouped (x ∷ xs) ys zs = ap (λ (rest : List _). x ∷ rest) (regrouped xs ys zs)
-
 -- a greatest revenue is small
 pub small_greatest :
     AGreatestExists → OneGreatest → (position : Position) (company : Company) (trains : List Kind) (revenue : ℕ)

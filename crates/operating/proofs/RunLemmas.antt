@@ -2,12 +2,14 @@
 -- it.
 use Rattle.std.specs.Prelude.{[]}
 use Rattle.std.specs.Prelude.{unwrap_or}
-use Rattle.std.proofs.Common.{◌≡◌, Option, Some, None, Ok, refl, List, sym, subst, ap, Bool, true, false, ◌||◌}
+use Rattle.std.proofs.Common.{◌≡◌, Option, Some, None, Ok, refl, List, sym, subst, ap, Bool, false}
 use Rattle.std.proofs.Common.{ℕ, ◌≤◌, ℤ, pos, arith, ◌+◌, ◌*◌, ◌≤ℤ◌, ◌∙◌}
 use Rattle.std.proofs.lemmas.Int.{ints}
 use Rattle.std.specs.Int.RustNames.{unsigned_abs}
 use Rattle.std.specs.Int.Signed.{le_z}
 use Rattle.std.specs.Option.{option_or}
+use Rattle.std.proofs.lemmas.Bool.{or_parts}
+use Rattle.history.proofs.Soundness.{none_earlier}
 use mir.Syntax.{w128}
 use mir.Val.{of_z, to_z}
 use Rattle.legal_runs.proofs.TallyOfWalk.{length_marked}
@@ -39,11 +41,6 @@ none_broken : (ran done : CompletedRun) (found : Option RunRule) → ran_unless 
 none_broken ran done None is = refl
 none_broken ran done (Some rule) is = absurd (cc)
 
--- neither of two is there
-second_none : {A : Type 0} (first second : Option A) → option_or first second ≡ None → second ≡ None
-second_none None second none = none
-second_none (Some thing) second none = absurd (cc)
-
 -- a run that is done is legal by the marks of the used borders
 pub judged_legal : (turn : TurnState) (company : Company) (kind : Kind) (run : List Place) (ran : CompletedRun)
     → judged_run turn company kind run ≡ Ok ran → IsLegalRun (position_now turn.game.events) company kind
@@ -55,7 +52,7 @@ judged_legal turn company kind run ran is =
     let judged : run_judgement turn company kind run ≡ None =
     none_broken (ran_by position kind turn.progress.runs.borders run) ran (run_judgement turn company kind run)
     is in
-    let unbroken : fault ≡ None = second_none (first_broken (rules_of_turn turn.game company turn.progress kind))
+    let unbroken : fault ≡ None = none_earlier (first_broken (rules_of_turn turn.game company turn.progress kind))
     fault judged in
     let legal : NameLegalRun position company kind used run =
     (legal_where_unbroken position company kind used run).0 unbroken in
@@ -83,11 +80,6 @@ pub judged_borders :
 judged_borders turn company kind run ran is = ap (λ (r : CompletedRun). r.borders)
     (judged_ran turn company kind run ran is)
 
--- where not one of two holds, the second does not
-pub second_false : (one other : Bool) → (one || other) ≡ false → other ≡ false
-second_false true other neither = cc
-second_false false other neither = neither
-
 -- where neither of two is there, the first is not
 first_none : {A : Type 0} (first second : Option A) → option_or first second ≡ None → first ≡ None
 first_none None second none = refl
@@ -104,10 +96,10 @@ judged_room turn company kind run ran is =
     let judged : run_judgement turn company kind run ≡ None =
     none_broken (ran_by position kind marks run) ran (run_judgement turn company kind run) is in
     let rules = rules_of_turn turn.game company turn.progress kind in
-    second_false turn.progress.best_run
+    (or_parts turn.progress.best_run
     (le_z (trains_held turn.game.events (Some company) kind) (has_run turn.progress.runs kind))
     (not_broken code_of_run_rule rules
-    (first_none (first_broken rules) (broken_by position company kind marks run) judged) run_rule.NoTrain)
+    (first_none (first_broken rules) (broken_by position company kind marks run) judged) run_rule.NoTrain)).1
 
 -- a sum that a run earns is kept whole
 sum_kept : (money : ℤ) (sum : ℕ) → money ≡ pos sum → sum ≤ 94640 → unsigned_abs (to_z w128 (of_z w128 money)) ≡ sum

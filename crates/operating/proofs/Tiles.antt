@@ -7,7 +7,7 @@ use Rattle.std.proofs.lemmas.Int.{ints}
 use Rattle.std.proofs.lemmas.List.{append-nil, reverse-append, reverse-reverse}
 use Rattle.std.proofs.lemmas.List.Sums.{sum_by-cons, sum_by_push}
 use Rattle.std.specs.List.{cons_option, count_by}
-use Rattle.board.proofs.Stocked.{lay_keeps_stock}
+use Rattle.board.proofs.Stocked.{lay_keeps_stock, once}
 use Rattle.board_state.proofs.Tiles.{last_lies}
 use Rattle.map_tables.specs.OnMap.{tile_on}
 use Rattle.board.specs.LayRules.{is_tile, on_map_of}
@@ -16,10 +16,9 @@ use Rattle.events.specs.declared.event.Event.TheVariants as event
 use Rattle.totals.proofs.InOrder.{lays_grow}
 use Rattle.totals.specs.LookBack.{Game, with_event}
 use Rattle.totals.specs.Operating.{lays_of}
-use Rattle.map_tables.specs.Hex.{hexes, index_of, same_hex, site_of}
+use Rattle.map_tables.specs.Hex.{hexes, index_of, same_hex}
 use Rattle.map_tables.specs.Tile.{entry_of}
 use Rattle.map_tables.specs.declared.hex.Hex.{Hex}
-use Rattle.map_tables.specs.declared.hex.Hex.TheVariants.{A9}
 use Rattle.map_tables.specs.declared.lay.Lay.{Lay}
 use Rattle.map_tables.specs.declared.tiles.TileNo.{TileNo}
 use Rattle.purchases.proofs.AgreedSales.{train_agreed}
@@ -31,12 +30,6 @@ use Rattle.purchases.specs.Train.{purchase_of}
 use Rattle.operating.specs.TileLaws.{LaysKeepTiles, OthersKeepTiles, TilesAreAll, TilesAreAllAtFirst, TurnsKeepTiles}
 use Rattle.operating.specs.TileLaws.{returned_by, returned_of, stock_of, taken_of}
 use Rattle.reach.proofs.Hexes.{same_index}
-
--- each hex is one of the map's once
-once : (hex : Hex) → count_by (same_hex hex) hexes ≡ 1
-unfolding hexes index_of site_of
-once A9 = refl
-once _ = refl
 
 -- nothing is counted by a test that nothing passes
 counts_none : {X : Type 0} (xs : List X) → count_by (λ x. false) xs ≡ 0

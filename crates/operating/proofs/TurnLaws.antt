@@ -4,6 +4,7 @@ use Rattle.std.proofs.Common.{◌≡◌, ◌≤◌, ◌||◌, Bool, false, List,
 use Rattle.std.proofs.Common.{arith}
 use Rattle.std.proofs.lemmas.List.{append_assoc, append-nil}
 use Rattle.std.proofs.lemmas.List.Folds.{list_any-append}
+use Rattle.std.proofs.lemmas.Bool.{or_from}
 use Rattle.events.specs.Event.{round_begun_by}
 use Rattle.events.specs.declared.event.Event.{Event}
 use Rattle.events.specs.declared.event.Event.TheVariants as event
@@ -29,10 +30,6 @@ use Rattle.sheets.specs.Part.{Numbered}
 use Rattle.tables.specs.Train.{index_of_kind}
 use Rattle.tables.specs.declared.roster.Company.{Company}
 
--- neither of two
-neither : (a b : Bool) → a ≡ false → b ≡ false → (a || b) ≡ false
-neither a b first second = ap (λ (x : Bool). x || b) first ∙ second
-
 -- to add events that begin no round is passed on
 adds_on : IsPassedOn OnlyAdds
 adds_on =
@@ -50,7 +47,7 @@ adds_on =
             ∙ ap (λ (events : List Event). record { seats = a.seats; events = events })
             (append_assoc a.events one.more two.more);
         no_round = list_any-append (λ its. is_some (round_begun_by its)) one.more two.more
-            ∙ neither _ _ one.no_round two.no_round;
+            ∙ or_from _ _ one.no_round two.no_round;
       };
     }
 

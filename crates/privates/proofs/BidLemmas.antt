@@ -6,6 +6,7 @@ use Rattle.std.proofs.lemmas.Bool.{or_left, or_parts, or_right}
 use Rattle.std.proofs.lemmas.Bool.Decides.{nat_tests}
 use Rattle.std.proofs.lemmas.List.Folds.{list_any-append}
 use Rattle.std.specs.Option.{option_flatten, option_or}
+use Rattle.std.proofs.Math.Bool.{or_assoc, or-false}
 use Rattle.events.specs.Event.{IsQuiet, bidding_of}
 use Rattle.events.specs.RuleCodes.{code_of_opening_rule}
 use Rattle.events.specs.declared.event.Bidding.{Bidding}
@@ -78,28 +79,18 @@ standing_was_made (event ∷ events) private seat amount sum is_bid near =
 near_max : (sum a b : ℕ) → nat_lt sum (max a b + 5) ≡ (nat_lt sum (a + 5) || nat_lt sum (b + 5))
 near_max sum a b = grind (arith, nat_tests)
 
--- a test that fails adds nothing
-or_none : (b : Bool) → b ≡ (b || false)
-or_none true = refl
-or_none false = refl
-
 -- near the greater of two bids is near one of them
 near_greater : (sum : ℕ) (earlier later : Option ℕ)
     → is_near sum (greater_bid later earlier) ≡ (is_near sum earlier || is_near sum later)
 near_greater sum None None = refl
 near_greater sum None (Some later) = refl
-near_greater sum (Some earlier) None = or_none (nat_lt sum (earlier + 5))
+near_greater sum (Some earlier) None = sym (or-false (nat_lt sum (earlier + 5)))
 near_greater sum (Some earlier) (Some later) = near_max sum earlier later
-
--- three tests in either grouping
-or_assoc : (a b c : Bool) → ((a || b) || c) ≡ (a || (b || c))
-or_assoc true b c = refl
-or_assoc false b c = refl
 
 -- near the greatest of a bid and those of a list is near one of them
 near_from : (private : Private) (sum : ℕ) (bid : Option ℕ) (events : List Event)
     → is_near sum (greatest_bid_from private bid events) ≡ (is_near sum bid || is_near_some sum events private)
-near_from private sum bid [] = or_none (is_near sum bid)
+near_from private sum bid [] = sym (or-false (is_near sum bid))
 near_from private sum bid (event ∷ events) =
     let made : Option ℕ = bid_made private (bidding_of event) in
     near_from private sum (greater_bid made bid) events
@@ -118,7 +109,7 @@ near_after private sum events event quiet =
     let near : Event → Bool = λ its. is_near sum (bid_made private (bidding_of its)) in
     list_any-append near events (event ∷ [])
     ∙ ap (λ word. is_near_some sum events private || (is_near sum (bid_made private word) || false)) quiet.bidding
-    ∙ sym (or_none (is_near_some sum events private))
+    ∙ or-false (is_near_some sum events private)
 
 -- a bid that breaks no rule can be made
 pub may_bid : (seats : ℕ) (events : List Event) (seat : Seat) (used : Bool) (private : Private) (amount : ℕ)

@@ -3,6 +3,7 @@
 use Rattle.std.proofs.Common.{◌≡◌, ℕ, ◌<◌, Bool, true, false, ◌&&◌, List, [], ◌∷◌, ◌++◌, Option, None, unwrap_or, pos}
 use Rattle.std.proofs.Common.{◌-ℤ◌, ℤ, refl, sym, ap, subst, ◌∙◌, arith}
 use Rattle.std.proofs.lemmas.Int.{ints}
+use Rattle.std.proofs.Math.Bool.{and-false}
 use Rattle.events.specs.Event.{phase_set, train_owner_place, train_moved}
 use Rattle.events.specs.declared.event.Event.{Event}
 use Rattle.events.specs.declared.event.Event.TheVariants as event
@@ -54,20 +55,15 @@ alike_by kind game event sells comes goes =
       out = omega (arith, ints, trains_at_end game.events event place.OutOfPlay kind, ap one_if comes, ap one_if goes);
     }
 
--- what is no place is none whatever the kind
-pub never : (same : Bool) → (same && false) ≡ false
-never true = refl
-never false = refl
-
 pub alike_traded : (kind : Kind) → OfTrades (Alike kind)
 alike_traded kind game company old =
-    alike_by kind game (event.Traded company old) (never (same_kind old kind)) (never (same_kind old kind))
-    (never (same_kind old kind))
+    alike_by kind game (event.Traded company old) (and-false (same_kind old kind)) (and-false (same_kind old kind))
+    (and-false (same_kind old kind))
 
 pub alike_discarded : (kind : Kind) → OfDiscards (Alike kind)
 alike_discarded kind game company old =
-    alike_by kind game (event.Discarded company old) (never (same_kind old kind)) (never (same_kind old kind))
-    (never (same_kind old kind))
+    alike_by kind game (event.Discarded company old) (and-false (same_kind old kind)) (and-false (same_kind old kind))
+    (and-false (same_kind old kind))
 
 pub alike_closed : (kind : Kind) → OfClosings (Alike kind)
 alike_closed kind game private = alike_by kind game (event.Closed private) refl refl refl

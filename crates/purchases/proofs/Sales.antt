@@ -5,6 +5,7 @@ use Rattle.std.proofs.Common.{if◌then◌else◌, List, Option, Some, None, ref
 use Rattle.std.proofs.lemmas.Bool.Decides.{Decides-eqb, nat_tests}
 use Rattle.std.proofs.lemmas.Int.{ints}
 use Rattle.std.proofs.lemmas.Bool.{and_parts, or_cases}
+use Rattle.std.proofs.Math.Bool.{and-false}
 use Rattle.events.specs.Event.{place_of_seller}
 use Rattle.events.specs.declared.event.Event.{Event}
 use Rattle.events.specs.declared.event.Event.TheVariants as event
@@ -17,7 +18,7 @@ use Rattle.totals.proofs.EventAtEnd.{trains_at_end}
 use Rattle.history.proofs.Rolling.{same_kind_is, sold_at_end}
 use Rattle.totals.specs.LookBack.{Game, with_event}
 use Rattle.totals.specs.Trains.{TrainsAreHeld, one_if, train_goes, trains_at, trains_sold}
-use Rattle.purchases.proofs.Complete.{Alike, alike_closed, alike_on, alike_traded, never}
+use Rattle.purchases.proofs.Complete.{Alike, alike_closed, alike_on, alike_traded}
 use Rattle.purchases.proofs.TrainSteps.{of_bop, of_trade}
 use Rattle.purchases.specs.Train.{are_left, first_left, is_kind, is_left, is_on_sale, train_bought}
 use Rattle.purchases.specs.Train.{train_purchase_cost, with_bop_closed, with_trade}
@@ -45,9 +46,9 @@ pub record IsBought (buyer : Company) (purchase : TrainPurchase) (kind : Kind) (
 from_play : (from : TrainSeller) (kind of : Kind) (buyer : Company)
     → train_goes place.OutOfPlay kind (Some (record
     { kind = of; from = place_of_seller from; to = place.Company buyer })) ≡ false
-from_play seller.Bank kind of buyer = never (same_kind of kind)
-from_play seller.BankPool kind of buyer = never (same_kind of kind)
-from_play (seller.Company owner) kind of buyer = never (same_kind of kind)
+from_play seller.Bank kind of buyer = and-false (same_kind of kind)
+from_play seller.BankPool kind of buyer = and-false (same_kind of kind)
+from_play (seller.Company owner) kind of buyer = and-false (same_kind of kind)
 
 -- so it is
 pub is_bought : (game : Game) (buyer : Company) (purchase : TrainPurchase) (kind : Kind)
@@ -69,7 +70,7 @@ is_bought game buyer purchase kind =
         close.out,
         trains_at_end traded.events train place.OutOfPlay kind,
         ap one_if
-            (never (same_kind purchase.kind kind)),
+            (and-false (same_kind purchase.kind kind)),
         ap one_if (from_play purchase.from kind purchase.kind buyer),
         trade.out,
       );
@@ -87,8 +88,8 @@ by_seller seller.Bank of kind buyer =
       | inl same ↦ inr (refl, (same_kind_is of kind same, ap (λ (b : Bool). one_if (b && true)) same))
       | inr apart ↦ inl (ap (λ (b : Bool). one_if (b && true)) apart)
     ]
-by_seller seller.BankPool of kind buyer = inl (ap one_if (never (same_kind of kind)))
-by_seller (seller.Company owner) of kind buyer = inl (ap one_if (never (same_kind of kind)))
+by_seller seller.BankPool of kind buyer = inl (ap one_if (and-false (same_kind of kind)))
+by_seller (seller.Company owner) of kind buyer = inl (ap one_if (and-false (same_kind of kind)))
 
 -- the kind that the bank sells by a purchase, if it sells one
 pub sold_or_not : (buyer : Company) (purchase : TrainPurchase) (kind : Kind)

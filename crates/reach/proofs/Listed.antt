@@ -3,6 +3,7 @@ use Rattle.std.proofs.Common.{◌≡◌, ℕ, ◌+◌, ◌*◌, Bool, true, fals
 use Rattle.std.proofs.Common.{List, [], ◌∷◌, get_or, set, replicate, refl, ap, sym, ◌∙◌, subst, arith, get_or-set_same}
 use Rattle.std.proofs.lemmas.Bool.{and_parts, eqb-true}
 use Rattle.std.specs.Prelude.{◌==◌}
+use Rattle.std.proofs.Math.Bool.{and-false}
 use Rattle.map_tables.proofs.HexTables.{same_hex-true}
 use Rattle.map_tables.specs.Hex.{index_of, same_hex}
 use Rattle.map_tables.specs.OnMap.{has_token, is_part_of, names, same_stop}
@@ -37,7 +38,7 @@ pub record TokensListed (position : Position) (company : Company) (marks : List 
   pub wait : AllWait marks waiting
 
 -- nothing is marked at first
-unmarked : (marks : List Bool) → marks ≡ replicate 744 false → (n : ℕ) → get_or marks n false ≡ true → ⊥
+pub unmarked : (marks : List Bool) → marks ≡ replicate 744 false → (n : ℕ) → get_or marks n false ≡ true → ⊥
 unmarked marks is n found =
     let not_found : get_or marks n false ≡ false = ap (λ ms. get_or ms n false) is ∙ none_marked 744 n in cc
 
@@ -71,11 +72,6 @@ mark_of marks part stop one is =
     subst (λ (joined : Stop). get_or marks (8 * index_of joined.hex + (6 + stop_index_of joined.number)) false ≡ true)
     one is
 
--- a test and false
-and_false : (b : Bool) → (b && false) ≡ false
-and_false true = refl
-and_false false = refl
-
 module _ (token : Place × Company) (tokens : List (Place × Company)) (stop : Stop) (company : Company) where
   -- a token that names no stop for the company
   names_none : stop_of_token company token ≡ None → (names stop token.0 && same_company token.1 company) ≡ false
@@ -83,7 +79,7 @@ module _ (token : Place × Company) (tokens : List (Place × Company)) (stop : S
       (elim (same_company token.1 company) as (λ same. cond same (stop_of_place token.0) None ≡ None
       → (names stop token.0 && same) ≡ false) [
         | true ↦ λ is. ap (λ part. is_part_of stop part && true) is
-        | false ↦ λ is. and_false (names stop token.0)
+        | false ↦ λ is. and-false (names stop token.0)
       ]) none
 
   -- is passed over

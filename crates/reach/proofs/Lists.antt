@@ -3,13 +3,9 @@ use Rattle.std.proofs.Common.{◌≡◌, ℕ, zero, suc, ◌+◌, ◌<◌, List,
 use Rattle.std.proofs.Common.{length, get_or, take, refl, ap, sym, ◌∙◌, subst, arith}
 use Rattle.std.specs.List.{AllByRecursion, list_any}
 use Rattle.std.proofs.lemmas.List.{take_more}
+use Rattle.std.proofs.Math.Bool.{or-true}
 use Rattle.reach.specs.Position.{IsAmong}
 use Rattle.reach.specs.Reached.{AreSortedBy}
-
--- a test or true
-or_true : (b : Bool) → (b || true) ≡ true
-or_true true = refl
-or_true false = refl
 
 -- the element at the end
 pub among_end : {A : Type 0} (xs : List A) (x : A) → IsAmong x (xs ++ x ∷ [])
@@ -78,4 +74,4 @@ pub found_among : {A : Type 0} (same : A → A → Bool) → ((a b : A) → a �
 found_among same alike [] x among = absurd among
 found_among same alike (y ∷ ys) x (inl here) = ap (λ b. b || list_any (λ z. same z x) ys) (alike y x here)
 found_among same alike (y ∷ ys) x (inr later) =
-    ap (λ b. same y x || b) (found_among same alike ys x later) ∙ or_true (same y x)
+    ap (λ b. same y x || b) (found_among same alike ys x later) ∙ or-true (same y x)

@@ -38,11 +38,6 @@ set_back [] n = refl
 set_back (mark ∷ marks) zero = refl
 set_back (mark ∷ marks) (suc n) = ap (λ rest. mark ∷ rest) (set_back marks n)
 
--- what is not true is false
-not_true : (mark : Bool) → ¬ (mark ≡ true) → mark ≡ false
-not_true true off = absurd (off refl)
-not_true false off = refl
-
 -- a stop is marked if it is one of them
 pub among_mark : (stops : List Stop) (stop : Stop) → get_or (marks_of stops) (stop_order stop) false ≡ true
     → IsAmong stop stops

@@ -1,10 +1,9 @@
 -- What the lists of parts show, as pages are added to them.
-use Rattle.std.proofs.Common.{◌≡◌, ℕ, ◌+◌, ◌-◌, ◌<◌, ◌≤◌, Bool, true, false, List, [], ◌∷◌, ◌++◌, length, take, drop, get_or, refl, ap, ◌∙◌, sym, subst, append_assoc, below_more, arith}
-use Rattle.std.specs.Prelude.{◌&&◌, Option, Some, None, option_to_list, if◌then◌else◌, map, nat_le, slice_range, zero, suc}
-use Rattle.std.specs.List.{flat_map}
+use Rattle.std.proofs.Common.{◌≡◌, ℕ, ◌+◌, ◌-◌, ◌<◌, ◌≤◌, Bool, true, false, List, [], ◌∷◌, ◌++◌, length, drop, get_or, refl, ap, ◌∙◌, sym, subst, append_assoc, below_more, arith}
+use Rattle.std.specs.Prelude.{◌&&◌, Option, Some, None, option_to_list, if◌then◌else◌, nat_le, slice_range, zero, suc}
 use Rattle.std.proofs.lemmas.Bool.Decides.{nat_tests}
 use Rattle.std.proofs.lemmas.Grind.{flat_map-append}
-use Rattle.std.proofs.lemmas.List.{append-nil, take_more, drop_more, drop-map, map-append, length-map}
+use Rattle.std.proofs.lemmas.List.{append-nil, drop_more, drop-map, map-append, length-map}
 use Rattle.std.proofs.lemmas.List.Elements.{All-push}
 use Rattle.std.proofs.lemmas.List.Folds.{drop_split}
 use Rattle.markup.specs.Part.{part_text}
@@ -51,37 +50,6 @@ as_before page number one earlier last =
     let now : nat_le page number ≡ true = grind (arith, nat_tests) in
     let was : nat_le page one.to ≡ true = grind (arith, nat_tests) in
     rw (now, was) refl
-
--- a new part is added behind the first ones of a page
-pub new_step : (old was now : List Lasting) (page : List Part) (i number : ℕ) (d part : Part) → i < length page
-    → now ≡ was ++ (record { part = part; from = number; to = number }) ∷ []
-    → part_text part ≡ part_text (get_or page i d)
-    → AddsNew old was (texts (take i page)) number → AddsNew old now (texts (take (i + 1) page)) number
-new_step old was now page i number d part within is same adds =
-    let one : Lasting = record { part = part; from = number; to = number } in
-    let text : List ℕ = part_text (get_or page i d) in
-    let here : text_in number one ≡ text ∷ [] =
-    alive number part number number (omega arith) (omega arith) ∙ ap (λ (t : List ℕ). t ∷ []) same in
-    let more : texts (take (i + 1) page) ≡ texts (take i page) ++ text ∷ [] =
-    ap texts (take_more page i d within) ∙ map-append part_text (take i page) (get_or page i d ∷ []) in
-    record {
-      now = ap (shown number) is ∙ (shown-push number was one
-          ∙ (ap (λ (t : List (List ℕ)). shown number was ++ t) here
-          ∙ (ap (λ (t : List (List ℕ)). t ++ text ∷ []) adds.now
-          ∙ (append_assoc (shown number old) (texts (take i page)) (text ∷ [])
-          ∙ ap (λ (t : List (List ℕ)). shown number old ++ t) (sym more)))));
-      earlier = λ n before. ap (shown n) is ∙ (shown-push n was one
-          ∙ (ap (λ (t : List (List ℕ)). shown n was ++ t) (not_yet n part number number before)
-          ∙ (append-nil (shown n was) ∙ adds.earlier n before)));
-      bound = λ bound. subst (IsBefore (number + 1)) (sym is)
-          (All-push (LivesBefore (number + 1)) was one (adds.bound bound)
-          (record { ordered = omega arith; before = omega arith }));
-    }
-
--- no part is added at first
-pub none_new : (old : List Lasting) (number : ℕ) → AddsNew old old [] number
-none_new old number =
-    record { now = sym (append-nil (shown number old)); earlier = λ n before. refl; bound = λ bound. bound }
 
 -- the texts of a range of parts, and those behind it
 range_texts : (page : List Part) (taken place : ℕ) → taken ≤ place

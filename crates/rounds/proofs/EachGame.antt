@@ -8,7 +8,7 @@ use Rattle.events.specs.Event.{bidding_of}
 use Rattle.events.specs.declared.event.Event.{Event}
 use Rattle.events.specs.declared.event.Event.TheVariants as event
 use Rattle.totals.proofs.EventAtEnd.{bid_of_at_end, bid_of_before}
-use Rattle.history.proofs.BidWords.{seated_after_bid}
+use Rattle.history.proofs.BidWords.{seated_after_bid, sale_cases}
 use Rattle.totals.specs.Bids.{bid_of}
 use Rattle.totals.specs.LookBack.{Game, is_closed, is_sold}
 use Rattle.history.specs.Sound.{BiddersAreSeated}
@@ -52,7 +52,6 @@ use Rattle.tables.specs.Train.{index_of_kind}
 use Rattle.operating.specs.TileLaws.{OthersKeepTiles, TilesAreAll, TilesAreAllAtFirst}
 use Rattle.operating.specs.TileLaws.{TurnsKeepTiles}
 use Rattle.rounds.specs.Tiles.{AllTilesAreThereInEachGame}
-use Rattle.privates.proofs.OpeningBids.{not_ended}
 
 -- if those who bid sit at the table by the one list, they do by the other
 abbrev pub StillSeated : ℕ → List Event → List Event → Type 0
@@ -69,7 +68,7 @@ sale_seated : (seats : ℕ) (events : List Event) (sold : Private) (buyer : Seat
     StillSeated seats events (events ++ event.Sold sold buyer price ∷ [])
 sale_seated seats events sold buyer price seated private seat amount is_bid =
     seated private seat amount
-    (not_ended (same_private sold private) (bid_of events private seat) amount
+    (sale_cases (same_private sold private) (bid_of events private seat) amount
     (sym (bid_of_at_end events (event.Sold sold buyer price) private seat) ∙ is_bid))
 
 -- the seats of a table

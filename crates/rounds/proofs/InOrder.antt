@@ -36,7 +36,7 @@ abbrev pub GoesOn : List Event → List Event → Type 0
 GoesOn old new = GrowsBy begins_none old new
 
 -- a round before rounds of two lists
-round_in_front : (round : Option Round) (prefix back : List Round)
+pub round_in_front : (round : Option Round) (prefix back : List Round)
     → with_round round (prefix ++ back) ≡ with_round round prefix ++ back
 round_in_front round prefix back = grind arith
 

@@ -11,7 +11,7 @@ mod OperatingGrows
 pub mod RoundSteps
 mod CompanyTurns
 pub mod InSet
-mod InOrder
+pub mod InOrder
 mod OpeningSteps
 mod EachGame
 mod PlainGames

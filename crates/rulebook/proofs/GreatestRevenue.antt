@@ -4,9 +4,10 @@
 -- has. One border joins the two cities, so one train runs. The certificate of the chapter on
 -- certificates shows that no set of runs earns more: its marks `befb8` are read over the tree. That
 -- neighbours pair is the law `map_tables: neighbours_pair`.
-use Rattle.std.proofs.Common.{◌≡◌, ◌∙◌, ap, sym, subst, refl, ◌<◌, ◌≤◌, lit<, lit≤, length, get_or, Bool, true, false}
+use Rattle.std.proofs.Common.{◌≡◌, ◌∙◌, ap, sym, subst, refl, ◌<◌, ◌≤◌, lit<, lit≤, get_or, Bool, true, false}
 use Rattle.std.proofs.Common.{List, [], ◌∷◌, Some, None, ◌⊎◌, inl, inr, map, codes}
 use Rattle.std.proofs.lemmas.List.{get_or-map}
+use Rattle.board_state.proofs.Positions.{index_low}
 use Rattle.certificate.proofs.Accepted.{accepted_is_greatest, marks_are_read}
 use Rattle.certificate.specs.Digits.{bits_of_digits}
 use Rattle.certificate.specs.Holding.{AreReached}
@@ -18,6 +19,7 @@ use Rattle.legal_runs.specs.Fault.{run_fault}
 use Rattle.legal_runs.specs.Named.{leg_to, side_towards, step_between, walk_named}
 use Rattle.legal_runs.specs.Set.{AreTakenFrom, IsGreatest}
 use Rattle.legal_runs.specs.declared.claim.Claim.{Claim}
+use Rattle.map_tables.proofs.HexTables.{hex_at_index}
 use Rattle.map_tables.specs.Border.{adjacent, neighbour_of}
 use Rattle.map_tables.specs.Hex.{hex_at, hexes, index_of, site_of}
 use Rattle.map_tables.specs.Laws.{AreLinksOf, NeighboursPair}
@@ -69,21 +71,10 @@ small_map = record { hexes = map on_map hexes }
 abbrev both : List Stop
 both = stop_at H10 First ∷ stop_at H12 First ∷ []
 
--- a hex is at its number
-at_index : (hex : Hex) → get_or hexes (index_of hex) A9 ≡ hex
-unfolding hexes index_of site_of
-at_index A9 = refl
-at_index hex = refl
-
-index_low : (hex : Hex) → index_of hex < length hexes
-unfolding hexes index_of site_of
-index_low A9 = lit< tt
-index_low hex = lit< tt
-
 -- the position has in a hex what is there
 in_hex_is : (hex : Hex) → in_hex small_map hex ≡ on_map hex
 unfolding small_map
-in_hex_is hex = get_or-map on_map hexes (index_of hex) A9 empty_hex (index_low hex) ∙ ap on_map (at_index hex)
+in_hex_is hex = get_or-map on_map hexes (index_of hex) A9 empty_hex (index_low hex) ∙ ap on_map (hex_at_index hex)
 
 -- and at a stop
 abbrev standing_in : Hex → StopNumber → Lies

@@ -14,10 +14,6 @@ pub not_self : (b : Bool) → b ≡ true → not b ≡ true → ⊥
 not_self true is none = absurd cc
 not_self false is none = absurd cc
 
-pub not_true : (b : Bool) → (b ≡ true → ⊥) → not b ≡ true
-not_true true none = absurd (none refl)
-not_true false none = refl
-
 pub both_first : (a b : Bool) → (a && b) ≡ true → a ≡ true
 both_first true b is = refl
 both_first false b is = absurd cc

@@ -4,10 +4,6 @@ use Rattle.std.proofs.Common.{take, refl, sym, ap, ◌∙◌, arith}
 use Rattle.std.proofs.lemmas.List.{length-take-le, take_all, take_more}
 use Rattle.reach.specs.declared.walk.WalkStep.{WalkStep}
 
-pub append_together : {A : Type 0} (xs ys zs : List A) → (xs ++ ys) ++ zs ≡ xs ++ (ys ++ zs)
-append_together [] ys zs = refl
-append_together (x ∷ xs) ys zs = ap (λ rest. x ∷ rest) (append_together xs ys zs)
-
 set_in_prefix : (steps : List WalkStep) (n : ℕ) (step last : WalkStep)
     → set (steps ++ replicate (suc n) last) (length steps) step ≡ steps ++ step ∷ replicate n last
 set_in_prefix [] n step last = refl

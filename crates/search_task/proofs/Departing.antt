@@ -1,14 +1,14 @@
 -- The legs from a stop, as they are found: by a segment to a stop there is one, by a segment to a
 -- side those by the segments from there.
 use Rattle.std.proofs.Common.{◌≡◌, ℕ, zero, suc, ◌+◌, ◌*◌, ◌<◌, ◌≤◌, Bool, true, false, ◌⊎◌, inl, inr, Option, Some}
-use Rattle.std.proofs.Common.{None, List, [], ◌∷◌, ◌++◌, length, get_or, slice_get, take, refl, sym, ap, subst, ◌∙◌}
+use Rattle.std.proofs.Common.{None, List, [], ◌∷◌, ◌++◌, length, slice_get, take, refl, sym, ap, subst, ◌∙◌}
 use Rattle.std.proofs.Common.{arith, length-append}
 use Rattle.std.specs.List.{AllByRecursion}
 use Rattle.std.specs.List.Sorted.{IsPermutation}
-use Rattle.std.proofs.lemmas.List.{take_at}
+use Rattle.std.proofs.lemmas.List.{take_at, append_assoc}
 use Rattle.std.proofs.lemmas.List.Elements.{All-from_recursion, recursion_from_All}
 use Rattle.std.proofs.lemmas.List.Sorted.{All-permutation, IsPermutation-sym}
-use Rattle.std.proofs.lemmas.Option.{slice_get_read, slice_get_within}
+use Rattle.std.proofs.lemmas.Option.{slice_get_within}
 use Rattle.reach.specs.Position.{IsAmong}
 use Rattle.reach.specs.declared.walk.WalkStep.{WalkStep}
 use Rattle.reach.proofs.Lists.{among_before, among_cases, among_end}
@@ -29,7 +29,6 @@ use Rattle.search_task.specs.Legs.{borders_by, legs_at, legs_in, none_used, step
 use Rattle.search_task.proofs.Marked.{marked_append}
 use Rattle.search_task.proofs.Marks.{marked_fewer}
 use Rattle.search_task.proofs.Places.{below_next, place_low}
-use Rattle.search_task.proofs.Copied.{append_together}
 
 -- a segment over no border counts one
 abbrev pub one_if_none : List ℕ → ℕ
@@ -174,7 +173,7 @@ made_more task used walked place segment hop hops leg free side passes leads mad
       free = (free, made.free);
       place_is = made.place_is;
       borders = made.borders ∙ ap numbers_in (marked_append used segment.borders.items (borders_by hop.segment hops));
-      steps = made.steps ∙ append_together walked (segment.step ∷ []) (steps_by hop.segment hops);
+      steps = made.steps ∙ append_assoc walked (segment.step ∷ []) (steps_by hop.segment hops);
     }
 
 pub adds_side :
@@ -322,16 +321,6 @@ pub none_at : {A : Type 0} (xs : List A) (i : ℕ) → slice_get xs i ≡ None �
 none_at [] i none low = omega (arith, low)
 none_at (x ∷ xs) zero none low = absurd cc
 none_at (x ∷ xs) (suc i) none low = none_at xs i none (omega (arith, low))
-
-pub departs_from : (task : Task) → AreReady task → (stop : ℕ) (from : Departures) → stop < 744
-    → from ≡ get_or task.departures.items stop from → stop_in (node_at task stop) ≡ true
-    → AreLegsOf task stop from.legs.items
-departs_from task ready stop from low is stops =
-    ready.each stop from (slice_get_read task.departures.items 744 stop from (sym ready.long) low is) stops
-
-pub departs_at : (task : Task) → AreReady task → (stop : ℕ) (from : Departures) → stop < 744
-    → from ≡ get_or task.departures.items stop from → slice_get task.departures.items stop ≡ Some from
-departs_at task ready stop from low is = slice_get_read task.departures.items 744 stop from (sym ready.long) low is
 
 -- what is said of legs is said of spots and segments alone
 node_same : (a b : Task) → a.spots.items ≡ b.spots.items → (spot : ℕ) → node_at a spot ≡ node_at b spot

@@ -1,8 +1,9 @@
 -- Marks of borders: marking some, and what is left unmarked.
 use Rattle.std.proofs.Common.{◌≡◌, ℕ, zero, suc, ◌+◌, ◌<◌, ◌≤◌, Bool, true, false, not, ◌||◌, List, [], ◌∷◌, length}
-use Rattle.std.proofs.Common.{get_or, set, refl, ap, ◌∙◌, arith, length-set}
+use Rattle.std.proofs.Common.{get_or, set, refl, ◌∙◌, arith, length-set}
 use Rattle.std.specs.List.{list_any}
-use Rattle.search_task.specs.Fit.{BordersFit, if_unset, unused}
+use Rattle.legal_runs.proofs.Earning.{mark_used}
+use Rattle.search_task.specs.Fit.{BordersFit, unused}
 use Rattle.search_task.specs.Crossed.{marked_all, misses}
 
 -- a mark leaves no more unset
@@ -10,13 +11,6 @@ set_most : (marks : List Bool) (border : ℕ) → unused (set marks border true)
 set_most [] border = omega arith
 set_most (mark ∷ marks) zero = omega arith
 set_most (mark ∷ marks) (suc border) = let rest = set_most marks border in omega arith
-
--- a new mark leaves one fewer
-pub set_fewer : (marks : List Bool) (border : ℕ) → border < length marks → get_or marks border false ≡ false
-    → unused (set marks border true) + 1 ≡ unused marks
-set_fewer [] border low free = absurd (omega arith)
-set_fewer (mark ∷ marks) zero low free = let counts : if_unset mark ≡ 1 = ap if_unset free in omega arith
-set_fewer (mark ∷ marks) (suc border) low free = let rest = set_fewer marks border (omega arith) free in omega arith
 
 pub marked_most : (used : List Bool) (borders : List ℕ) → unused (marked_all used borders) ≤ unused used
 marked_most used [] = omega arith
@@ -37,7 +31,7 @@ pub marked_fewer : (used : List Bool) (borders : List ℕ) → length used ≡ 2
 marked_fewer used [] whole fit some free = absurd (omega arith)
 marked_fewer used (border ∷ borders) whole fit some free =
     let one : unused (set used border true) + 1 ≡ unused used =
-    set_fewer used border (omega (arith, fit.0)) (first_free (get_or used border false)
+    mark_used used border (omega (arith, fit.0)) (first_free (get_or used border false)
     (list_any (λ b. get_or used b false) borders) free) in
     omega (arith, marked_most (set used border true) borders)
 

@@ -11,11 +11,12 @@ use Rattle.std.proofs.lemmas.List.FromFn.{get_or-map-range_with_len, length-map-
 use Rattle.std.proofs.lemmas.Nat.{and_le_l, bit_set_by_shift, pow_below, shr-shr}
 use Rattle.std.proofs.lemmas.Nat.Bits.{bit_at-lt, bit_at-trailing_zeros, bit_at-zero, bit_at_and, bit_at_ones}
 use Rattle.std.proofs.lemmas.Nat.Bits.{bit_at_ones_above, bit_at_or, bit_at_set_other, bit_at_set_same, shr_and_one}
+use Rattle.legal_runs.proofs.Tests.{to_not}
 use Rattle.search_task.specs.Marks.{AreApart, AreBarred, AreBoth, AreOnly, Freer, FillWords, HasNoneFrom, IsMarked}
 use Rattle.search_task.specs.Marks.{IsBitOf, bit_of, mark_at, marks_in}
 use Rattle.search_task.proofs.Marked.{mark_more}
 use Rattle.search_task.proofs.Places.{below_next}
-use Rattle.search_task.proofs.Booleans.{not_both, not_self, not_true, same_bool}
+use Rattle.search_task.proofs.Booleans.{not_both, not_self, same_bool}
 
 -- there are as many marks as numbers
 pub length_marks : (count : ℕ) (words : List ℕ) → length (marks_in count words) ≡ count
@@ -87,7 +88,7 @@ in_place word k =
     same_bool (not (eqb (bit_and word (2 ^ k)) 0)) (eqb (bit_and (word / 2 ^ k) 1) 1)
     (λ holds. eq-eqb (bit_and (word / 2 ^ k) 1) 1 ((bit_set_by_shift word k).1 (λ none.
     not_self (eqb (bit_and word (2 ^ k)) 0) (eq-eqb (bit_and word (2 ^ k)) 0 none) holds)))
-    (λ holds. not_true (eqb (bit_and word (2 ^ k)) 0) (λ none.
+    (λ holds. to_not (eqb (bit_and word (2 ^ k)) 0) (λ none.
     (bit_set_by_shift word k).0 (eqb-true (bit_and (word / 2 ^ k) 1) 1 holds)
     (eqb-true (bit_and word (2 ^ k)) 0 none)))
 

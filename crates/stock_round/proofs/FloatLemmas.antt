@@ -1,5 +1,5 @@
 -- A company that floats. Nobody acts by a float, nor by what else follows from an order.
-use Rattle.std.proofs.Common.{◌≡◌, ℕ, ◌*◌, ◌≤◌, ◌==◌, Bool, true, false, not, ◌&&◌, if◌then◌else◌, List, [], ◌∷◌, ◌++◌}
+use Rattle.std.proofs.Common.{◌≡◌, ℕ, ◌*◌, ◌≤◌, ◌==◌, Bool, true, false, not, ◌&&◌, List, [], ◌∷◌, ◌++◌}
 use Rattle.std.proofs.Common.{Option, Some, None, ℤ, pos, ◌≤ℤ◌, refl, sym, subst, arith}
 use Rattle.std.proofs.lemmas.Int.{ints}
 use Rattle.std.specs.Int.Signed.{lt_z}
@@ -10,14 +10,14 @@ use Rattle.events.specs.declared.event.Event.{Event}
 use Rattle.events.specs.declared.event.Event.TheVariants as event
 use Rattle.events.specs.declared.event.Shareholder.TheVariants.{InitialOffering}
 use Rattle.history.proofs.Blocks.{float_sound as float_law}
+use Rattle.history.proofs.Starts.{least_eight}
 use Rattle.history.specs.Record.{breaks, with_broken}
-use Rattle.history.specs.Sound.{IsLed, IsSound, least_offered}
-use Rattle.totals.specs.LookBack.{Game, is_closed, is_sold, with_event}
+use Rattle.history.specs.Sound.{IsLed, IsSound}
+use Rattle.totals.specs.LookBack.{Game, with_event}
 use Rattle.totals.specs.Shares.{is_floated, par_of, president_of, shares_of, square_of}
 use Rattle.stock_round.specs.Float.{float_most, floated_at, is_to_float, with_float}
 use Rattle.tables.specs.declared.roster.Company.{Company}
 use Rattle.tables.specs.declared.roster.Company.TheVariants as company
-use Rattle.tables.specs.declared.roster.Private.TheVariants.{MohawkHudson, CamdenAmboy}
 use Rattle.tables.specs.declared.seat.Seat.{Seat}
 use Rattle.tables.specs.declared.squares.Square.{Square}
 use Rattle.turns.proofs.Acted.{in_both, in_either, nobody, one_more}
@@ -29,14 +29,6 @@ few_left : (floated : Bool) (left : ℤ) → (not floated && not (lt_z (pos floa
 few_left true left is = absurd (cc)
 few_left false left is = grind (arith, ints, is)
 
--- at least eight shares are to stay
-eight_stay : (events : List Event) (its : Company) → 8 ≤ least_offered events its
-eight_stay events company.Pennsylvania = elim (is_sold events CamdenAmboy) as (λ (b : Bool). 8 ≤ (if b then 8 else 9))
-    [ true ↦ omega arith | false ↦ omega arith ]
-eight_stay events company.NewYorkCentral = elim (is_closed events MohawkHudson) as
-    (λ (b : Bool). 8 ≤ (if b then 8 else 9)) [ true ↦ omega arith | false ↦ omega arith ]
-eight_stay events other = omega arith
-
 -- a company that is to float is led
 pub float_led : (game : Game) (its : Company) → is_to_float game.events its ≡ true → IsSound game
     → IsLed game.events its
@@ -45,7 +37,7 @@ float_led game its ready sound =
     → IsLed game.events its) [
       | None ↦ λ is.
           let stay = sound.offered its is in
-          let eight = eight_stay game.events its in
+          let eight = least_eight game.events its in
           let few = few_left (is_floated game.events its) (shares_of game.events its InitialOffering) ready in
           let no : 1 ≤ 0 = omega (arith, ints, stay, eight, few) in
           absurd (omega (arith, no))

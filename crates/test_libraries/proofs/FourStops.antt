@@ -1,6 +1,7 @@
 -- The network of four stops has what its definition says, and keeps the laws of networks.
 use Rattle.std.proofs.Common.{◌≡◌, ◌∙◌, ap, sym, subst, refl, ◌<◌, ◌≤◌, lit<, lit≤, length, get_or}
 use Rattle.std.proofs.lemmas.List.{get_or-map}
+use Rattle.map_tables.proofs.HexTables.{hex_at_index}
 use Rattle.test_libraries.specs.FourStops.{four_stops, on_map_in, standing_in}
 use Rattle.map_tables.specs.Hex.{hexes, index_of, site_of}
 use Rattle.map_tables.specs.Laws.{AreLinksOf, NeighboursPair}
@@ -15,12 +16,6 @@ use Rattle.map_tables.specs.declared.track.Link.{Link}
 use Rattle.reach.specs.Lawful.{IsLawful}
 use Rattle.reach.specs.Position.{InHex, IsAmong, at_stop, empty_hex, in_hex, no_stop}
 
--- a hex is at its number
-at_index : (hex : Hex) → get_or hexes (index_of hex) A9 ≡ hex
-unfolding hexes index_of site_of
-at_index A9 = refl
-at_index hex = refl
-
 -- each number is under that of all hexes
 index_low : (hex : Hex) → index_of hex < length hexes
 unfolding hexes index_of site_of
@@ -31,7 +26,7 @@ index_low hex = lit< tt
 pub in_hex_is : (hex : Hex) → in_hex four_stops hex ≡ on_map_in hex
 unfolding four_stops
 in_hex_is hex =
-    get_or-map on_map_in hexes (index_of hex) A9 empty_hex (index_low hex) ∙ ap on_map_in (at_index hex)
+    get_or-map on_map_in hexes (index_of hex) A9 empty_hex (index_low hex) ∙ ap on_map_in (hex_at_index hex)
 
 -- and at a stop what is there
 pub at_stop_is : (stop : Stop) → at_stop four_stops stop ≡ standing_in (joined_hex stop.hex) stop.number

@@ -6,6 +6,7 @@ use Rattle.std.proofs.lemmas.List.Folds.{list_any-append}
 use Rattle.std.proofs.lemmas.Int.{ints}
 use Rattle.std.specs.List.{list_any}
 use Rattle.std.specs.Option.{option_flatten, option_map, option_or}
+use Rattle.std.proofs.Math.Bool.{or-true, or-false}
 use Rattle.events.specs.Event.{bidding_of, round_begun_by}
 use Rattle.events.specs.declared.event.Bidding.{Bidding}
 use Rattle.events.specs.declared.event.Event.{Event}
@@ -49,16 +50,6 @@ place_applied says events event place old new at applied before =
     ∙ ap (λ n. option_or (here_if (says event) n) old) (at ∙ from_start)
     ∙ ap (option_or (here_if (says event) (0 + length events))) before
     ∙ sym (last_place_at_end says 0 events event)
-
--- a test that is not met adds nothing
-pub or_false : (flag : Bool) → (flag || false) ≡ flag
-or_false true = refl
-or_false false = refl
-
--- a test that is met is enough
-or_true : (flag : Bool) → (flag || true) ≡ true
-or_true true = refl
-or_true false = refl
 
 -- a bid on a private is what the event says, or else the one before
 pub bid_applied :
@@ -107,7 +98,7 @@ pub flag_applied :
 flag_applied says events event old new applied before =
     applied
     ∙ ap (λ flag. flag || says event) before
-    ∙ sym (list_any-append says events (event ∷ []) ∙ ap (λ flag. list_any says events || flag) (or_false (says event)))
+    ∙ sym (list_any-append says events (event ∷ []) ∙ ap (λ flag. list_any says events || flag) (or-false (says event)))
 
 -- a flag is down where a round begins; otherwise it is up where the event speaks or where it was
 -- before
@@ -116,8 +107,8 @@ flag_or :
     (if begins then false else (is_some (option_flatten before) || is_some said))
     ≡ is_some (option_flatten (option_or (if begins then Some None else option_map Some said) before))
 flag_or true said before = refl
-flag_or false None before = or_false (is_some (option_flatten before))
-flag_or false (Some word) before = or_true (is_some (option_flatten before))
+flag_or false None before = or-false (is_some (option_flatten before))
+flag_or false (Some word) before = or-true (is_some (option_flatten before))
 
 -- an event adds at most one to a count of rulings
 ruling_at_most_one : (seat : Seat) (count : ℕ) (event : Event) → rulings_then seat count event ≤ count + 1

@@ -3,7 +3,6 @@ use Rattle.std.proofs.Common.{◌≡◌, ◌≢◌, ℕ, ◌==◌, ◌⊎◌, in
 use Rattle.std.proofs.Common.{None, is_some, refl, arith}
 use Rattle.std.proofs.lemmas.Bool.Decides.{nat_tests}
 use Rattle.std.specs.Option.{option_or}
-use Rattle.tables.specs.Roster.{index_of_company}
 use Rattle.tables.specs.declared.roster.Company.{Company}
 use Rattle.tables.specs.declared.roster.Company.TheVariants.{Pennsylvania, NewYorkCentral, CanadianPacific}
 use Rattle.tables.specs.declared.roster.Company.TheVariants.{BaltimoreOhio, ChesapeakeOhio, Erie, NewHaven, BostonMaine}
@@ -57,14 +56,3 @@ company_at place =
     if place == 0 then Pennsylvania else if place == 1 then NewYorkCentral else if place ==
     2 then CanadianPacific else if place == 3 then BaltimoreOhio else if place ==
     4 then ChesapeakeOhio else if place == 5 then Erie else if place == 6 then NewHaven else BostonMaine
-
--- is the company
-company_at_place : (company : Company) → company_at (index_of_company company) ≡ company
-company_at_place Pennsylvania = refl
-company_at_place NewYorkCentral = refl
-company_at_place CanadianPacific = refl
-company_at_place BaltimoreOhio = refl
-company_at_place ChesapeakeOhio = refl
-company_at_place Erie = refl
-company_at_place NewHaven = refl
-company_at_place BostonMaine = refl

@@ -5,12 +5,13 @@ use Rattle.std.specs.List.{list_any}
 use Rattle.std.specs.Option.{option_or}
 use Rattle.std.proofs.lemmas.Bool.{false≢true}
 use Rattle.std.proofs.lemmas.Int.{ints}
+use Rattle.std.proofs.Math.Bool.{or-false}
 use Rattle.events.specs.Event.{bidding_of, floated_by, office_of, operated_by, ownership_of, par_set, payment_of}
 use Rattle.events.specs.Event.{phase_set, round_begun_by, says_bankrupt, says_broken, square_set, sv_price_set}
 use Rattle.events.specs.Event.{token_placed, train_moved, transfer_of}
 use Rattle.events.specs.declared.event.Event.{Event}
 use Rattle.events.specs.declared.event.Event.TheVariants.{Left, Passes, Ruled}
-use Rattle.totals.proofs.Applied.{balance_applied, bid_applied, flag_applied, greatest_applied, or_false}
+use Rattle.totals.proofs.Applied.{balance_applied, bid_applied, flag_applied, greatest_applied}
 use Rattle.totals.proofs.Applied.{place_applied, round_flag_applied, tokens_applied, word_applied}
 use Rattle.totals.specs.Bids.{bid_of, greatest_bid_of}
 use Rattle.totals.specs.LookBack.{in_round, last_place_from, last_said, now_said}
@@ -119,7 +120,7 @@ pub flag_kept :
     (says : Event → Bool) (events : List Event) (event : Event) (flag : Bool) → says event ≡ false
     → flag ≡ list_any says events → flag ≡ list_any says (events ++ event ∷ [])
 flag_kept says events event flag silent before =
-    flag_applied says events event flag flag (sym (or_false flag) ∙ ap (λ said. flag || said) (sym silent)) before
+    flag_applied says events event flag flag (sym (or-false flag) ∙ ap (λ said. flag || said) (sym silent)) before
 
 -- a bid stays
 pub bid_kept :
@@ -143,7 +144,7 @@ pub round_flag_kept :
     → flag ≡ is_some (now_said (in_round says) (events ++ event ∷ []))
 round_flag_kept {A} says events event flag begun silent before =
     round_flag_applied says events event flag flag
-    (sym (or_false flag)
+    (sym (or-false flag)
     ∙ ap (λ (round : Option TheRound). if is_some round then false else (flag || false)) (sym begun)
     ∙ ap (λ (word : Option A). flag_then event (is_some word) flag) (sym silent)) before
 

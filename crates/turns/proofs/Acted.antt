@@ -3,6 +3,7 @@ use Rattle.std.proofs.Common.{◌≡◌, ℕ, zero, suc, Bool, true, false, ◌|
 use Rattle.std.proofs.Common.{Some, None, append-nil, refl, sym, subst, ap, ◌∙◌}
 use Rattle.std.specs.Option.{option_or}
 use Rattle.std.proofs.lemmas.List.{append_assoc}
+use Rattle.std.proofs.Math.Bool.{or_assoc, or-false}
 use Rattle.events.specs.Event.{actor_of}
 use Rattle.events.specs.declared.event.Event.{Event}
 use Rattle.events.specs.declared.event.Event.TheVariants as event
@@ -83,16 +84,6 @@ pub record LineSaysWhoActed {TurnActions : Type 0} (rules : RoundRules TurnActio
   pub says_who : SaysWhoActed seat acts old.events new.events
   pub acted : rules.has_acted new.actions ≡ (rules.has_acted old.actions || acts)
 
--- of three the first two or the last two first
-either_order : (a b c : Bool) → ((a || b) || c) ≡ (a || (b || c))
-either_order true b c = refl
-either_order false b c = refl
-
--- one or nothing
-pub or_nothing : (a : Bool) → a ≡ (a || false)
-or_nothing true = refl
-or_nothing false = refl
-
 module _ {TurnActions : Type 0} (rules : RoundRules TurnActions) (seats : ℕ) (seat : Seat)
     (line_says : (turn : InTurn TurnActions) (line : Numbered)
     → LineSaysWhoActed rules seat turn (rules.line seats seat turn line)) where
@@ -103,7 +94,7 @@ module _ {TurnActions : Type 0} (rules : RoundRules TurnActions) (seats : ℕ) (
     acts = false;
     says_who = nobody seat turn.events;
     acted =
-        or_nothing (rules.has_acted turn.actions);
+        sym (or-false (rules.has_acted turn.actions));
   }
   lines_say turn (line ∷ lines) =
       let next : InTurn TurnActions = rules.line seats seat turn line in
@@ -114,7 +105,7 @@ module _ {TurnActions : Type 0} (rules : RoundRules TurnActions) (seats : ℕ) (
         acts = here.acts || rest.acts;
         says_who = in_both seat here.acts rest.acts turn.events next.events last.events here.says_who rest.says_who;
         acted = rest.acted ∙ ap (λ (b : Bool). b || rest.acts) here.acted
-            ∙ either_order (rules.has_acted turn.actions) here.acts rest.acts;
+            ∙ or_assoc (rules.has_acted turn.actions) here.acts rest.acts;
       }
 
   -- so does a turn, at the start of which the seat has not acted
@@ -140,7 +131,7 @@ nobody_ruled rules seat turn number other none =
       acts = false;
       says_who = one_more seat false turn.events (event.Ruled seat number other) refl;
       acted =
-          or_nothing (rules.has_acted turn.actions);
+          sym (or-false (rules.has_acted turn.actions));
     }
 
 -- so each turn of a round says it

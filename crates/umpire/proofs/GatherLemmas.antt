@@ -55,13 +55,6 @@ pub prefix_so_far : (old mid : Option (List ℕ)) (before between first rest : L
 prefix_so_far old mid before between first rest a =
     prefix_behind old mid mid before between first [] rest a (none_of mid (between ++ []))
 
--- what was gathered is written, and a prefix of the text after it
-pub prefix_after : (old mid new : Option (List ℕ)) (before text : List ℕ) → Appends old mid before
-    → AppendsPrefix mid new text → AppendsPrefix old new (before ++ text)
-prefix_after old mid new before text written prefix =
-    let left : LeavesRest old mid (before ++ text) text = record { done = before; whole = refl; appended = written } in
-    prefix_of_part old mid new (before ++ text) text text [] left (sym (append-nil text)) prefix
-
 -- what was gathered from nothing on is what is left of a text
 pub prefix_at_end : (old mid new : Option (List ℕ)) (before after text : List ℕ) → Gathers old mid before after text
     → before ≡ [] → AppendsPrefix mid new after → AppendsPrefix old new text

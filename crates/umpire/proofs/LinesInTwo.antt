@@ -1,8 +1,9 @@
 -- What a line of a file of version 1 says, the line that stands for it in version 2 says too.
-use Rattle.std.proofs.Common.{◌≡◌, ℕ, inl, inr, Bool, true, false, cond, List, [], ◌∷◌, Result, Ok, Err, length, refl}
+use Rattle.std.proofs.Common.{◌≡◌, ℕ, inl, inr, true, false, cond, List, [], ◌∷◌, Result, Ok, Err, length, refl}
 use Rattle.std.proofs.Common.{sym, ap, ◌∙◌, map}
-use Rattle.std.specs.Prelude.{not, ◌&&◌, codes, nat_le}
+use Rattle.std.specs.Prelude.{not, codes, nat_le}
 use Rattle.std.proofs.lemmas.Bool.{and_parts, cases_Bool}
+use Rattle.std.proofs.Math.Bool.{and-false}
 use Rattle.order_grammar.specs.Limits.{line_most}
 use Rattle.order_grammar.specs.Line.{reading_of}
 use Rattle.order_grammar.specs.Words.{first_of_words, has_words, same_word, words_of}
@@ -43,13 +44,9 @@ if_has_words : (words : List (List ℕ)) → same_word (first_of_words words) (c
 if_has_words [] e = absurd (cc)
 if_has_words (word ∷ words) e = refl
 
-never : (b : Bool) → (b && false) ≡ false
-never true = refl
-never false = refl
-
 if_counts : (line : List ℕ) → is_if_line line ≡ true → is_blank line ≡ false
 unfolding is_blank
-if_counts line e = rw (if_has_words (words_of line) (if_parts line e).0) (never (nat_le (length line) line_most))
+if_counts line e = rw (if_has_words (words_of line) (if_parts line e).0) (and-false (nat_le (length line) line_most))
 
 x_counts : is_blank (codes "X") ≡ false
 unfolding is_blank

@@ -1,7 +1,7 @@
 -- A text that is written part by part.
 use Rattle.std.proofs.Common.{◌≡◌, ℕ, zero, suc, ◌≤◌, List, [], ◌++◌, length, take, drop, ap, append_assoc}
 use Rattle.std.proofs.Common.{take-append-drop, refl, sym, ◌∙◌, arith, subst}
-use Rattle.std.specs.Prelude.{Option, Some, Bool, false, Result, Ok, Err, OnErr}
+use Rattle.std.specs.Prelude.{Option, Some, Bool, false}
 use Rattle.std.specs.Io.KnownBytes.{Appends}
 use Rattle.std.proofs.KnownBytes.{Appends-nil, Appends-trans}
 use Rattle.std.proofs.lemmas.Grind.{common_steps}
@@ -55,11 +55,6 @@ prefix_of_part old mid new text before part rest left is prefix =
     let parted : before ≡ taken ++ later = is ∙ ap (λ l. l ++ rest) (sym (take-append-drop prefix.count part))
     ∙ append_assoc taken (drop prefix.count part) rest in
     prefix_of_text old new text later (leaves_less old mid new text before taken later left parted prefix.appended)
-
--- P where there is an error
-pub on_err : {T E P : Type 0} (result : Result T E) → P → OnErr result P
-on_err (Ok value) holds = tt
-on_err (Err error) holds = holds
 
 -- nothing of a text is a prefix of it
 pub none_of : (old : Option (List ℕ)) (text : List ℕ) → AppendsPrefix old old text

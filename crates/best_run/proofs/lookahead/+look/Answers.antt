@@ -3,6 +3,7 @@ use Rattle.std.proofs.Common.{◌≡◌, ℕ, ◌+◌, ◌<◌, Bool, true, fals
 use Rattle.std.proofs.Common.{arith}
 use Rattle.std.proofs.lemmas.Option.{slice_get_read}
 use Rattle.best_run.specs.declared.lookahead.Outlook.{Outlook}
+use Rattle.legal_runs.proofs.Earning.{mark_used}
 use Rattle.search_task.specs.declared.task.Leg.{Leg}
 use Rattle.best_run.specs.Ahead.{WidensAt, WidensBelow, WidensFrom}
 use Rattle.search_task.specs.Fit.{unused}
@@ -12,7 +13,6 @@ use Rattle.search_task.specs.Legs.{AreLegsOf, legs_at, legs_in}
 use Rattle.best_run.proofs.Ahead.{along_not, along_at, below_more, below_none, from_all, from_end, leads_free, at_from}
 use Rattle.best_run.proofs.Along.{leg_fits}
 use Rattle.search_task.proofs.Described.{among_place}
-use Rattle.search_task.proofs.Marks.{set_fewer}
 use Rattle.best_run.proofs.lookahead.+look.Goals as goal
 use Rattle.best_run.proofs.lookahead.+look.Goals.{look_from-then-leads_on, look_from-else-leads_on}
 use Rattle.search_task.proofs.Booleans.{not_both}
@@ -21,7 +21,7 @@ pub look_at-look_from-requires : goal.look_at-look_from-requires
 look_at-look_from-requires t c =
     let ahead = c.args.outlook.now.ahead in
     let low : c.args.spot < length ahead = omega (arith, c.is_whole.ensures, c.node.ensures.low) in
-    let fewer = set_fewer ahead c.args.spot low c.requires.free in
+    let fewer = mark_used ahead c.args.spot low c.requires.free in
     let less = ap unused c.count.ensures.marked in (
       omega (arith, less),
       (c.requires.stop, c.count.ensures.known),

@@ -34,7 +34,7 @@ use Rattle.certificate.proofs.Going.{beyond_it, default_link, default_stop, up_o
 use Rattle.certificate.proofs.LinkEnds.{ends_there, link_high, link_low, no_step_there}
 use Rattle.certificate.proofs.LinkEnds.{ways}
 use Rattle.certificate.proofs.Places.{none_is}
-use Rattle.certificate.proofs.OnRun.{and_false, and_true, border_continues, children_at_border, children_at_stop, finished_crossed, finished_is_between, finishing_is, is_free, is_last, no_beyond, not_free, same_node, seen_false, on_run_at_stop, on_run_over, same_state, stop_continues, takes_no_stop, takes_over, takes_stop, two_stops, with_run}
+use Rattle.certificate.proofs.OnRun.{and_false, and_true, border_continues, children_at_border, children_at_stop, finished_crossed, finished_is_between, finishing_is, is_free, is_last, no_beyond, not_free, same_node, both_false, on_run_at_stop, on_run_over, same_state, stop_continues, takes_no_stop, takes_over, takes_stop, two_stops, with_run}
 use Rattle.certificate.proofs.SettingOut.{left_from}
 use Rattle.certificate.proofs.StepTaken.{IsStepBy, step_by, step_taken}
 use Rattle.certificate.proofs.Walked.{walks_both, walks_ended}
@@ -468,7 +468,7 @@ take-returns-then-has-clause-walks g t c = λ assigned steps stops link at_node 
     ap (has_stop stop) ((continues step taken.enters).same side at_side) ∙ (sym (at_node.seen.1 stop) ∙ sym c.has.ensures) in
     over_none g.D.Decider.decides position tree c.args.decider.now (with_steps test node (steps_by at.end link))
     (sym (taken.one test node) ∙ ap (λ (b : Bool). node_if b made) (tests
-    ∙ seen_false (has_stop stop (reached_in tree)) (has_stop stop (visited steps)) (seen ∙ c.if-has.true)))
+    ∙ both_false (has_stop stop (reached_in tree)) (has_stop stop (visited steps)) (seen ∙ c.if-has.true)))
 
 pub take-arrive-requires : goal.take-arrive-requires
 take-arrive-requires g t c = λ lifetimes within. (omega (arith, ap end_rank c.in-Side.is), (search rules, search rules))

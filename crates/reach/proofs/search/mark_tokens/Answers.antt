@@ -1,13 +1,9 @@
 -- The stops of a hex come after those of the hexes before it.
-use Rattle.std.proofs.Common.{◌≡◌, ◌*◌, ℕ, Bool, true, false, List, get_or, replicate, subst, ap, ◌∙◌, arith}
+use Rattle.std.proofs.Common.{◌*◌, false, subst, arith}
+use Rattle.reach.proofs.Listed.{unmarked}
 use Rattle.reach.specs.Search.{spot_number, Waits}
-use Rattle.reach.proofs.Collected.{none_marked, tokens_added, all_tokens}
+use Rattle.reach.proofs.Collected.{tokens_added, all_tokens}
 use Rattle.reach.proofs.search.mark_tokens.Goals as goal
-
--- nothing is marked at first
-unmarked : (marks : List Bool) → marks ≡ replicate 744 false → (n : ℕ) → get_or marks n false ≡ true → ⊥
-unmarked marks is n found =
-    let not_found : get_or marks n false ≡ false = ap (λ ms. get_or ms n false) is ∙ none_marked 744 n in cc
 
 pub loop-index-init : goal.loop-index-init
 loop-index-init g c =

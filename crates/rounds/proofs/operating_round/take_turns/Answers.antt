@@ -1,6 +1,7 @@
-use Rattle.std.proofs.Common.{◌≡◌, Bool, true, false, ◌&&◌, [], ◌∷◌, ◌++◌, Result, Ok, Err, refl, is_some, sym, ap}
+use Rattle.std.proofs.Common.{◌≡◌, [], ◌∷◌, ◌++◌, Result, Ok, Err, refl, is_some, sym, ap}
 use Rattle.std.proofs.Common.{subst, ◌∙◌}
 use Rattle.std.proofs.lemmas.Result.{err_from_is_err_and}
+use Rattle.std.proofs.lemmas.Bool.{and_parts}
 use Rattle.totals.specs.LookBack.{Game}
 use Rattle.totals.specs.Shares.{is_floated, square_of}
 use Rattle.operating.proofs.Calls.{no_more, none_after, once_more, silent}
@@ -14,18 +15,13 @@ use Rattle.rounds.specs.declared.fault.PlayFault.{PlayFault}
 use Rattle.rounds.specs.declared.fault.PlayFault.TheVariants.{Memory}
 use Rattle.rounds.proofs.operating_round.take_turns.Goals as goal
 
--- the first of two tests
-first_of : (a b : Bool) → (a && b) ≡ true → a ≡ true
-first_of true b both = refl
-first_of false b both = cc
-
 -- the next company has floated
 pub take_turn-requires-clause-floated : goal.take_turn-requires-clause-floated
 take_turn-requires-clause-floated g c =
     let events = c.loop-company.game.history.events in
-    first_of (is_floated events c.in-Some.company) (is_some (square_of events c.in-Some.company))
+    (and_parts (is_floated events c.in-Some.company) (is_some (square_of events c.in-Some.company))
     (next_is_idle c.floated_companies_in_order.ensures events c.in-Some.company
-    (sym c.next_company.ensures ∙ c.in-Some.is)).0
+    (sym c.next_company.ensures ∙ c.in-Some.is)).0).0
 
 -- no board, no turn: no call was made
 pub returns-in_err-game-clause-calls : goal.returns-in_err-game-clause-calls

@@ -1,7 +1,8 @@
 use Rattle.std.proofs.Common.{[], refl}
 use Rattle.std.proofs.KnownBytes.{Appends-nil}
+use Rattle.order_grammar.proofs.PrefixLemmas.{at_error}
 use Rattle.umpire.proofs.CertsLemmas.{groups_ahead}
-use Rattle.umpire.proofs.Parts.{leaves_less, on_err, prefix_of_part}
+use Rattle.umpire.proofs.Parts.{leaves_less, prefix_of_part}
 use Rattle.umpire.proofs.certificates.write_groups.Goals as goal
 
 pub loop-group-init : goal.loop-group-init
@@ -23,5 +24,5 @@ returns-in_err-write_group-clause-prefix g c =
     let at = c.loop-group.invariant in
     let ahead = groups_ahead c.args.groups.now c.loop-group.group-index c.group-item.result c.loop-group-test.true
     c.group-item.is in
-    on_err c.from_residual.result
+    at_error c.from_residual.result
     (prefix_of_part _ _ _ _ _ _ _ at.left ahead c.in_err-write_group.ensures.prefix)

@@ -1,8 +1,9 @@
-use Rattle.std.proofs.Common.{[], ap, refl, arith, length}
+use Rattle.std.proofs.Common.{[], ap, arith, length}
 use Rattle.std.proofs.KnownBytes.{Appends-nil}
+use Rattle.order_grammar.proofs.PrefixLemmas.{at_error}
 use Rattle.umpire.specs.Written.{marks_lines_within}
 use Rattle.umpire.proofs.CertsLemmas.{all_written}
-use Rattle.umpire.proofs.Parts.{leaves_less, on_err, prefix_of_part, prefix_of_text}
+use Rattle.umpire.proofs.Parts.{leaves_less, prefix_of_part, prefix_of_text}
 use Rattle.umpire.proofs.WrittenLemmas.{fewer_left, left_behind, none_left, not_true}
 use Rattle.umpire.proofs.certificates.write_marks.Goals as goal
 
@@ -48,7 +49,7 @@ returns-clause-ok g c =
     all_written _ _ _ _ at.left (none_left at.count c.loop-marks.marks (c.is_empty.ensures.0 c.loop-marks-test.false))
 
 pub returns-in_err-print_marks-clause-prefix : goal.returns-in_err-print_marks-clause-prefix
-returns-in_err-print_marks-clause-prefix g c = on_err c.from_residual.result (prefix_of_text _ _ _ _
+returns-in_err-print_marks-clause-prefix g c = at_error c.from_residual.result (prefix_of_text _ _ _ _
     c.loop-marks.invariant.left)
 
 pub returns-in_err-write_text-clause-prefix : goal.returns-in_err-write_text-clause-prefix
@@ -60,4 +61,4 @@ returns-in_err-write_text-clause-prefix g c =
     let bytes = rw c.as_slice.ensures.value at c.in_err-write_text.ensures.prefix in
     let line = rw c.in_ok-print_marks.ensures.printed at bytes in
     let prefix = rw c.clear.ensures.items at line in
-    on_err c.from_residual-in_err-write_text.result (prefix_of_part _ _ _ _ _ _ _ at.left behind.lines prefix)
+    at_error c.from_residual-in_err-write_text.result (prefix_of_part _ _ _ _ _ _ _ at.left behind.lines prefix)

@@ -1,8 +1,8 @@
 use Rattle.std.proofs.Common.{sym, ◌∙◌}
+use Rattle.order_grammar.proofs.PrefixLemmas.{at_error}
 use Rattle.umpire.proofs.BodyLemmas.{prefix_by_rest, prefix_of_rest, prefix_of_stretch, prefix_of_x, line_within}
 use Rattle.umpire.proofs.BodyLemmas.{putting_all, putting_line, putting_none, putting_x}
 use Rattle.umpire.proofs.EndedLines.{first_ended}
-use Rattle.umpire.proofs.Parts.{on_err}
 use Rattle.umpire.proofs.migration.put_body.Goals as goal
 use Rattle.umpire.proofs.migration.put_body.Goals.{then-is_if_line+in_ok-put+in_ok-put-2, else-is_if_line}
 
@@ -12,14 +12,14 @@ loop-piece-init g c = record { putting = putting_none _ _ _; unfailed = c.requir
 pub returns-in_err-put-clause-prefix : goal.returns-in_err-put-clause-prefix
 returns-in_err-put-clause-prefix g c =
     let at = c.loop-piece.invariant.putting in
-    on_err c.from_residual.result
+    at_error c.from_residual.result
     (prefix_of_stretch _ _ _ _ _ _ _ _ _ at (prefix_by_rest _ at.stretch _ at.is_kept) c.in_err-put.ensures.prefix)
 
 pub returns-in_err-put-2-clause-prefix : goal.returns-in_err-put-2-clause-prefix
 returns-in_err-put-2-clause-prefix g c =
     let at = c.loop-piece.invariant.putting in
     let h = c.in-Some.ensures in
-    on_err c.from_residual-in_err-put-2.result
+    at_error c.from_residual-in_err-put-2.result
     (prefix_of_x _ _ _ _ _ _ _ _ _ _ _ _ _ at (first_ended _ _ _ h.lines h.rest)
     (sym c.is_if_line.ensures ∙ c.if-is_if_line.true) (prefix_by_rest _ at.stretch _ at.is_kept)
     c.in_ok-put.ensures.ok c.in_err-put-2.ensures.prefix)
@@ -49,7 +49,7 @@ loop-piece-preserved g c =
 
 pub returns-in_err-put-3-clause-prefix : goal.returns-in_err-put-3-clause-prefix
 returns-in_err-put-3-clause-prefix g c =
-    on_err c.from_residual-in_err-put-3.result
+    at_error c.from_residual-in_err-put-3.result
     (prefix_of_rest _ _ _ _ _ _ _ _ c.loop-piece.invariant.putting c.in_default.ensures.lines
     c.in_err-put-3.ensures.prefix)
 

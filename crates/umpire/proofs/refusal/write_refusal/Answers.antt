@@ -1,5 +1,6 @@
-use Rattle.umpire.proofs.Parts.{none_of, on_err}
+use Rattle.order_grammar.proofs.PrefixLemmas.{at_error}
+use Rattle.umpire.proofs.Parts.{none_of}
 use Rattle.umpire.proofs.refusal.write_refusal.Goals as goal
 
 pub returns-in_err-line-clause-prefix : goal.returns-in_err-line-clause-prefix
-returns-in_err-line-clause-prefix g c = on_err c.from_residual.result (none_of _ _)
+returns-in_err-line-clause-prefix g c = at_error c.from_residual.result (none_of _ _)

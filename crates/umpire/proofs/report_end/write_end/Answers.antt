@@ -1,18 +1,19 @@
 use Rattle.std.proofs.KnownBytes.{Appends-trans}
-use Rattle.umpire.proofs.Parts.{prefix_of_first_part, prefix_of_second_part, on_err, whole_prefix}
+use Rattle.order_grammar.proofs.PrefixLemmas.{at_error}
+use Rattle.umpire.proofs.Parts.{prefix_of_first_part, prefix_of_second_part, whole_prefix}
 use Rattle.umpire.proofs.report_end.write_end.Goals as goal
 
 -- a prefix of the unread lines is a prefix of all that follows the rounds
 pub returns-in_err-write_unread-clause-prefix : goal.returns-in_err-write_unread-clause-prefix
 returns-in_err-write_unread-clause-prefix g c =
     let prefix = rw (c.unread.ensures, c.sheets.ensures) at c.in_err-write_unread.ensures.prefix in
-    on_err c.from_residual.result (prefix_of_first_part _ _ _ _ prefix)
+    at_error c.from_residual.result (prefix_of_first_part _ _ _ _ prefix)
 
 -- so are all unread lines
 pub returns-in_err-text-clause-prefix : goal.returns-in_err-text-clause-prefix
 returns-in_err-text-clause-prefix g c =
     let written = rw (c.unread.ensures, c.sheets.ensures) at c.in_ok-write_unread.ensures.ok in
-    on_err c.from_residual-in_err-text.result (prefix_of_first_part _ _ _ _ (whole_prefix _ _ _ written))
+    at_error c.from_residual-in_err-text.result (prefix_of_first_part _ _ _ _ (whole_prefix _ _ _ written))
 
 -- and these with a prefix of the outcome
 pub returns-in_err-write_text-clause-prefix : goal.returns-in_err-write_text-clause-prefix
@@ -20,7 +21,7 @@ returns-in_err-write_text-clause-prefix g c =
     let written = rw (c.unread.ensures, c.sheets.ensures) at c.in_ok-write_unread.ensures.ok in
     let bytes = rw c.as_slice.ensures.value at c.in_err-write_text.ensures.prefix in
     let prefix = rw c.in_ok-text.ensures at bytes in
-    on_err c.from_residual-in_err-write_text.result (prefix_of_second_part _ _ _ _ _ written prefix)
+    at_error c.from_residual-in_err-write_text.result (prefix_of_second_part _ _ _ _ _ written prefix)
 
 pub returns-clause-ok : goal.returns-clause-ok
 returns-clause-ok g c =

@@ -1,6 +1,7 @@
 use Rattle.std.proofs.Common.{arith}
 use Rattle.std.proofs.lemmas.Grind.{common_steps}
-use Rattle.umpire.proofs.Parts.{prefix_of_part, prefix_of_text, leaves_all, leaves_less, on_err}
+use Rattle.order_grammar.proofs.PrefixLemmas.{at_error}
+use Rattle.umpire.proofs.Parts.{prefix_of_part, prefix_of_text, leaves_all, leaves_less}
 use Rattle.umpire.proofs.UnreadParts.{all_unread_written, unread_parted}
 use Rattle.umpire.proofs.report_end.write_unread.Goals as goal
 
@@ -20,7 +21,7 @@ loop-rest-preserved g c =
     }
 
 pub returns-in_err-text-clause-prefix : goal.returns-in_err-text-clause-prefix
-returns-in_err-text-clause-prefix g c = on_err c.from_residual.result (prefix_of_text _ _ _ _
+returns-in_err-text-clause-prefix g c = at_error c.from_residual.result (prefix_of_text _ _ _ _
     c.loop-rest.invariant.left)
 
 pub returns-in_err-write_text-clause-prefix : goal.returns-in_err-write_text-clause-prefix
@@ -29,7 +30,7 @@ returns-in_err-write_text-clause-prefix g c =
     c.split_at.ensures.back in
     let bytes = rw c.as_slice.ensures.value at c.in_err-write_text.ensures.prefix in
     let prefix = rw c.in_ok-text.ensures at bytes in
-    on_err c.from_residual-in_err-write_text.result
+    at_error c.from_residual-in_err-write_text.result
     (prefix_of_part _ _ _ _ _ _ _ c.loop-rest.invariant.left parted prefix)
 
 pub returns-clause-ok : goal.returns-clause-ok

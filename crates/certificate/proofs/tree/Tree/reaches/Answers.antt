@@ -1,14 +1,9 @@
 -- A stop is found by its place in the order of the map.
-use Rattle.std.proofs.Common.{◌≡◌, Bool, true, false, refl, sym}
+use Rattle.certificate.proofs.Ranks.{same_test}
 use Rattle.legal_runs.specs.Fault.{has_stop}
 use Rattle.certificate.specs.Walking.{reached_in}
 use Rattle.legal_runs.proofs.Joined.{has_stop_is}
 use Rattle.certificate.proofs.tree.Tree.reaches.Goals as goal
-
-same_test : (a b : Bool) → (a ≡ true → b ≡ true) → (b ≡ true → a ≡ true) → a ≡ b
-same_test true b there back = sym (there refl)
-same_test false true there back = back refl
-same_test false false there back = refl
 
 pub returns : goal.returns
 returns c =
