@@ -17,6 +17,7 @@ use Rattle.order_grammar.specs.declared.order.Order.{Order}
 use Rattle.order_grammar.specs.declared.order.Order.TheVariants as order
 use Rattle.order_grammar.specs.declared.order.TrainSource.{TrainSource}
 use Rattle.order_grammar.specs.declared.order.TrainSource.TheVariants as source
+use Rattle.order_grammar.specs.declared.play.PlayOrder.TheVariants as play
 use Rattle.purchases.specs.Discard.{has_train, is_president}
 use Rattle.tables.specs.declared.rolling_stock.Kind.{Kind}
 use Rattle.tables.specs.declared.roster.Company.{Company}
@@ -87,7 +88,7 @@ objection_to_source events kind other = None
 
 -- of an order of a seat
 abbrev pub objection_by_view : List Event → Seat → Order → Option (Refusal × Objection)
-objection_by_view events seat (order.Offer its) = objection_to_offer events seat its
-objection_by_view events seat (order.Discard company kind) = objection_to_discard events seat company kind
-objection_by_view events seat (order.BuyTrain kind from) = objection_to_source events kind from
+objection_by_view events seat (order.Play (play.Offer its)) = objection_to_offer events seat its
+objection_by_view events seat (order.Play (play.Discard company kind)) = objection_to_discard events seat company kind
+objection_by_view events seat (order.Play (play.BuyTrain kind from)) = objection_to_source events kind from
 objection_by_view events seat other = None

@@ -29,6 +29,7 @@ use Rattle.map_tables.specs.declared.side.Side.{Side}
 use Rattle.map_tables.specs.declared.track.TrackEnd.TheVariants.{Side as AtSide}
 use Rattle.order_grammar.specs.declared.order.Order.{Order}
 use Rattle.order_grammar.specs.declared.order.Order.TheVariants as order
+use Rattle.order_grammar.specs.declared.play.PlayOrder.TheVariants as play
 use Rattle.tables.specs.Chart.{par_square_of}
 use Rattle.tables.specs.Roster.{same_company}
 use Rattle.tables.specs.declared.roster.Company.{Company}
@@ -38,16 +39,16 @@ use Rattle.tables.specs.declared.round.Round.TheVariants.{Opening, Stock, Operat
 
 -- the order has a place in a turn of an opening
 abbrev pub is_of_opening : Order → Bool
-is_of_opening (order.BuyPrivate private) = true
-is_of_opening (order.Bid private amount) = true
+is_of_opening (order.Play (play.BuyPrivate private)) = true
+is_of_opening (order.Play (play.Bid private amount)) = true
 is_of_opening other = false
 
 -- the order has a place in a turn of a stock round
 abbrev pub is_of_stock : Order → Bool
-is_of_stock (order.Par company price) = true
-is_of_stock (order.BuyShare company from) = true
-is_of_stock (order.Sell company shares) = true
-is_of_stock order.ExchangeMohawk = true
+is_of_stock (order.Play (play.Par company price)) = true
+is_of_stock (order.Play (play.BuyShare company from)) = true
+is_of_stock (order.Play (play.Sell company shares)) = true
+is_of_stock (order.Play play.ExchangeMohawk) = true
 is_of_stock other = false
 
 -- the order of a written turn never has a place in such a round
@@ -166,9 +167,9 @@ objection_to_run places = option_or (way_of places).wrong (objection_to_ends pla
 
 -- of the order itself, in a sheet for this round
 abbrev pub objection_by_tables : Round → Order → Option (Refusal × Objection)
-objection_by_tables round (order.Par company price) = objection_to_par round company price
-objection_by_tables round (order.Lay lay) = objection_to_lay lay
-objection_by_tables round (order.Token place) = objection_to_token place
+objection_by_tables round (order.Play (play.Par company price)) = objection_to_par round company price
+objection_by_tables round (order.Play (play.Lay lay)) = objection_to_lay lay
+objection_by_tables round (order.Play (play.Token place)) = objection_to_token place
 objection_by_tables round (order.Run kind run) = objection_to_run run
 objection_by_tables round other = None
 

@@ -4,10 +4,11 @@ ghost use Rattle.desk_base.specs.Belongings.{is_owned_by, objection_by_president
 ghost use Rattle.desk_base.specs.Belongings.{objection_to_discard, objection_to_offer, objection_to_owner};
 ghost use Rattle.desk_base.specs.Belongings.{objection_to_seller, objection_to_source, objection_to_train};
 ghost use Rattle.desk_base.specs.Belongings.{other_president};
+ghost use Rattle.order_grammar.specs.declared.order.Order.TheVariants.{Play};
 
 use crate::objection::Objection;
 use history::{GameView, Holder, PrivateRule, Refusal, TrainRule};
-use order_grammar::{Offer, Order, TrainSource};
+use order_grammar::{Offer, Order, PlayOrder, TrainSource};
 use purchases::{has_train, is_president};
 use tables::{Company, Kind, Private, Seat};
 
@@ -30,9 +31,19 @@ pub fn objection_by_view(view: &GameView, seat: Seat, order: &Order) -> Option<(
     ensures { result ≡ objection_by_view view.now.events seat order.now }
 {
     match order {
-        Order::Offer(offer) => objection_to_offer(view, seat, offer),
-        Order::Discard { company, kind } => objection_to_discard(view, seat, *company, *kind),
-        Order::BuyTrain { kind, from } => objection_to_source(view, *kind, from),
+        Order::Play(order) => objection_to_play(view, seat, *order),
+        _ => None,
+    }
+}
+
+/// Returns why a seat may not give this order of play, with the rule that it breaks.
+fn objection_to_play(view: &GameView, seat: Seat, order: PlayOrder) -> Option<(Refusal, Objection)>
+    ensures { result ≡ objection_by_view view.now.events seat (Play order) }
+{
+    match order {
+        PlayOrder::Offer(offer) => objection_to_offer(view, seat, &offer),
+        PlayOrder::Discard { company, kind } => objection_to_discard(view, seat, company, kind),
+        PlayOrder::BuyTrain { kind, from } => objection_to_source(view, kind, &from),
         _ => None,
     }
 }

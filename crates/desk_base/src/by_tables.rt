@@ -17,7 +17,7 @@ use map_tables::{
     Hex, Lay, LayRule, Place, RunRule, Side, StopNumber, TokenRule, hex_kind, printed_slots,
     printed_stops,
 };
-use order_grammar::Order;
+use order_grammar::{Order, PlayOrder};
 use tables::{Amount, Company, Round, par_square};
 
 /// Returns why an order of a sheet for a round is wrong whatever the game, with the rule that it
@@ -36,9 +36,9 @@ fn objection_by_tables(round: Round, order: &Order) -> Option<(Refusal, Objectio
     ensures { result ≡ objection_by_tables round order.now }
 {
     match order {
-        Order::Par { company, price } => objection_to_par(round, *company, *price),
-        Order::Lay(lay) => objection_to_lay(*lay),
-        Order::Token(place) => objection_to_token(*place),
+        Order::Play(PlayOrder::Par { company, price }) => objection_to_par(round, *company, *price),
+        Order::Play(PlayOrder::Lay(lay)) => objection_to_lay(*lay),
+        Order::Play(PlayOrder::Token(place)) => objection_to_token(*place),
         Order::Run { run, .. } => objection_to_run(run.as_slice()),
         _ => None,
     }
@@ -59,7 +59,10 @@ fn is_of_other_round(round: Round, order: &Order) -> bool
 fn is_of_opening(order: &Order) -> bool
     ensures { result ≡ is_of_opening order.now }
 {
-    matches!(order, Order::BuyPrivate(_) | Order::Bid { .. })
+    matches!(
+        order,
+        Order::Play(PlayOrder::BuyPrivate(_) | PlayOrder::Bid { .. })
+    )
 }
 
 /// Returns whether an order has a place in a turn of a stock round.
@@ -68,7 +71,12 @@ fn is_of_stock(order: &Order) -> bool
 {
     matches!(
         order,
-        Order::Par { .. } | Order::BuyShare { .. } | Order::Sell { .. } | Order::ExchangeMohawk
+        Order::Play(
+            PlayOrder::Par { .. }
+                | PlayOrder::BuyShare { .. }
+                | PlayOrder::Sell { .. }
+                | PlayOrder::ExchangeMohawk
+        )
     )
 }
 

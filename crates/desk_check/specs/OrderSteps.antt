@@ -15,27 +15,28 @@ use Rattle.map_tables.specs.declared.rules.RunRule.TheVariants as run_rule
 use Rattle.map_tables.specs.declared.rules.TokenRule.TheVariants as token_rule
 use Rattle.order_grammar.specs.declared.order.Order.{Order}
 use Rattle.order_grammar.specs.declared.order.Order.TheVariants as order
+use Rattle.order_grammar.specs.declared.play.PlayOrder.TheVariants as play
 
 -- the step of an order: its lay, its token, its runs, what it pays, its trains; none, if it may come at any step
 abbrev pub step_of : Order → Option TurnStep
-step_of (order.Lay lay) = Some step.Lay
-step_of (order.Token place) = Some step.Token
+step_of (order.Play (play.Lay lay)) = Some step.Lay
+step_of (order.Play (play.Token place)) = Some step.Token
 step_of (order.Run kind run) = Some step.Run
-step_of order.RunBest = Some step.Run
-step_of order.Pay = Some step.Pay
-step_of order.Withhold = Some step.Pay
-step_of (order.BuyTrain kind from) = Some step.Trains
+step_of (order.Play play.RunBest) = Some step.Run
+step_of (order.Play play.Pay) = Some step.Pay
+step_of (order.Play play.Withhold) = Some step.Pay
+step_of (order.Play (play.BuyTrain kind from)) = Some step.Trains
 step_of other = None
 
 -- the order has trains run
 abbrev pub is_run : Order → Bool
 is_run (order.Run kind run) = true
-is_run order.RunBest = true
+is_run (order.Play play.RunBest) = true
 is_run other = false
 
 -- the order has them run their best
 abbrev pub is_best : Order → Bool
-is_best order.RunBest = true
+is_best (order.Play play.RunBest) = true
 is_best other = false
 
 -- the later of a step and another, if there is another
@@ -60,12 +61,12 @@ block_then block its is_conditional =
 
 -- the rule of an order whose step is past
 abbrev pub passed_rule : Order → Option Refusal
-passed_rule (order.Lay lay) = Some (refusal.Lay lay_rule.StepUsed)
-passed_rule (order.Token place) = Some (refusal.Token token_rule.StepUsed)
+passed_rule (order.Play (play.Lay lay)) = Some (refusal.Lay lay_rule.StepUsed)
+passed_rule (order.Play (play.Token place)) = Some (refusal.Token token_rule.StepUsed)
 passed_rule (order.Run kind run) = Some (refusal.Run run_rule.StepUsed)
-passed_rule order.RunBest = Some (refusal.Run run_rule.StepUsed)
-passed_rule order.Pay = Some (refusal.Pay pay_rule.NothingToPay)
-passed_rule order.Withhold = Some (refusal.Pay pay_rule.NothingToPay)
+passed_rule (order.Play play.RunBest) = Some (refusal.Run run_rule.StepUsed)
+passed_rule (order.Play play.Pay) = Some (refusal.Pay pay_rule.NothingToPay)
+passed_rule (order.Play play.Withhold) = Some (refusal.Pay pay_rule.NothingToPay)
 passed_rule other = None
 
 -- this rule, if there is one, is broken since the step is past
@@ -83,9 +84,9 @@ without_run has_run = if has_run then None else Some (refusal.Pay pay_rule.Nothi
 
 -- of an order whose step is not past
 abbrev pub objection_in_step : Block → Order → Option (Refusal × Objection)
-objection_in_step block order.Pay = without_run block.has_run
+objection_in_step block (order.Play play.Pay) = without_run block.has_run
 objection_in_step block (order.Run kind run) = beside_best block.has_best
-objection_in_step block order.RunBest = beside_best block.has_best
+objection_in_step block (order.Play play.RunBest) = beside_best block.has_best
 objection_in_step block other = None
 
 -- the step of an order, if it has one, is before that of the orders so far

@@ -33,6 +33,7 @@ use Rattle.order_grammar.specs.declared.condition.Version.{Version}
 use Rattle.order_grammar.specs.declared.fault.Fault.{Fault}
 use Rattle.order_grammar.specs.declared.order.Order.{Order}
 use Rattle.order_grammar.specs.declared.order.Order.TheVariants as order
+use Rattle.order_grammar.specs.declared.play.PlayOrder.TheVariants as play
 use Rattle.sheets.specs.Part.{Numbered, numbered}
 use Rattle.sheets.specs.Text.{is_blank, lines_of}
 use Rattle.tables.specs.Roster.{companies, index_of_company}
@@ -109,7 +110,7 @@ wrong_by_itself sent is_open block its = option_or (objection_behind block its) 
 
 -- the order buys a train
 abbrev pub is_purchase : Order → Bool
-is_purchase (order.BuyTrain kind from) = true
+is_purchase (order.Play (play.BuyTrain kind from)) = true
 is_purchase other = false
 
 -- why it is by the game as the round begins, where that is known; of a train that is bought nothing is

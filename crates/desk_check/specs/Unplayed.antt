@@ -10,6 +10,7 @@ use Rattle.order_grammar.specs.declared.fault.Fault.{Fault}
 use Rattle.order_grammar.specs.declared.fault.Fault.TheVariants.{OutOfPlace}
 use Rattle.order_grammar.specs.declared.order.Order.{Order}
 use Rattle.order_grammar.specs.declared.order.Order.TheVariants as order
+use Rattle.order_grammar.specs.declared.play.PlayOrder.TheVariants as play
 use Rattle.privates.specs.Standing.{has_place_before_turns}
 use Rattle.sheets.specs.Part.{numbered, opens_part}
 use Rattle.tables.specs.declared.round.Round.{Round}
@@ -24,15 +25,15 @@ has_place_before (Operating set number) its = has_place_before_companies its
 
 -- the order has a place in a company's orders, as `operating: OrderLeads` has it
 abbrev pub has_place_in_orders : Order → Bool
-has_place_in_orders (order.Lay lay) = true
-has_place_in_orders (order.Token place) = true
+has_place_in_orders (order.Play (play.Lay lay)) = true
+has_place_in_orders (order.Play (play.Token place)) = true
 has_place_in_orders (order.Run kind run) = true
-has_place_in_orders order.RunBest = true
-has_place_in_orders order.Pay = true
-has_place_in_orders order.Withhold = true
-has_place_in_orders (order.BuyTrain kind from) = true
-has_place_in_orders (order.BuyOwnedPrivate private price) = true
-has_place_in_orders (order.Raise company shares) = true
+has_place_in_orders (order.Play play.RunBest) = true
+has_place_in_orders (order.Play play.Pay) = true
+has_place_in_orders (order.Play play.Withhold) = true
+has_place_in_orders (order.Play (play.BuyTrain kind from)) = true
+has_place_in_orders (order.Play (play.BuyOwnedPrivate private price)) = true
+has_place_in_orders (order.Play (play.Raise company shares)) = true
 has_place_in_orders other = false
 
 -- the order has a place behind a head of a sheet for this round

@@ -8,7 +8,7 @@ use board::TurnStep;
 use desk_base::Objection;
 use history::{PayRule, Refusal};
 use map_tables::{LayRule, RunRule, TokenRule};
-use order_grammar::Order;
+use order_grammar::{Order, PlayOrder};
 
 /// The step that the orders of a company's turn have reached. Conditional orders do not count.
 #[derive(Clone, Copy)]
@@ -26,11 +26,11 @@ fn step_of(order: &Order) -> Option<TurnStep>
     ensures { result ≡ step_of order.now }
 {
     match order {
-        Order::Lay(_) => Some(TurnStep::Lay),
-        Order::Token(_) => Some(TurnStep::Token),
-        Order::Run { .. } | Order::RunBest => Some(TurnStep::Run),
-        Order::Pay | Order::Withhold => Some(TurnStep::Pay),
-        Order::BuyTrain { .. } => Some(TurnStep::Trains),
+        Order::Play(PlayOrder::Lay(_)) => Some(TurnStep::Lay),
+        Order::Play(PlayOrder::Token(_)) => Some(TurnStep::Token),
+        Order::Run { .. } | Order::Play(PlayOrder::RunBest) => Some(TurnStep::Run),
+        Order::Play(PlayOrder::Pay | PlayOrder::Withhold) => Some(TurnStep::Pay),
+        Order::Play(PlayOrder::BuyTrain { .. }) => Some(TurnStep::Trains),
         _ => None,
     }
 }
@@ -49,14 +49,14 @@ fn later(step: TurnStep, other: Option<TurnStep>) -> TurnStep
 fn is_run(order: &Order) -> bool
     ensures { result ≡ is_run order.now }
 {
-    matches!(order, Order::Run { .. } | Order::RunBest)
+    matches!(order, Order::Run { .. } | Order::Play(PlayOrder::RunBest))
 }
 
 /// Returns whether an order has trains run their best.
 fn is_best(order: &Order) -> bool
     ensures { result ≡ is_best order.now }
 {
-    matches!(order, Order::RunBest)
+    matches!(order, Order::Play(PlayOrder::RunBest))
 }
 
 /// Returns the rule of an order whose step is past, if it has a step.
@@ -64,10 +64,14 @@ fn passed_rule(order: &Order) -> Option<Refusal>
     ensures { result ≡ passed_rule order.now }
 {
     match order {
-        Order::Lay(_) => Some(Refusal::Lay(LayRule::StepUsed)),
-        Order::Token(_) => Some(Refusal::Token(TokenRule::StepUsed)),
-        Order::Run { .. } | Order::RunBest => Some(Refusal::Run(RunRule::StepUsed)),
-        Order::Pay | Order::Withhold => Some(Refusal::Pay(PayRule::NothingToPay)),
+        Order::Play(PlayOrder::Lay(_)) => Some(Refusal::Lay(LayRule::StepUsed)),
+        Order::Play(PlayOrder::Token(_)) => Some(Refusal::Token(TokenRule::StepUsed)),
+        Order::Run { .. } | Order::Play(PlayOrder::RunBest) => Some(Refusal::Run(
+            RunRule::StepUsed,
+        )),
+        Order::Play(PlayOrder::Pay | PlayOrder::Withhold) => Some(Refusal::Pay(
+            PayRule::NothingToPay,
+        )),
         _ => None,
     }
 }
@@ -157,8 +161,8 @@ impl Block {
         ensures { result ≡ objection_in_step self order.now }
     {
         match order {
-            Order::Pay => without_run(self.has_run),
-            Order::Run { .. } | Order::RunBest => beside_best(self.has_best),
+            Order::Play(PlayOrder::Pay) => without_run(self.has_run),
+            Order::Run { .. } | Order::Play(PlayOrder::RunBest) => beside_best(self.has_best),
             _ => None,
         }
     }

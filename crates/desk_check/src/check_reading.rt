@@ -23,7 +23,7 @@ use crate::check_sheets::{Head, Sent};
 use crate::sheet_like::closes;
 use desk_base::{Objection, objection_by_view, objection_to, other_president};
 use history::{GameView, Refusal};
-use order_grammar::{Fault, Order, Version};
+use order_grammar::{Fault, Order, PlayOrder, Version};
 use sheets::{LINES_MOST, NumberedLine, UnreadLine, is_blank, is_head_of, is_of_file};
 use std::alloc::AllocError;
 use tables::{COMPANIES, Company, PerCompany, Round, Seat};
@@ -430,7 +430,7 @@ fn is_operating(round: Round) -> bool
 fn is_purchase(order: &Order) -> bool
     ensures { result ≡ is_purchase order.now }
 {
-    matches!(order, Order::BuyTrain { .. })
+    matches!(order, Order::Play(PlayOrder::BuyTrain { .. }))
 }
 
 /// Returns what is said where this other presides over a company, if another does.
@@ -501,23 +501,30 @@ fn has_place(round: Round, order: &Order, is_open: bool) -> bool
     ensures { result ≡ has_place round is_open order.now }
 {
     match round {
-        Round::Opening(_) if !is_open => matches!(order, Order::Limit { .. } | Order::Par { .. }),
+        Round::Opening(_) if !is_open => matches!(
+            order,
+            Order::Play(PlayOrder::Limit { .. } | PlayOrder::Par { .. })
+        ),
         Round::Stock(_) if !is_open => false,
         Round::Opening(_) | Round::Stock(_) => !is_of_file(order),
         Round::Operating { .. } if !is_open => {
-            matches!(order, Order::Discard { .. } | Order::Offer(_))
+            matches!(
+                order,
+                Order::Play(PlayOrder::Discard { .. } | PlayOrder::Offer(_))
+            )
         }
         Round::Operating { .. } => matches!(
             order,
-            Order::Lay(_)
-                | Order::Token(_)
+            Order::Play(PlayOrder::Lay(_) | PlayOrder::Token(_))
                 | Order::Run { .. }
-                | Order::RunBest
-                | Order::Pay
-                | Order::Withhold
-                | Order::BuyTrain { .. }
-                | Order::BuyOwnedPrivate { .. }
-                | Order::Raise { .. }
+                | Order::Play(
+                    PlayOrder::RunBest
+                        | PlayOrder::Pay
+                        | PlayOrder::Withhold
+                        | PlayOrder::BuyTrain { .. }
+                        | PlayOrder::BuyOwnedPrivate { .. }
+                        | PlayOrder::Raise { .. }
+                )
         ),
     }
 }

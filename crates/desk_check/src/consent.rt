@@ -3,7 +3,7 @@
 use desk_base::Piece::{Bytes, Words};
 use desk_base::{fill, push};
 use history::{GameView, Holder, Party, PrivateRule, Refusal, TrainRule};
-use order_grammar::{Offer, Order, TrainSource, print_order};
+use order_grammar::{Offer, Order, PlayOrder, TrainSource, print_play_order};
 use purchases::has_train;
 use report::name;
 use sheets::Sheets;
@@ -37,7 +37,7 @@ pub(crate) fn push_consent(
         "; only with %'s ",
         &[Bytes(name(sheets, consent.seat))],
     )?;
-    print_order(out, &Order::Offer(consent.offer))
+    print_play_order(out, PlayOrder::Offer(consent.offer))
 }
 
 /// Returns the offer with which an order of a company would be obeyed; `None` if it was refused for
@@ -52,10 +52,12 @@ fn consent_lacking(
     match (rule, order) {
         (
             Refusal::Train(TrainRule::NoConsent),
-            Order::BuyTrain {
-                kind,
-                from: TrainSource::Company { seller, price },
-            },
+            Order::Play(
+                PlayOrder::BuyTrain {
+                    kind,
+                    from: TrainSource::Company { seller, price },
+                },
+            ),
         ) if *price > 0 && has_train(view, *seller, *kind) && *seller != company => {
             let offer = Offer::Train {
                 kind: *kind,
@@ -65,8 +67,10 @@ fn consent_lacking(
             };
             consent_of(view.president(*seller)?, seat, offer)
         }
-        (Refusal::Private(PrivateRule::NoConsent), Order::BuyOwnedPrivate { private, price })
-            if *private != Private::BaltimoreOhio && has_cash(view, company, *price) => {
+        (
+            Refusal::Private(PrivateRule::NoConsent),
+            Order::Play(PlayOrder::BuyOwnedPrivate { private, price }),
+        ) if *private != Private::BaltimoreOhio && has_cash(view, company, *price) => {
             let Some(Holder::Seat(owner)) = view.owner(*private) else {
                 return None;
             };

@@ -3,7 +3,7 @@
 use desk_base::Piece::Bytes;
 use desk_base::fill;
 use history::{Event, LayRule, OpeningRule, Refusal, StockRule, TrainRule, TrainSeller};
-use order_grammar::{Order, TrainSource};
+use order_grammar::{Order, PlayOrder, TrainSource};
 use report::name;
 use sheets::Sheets;
 use std::alloc::AllocError;
@@ -74,7 +74,8 @@ fn events_of_round(events: &[Event]) -> &[Event] {
 /// nobody took the last.
 fn leaves_none(event: &Event, order: &Order) -> bool {
     match (event, order) {
-        (Event::Rusted { kind, .. }, Order::BuyTrain { kind: wanted, .. }) => kind == wanted,
+        (Event::Rusted { kind, .. }, Order::Play(PlayOrder::BuyTrain { kind: wanted, .. })) => kind
+            == wanted,
         _ => false,
     }
 }
@@ -96,40 +97,50 @@ fn whose_then(whose: Option<Seat>, event: &Event) -> Option<Seat> {
 /// left.
 fn takes(event: &Event, order: &Order, rule: Refusal) -> bool {
     match (rule, order, event) {
-        (Refusal::Lay(LayRule::NoneLeft), Order::Lay(wanted), Event::Laid { lay, .. }) => {
-            lay.tile == wanted.tile
-        }
+        (
+            Refusal::Lay(LayRule::NoneLeft),
+            Order::Play(PlayOrder::Lay(wanted)),
+            Event::Laid { lay, .. },
+        ) => { lay.tile == wanted.tile }
         (
             Refusal::Train(TrainRule::NotOnSale | TrainRule::NotSellers),
-            Order::BuyTrain {
-                kind: wanted,
-                from: source,
-            },
+            Order::Play(
+                PlayOrder::BuyTrain {
+                    kind: wanted,
+                    from: source,
+                },
+            ),
             Event::Train { kind, from, .. },
         ) => kind == wanted && is_seller(*source, *from),
         (
             Refusal::Stock(StockRule::NoneThere),
-            Order::BuyShare {
-                company: wanted,
-                from: source,
-            },
+            Order::Play(
+                PlayOrder::BuyShare {
+                    company: wanted,
+                    from: source,
+                },
+            ),
             Event::Bought { company, from, .. },
         ) => company == wanted && from == source,
         (
             Refusal::Stock(StockRule::NoneThere),
-            Order::BuyShare {
-                company: Company::NewYorkCentral,
-                from: source,
-            },
+            Order::Play(
+                PlayOrder::BuyShare {
+                    company: Company::NewYorkCentral,
+                    from: source,
+                },
+            ),
             Event::Exchanged { from, .. },
         ) => from == source,
         (
             Refusal::Opening(OpeningRule::Sold),
-            Order::BuyPrivate(wanted)
-            | Order::Bid {
-                private: wanted,
-                ..
-            },
+            Order::Play(
+                PlayOrder::BuyPrivate(wanted)
+                | PlayOrder::Bid {
+                    private: wanted,
+                    ..
+                },
+            ),
             Event::Sold { private, .. },
         ) => private == wanted,
         _ => false,

@@ -23,10 +23,10 @@ use Rattle.forced_purchase.specs.declared.operator.Operator.{Operator}
 use Rattle.moves.specs.declared.row.Answer.{Answer}
 use Rattle.moves.specs.declared.row.Answer.TheVariants.{Obeyed, WithConsent, Refused}
 use Rattle.moves.specs.declared.row.Row.{Row}
-use Rattle.order_grammar.specs.declared.order.Order.{Order}
-use Rattle.order_grammar.specs.declared.order.Order.TheVariants.{BuyOwnedPrivate, BuyTrain}
 use Rattle.order_grammar.specs.declared.order.TrainSource.{TrainSource}
 use Rattle.order_grammar.specs.declared.order.TrainSource.TheVariants as source
+use Rattle.order_grammar.specs.declared.play.PlayOrder.{PlayOrder}
+use Rattle.order_grammar.specs.declared.play.PlayOrder.TheVariants.{BuyOwnedPrivate, BuyTrain}
 use Rattle.purchases.specs.Discard.{is_president}
 use Rattle.purchases.specs.Private.{private_judgement_by}
 use Rattle.purchases.specs.Train.{sells}
@@ -76,7 +76,7 @@ told_train game by kind from (WithConsent price giver sale) = Some (May price (n
 told_train game by kind from (Refused rule) = not_of_train game by kind from rule
 
 -- what is told of this order, if it buys a train
-abbrev pub told_if_train : List (Option Seat) → Game → Operator → Order → Answer → Option Told
+abbrev pub told_if_train : List (Option Seat) → Game → Operator → PlayOrder → Answer → Option Told
 told_if_train presidents game by (BuyTrain kind from) answer =
     told_train game by kind from (as_offered presidents answer)
 told_if_train presidents game by other answer = None
@@ -131,7 +131,7 @@ told_private_at game by private price answer =
     if price == face_of private / 2 then told_private game by private price answer else None
 
 -- what is told of this order, if it buys a private
-abbrev pub told_if_private : Game → Operator → Order → Answer → Option Told
+abbrev pub told_if_private : Game → Operator → PlayOrder → Answer → Option Told
 told_if_private game by (BuyOwnedPrivate private price) answer = told_private_at game by private price answer
 told_if_private game by other answer = None
 

@@ -16,44 +16,44 @@ use Rattle.moves.specs.Bids.{least_bid_of}
 use Rattle.moves.specs.declared.row.Answer.{Answer}
 use Rattle.moves.specs.declared.row.Answer.TheVariants.{Obeyed, WithConsent, Refused}
 use Rattle.moves.specs.declared.row.Row.{Row}
-use Rattle.order_grammar.specs.declared.order.Order.{Order}
-use Rattle.order_grammar.specs.declared.order.Order.TheVariants.{Bid, BuyPrivate}
+use Rattle.order_grammar.specs.declared.play.PlayOrder.{PlayOrder}
+use Rattle.order_grammar.specs.declared.play.PlayOrder.TheVariants.{Bid, BuyPrivate}
 use Rattle.privates.specs.Bank.{is_cheapest, price_of_private}
 use Rattle.tables.specs.declared.seat.Seat.{Seat}
 use Rattle.totals.specs.Bids.{free_for}
 use Rattle.totals.specs.LookBack.{is_sold, Game}
 
 -- an order is the one that an unsold private needs
-abbrev pub is_asked : List Event → Order → Bool
+abbrev pub is_asked : List Event → PlayOrder → Bool
 is_asked events (BuyPrivate private) = is_cheapest events private
 is_asked events (Bid private amount) =
     not (is_sold events private) && not (is_cheapest events private) && amount == least_bid_of events private
 is_asked events other = false
 
 -- what is said of one that is obeyed
-abbrev pub note_on : Order → Note
+abbrev pub note_on : PlayOrder → Note
 note_on (Bid private amount) = OrMore
 note_on other = Nothing
 
 -- what an order costs
-abbrev pub price_on : List Event → Order → Option ℤ
+abbrev pub price_on : List Event → PlayOrder → Option ℤ
 price_on events (BuyPrivate private) = Some (pos (price_of_private events private))
 price_on events (Bid private amount) = Some (pos amount)
 price_on events other = None
 
 -- what the player can spend on the private of an order
-abbrev pub cash_on : Game → Seat → Order → Held
+abbrev pub cash_on : Game → Seat → PlayOrder → Held
 cash_on game seat (BuyPrivate private) = YourCash (free_for game.seats game.events seat private)
 cash_on game seat (Bid private amount) = YourCash (free_for game.seats game.events seat private)
 cash_on game seat other = Unsaid
 
 -- what is told of one that a rule refuses: if the player has too little, also the price and what they have
-abbrev pub not_told : Game → Seat → Order → Refusal → Told
+abbrev pub not_told : Game → Seat → PlayOrder → Refusal → Told
 not_told game seat order rule =
     if lacks_money rule then Not rule (price_on game.events order) (cash_on game seat order) else not_by rule
 
 -- what is told of an order of which this becomes
-abbrev pub told_of_answer : Game → Seat → Order → Answer → Option Told
+abbrev pub told_of_answer : Game → Seat → PlayOrder → Answer → Option Told
 told_of_answer game seat order (Obeyed price) = Some (May price (note_on order))
 told_of_answer game seat order (WithConsent price giver sale) = None
 told_of_answer game seat order (Refused rule) = Some (not_told game seat order rule)

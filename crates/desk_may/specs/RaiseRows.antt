@@ -8,13 +8,13 @@ use Rattle.certs.specs.declared.share_deal.Sale.{Sale}
 use Rattle.events.specs.declared.event.Event.{Event}
 use Rattle.events.specs.declared.event.Shareholder.TheVariants.{Seat as OfSeat}
 use Rattle.events.specs.declared.ruling.StockRule.{StockRule}
-use Rattle.forced_purchase.specs.Raise.{raise_rule, sale_rule}
+use Rattle.forced_purchase.specs.Raise.{raise_judgement, raised_sale_judgement}
 use Rattle.forced_purchase.specs.declared.operator.Operator.{Operator}
 use Rattle.moves.specs.Deals.{brought_by, sale_of, share_numbers}
 use Rattle.moves.specs.Rows.{answer_of, only_if}
 use Rattle.moves.specs.declared.row.Answer.{Answer}
 use Rattle.moves.specs.declared.row.Row.{Row}
-use Rattle.order_grammar.specs.declared.order.Order.TheVariants.{Raise}
+use Rattle.order_grammar.specs.declared.play.PlayOrder.TheVariants.{Raise}
 use Rattle.tables.specs.Roster.{companies}
 use Rattle.tables.specs.declared.roster.Company.{Company}
 use Rattle.tables.specs.declared.seat.Seat.{Seat}
@@ -40,7 +40,7 @@ raises events president = flat_map (raises_of events president) companies
 
 -- what becomes of one as the first RAISE, where a train must be bought
 abbrev pub raise_answer : Game → Operator → Sale → Answer
-raise_answer game by sale = answer_of (pos (brought_by game.events sale)) (raise_rule true by game None sale)
+raise_answer game by sale = answer_of (pos (brought_by game.events sale)) (raise_judgement true by game None sale)
 
 -- its row
 abbrev pub raise_row : Game → Operator → Sale → Row
@@ -53,7 +53,7 @@ price_if (Some rule) price = None
 
 -- of a sale in a game
 abbrev pub price_brought : Game → Operator → Sale → Option ℤ
-price_brought game by sale = price_if (sale_rule by game sale) (brought_by game.events sale)
+price_brought game by sale = price_if (raised_sale_judgement by game sale) (brought_by game.events sale)
 
 -- the greater of two sums, if there is a second
 abbrev pub greater_of : ℤ → Option ℤ → ℤ

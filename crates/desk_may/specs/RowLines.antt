@@ -9,7 +9,8 @@ use Rattle.moves.specs.declared.row.Answer.{Answer}
 use Rattle.moves.specs.declared.row.Answer.TheVariants.{Obeyed, WithConsent, Refused}
 use Rattle.moves.specs.declared.row.Row.{Row}
 use Rattle.order_grammar.specs.Print.{spelling_of}
-use Rattle.order_grammar.specs.declared.order.Order.TheVariants.{Offer}
+use Rattle.order_grammar.specs.declared.order.Order.TheVariants.{Play}
+use Rattle.order_grammar.specs.declared.play.PlayOrder.TheVariants.{Offer}
 use Rattle.report.specs.Line.{name_of}
 use Rattle.tables.specs.declared.seat.Seat.{Seat}
 
@@ -17,12 +18,13 @@ use Rattle.tables.specs.declared.seat.Seat.{Seat}
 abbrev pub answer_text : List ℕ → Answer → List ℕ
 answer_text file (Obeyed price) = codes "OK " ++ signed_decimal price
 answer_text file (WithConsent price giver offer) =
-    codes "OK " ++ signed_decimal price ++ codes " with " ++ name_of file giver ++ codes " " ++ spelling_of (Offer offer)
+    codes "OK " ++ signed_decimal price ++ codes " with " ++ name_of file giver ++ codes " "
+    ++ spelling_of (Play (Offer offer))
 answer_text file (Refused rule) = code_of_refusal rule
 
 -- the line of a row
 abbrev pub row_line : List ℕ → Row → List ℕ
-row_line file row = spelling_of row.order ++ codes "    " ++ answer_text file row.answer ++ 10 ∷ []
+row_line file row = spelling_of (Play row.order) ++ codes "    " ++ answer_text file row.answer ++ 10 ∷ []
 
 -- the lines of some rows
 abbrev pub row_lines : List ℕ → List Row → List ℕ

@@ -29,9 +29,9 @@ use Rattle.market.specs.Moves.{fallen}
 use Rattle.moves.specs.declared.row.Answer.{Answer}
 use Rattle.moves.specs.declared.row.Answer.TheVariants.{Obeyed, WithConsent, Refused}
 use Rattle.moves.specs.declared.row.Row.{Row}
-use Rattle.order_grammar.specs.declared.order.Order.{Order}
-use Rattle.order_grammar.specs.declared.order.Order.TheVariants.{Par, BuyShare, Sell, ExchangeMohawk}
 use Rattle.order_grammar.specs.declared.order.ShareSource.{ShareSource}
+use Rattle.order_grammar.specs.declared.play.PlayOrder.{PlayOrder}
+use Rattle.order_grammar.specs.declared.play.PlayOrder.TheVariants.{Par, BuyShare, Sell, ExchangeMohawk}
 use Rattle.stock_round.specs.Exchange.{exchange_source}
 use Rattle.tables.specs.Chart.{least_par, zone_of}
 use Rattle.tables.specs.declared.roster.Company.{Company}
@@ -72,7 +72,7 @@ abbrev pub fall_on : List Event → Company → ℕ → Note
 fall_on events company shares = fall_from (square_of events company) shares
 
 -- what is said of an order that is obeyed
-abbrev pub note_on : List Event → Order → Note
+abbrev pub note_on : List Event → PlayOrder → Note
 note_on events (BuyShare company from) = several_if (is_brown events company)
 note_on events (Sell company shares) = fall_on events company shares
 note_on events ExchangeMohawk = Source (exchange_source events)
@@ -95,7 +95,7 @@ abbrev pub holds_mohawk : List Event → Seat → Bool
 holds_mohawk events seat = is_owner seat (owner_of events MohawkHudson)
 
 -- an order may have been expected
-abbrev pub is_expected : List Event → Seat → Order → Bool
+abbrev pub is_expected : List Event → Seat → PlayOrder → Bool
 is_expected events seat (Par company price) = price == least_par && not (is_started events company)
 is_expected events seat (BuyShare company from) = is_on_offer events company from
 is_expected events seat (Sell company shares) = shares == 1 && has_shares events seat company
@@ -103,7 +103,7 @@ is_expected events seat ExchangeMohawk = holds_mohawk events seat
 is_expected events seat other = false
 
 -- what a purchase would cost
-abbrev pub cost_of_order : List Event → Order → Option ℤ
+abbrev pub cost_of_order : List Event → PlayOrder → Option ℤ
 cost_of_order events (Par company price) = Some (pos (cost_of events (purchase.Par company price)))
 cost_of_order events (BuyShare company from) = Some (pos (cost_of events (purchase.Share company from)))
 cost_of_order events other = None
@@ -113,32 +113,32 @@ abbrev pub shares_held : List Event → Seat → Company → Held
 shares_held events seat company = YourShares (shares_of events company (OfSeat seat))
 
 -- how many shares of the company of a purchase a seat has
-abbrev pub shares_on : List Event → Seat → Order → Held
+abbrev pub shares_on : List Event → Seat → PlayOrder → Held
 shares_on events seat (BuyShare company from) = shares_held events seat company
 shares_on events seat other = Unsaid
 
 -- that is told if the rule is that it would be over six
-abbrev pub held_by : List Event → Seat → Order → StockRule → Held
+abbrev pub held_by : List Event → Seat → PlayOrder → StockRule → Held
 held_by events seat order OverSixShares = shares_on events seat order
 held_by events seat order other = Unsaid
 
 -- of a rule of a stock round
-abbrev pub held_by_rule : List Event → Seat → Order → Refusal → Held
+abbrev pub held_by_rule : List Event → Seat → PlayOrder → Refusal → Held
 held_by_rule events seat order (refusal.Stock rule) = held_by events seat order rule
 held_by_rule events seat order other = Unsaid
 
 -- what the player has of which the rule speaks
-abbrev pub held_of : Game → Seat → Order → Refusal → Held
+abbrev pub held_of : Game → Seat → PlayOrder → Refusal → Held
 held_of game seat order rule =
     if lacks_money rule then YourCash (free_cash_of game.seats game.events seat) else held_by_rule game.events seat order rule
 
 -- what is told of an order that a rule refuses
-abbrev pub not_told : Game → Seat → Order → Refusal → Told
+abbrev pub not_told : Game → Seat → PlayOrder → Refusal → Told
 not_told game seat order rule =
     Not rule (cost_of_order game.events order) (held_of game seat order rule)
 
 -- what is told of an order of which this becomes
-abbrev pub told_of_answer : Game → Seat → Order → Answer → Option Told
+abbrev pub told_of_answer : Game → Seat → PlayOrder → Answer → Option Told
 told_of_answer game seat order (Obeyed price) = Some (May price (note_on game.events order))
 told_of_answer game seat order (WithConsent price giver sale) = None
 told_of_answer game seat order (Refused rule) =

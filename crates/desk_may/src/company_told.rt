@@ -12,7 +12,7 @@ use crate::told::{Held, Note, Told, lacks_money, not_by};
 use forced_purchase::Operator;
 use history::{History, Holder, Party, Refusal};
 use moves::{Answer, Row};
-use order_grammar::{Order, TrainSource};
+use order_grammar::{PlayOrder, TrainSource};
 use purchases::{Consents, is_president, judge_private, sells};
 use tables::{Amount, Company, Kind, Money, Private, Seat, face, train};
 
@@ -57,15 +57,9 @@ fn told_of_train(
 ) -> Option<Told>
     ensures { result ≡ told_of_train presidents.now history.now by row.now }
 {
-    match &row.order {
-        Order::BuyTrain { kind, from } => {
-            told_train(
-                history,
-                by,
-                *kind,
-                *from,
-                as_offered(presidents, row.answer),
-            )
+    match row.order {
+        PlayOrder::BuyTrain { kind, from } => {
+            told_train(history, by, kind, from, as_offered(presidents, row.answer))
         }
         _ => None,
     }
@@ -172,9 +166,9 @@ fn other_giver(giver: Option<Seat>, seat: Seat) -> Option<Seat>
 fn told_of_private(history: &History, by: Operator, row: &Row) -> Option<Told>
     ensures { result ≡ told_of_private history.now by row.now }
 {
-    match &row.order {
-        Order::BuyOwnedPrivate { private, price } => {
-            told_private_at(history, by, *private, *price, row.answer)
+    match row.order {
+        PlayOrder::BuyOwnedPrivate { private, price } => {
+            told_private_at(history, by, private, price, row.answer)
         }
         _ => None,
     }

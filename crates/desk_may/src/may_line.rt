@@ -5,7 +5,7 @@ use crate::told_rows::ToldRows;
 use desk_base::Piece::{Bytes, Column, Number, Right, Words};
 use desk_base::{Piece, Reason, fill, push, push_wrapped};
 use history::Refusal;
-use order_grammar::{Order, print_order};
+use order_grammar::{PlayOrder, print_play_order};
 use report::name;
 use sheets::Sheets;
 use std::alloc::{AllocError, Global};
@@ -18,8 +18,12 @@ const PRICE: usize = 22;
 const NOTE: usize = 30;
 
 /// Adds an order that may be given, with its price in dollars. It does not end the line.
-pub(crate) fn push_may(out: &mut Vec<u8>, order: &Order, price: Money) -> Result<(), AllocError> {
-    print_order(out, order)?;
+pub(crate) fn push_may(
+    out: &mut Vec<u8>,
+    order: PlayOrder,
+    price: Money,
+) -> Result<(), AllocError> {
+    print_play_order(out, order)?;
     push(out, &[Column(PRICE), Right(6, price)])
 }
 
@@ -37,9 +41,9 @@ pub(crate) fn push_given(
 ) -> Result<(), AllocError> {
     for (place, row) in list.rows.iter().enumerate() {
         if let Some(Told::May { price, note }) = list.told_at(place)
-            && matches!(row.order, Order::Bid { .. }) == is_bid
+            && matches!(row.order, PlayOrder::Bid { .. }) == is_bid
         {
-            push_may_noted(out, sheets, &row.order, price, note)?;
+            push_may_noted(out, sheets, row.order, price, note)?;
             fill(out, "\n", &[])?;
         }
     }
@@ -55,9 +59,9 @@ pub(crate) fn push_not_given(
 ) -> Result<(), AllocError> {
     for (place, row) in list.rows.iter().enumerate() {
         if let Some(Told::Not { rule, price, held }) = list.told_at(place)
-            && matches!(row.order, Order::ExchangeMohawk) == is_exchange
+            && matches!(row.order, PlayOrder::ExchangeMohawk) == is_exchange
         {
-            push_may_not(alloc, out, &row.order, rule, price, held)?;
+            push_may_not(alloc, out, row.order, rule, price, held)?;
         }
     }
     Ok(())
@@ -68,7 +72,7 @@ pub(crate) fn push_not_given(
 pub(crate) fn push_may_noted(
     out: &mut Vec<u8>,
     sheets: &Sheets,
-    order: &Order,
+    order: PlayOrder,
     price: Money,
     note: Note,
 ) -> Result<(), AllocError> {
@@ -119,7 +123,7 @@ fn push_square(out: &mut Vec<u8>, square: Square) -> Result<(), AllocError> {
 fn push_may_not(
     alloc: Global,
     out: &mut Vec<u8>,
-    order: &Order,
+    order: PlayOrder,
     rule: Refusal,
     price: Option<Money>,
     held: Held,
@@ -127,7 +131,7 @@ fn push_may_not(
     fill(out, "NOT ", &[])?;
     match price {
         Some(price) => push_may(out, order, price)?,
-        None => print_order(out, order)?,
+        None => print_play_order(out, order)?,
     }
     push_note_column(out)?;
     let mut why = Vec::new(alloc);

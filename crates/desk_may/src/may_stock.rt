@@ -8,7 +8,7 @@ use desk_base::Piece::{Bytes, Number, Words};
 use desk_base::{fill, push};
 use foresight::TurnAhead;
 use history::{History, ShareCount, Shareholder, Transfer};
-use order_grammar::Order;
+use order_grammar::PlayOrder;
 use report::name;
 use sheets::Sheets;
 use std::alloc::{AllocError, Global};
@@ -41,13 +41,13 @@ fn push_purchases(out: &mut Vec<u8>, sheets: &Sheets, list: &ToldRows) -> Result
             continue;
         };
         match row.order {
-            Order::Par { company, .. } if started != Some(company) => {
-                push_may_noted(out, sheets, &row.order, price, note)?;
+            PlayOrder::Par { company, .. } if started != Some(company) => {
+                push_may_noted(out, sheets, row.order, price, note)?;
                 push_other_pars(out, list, place, company)?;
                 started = Some(company);
             }
-            Order::BuyShare { .. } => {
-                push_may_noted(out, sheets, &row.order, price, note)?;
+            PlayOrder::BuyShare { .. } => {
+                push_may_noted(out, sheets, row.order, price, note)?;
                 fill(out, "\n", &[])?;
             }
             _ => {}
@@ -65,7 +65,7 @@ fn push_other_pars(
 ) -> Result<(), AllocError> {
     let mut words = "or at";
     for (place, row) in list.rows.iter().enumerate() {
-        if let Order::Par {
+        if let PlayOrder::Par {
             company: its,
             price,
         } = row.order
@@ -92,14 +92,13 @@ fn push_sales(
     list: &ToldRows,
 ) -> Result<(), AllocError> {
     for (place, row) in list.rows.iter().enumerate() {
-        if let (Order::Sell { company, shares }, Some(Told::May { price, note })) = (
-            &row.order,
+        if let (PlayOrder::Sell { company, shares }, Some(Told::May { price, note })) = (
+            row.order,
             list.told_at(place),
         )
-            && !is_sold_after(list, place, *company)
+            && !is_sold_after(list, place, company)
         {
-            let (company, shares) = (*company, *shares);
-            push_may_noted(out, sheets, &row.order, price, note)?;
+            push_may_noted(out, sheets, row.order, price, note)?;
             push_successor(out, sheets, history, seat, Sale { company, shares })?;
             fill(out, "\n", &[])?;
         }
@@ -110,7 +109,7 @@ fn push_sales(
 /// Returns whether a greater sale of a company may be made, after a place in a list.
 fn is_sold_after(list: &ToldRows, from: usize, company: Company) -> bool {
     for (place, row) in list.rows.iter().enumerate() {
-        if let Order::Sell { company: its, .. } = row.order
+        if let PlayOrder::Sell { company: its, .. } = row.order
             && its == company
             && place > from
             && matches!(list.told_at(place), Some(Told::May { .. }))
@@ -154,11 +153,11 @@ fn push_successor(
 /// Adds the exchange of MH, if the player may make it.
 fn push_exchange(out: &mut Vec<u8>, sheets: &Sheets, list: &ToldRows) -> Result<(), AllocError> {
     for (place, row) in list.rows.iter().enumerate() {
-        if let (Order::ExchangeMohawk, Some(Told::May { price, note })) = (
-            &row.order,
+        if let (PlayOrder::ExchangeMohawk, Some(Told::May { price, note })) = (
+            row.order,
             list.told_at(place),
         ) {
-            push_may_noted(out, sheets, &row.order, price, note)?;
+            push_may_noted(out, sheets, row.order, price, note)?;
             fill(out, "\n", &[])?;
         }
     }

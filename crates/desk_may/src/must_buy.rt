@@ -10,7 +10,7 @@ use crate::until_then::{SAID, push_events};
 use certs::Sale;
 use desk_base::Piece::{Bytes, Column, Number, Words};
 use desk_base::{fill, push};
-use forced_purchase::{Operator, cheapest, falls_short, lack, sale_rule};
+use forced_purchase::{Operator, cheapest, falls_short, judge_raised_sale, lack};
 use foresight::{OrdersAhead, RoundAhead};
 use history::{History, Party, TrainSeller};
 use moves::{Answer, Row, brought_by};
@@ -187,7 +187,7 @@ fn greater_of(most: Money, brought: Option<Money>) -> Money
 fn price_brought(history: &History, by: Operator, sale: Sale) -> Option<Money>
     ensures { result ≡ price_brought history.now by sale }
 {
-    match sale_rule(history, by, sale) {
+    match judge_raised_sale(history, by, sale) {
         Some(_) => None,
         None => Some(brought_by(&history.now(), sale)),
     }
@@ -197,7 +197,7 @@ fn price_brought(history: &History, by: Operator, sale: Sale) -> Option<Money>
 fn push_raises(out: &mut Vec<u8>, rows: &[Row]) -> Result<(), AllocError> {
     for row in rows {
         if let Answer::Obeyed { price } = row.answer {
-            push_may(out, &row.order, price)?;
+            push_may(out, row.order, price)?;
             fill(out, "\n", &[])?;
         }
     }

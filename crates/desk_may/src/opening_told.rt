@@ -9,7 +9,7 @@ use crate::teller::Teller;
 use crate::told::{Held, Note, Told, lacks_money, not_by};
 use history::{History, Refusal};
 use moves::{Answer, Row, least_bid};
-use order_grammar::Order;
+use order_grammar::PlayOrder;
 use privates::price_of_private;
 use tables::{Money, Private, Seat};
 
@@ -33,23 +33,23 @@ impl Teller for OpeningTeller<'_> {
 fn told_in_opening(history: &History, seat: Seat, row: &Row) -> Option<Told>
     ensures { result ≡ told_in_opening history.now seat row.now }
 {
-    if !is_asked(history, &row.order) {
+    if !is_asked(history, row.order) {
         return None;
     }
-    told_of_answer(history, seat, &row.order, row.answer)
+    told_of_answer(history, seat, row.order, row.answer)
 }
 
 /// Returns whether an order is the one that matters for an unsold private: BUY of the cheapest, and
 /// the lowest BID on another.
-fn is_asked(history: &History, order: &Order) -> bool
-    ensures { result ≡ is_asked history.now.events order.now }
+fn is_asked(history: &History, order: PlayOrder) -> bool
+    ensures { result ≡ is_asked history.now.events order }
 {
     match order {
-        Order::BuyPrivate(private) => is_cheapest(history, *private),
-        Order::Bid { private, amount } => {
-            !history.now().is_sold(*private)
-                && !is_cheapest(history, *private)
-                && *amount == least_bid(history, *private)
+        PlayOrder::BuyPrivate(private) => is_cheapest(history, private),
+        PlayOrder::Bid { private, amount } => {
+            !history.now().is_sold(private)
+                && !is_cheapest(history, private)
+                && amount == least_bid(history, private)
         }
         _ => false,
     }
@@ -66,9 +66,9 @@ fn is_cheapest(history: &History, private: Private) -> bool
 }
 
 /// Returns what is said about an order with this outcome.
-fn told_of_answer(history: &History, seat: Seat, order: &Order, answer: Answer) -> Option<Told>
+fn told_of_answer(history: &History, seat: Seat, order: PlayOrder, answer: Answer) -> Option<Told>
     ensures { result
-        ≡ told_of_answer history.now seat order.now answer }
+        ≡ told_of_answer history.now seat order answer }
 {
     match answer {
         Answer::Obeyed { price } => {
@@ -81,8 +81,8 @@ fn told_of_answer(history: &History, seat: Seat, order: &Order, answer: Answer) 
 }
 
 /// Returns what is said about an order that a rule refuses.
-fn not_told(history: &History, seat: Seat, order: &Order, rule: Refusal) -> Told
-    ensures { result ≡ not_told history.now seat order.now rule }
+fn not_told(history: &History, seat: Seat, order: PlayOrder, rule: Refusal) -> Told
+    ensures { result ≡ not_told history.now seat order rule }
 {
     if !lacks_money(rule) {
         return not_by(rule);
@@ -93,33 +93,36 @@ fn not_told(history: &History, seat: Seat, order: &Order, rule: Refusal) -> Told
 }
 
 /// Returns what is said of an order that may be given.
-fn note_on(order: &Order) -> Note
-    ensures { result ≡ note_on order.now }
+fn note_on(order: PlayOrder) -> Note
+    ensures { result ≡ note_on order }
 {
     match order {
-        Order::Bid { .. } => Note::OrMore,
+        PlayOrder::Bid { .. } => Note::OrMore,
         _ => Note::Nothing,
     }
 }
 
 /// Returns what an order costs, in dollars.
-fn price_on(history: &History, order: &Order) -> Option<Money>
-    ensures { result ≡ price_on history.now.events order.now }
+fn price_on(history: &History, order: PlayOrder) -> Option<Money>
+    ensures { result ≡ price_on history.now.events order }
 {
     match order {
-        Order::BuyPrivate(private) => Some(Money::from(price_of_private(&history.now(), *private))),
-        Order::Bid { amount, .. } => Some(Money::from(*amount)),
+        PlayOrder::BuyPrivate(private) => Some(Money::from(price_of_private(
+            &history.now(),
+            private,
+        ))),
+        PlayOrder::Bid { amount, .. } => Some(Money::from(amount)),
         _ => None,
     }
 }
 
 /// Returns what the player can spend on the private of an order.
-fn cash_on(history: &History, seat: Seat, order: &Order) -> Held
-    ensures { result ≡ cash_on history.now seat order.now }
+fn cash_on(history: &History, seat: Seat, order: PlayOrder) -> Held
+    ensures { result ≡ cash_on history.now seat order }
 {
     match order {
-        Order::BuyPrivate(private) => Held::YourCash(history.now().free_for(seat, *private)),
-        Order::Bid { private, .. } => Held::YourCash(history.now().free_for(seat, *private)),
+        PlayOrder::BuyPrivate(private) => Held::YourCash(history.now().free_for(seat, private)),
+        PlayOrder::Bid { private, .. } => Held::YourCash(history.now().free_for(seat, private)),
         _ => Held::Unsaid,
     }
 }

@@ -3,10 +3,10 @@ ghost use Rattle.std.specs.Prelude.{◌≡◌, ◌++◌, IfOk, OnOk, map};
 ghost use Rattle.desk_may.specs.RaiseRows.{is_held, raise_answer, raise_if_held, raise_row, raises, raises_of};
 
 use certs::Sale;
-use forced_purchase::{Operator, raise_rule};
+use forced_purchase::{Operator, judge_raise};
 use history::{History, ShareCount, Shareholder};
 use moves::{Answer, Row, brought_by};
-use order_grammar::Order;
+use order_grammar::PlayOrder;
 use std::alloc::{AllocError, Global};
 use tables::{Amount, Company};
 
@@ -71,7 +71,7 @@ fn push_if_held(
     }
     let answer = raise_answer(history, by, Sale { company, shares });
     rows.push(Row {
-        order: Order::Raise { company, shares },
+        order: PlayOrder::Raise { company, shares },
         answer,
     })?;
     Ok(())
@@ -88,7 +88,7 @@ fn is_held(history: &History, by: Operator, company: Company, shares: Amount) ->
 fn raise_answer(history: &History, by: Operator, sale: Sale) -> Answer
     ensures { result ≡ raise_answer history.now by sale }
 {
-    match raise_rule(history, by, None, sale, true) {
+    match judge_raise(history, by, None, sale, true) {
         Some(rule) => Answer::Refused(rule),
         None => Answer::Obeyed {
             price: brought_by(&history.now(), sale),

@@ -4,7 +4,7 @@ ghost use Rattle.desk_may.specs.RowLines.{answer_text, offered_lines, row_line, 
 
 use crate::offerers::as_offered;
 use moves::{Answer, Row};
-use order_grammar::{Order, print_number, print_order};
+use order_grammar::{PlayOrder, print_number, print_play_order};
 use report::name;
 use sheets::Sheets;
 use std::alloc::AllocError;
@@ -15,7 +15,7 @@ pub(crate) fn push_rows(out: &mut Vec<u8>, sheets: &Sheets, rows: &[Row]) -> Res
     ensures { OnOk result (out.new.items ≡ out.old.items ++ row_lines sheets.now rows.now) }
 {
     for row in rows {
-        push_row(out, sheets, &row.order, row.answer)?;
+        push_row(out, sheets, row.order, row.answer)?;
     }
     Ok(())
 }
@@ -33,7 +33,7 @@ pub(crate) fn push_offered_rows(
 {
     for row in rows {
         let answer = as_offered(presidents, row.answer);
-        push_row(out, sheets, &row.order, answer)?;
+        push_row(out, sheets, row.order, answer)?;
     }
     Ok(())
 }
@@ -42,13 +42,13 @@ pub(crate) fn push_offered_rows(
 fn push_row(
     out: &mut Vec<u8>,
     sheets: &Sheets,
-    order: &Order,
+    order: PlayOrder,
     answer: Answer,
 ) -> Result<(), AllocError>
     ensures { OnOk result (out.new.items ≡ out.old.items
-        ++ row_line sheets.now (record { order = order.now; answer = answer })) }
+        ++ row_line sheets.now (record { order = order; answer = answer })) }
 {
-    print_order(out, order)?;
+    print_play_order(out, order)?;
     out.extend_from_slice(b"    ")?;
     push_answer(out, sheets, answer)?;
     out.push(b'\n')?;
@@ -75,7 +75,7 @@ fn push_answer(out: &mut Vec<u8>, sheets: &Sheets, answer: Answer) -> Result<(),
             out.extend_from_slice(b" with ")?;
             out.extend_from_slice(name(sheets, giver))?;
             out.push(b' ')?;
-            print_order(out, &Order::Offer(offer))
+            print_play_order(out, PlayOrder::Offer(offer))
         }
         Answer::Refused(rule) => out.extend_from_slice(rule.code().as_bytes()),
     }

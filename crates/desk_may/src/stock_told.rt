@@ -11,7 +11,7 @@ use certs::{Purchase, purchase_cost};
 use history::{History, Holder, Refusal, Shareholder, StockRule};
 use market::fall;
 use moves::{Answer, Row};
-use order_grammar::{Order, ShareSource};
+use order_grammar::{PlayOrder, ShareSource};
 use stock_round::exchange_source;
 use tables::{Amount, Company, LEAST_PAR, Money, Private, Seat, Zone, zone};
 
@@ -37,12 +37,12 @@ fn told_in_stock(history: &History, seat: Seat, row: &Row) -> Option<Told>
 {
     match row.answer {
         Answer::Obeyed { price } => {
-            let note = note_on(history, &row.order);
+            let note = note_on(history, row.order);
             Some(Told::May { price, note })
         }
         Answer::Refused(rule) => {
-            if is_expected(history, seat, &row.order) {
-                Some(not_told(history, seat, &row.order, rule))
+            if is_expected(history, seat, row.order) {
+                Some(not_told(history, seat, row.order, rule))
             } else {
                 None
             }
@@ -52,13 +52,13 @@ fn told_in_stock(history: &History, seat: Seat, row: &Row) -> Option<Told>
 }
 
 /// Returns what is said of an order that may be given.
-fn note_on(history: &History, order: &Order) -> Note
-    ensures { result ≡ note_on history.now.events order.now }
+fn note_on(history: &History, order: PlayOrder) -> Note
+    ensures { result ≡ note_on history.now.events order }
 {
     match order {
-        Order::BuyShare { company, .. } => several_if(is_brown(history, *company)),
-        Order::Sell { company, shares } => fall_on(history, *company, *shares),
-        Order::ExchangeMohawk => Note::Source(exchange_source(history)),
+        PlayOrder::BuyShare { company, .. } => several_if(is_brown(history, company)),
+        PlayOrder::Sell { company, shares } => fall_on(history, company, shares),
+        PlayOrder::ExchangeMohawk => Note::Source(exchange_source(history)),
         _ => Note::Nothing,
     }
 }
@@ -102,16 +102,16 @@ fn fall_on(history: &History, company: Company, shares: Amount) -> Note
 /// Returns whether a player may have expected to give a refused order: to start a company that has
 /// not started, to buy a share of a started one from where there are shares, to sell a share that
 /// the player has, or to exchange MH if the player owns it.
-fn is_expected(history: &History, seat: Seat, order: &Order) -> bool
-    ensures { result ≡ is_expected history.now.events seat order.now }
+fn is_expected(history: &History, seat: Seat, order: PlayOrder) -> bool
+    ensures { result ≡ is_expected history.now.events seat order }
 {
     match order {
-        Order::Par { company, price } => {
-            *price == LEAST_PAR && !history.now().is_started(*company)
+        PlayOrder::Par { company, price } => {
+            price == LEAST_PAR && !history.now().is_started(company)
         }
-        Order::BuyShare { company, from } => is_on_offer(history, *company, *from),
-        Order::Sell { company, shares } => *shares == 1 && has_shares(history, seat, *company),
-        Order::ExchangeMohawk => holds_mohawk(history, seat),
+        PlayOrder::BuyShare { company, from } => is_on_offer(history, company, from),
+        PlayOrder::Sell { company, shares } => shares == 1 && has_shares(history, seat, company),
+        PlayOrder::ExchangeMohawk => holds_mohawk(history, seat),
         _ => false,
     }
 }
@@ -148,8 +148,8 @@ fn holds_mohawk(history: &History, seat: Seat) -> bool
 }
 
 /// Returns what is said about an order that a rule refuses.
-fn not_told(history: &History, seat: Seat, order: &Order, rule: Refusal) -> Told
-    ensures { result ≡ not_told history.now seat order.now rule }
+fn not_told(history: &History, seat: Seat, order: PlayOrder, rule: Refusal) -> Told
+    ensures { result ≡ not_told history.now seat order rule }
 {
     let price = cost_of_order(history, order);
     let held = held_of(history, seat, order, rule);
@@ -157,16 +157,14 @@ fn not_told(history: &History, seat: Seat, order: &Order, rule: Refusal) -> Told
 }
 
 /// Returns what a purchase would cost, in dollars; `None` for other orders.
-fn cost_of_order(history: &History, order: &Order) -> Option<Money>
-    ensures { result ≡ cost_of_order history.now.events order.now }
+fn cost_of_order(history: &History, order: PlayOrder) -> Option<Money>
+    ensures { result ≡ cost_of_order history.now.events order }
 {
     match order {
-        Order::Par { company, price } => {
-            let (company, price) = (*company, *price);
+        PlayOrder::Par { company, price } => {
             Some(purchase_cost(&history.now(), Purchase::Par { company, price }))
         }
-        Order::BuyShare { company, from } => {
-            let (company, from) = (*company, *from);
+        PlayOrder::BuyShare { company, from } => {
             Some(purchase_cost(&history.now(), Purchase::Share { company, from }))
         }
         _ => None,
@@ -174,8 +172,8 @@ fn cost_of_order(history: &History, order: &Order) -> Option<Money>
 }
 
 /// Returns what a player has too little or too much of by a rule: cash, or shares of the company.
-fn held_of(history: &History, seat: Seat, order: &Order, rule: Refusal) -> Held
-    ensures { result ≡ held_of history.now seat order.now rule }
+fn held_of(history: &History, seat: Seat, order: PlayOrder, rule: Refusal) -> Held
+    ensures { result ≡ held_of history.now seat order rule }
 {
     if lacks_money(rule) {
         return Held::YourCash(history.now().free_cash(seat));
@@ -187,8 +185,8 @@ fn held_of(history: &History, seat: Seat, order: &Order, rule: Refusal) -> Held
 }
 
 /// Returns how many shares of a company a player has, if the rule is the limit of six.
-fn held_by(history: &History, seat: Seat, order: &Order, rule: StockRule) -> Held
-    ensures { result ≡ held_by history.now.events seat order.now rule }
+fn held_by(history: &History, seat: Seat, order: PlayOrder, rule: StockRule) -> Held
+    ensures { result ≡ held_by history.now.events seat order rule }
 {
     match rule {
         StockRule::OverSixShares => shares_on(history, seat, order),
@@ -197,11 +195,11 @@ fn held_by(history: &History, seat: Seat, order: &Order, rule: StockRule) -> Hel
 }
 
 /// Returns how many shares a player has of the company of a purchase.
-fn shares_on(history: &History, seat: Seat, order: &Order) -> Held
-    ensures { result ≡ shares_on history.now.events seat order.now }
+fn shares_on(history: &History, seat: Seat, order: PlayOrder) -> Held
+    ensures { result ≡ shares_on history.now.events seat order }
 {
     match order {
-        Order::BuyShare { company, .. } => shares_held(history, seat, *company),
+        PlayOrder::BuyShare { company, .. } => shares_held(history, seat, company),
         _ => Held::Unsaid,
     }
 }

@@ -14,21 +14,22 @@ use Rattle.operating.specs.BoardAsker.{asker_of}
 use Rattle.operating.specs.MapState.{map_state_now}
 use Rattle.operating.specs.TurnState.{TurnState}
 use Rattle.order_grammar.specs.Print.{spelling_of}
-use Rattle.order_grammar.specs.declared.order.Order.{Order}
-use Rattle.order_grammar.specs.declared.order.Order.TheVariants as order
+use Rattle.order_grammar.specs.declared.order.Order.TheVariants.{Play}
+use Rattle.order_grammar.specs.declared.play.PlayOrder.{PlayOrder}
+use Rattle.order_grammar.specs.declared.play.PlayOrder.TheVariants as play
 use Rattle.tables.specs.declared.roster.Company.{Company}
 
 -- an order, four spaces, and its price in dollars
-abbrev pub priced_line : Order → ℤ → List ℕ
-priced_line its price = spelling_of its ++ codes "    " ++ signed_decimal price ++ 10 ∷ []
+abbrev pub priced_line : PlayOrder → ℤ → List ℕ
+priced_line its price = spelling_of (Play its) ++ codes "    " ++ signed_decimal price ++ 10 ∷ []
 
 -- the line of a lay
 abbrev pub lay_line : Priced Lay → List ℕ
-lay_line lay = priced_line (order.Lay lay.what) lay.price
+lay_line lay = priced_line (play.Lay lay.what) lay.price
 
 -- the line of a token
 abbrev pub token_line : Priced Place → List ℕ
-token_line token = priced_line (order.Token token.what) token.price
+token_line token = priced_line (play.Token token.what) token.price
 
 -- these are the lays that a company may make where its turn has come to
 abbrev pub AreLaysIn : TurnState → Company → List (Priced Lay) → Type 0

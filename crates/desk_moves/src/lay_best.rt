@@ -11,7 +11,7 @@ use desk_base::{fill, push};
 use desk_may::{Progress, Trains};
 use map_tables::{Lay, Place};
 use moves::Priced;
-use order_grammar::{Order, print_order};
+use order_grammar::{PlayOrder, print_play_order};
 use std::alloc::AllocError;
 use std::cmp::Reverse;
 use tables::Money;
@@ -45,11 +45,11 @@ impl<P: Progress> Earning<'_, P> {
     pub(crate) fn push_lines(&mut self, out: &mut Vec<u8>) -> Result<(), MovesFault> {
         for lay in self.lays {
             let best = self.after_lay(lay.what)?;
-            push_line(out, &Order::Lay(lay.what), lay.price, best)?;
+            push_line(out, PlayOrder::Lay(lay.what), lay.price, best)?;
         }
         for token in self.tokens {
             let best = self.after_token(token.what)?;
-            push_line(out, &Order::Token(token.what), token.price, best)?;
+            push_line(out, PlayOrder::Token(token.what), token.price, best)?;
         }
         Ok(())
     }
@@ -156,11 +156,11 @@ impl<P: Progress> Earning<'_, P> {
 /// Adds a line with an order, its price and a revenue.
 fn push_line(
     out: &mut Vec<u8>,
-    order: &Order,
+    order: PlayOrder,
     price: Money,
     best: Money,
 ) -> Result<(), AllocError> {
-    print_order(out, order)?;
+    print_play_order(out, order)?;
     fill(out, "    %    %\n", &[Number(price), Number(best)])
 }
 

@@ -8,7 +8,7 @@ use desk_may::board_now;
 use foresight::OrdersAhead;
 use map_tables::{Lay, Place};
 use moves::{Priced, lays, tokens};
-use order_grammar::{Order, print_number, print_order};
+use order_grammar::{PlayOrder, print_number, print_play_order};
 use std::alloc::{AllocError, Global};
 use tables::Money;
 
@@ -46,7 +46,7 @@ fn push_lay_lines(out: &mut Vec<u8>, lays: &[Priced<Lay>]) -> Result<(), AllocEr
 fn push_lay_line(out: &mut Vec<u8>, lay: &Priced<Lay>) -> Result<(), AllocError>
     ensures { OnOk result (out.new.items ≡ out.old.items ++ lay_line lay.now) }
 {
-    push_priced_line(out, &Order::Lay(lay.what), lay.price)
+    push_priced_line(out, PlayOrder::Lay(lay.what), lay.price)
 }
 
 /// Adds the lines of some tokens.
@@ -63,14 +63,14 @@ fn push_token_lines(out: &mut Vec<u8>, tokens: &[Priced<Place>]) -> Result<(), A
 fn push_token_line(out: &mut Vec<u8>, token: &Priced<Place>) -> Result<(), AllocError>
     ensures { OnOk result (out.new.items ≡ out.old.items ++ token_line token.now) }
 {
-    push_priced_line(out, &Order::Token(token.what), token.price)
+    push_priced_line(out, PlayOrder::Token(token.what), token.price)
 }
 
 /// Adds the line of an order with its price.
-fn push_priced_line(out: &mut Vec<u8>, order: &Order, price: Money) -> Result<(), AllocError>
-    ensures { OnOk result (out.new.items ≡ out.old.items ++ priced_line order.now price) }
+fn push_priced_line(out: &mut Vec<u8>, order: PlayOrder, price: Money) -> Result<(), AllocError>
+    ensures { OnOk result (out.new.items ≡ out.old.items ++ priced_line order price) }
 {
-    print_order(out, order)?;
+    print_play_order(out, order)?;
     out.extend_from_slice(GAP)?;
     print_number(out, price)?;
     out.push(b'\n')?;

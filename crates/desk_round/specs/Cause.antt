@@ -23,6 +23,7 @@ use Rattle.order_grammar.specs.declared.order.Order.{Order}
 use Rattle.order_grammar.specs.declared.order.Order.TheVariants as order
 use Rattle.order_grammar.specs.declared.order.TrainSource.{TrainSource}
 use Rattle.order_grammar.specs.declared.order.TrainSource.TheVariants as source
+use Rattle.order_grammar.specs.declared.play.PlayOrder.TheVariants as play
 use Rattle.purchases.specs.Discard.{has_train}
 use Rattle.purchases.specs.Train.{has_trains, may_be_traded}
 use Rattle.tables.specs.declared.rolling_stock.Kind.{Kind}
@@ -84,8 +85,8 @@ cause_of_raise events company =
 
 -- the price of a train that an order or an offer names, if it names one
 abbrev pub price_named : Order → Option ℕ
-price_named (order.BuyTrain kind (source.Company seller price)) = Some price
-price_named (order.Offer (offer.Train kind seller buyer price)) = Some price
+price_named (order.Play (play.BuyTrain kind (source.Company seller price))) = Some price
+price_named (order.Play (play.Offer (offer.Train kind seller buyer price))) = Some price
 price_named other = None
 
 -- of a sale without consent: a price of 0, to which nobody consents
@@ -113,12 +114,12 @@ cause_of_source events kind other = None
 
 -- of an order to buy a train of a company
 abbrev pub cause_of_seller : List Event → Order → Option Cause
-cause_of_seller events (order.BuyTrain kind from) = cause_of_source events kind from
+cause_of_seller events (order.Play (play.BuyTrain kind from)) = cause_of_source events kind from
 cause_of_seller events other = None
 
 -- of an order with a trade-in
 abbrev pub cause_of_trade_in : Order → Option Cause
-cause_of_trade_in (order.BuyTrain kind (source.Trade trade_in)) = Some (cause_of_trade kind trade_in)
+cause_of_trade_in (order.Play (play.BuyTrain kind (source.Trade trade_in))) = Some (cause_of_trade kind trade_in)
 cause_of_trade_in other = None
 
 -- of a sale by a president who must stay: nobody else has two shares, or a presidency would move
@@ -133,8 +134,8 @@ cause_of_shares game seat company shares =
 
 -- of an order to sell
 abbrev pub cause_of_stay : Game → Seat → Order → Option Cause
-cause_of_stay game seat (order.Sell company shares) = Some (cause_of_shares game seat company shares)
-cause_of_stay game seat (order.Raise company shares) = Some (cause_of_shares game seat company shares)
+cause_of_stay game seat (order.Play (play.Sell company shares)) = Some (cause_of_shares game seat company shares)
+cause_of_stay game seat (order.Play (play.Raise company shares)) = Some (cause_of_shares game seat company shares)
 cause_of_stay game seat other = None
 
 -- of a rule that refused an order in a turn: the turn has no such order

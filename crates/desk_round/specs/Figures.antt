@@ -22,6 +22,7 @@ use Rattle.order_grammar.specs.declared.condition.Condition.{Condition}
 use Rattle.order_grammar.specs.declared.condition.Condition.TheVariants as condition
 use Rattle.order_grammar.specs.declared.order.Order.{Order}
 use Rattle.order_grammar.specs.declared.order.Order.TheVariants as order
+use Rattle.order_grammar.specs.declared.play.PlayOrder.TheVariants as play
 use Rattle.map_tables.specs.Print.{print_of}
 use Rattle.purchases.specs.Train.{purchase_of, sells, train_purchase_cost}
 use Rattle.tables.specs.Roster.{certificate_limit_of, face_of, token_price_of}
@@ -56,8 +57,8 @@ offered events company =
 
 -- what an order costs that starts a company or buys a share
 abbrev pub cost_of_order : List Event → Order → ℤ
-cost_of_order events (order.Par company price) = pos (2 * price)
-cost_of_order events (order.BuyShare company from) = pos (share_price_of events company from)
+cost_of_order events (order.Play (play.Par company price)) = pos (2 * price)
+cost_of_order events (order.Play (play.BuyShare company from)) = pos (share_price_of events company from)
 cost_of_order events other = pos 0
 
 -- of a rule of a stock round, for an order of a seat about a company: the shares that the seat has,
@@ -89,7 +90,7 @@ stops_figures other = None
 
 -- the face value of the private that an order buys, if it buys one of its owner
 abbrev pub face_figures : Order → Option Figures
-face_figures (order.BuyOwnedPrivate private price) = Some (figures.Face (face_of private))
+face_figures (order.Play (play.BuyOwnedPrivate private price)) = Some (figures.Face (face_of private))
 face_figures other = None
 
 -- of a rule of an operating round: the phase, the most stops of the train, the train that is on
@@ -106,10 +107,10 @@ operating_figures events its other = None
 -- what an order of a company's turn costs, if it is one that costs money: a lay the terrain of its
 -- hex, a token by how many the company has placed
 abbrev pub cost_in_turn : List Event → Company → Order → Option ℕ
-cost_in_turn events company (order.Lay lay) = Some ((print_of lay.hex).cost)
-cost_in_turn events company (order.Token place) = Some (token_price_of (tokens_placed events company))
-cost_in_turn events company (order.BuyTrain kind from) = Some (train_purchase_cost (purchase_of kind from))
-cost_in_turn events company (order.BuyOwnedPrivate private price) = Some price
+cost_in_turn events company (order.Play (play.Lay lay)) = Some ((print_of lay.hex).cost)
+cost_in_turn events company (order.Play (play.Token place)) = Some (token_price_of (tokens_placed events company))
+cost_in_turn events company (order.Play (play.BuyTrain kind from)) = Some (train_purchase_cost (purchase_of kind from))
+cost_in_turn events company (order.Play (play.BuyOwnedPrivate private price)) = Some price
 cost_in_turn events company other = None
 
 -- of a condition: the price of the company, or the phase
@@ -121,17 +122,17 @@ condition_figures events (condition.Floated company) = None
 
 -- the private that an order of an opening is about, if it is about one
 abbrev pub private_in : Order → Option Private
-private_in (order.BuyPrivate private) = Some private
-private_in (order.Bid private amount) = Some private
-private_in (order.Limit private amount) = Some private
+private_in (order.Play (play.BuyPrivate private)) = Some private
+private_in (order.Play (play.Bid private amount)) = Some private
+private_in (order.Play (play.Limit private amount)) = Some private
 private_in other = None
 
 -- the company that an order of a stock round, or a RAISE, is about, if it is about one
 abbrev pub company_in : Order → Option Company
-company_in (order.Par company price) = Some company
-company_in (order.BuyShare company from) = Some company
-company_in (order.Sell company shares) = Some company
-company_in (order.Raise company shares) = Some company
+company_in (order.Play (play.Par company price)) = Some company
+company_in (order.Play (play.BuyShare company from)) = Some company
+company_in (order.Play (play.Sell company shares)) = Some company
+company_in (order.Play (play.Raise company shares)) = Some company
 company_in other = None
 
 -- of a rule of an opening, if the order is about a private

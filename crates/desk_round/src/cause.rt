@@ -15,7 +15,7 @@ use crate::sheet_line::LinePlace;
 use certs::{Sale, none_is_left};
 use desk_base::Cause;
 use history::{GameView, LayRule, OpeningRule, Refusal, RunRule, StockRule, TrainRule};
-use order_grammar::{Offer, Order, TrainSource};
+use order_grammar::{Offer, Order, PlayOrder, TrainSource};
 use purchases::{has_train, has_trains, may_be_traded};
 use tables::{Amount, Company, Kind, Round, Seat};
 
@@ -181,11 +181,13 @@ fn price_named(order: &Order) -> Option<Amount>
     ensures { result ≡ price_named order.now }
 {
     match order {
-        Order::BuyTrain {
-            from: TrainSource::Company { price, .. },
-            ..
-        }
-        | Order::Offer(Offer::Train { price, .. }) => Some(*price),
+        Order::Play(
+            PlayOrder::BuyTrain {
+                from: TrainSource::Company { price, .. },
+                ..
+            }
+            | PlayOrder::Offer(Offer::Train { price, .. }),
+        ) => Some(*price),
         _ => None,
     }
 }
@@ -206,7 +208,7 @@ fn cause_of_seller(view: &GameView, order: &Order) -> Option<Cause>
     ensures { result ≡ cause_of_seller view.now.events order.now }
 {
     match order {
-        Order::BuyTrain { kind, from } => cause_of_source(view, *kind, *from),
+        Order::Play(PlayOrder::BuyTrain { kind, from }) => cause_of_source(view, *kind, *from),
         _ => None,
     }
 }
@@ -237,10 +239,12 @@ fn cause_of_trade_in(order: &Order) -> Option<Cause>
     ensures { result ≡ cause_of_trade_in order.now }
 {
     match order {
-        Order::BuyTrain {
-            kind,
-            from: TrainSource::Trade(trade_in),
-        } => Some(cause_of_trade(*kind, *trade_in)),
+        Order::Play(
+            PlayOrder::BuyTrain {
+                kind,
+                from: TrainSource::Trade(trade_in),
+            },
+        ) => Some(cause_of_trade(*kind, *trade_in)),
         _ => None,
     }
 }
@@ -262,8 +266,12 @@ fn cause_of_stay(view: &GameView, seat: Seat, order: &Order) -> Option<Cause>
         ≡ cause_of_stay view.now seat order.now }
 {
     match order {
-        Order::Sell { company, shares } => Some(cause_of_shares(view, seat, *company, *shares)),
-        Order::Raise { company, shares } => Some(cause_of_shares(view, seat, *company, *shares)),
+        Order::Play(PlayOrder::Sell { company, shares }) => Some(cause_of_shares(
+            view, seat, *company, *shares,
+        )),
+        Order::Play(PlayOrder::Raise { company, shares }) => Some(cause_of_shares(
+            view, seat, *company, *shares,
+        )),
         _ => None,
     }
 }

@@ -15,7 +15,7 @@ use history::{
     Shareholder, StockRule, TrainRule,
 };
 use map_tables::terrain_cost;
-use order_grammar::{Condition, Order, TrainSource};
+use order_grammar::{Condition, Order, PlayOrder, TrainSource};
 use purchases::{purchase_of, sells};
 use report::name;
 use sheets::Sheets;
@@ -84,8 +84,11 @@ fn private_in(order: &Order) -> Option<Private>
     ensures { result ≡ private_in order.now }
 {
     match order {
-        Order::BuyPrivate(private) | Order::Bid { private, .. } | Order::Limit { private, .. } =>
-            Some(*private),
+        Order::Play(
+            PlayOrder::BuyPrivate(private)
+            | PlayOrder::Bid { private, .. }
+            | PlayOrder::Limit { private, .. },
+        ) => Some(*private),
         _ => None,
     }
 }
@@ -96,10 +99,12 @@ fn company_in(order: &Order) -> Option<Company>
     ensures { result ≡ company_in order.now }
 {
     match order {
-        Order::Par { company, .. }
-        | Order::BuyShare { company, .. }
-        | Order::Sell { company, .. }
-        | Order::Raise { company, .. } => Some(*company),
+        Order::Play(
+            PlayOrder::Par { company, .. }
+            | PlayOrder::BuyShare { company, .. }
+            | PlayOrder::Sell { company, .. }
+            | PlayOrder::Raise { company, .. },
+        ) => Some(*company),
         _ => None,
     }
 }
@@ -184,8 +189,8 @@ fn cost_of_order(view: &GameView, order: &Order) -> Money
     ensures { result ≡ cost_of_order view.now.events order.now }
 {
     match order {
-        Order::Par { price, .. } => 2 * Money::from(*price),
-        Order::BuyShare { company, from } => share_price(view, *company, *from),
+        Order::Play(PlayOrder::Par { price, .. }) => 2 * Money::from(*price),
+        Order::Play(PlayOrder::BuyShare { company, from }) => share_price(view, *company, *from),
         _ => 0,
     }
 }
@@ -223,7 +228,9 @@ fn face_figures(order: &Order) -> Option<Figures>
     ensures { result ≡ face_figures order.now }
 {
     match order {
-        Order::BuyOwnedPrivate { private, .. } => Some(Figures::Face(face(*private))),
+        Order::Play(PlayOrder::BuyOwnedPrivate { private, .. }) => Some(Figures::Face(face(
+            *private,
+        ))),
         _ => None,
     }
 }
@@ -257,10 +264,10 @@ pub(crate) fn cost_in_turn(view: &GameView, company: Company, order: &Order) -> 
     ensures { result ≡ cost_in_turn view.now.events company order.now }
 {
     match order {
-        Order::Lay(lay) => Some(terrain_cost(lay.hex)),
-        Order::Token(_) => Some(token_price(view.tokens_placed(company))),
-        Order::BuyTrain { kind, from } => Some(cost_of_train(*kind, *from)),
-        Order::BuyOwnedPrivate { price, .. } => Some(*price),
+        Order::Play(PlayOrder::Lay(lay)) => Some(terrain_cost(lay.hex)),
+        Order::Play(PlayOrder::Token(_)) => Some(token_price(view.tokens_placed(company))),
+        Order::Play(PlayOrder::BuyTrain { kind, from }) => Some(cost_of_train(*kind, *from)),
+        Order::Play(PlayOrder::BuyOwnedPrivate { price, .. }) => Some(*price),
         _ => None,
     }
 }

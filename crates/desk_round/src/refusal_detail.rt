@@ -19,7 +19,7 @@ use history::{
     Shareholder, StockRule, TokenRule, TrainRule,
 };
 use map_tables::{Colour, Hex, Lay, Place, printed_colour, tile};
-use order_grammar::{Condition, Fault, Order, TrainSource};
+use order_grammar::{Condition, Fault, Order, PlayOrder, TrainSource};
 use report::name;
 use sheets::Sheets;
 use std::alloc::{AllocError, Global};
@@ -126,9 +126,13 @@ fn push_by_order(
         (Refusal::Opening(OpeningRule::NotOfOpening), _) => push_of_par(out, ruled, rule, order),
         (Refusal::Stock(StockRule::NoExchange), _) => push_of_exchange(out, ruled),
         (Refusal::Opening(_) | Refusal::Stock(_) | Refusal::Condition, _) => Ok(()),
-        (Refusal::Lay(LayRule::BadSide), Order::Lay(lay)) => push_bad_side(out, *lay),
-        (Refusal::Lay(LayRule::NotReached), Order::Lay(lay)) => push_ways_to_tile(out, *lay),
-        (Refusal::Token(TokenRule::NotReached), Order::Token(place)) => {
+        (Refusal::Lay(LayRule::BadSide), Order::Play(PlayOrder::Lay(lay))) => push_bad_side(
+            out, *lay,
+        ),
+        (Refusal::Lay(LayRule::NotReached), Order::Play(PlayOrder::Lay(lay))) => push_ways_to_tile(
+            out, *lay,
+        ),
+        (Refusal::Token(TokenRule::NotReached), Order::Play(PlayOrder::Token(place))) => {
             push_ways_to_stop(out, &board_at(alloc, ruled.view)?, *place)
         }
         (
@@ -231,24 +235,29 @@ fn push_by_view(
         (Refusal::Run(RunRule::NoTrack), Order::Run { run, .. }) => {
             push_break(alloc, out, ruled, run.as_slice())
         }
-        (Refusal::Token(TokenRule::NoFreeSlot), Order::Token(place)) => {
+        (Refusal::Token(TokenRule::NoFreeSlot), Order::Play(PlayOrder::Token(place))) => {
             push_full(alloc, out, ruled.view, *place)
         }
-        (Refusal::Private(PrivateRule::NoConsent), Order::BuyOwnedPrivate { private, .. }) => {
+        (
+            Refusal::Private(PrivateRule::NoConsent),
+            Order::Play(PlayOrder::BuyOwnedPrivate { private, .. }),
+        ) => {
             let reason = Objection::Owner(*private, ruled.view.owner(*private));
             push_objection(out, ruled.sheets, reason)
         }
         (
             Refusal::Train(TrainRule::NoConsent),
-            Order::BuyTrain {
-                from: TrainSource::Company { seller, price },
-                ..
-            },
+            Order::Play(
+                PlayOrder::BuyTrain {
+                    from: TrainSource::Company { seller, price },
+                    ..
+                },
+            ),
         ) if *price > 0 => {
             let reason = Objection::President(*seller, ruled.view.president(*seller));
             push_objection(out, ruled.sheets, reason)
         }
-        (Refusal::Lay(LayRule::WrongTile), Order::Lay(lay)) => {
+        (Refusal::Lay(LayRule::WrongTile), Order::Play(PlayOrder::Lay(lay))) => {
             push_colour(out, ruled.view, lay.hex)
         }
         _ => match objection_by_view(ruled.view, ruled.seat, order) {

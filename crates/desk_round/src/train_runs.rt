@@ -11,7 +11,7 @@ use crate::round_texts::{Told, tell};
 use desk_base::Piece::{Number, Words};
 use desk_base::{DeskFault, Piece, best_at, board_at, fill, push, push_run, view_behind};
 use history::{Event, GameView, History, Ruling, Walk};
-use order_grammar::Order;
+use order_grammar::{Order, PlayOrder};
 use rounds::Game;
 use std::alloc::{AllocError, Global};
 use tables::{Amount, Company, Money, Round};
@@ -247,7 +247,7 @@ fn push_earned(
         return Ok(());
     };
     let words = match order {
-        Order::RunBest => "RUNS % % BEST\n",
+        Order::Play(PlayOrder::RunBest) => "RUNS % % BEST\n",
         _ => "RUNS % %\n",
     };
     let code = Words(company.code());
@@ -270,7 +270,7 @@ pub(crate) fn push_ran(
             ..
         } => push_run(out, &board_at(alloc, view)?, *kind, run),
         Ruling::Obeyed {
-            order: Order::RunBest,
+            order: Order::Play(PlayOrder::RunBest),
             ..
         } => push_best(alloc, out, view, company),
         _ => Ok(()),

@@ -9,6 +9,7 @@ pub use Rattle.order_grammar.specs.declared.order.Order.{Order}
 use Rattle.order_grammar.specs.declared.order.Order.TheVariants as order
 use Rattle.order_grammar.specs.declared.order.ShareSource.{ShareSource}
 use Rattle.order_grammar.specs.declared.order.ShareSource.TheVariants as source
+use Rattle.order_grammar.specs.declared.play.PlayOrder.TheVariants as play_order
 use Rattle.events.specs.declared.event.Bidding.{Bidding}
 use Rattle.events.specs.declared.event.Bidding.TheVariants.{Made, Ended}
 use Rattle.events.specs.declared.event.Event.{Event}
@@ -271,9 +272,9 @@ obeyed_of other = None
 -- the order is by itself an act of a turn: it buys a private or bids on one, or sells shares. The
 -- event shows a purchase of shares, since a standing order can set a par value too
 abbrev pub is_act : Order → Bool
-is_act (order.BuyPrivate private) = true
-is_act (order.Bid private amount) = true
-is_act (order.Sell company shares) = true
+is_act (order.Play (play_order.BuyPrivate private)) = true
+is_act (order.Play (play_order.Bid private amount)) = true
+is_act (order.Play (play_order.Sell company shares)) = true
 is_act other = false
 
 -- the order that is obeyed is such an act, if one is obeyed

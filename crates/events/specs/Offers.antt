@@ -7,6 +7,7 @@ pub use Rattle.order_grammar.specs.declared.order.Offer.{Offer}
 use Rattle.order_grammar.specs.declared.order.Offer.TheVariants as offer
 use Rattle.order_grammar.specs.declared.order.Order.{Order}
 use Rattle.order_grammar.specs.declared.order.Order.TheVariants as order
+use Rattle.order_grammar.specs.declared.play.PlayOrder.TheVariants as play
 use Rattle.tables.specs.Roster.{same_company, same_private}
 use Rattle.tables.specs.Train.{same_kind}
 use Rattle.tables.specs.declared.roster.Company.{Company}
@@ -26,7 +27,7 @@ same_offer (offer.Train kind seller buyer price) (offer.Private of to sum) = fal
 
 -- a sale, if an order offers it
 abbrev pub offered_in : Offer → Order → Option Offer
-offered_in sale (order.Offer other) = if same_offer other sale then Some other else None
+offered_in sale (order.Play (play.Offer other)) = if same_offer other sale then Some other else None
 offered_in sale other = None
 
 -- a sale, if the order that a ruling obeys offers it

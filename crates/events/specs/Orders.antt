@@ -3,6 +3,7 @@
 use Rattle.std.specs.Prelude.{ℕ, ◌==◌, ◌&&◌, if◌then◌else◌, Option, Some, None}
 use Rattle.order_grammar.specs.declared.order.Order.{Order}
 use Rattle.order_grammar.specs.declared.order.Order.TheVariants as order
+use Rattle.order_grammar.specs.declared.play.PlayOrder.TheVariants as play
 use Rattle.events.specs.Event.{Obeyance, is_par_value, obeyed_says, order_obeyed}
 use Rattle.events.specs.declared.ruling.Ruling.{Ruling}
 use Rattle.tables.specs.Roster.{same_company, same_private}
@@ -12,12 +13,12 @@ use Rattle.tables.specs.declared.seat.Seat.{Seat}
 
 -- the limit that an order sets for an auction of a private
 abbrev pub limit_in : Private → Order → Option ℕ
-limit_in private (order.Limit other amount) = if same_private other private then Some amount else None
+limit_in private (order.Play (play.Limit other amount)) = if same_private other private then Some amount else None
 limit_in private other = None
 
 -- the par value that an order sets for BO
 abbrev pub par_of_baltimore_in : Order → Option ℕ
-par_of_baltimore_in (order.Par company price) =
+par_of_baltimore_in (order.Play (play.Par company price)) =
     if same_company company BaltimoreOhio && is_par_value price then Some price else None
 par_of_baltimore_in other = None
 

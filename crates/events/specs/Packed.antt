@@ -1,5 +1,5 @@
 -- Orders and rulings as events keep them, in few bytes; an order under a condition is in a box.
-use Rattle.std.specs.Prelude.{◌≡◌, ◌<◌, false, length, Option, Some, None, ⊤}
+use Rattle.std.specs.Prelude.{◌<◌, length, Option, Some, None}
 use Rattle.events.specs.PackedRun.{places_in}
 use Rattle.events.specs.declared.packed.PackedOrder.{PackedOrder}
 use Rattle.events.specs.declared.packed.PackedOrder.TheVariants as packed
@@ -14,22 +14,22 @@ use Rattle.events.specs.declared.ruling.Ruling.TheVariants.{Obeyed, Refused, Fau
 use Rattle.events.specs.declared.ruling.Verdict.{Verdict}
 use Rattle.events.specs.declared.ruling.Verdict.TheVariants as verdict
 use Rattle.order_grammar.specs.Condition.{Ordered, ordered}
-use Rattle.order_grammar.specs.Short.{has_short_form, order_in_short}
 pub use Rattle.order_grammar.specs.declared.condition.Condition.{Condition}
 use Rattle.order_grammar.specs.declared.order.Order.{Order}
 use Rattle.order_grammar.specs.declared.order.Order.TheVariants as order
-use Rattle.order_grammar.specs.declared.short.ShortOrder.{ShortOrder}
+use Rattle.order_grammar.specs.declared.play.PlayOrder.{PlayOrder}
 
 -- an order that is packed in a box: one under a condition, a run of over five places, or a line
 -- that is no order of play
 abbrev pub TakesBox : Option Condition → Order → Type 0
 TakesBox None (order.Run kind run) = 5 < length run
-TakesBox None other = has_short_form other ≡ false
+TakesBox None (order.Play its) = ⊥
+TakesBox None other = Unit {0}
 TakesBox (Some condition) order = Unit {0}
 
 -- the order that is packed
 abbrev pub order_in : PackedOrder → Order
-order_in (packed.Short order) = order_in_short order
+order_in (packed.Play its) = order.Play its
 order_in (packed.ShortRun kind run) = order.Run kind (places_in run)
 order_in (packed.LongRun kind run) = order.Run kind run.value
 order_in (packed.Boxed order) = order.value
@@ -46,7 +46,7 @@ ruling_by (by.Refused rule) condition order = Refused rule condition order
 
 -- the ruling that is packed
 abbrev pub ruling_in : PackedRulingForm → Ruling
-ruling_in (ruled.Short verdict order) = ruling_by verdict None (order_in_short order)
+ruling_in (ruled.Play verdict its) = ruling_by verdict None (order.Play its)
 ruling_in (ruled.ShortRun verdict kind run) = ruling_by verdict None (order.Run kind (places_in run))
 ruling_in (ruled.LongRun verdict kind run) = ruling_by verdict None (order.Run kind run.value)
 ruling_in (ruled.Boxed verdict order) = ruling_by verdict None order.value
@@ -59,12 +59,7 @@ abbrev pub verdict_in : OrderVerdict → Verdict
 verdict_in by.Obeyed = verdict.Obeyed
 verdict_in (by.Refused rule) = verdict.Refused rule
 
--- an order, if there is one, needs many bytes
-abbrev pub IsLong : Option Order → Type 0
-IsLong None = ⊤
-IsLong (Some order) = has_short_form order ≡ false
-
--- the short form of an order, if there is one that has it
-abbrev pub IsShortOf : Option Order → Option ShortOrder → Type 0
-IsShortOf order None = IsLong order
-IsShortOf order (Some short) = order ≡ Some (order_in_short short)
+-- the order of play, if there is one and it is no run through places
+abbrev pub play_in : Option Order → Option PlayOrder
+play_in (Some (order.Play its)) = Some its
+play_in other = None

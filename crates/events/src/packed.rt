@@ -3,7 +3,7 @@
 ghost use Rattle.std.specs.Prelude.{◌≡◌, ◌++◌, None, Some, MatchResult, OnOk};
 ghost use Rattle.std.specs.Option.{option_copied};
 ghost use Rattle.events.specs.Event.{acts, order_obeyed};
-ghost use Rattle.events.specs.Packed.{IsShortOf, TakesBox, order_in, ruling_by, verdict_in};
+ghost use Rattle.events.specs.Packed.{TakesBox, order_in, play_in, ruling_by, verdict_in};
 ghost use Rattle.events.specs.Offers.{offer_obeyed, offer_said, same_offer, same_terms};
 ghost use Rattle.events.specs.Orders.{limit_obeyed, limit_said, par_of_baltimore_in, par_of_baltimore_obeyed};
 ghost use Rattle.events.specs.RulingText.{order_text, verdict_of};
@@ -11,14 +11,15 @@ ghost use Rattle.events.specs.declared.ruling.Ruling.TheVariants.{Faulty, Obeyed
 ghost use Rattle.order_grammar.specs.Condition.{ordered};
 ghost use Rattle.order_grammar.specs.Print.{spelling_of};
 ghost use Rattle.order_grammar.specs.declared.order.Order.TheVariants as order;
+ghost use Rattle.order_grammar.specs.declared.play.PlayOrder.TheVariants as play_order;
 
 use crate::packed_place::PackedPlace;
 use crate::packed_run::{LongRun, ShortRun, print_places};
 use crate::ruling::{Refusal, Ruling, Verdict};
 use map_tables::Run;
 use order_grammar::{
-    Condition, Fault, Offer, Order, ShortOrder, print_condition, print_order, print_run_prefix,
-    print_short_order,
+    Condition, Fault, Offer, Order, PlayOrder, print_condition, print_order, print_play_order,
+    print_run_prefix,
 };
 use std::alloc::{AllocError, Global};
 use std::marker::Model;
@@ -45,10 +46,11 @@ struct PackedConditional {
     order: PackedOrder,
 }
 
-/// An order of few bytes, a run of few places, any other run in a box, or any other order in a box.
+/// An order of play in few bytes, a run of few places, any other run in a box, or a line that is no
+/// order of play in a box.
 #[derive(Drop)]
 enum PackedOrder {
-    Short(ShortOrder),
+    Play(PlayOrder),
     ShortRun { kind: Kind, run: ShortRun },
     LongRun { kind: Kind, run: Box<LongRun> },
     Boxed(Box<Order>),
@@ -102,10 +104,8 @@ impl PackedOrder {
                     run: Box::new(alloc, LongRun::pack(alloc, run)?)?,
                 },
             },
-            other => match ShortOrder::of(other) {
-                Some(short) => PackedOrder::Short(short),
-                None => PackedOrder::Boxed(Box::new(alloc, other.duplicate())?),
-            },
+            Order::Play(order) => PackedOrder::Play(*order),
+            other => PackedOrder::Boxed(Box::new(alloc, other.duplicate())?),
         };
         Ok(packed)
     }
@@ -115,20 +115,20 @@ impl PackedOrder {
         ensures { result ≡ order_in self.now }
     {
         match self {
-            PackedOrder::Short(order) => order.order(),
+            PackedOrder::Play(order) => Order::Play(*order),
             PackedOrder::ShortRun { kind, run } => run_order(*kind, run.run()),
             PackedOrder::LongRun { kind, run } => run_order(*kind, run.run()),
             PackedOrder::Boxed(order) => order.duplicate(),
         }
     }
 
-    /// Returns the order, if it is one of few bytes.
-    fn short(&self) -> Option<ShortOrder>
-        ensures { IsShortOf (Some (order_in self.now)) result }
+    /// Returns the order of play, unless it is a run through places.
+    fn play(&self) -> Option<PlayOrder>
+        ensures { result ≡ play_in (Some (order_in self.now)) }
     {
         match self {
-            PackedOrder::Short(order) => Some(*order),
-            PackedOrder::Boxed(order) => ShortOrder::of(order),
+            PackedOrder::Play(order) => Some(*order),
+            PackedOrder::Boxed(order) => play_of(order),
             _ => None,
         }
     }
@@ -139,7 +139,7 @@ impl PackedOrder {
             ≡ text.old.items ++ spelling_of (order_in self.now)) }
     {
         match self {
-            PackedOrder::Short(order) => print_short_order(text, *order),
+            PackedOrder::Play(order) => print_play_order(text, *order),
             PackedOrder::ShortRun { kind, run } => print_run(text, *kind, run.places()),
             PackedOrder::LongRun { kind, run } => print_run(text, *kind, run.places()),
             PackedOrder::Boxed(order) => print_order(text, order),
@@ -174,9 +174,9 @@ impl OrderVerdict {
 /// A packed order with its verdict, or what is wrong with the line.
 #[derive(Drop)]
 enum PackedRulingForm {
-    Short {
+    Play {
         verdict: OrderVerdict,
-        order: ShortOrder,
+        order: PlayOrder,
     },
     ShortRun {
         verdict: OrderVerdict,
@@ -240,7 +240,7 @@ impl PackedRuling {
         ensures { result ≡ ruling_by verdict order.condition order.order }
     {
         let packed = match order.packed {
-            PackedForm::Plain(PackedOrder::Short(order)) => PackedRulingForm::Short {
+            PackedForm::Plain(PackedOrder::Play(order)) => PackedRulingForm::Play {
                 verdict,
                 order,
             },
@@ -264,7 +264,9 @@ impl PackedRuling {
         ensures { result ≡ self.now }
     {
         match &self.packed {
-            PackedRulingForm::Short { verdict, order } => ruling_of(*verdict, None, order.order()),
+            PackedRulingForm::Play { verdict, order } => {
+                ruling_of(*verdict, None, Order::Play(*order))
+            }
             PackedRulingForm::ShortRun { verdict, kind, run } => {
                 ruling_of(*verdict, None, run_order(*kind, run.run()))
             }
@@ -288,7 +290,7 @@ impl PackedRuling {
         ensures { result ≡ verdict_of self.now }
     {
         match &self.packed {
-            PackedRulingForm::Short { verdict, .. } => verdict.verdict(),
+            PackedRulingForm::Play { verdict, .. } => verdict.verdict(),
             PackedRulingForm::ShortRun { verdict, .. } => verdict.verdict(),
             PackedRulingForm::LongRun { verdict, .. } => verdict.verdict(),
             PackedRulingForm::Boxed { verdict, .. } => verdict.verdict(),
@@ -303,7 +305,7 @@ impl PackedRuling {
         ensures { OnOk result (text.new.items ≡ text.old.items ++ order_text self.now) }
     {
         match &self.packed {
-            PackedRulingForm::Short { order, .. } => print_short_order(text, *order),
+            PackedRulingForm::Play { order, .. } => print_play_order(text, *order),
             PackedRulingForm::ShortRun { kind, run, .. } => print_run(text, *kind, run.places()),
             PackedRulingForm::LongRun { kind, run, .. } => print_run(text, *kind, run.places()),
             PackedRulingForm::Boxed { order, .. } => print_order(text, order),
@@ -315,25 +317,24 @@ impl PackedRuling {
         }
     }
 
-    /// Returns the order that it obeys, if that takes few bytes: any order but a run through
-    /// places.
+    /// Returns the order of play that it obeys, unless that is a run through places.
     #[inline(always)]
-    pub fn short_obeyed(&self) -> Option<ShortOrder>
-        ensures { IsShortOf (order_obeyed self.now) result }
+    pub fn play_obeyed(&self) -> Option<PlayOrder>
+        ensures { result ≡ play_in (order_obeyed self.now) }
     {
         match &self.packed {
-            PackedRulingForm::Short {
+            PackedRulingForm::Play {
                 verdict: OrderVerdict::Obeyed,
                 order,
             } => Some(*order),
             PackedRulingForm::Boxed {
                 verdict: OrderVerdict::Obeyed,
                 order,
-            } => ShortOrder::of(order),
+            } => play_of(order),
             PackedRulingForm::Conditional {
                 verdict: OrderVerdict::Obeyed,
                 order,
-            } => order.order.short(),
+            } => order.order.play(),
             _ => None,
         }
     }
@@ -344,8 +345,8 @@ impl PackedRuling {
         ensures { result ≡ acts self.now }
     {
         matches!(
-            self.short_obeyed(),
-            Some(ShortOrder::BuyPrivate(_) | ShortOrder::Bid { .. } | ShortOrder::Sell { .. })
+            self.play_obeyed(),
+            Some(PlayOrder::BuyPrivate(_) | PlayOrder::Bid { .. } | PlayOrder::Sell { .. })
         )
     }
 
@@ -355,8 +356,8 @@ impl PackedRuling {
         ensures { (private : Private) →
             limit_said private result ≡ limit_obeyed private self.now }
     {
-        match self.short_obeyed() {
-            Some(ShortOrder::Limit { private, amount }) => Some((private, amount)),
+        match self.play_obeyed() {
+            Some(PlayOrder::Limit { private, amount }) => Some((private, amount)),
             _ => None,
         }
     }
@@ -373,8 +374,8 @@ impl PackedRuling {
     pub fn offer(&self) -> Option<Offer>
         ensures { (sale : Offer) → offer_said sale result ≡ offer_obeyed sale self.now }
     {
-        match self.short_obeyed() {
-            Some(ShortOrder::Offer(sale)) => Some(sale),
+        match self.play_obeyed() {
+            Some(PlayOrder::Offer(sale)) => Some(sale),
             _ => None,
         }
     }
@@ -393,8 +394,8 @@ impl PackedRuling {
     pub fn par_of_baltimore(&self) -> Option<Amount>
         ensures { result ≡ par_of_baltimore_obeyed self.now }
     {
-        match self.short_obeyed() {
-            Some(ShortOrder::Par { company, price }) => par_of_baltimore(company, price),
+        match self.play_obeyed() {
+            Some(PlayOrder::Par { company, price }) => par_of_baltimore(company, price),
             _ => None,
         }
     }
@@ -474,6 +475,16 @@ fn print_run(text: &mut Vec<u8>, kind: Kind, places: &[PackedPlace]) -> Result<(
     print_places(text, places)
 }
 
+/// Returns an order of play, unless it is a run through places; `None` for any other line.
+fn play_of(order: &Order) -> Option<PlayOrder>
+    ensures { result ≡ play_in (Some order.now) }
+{
+    match order {
+        Order::Play(order) => Some(*order),
+        _ => None,
+    }
+}
+
 /// Returns the order to run a train.
 fn run_order(kind: Kind, run: Run) -> Order
     ensures { result ≡ order.Run kind run }
@@ -483,7 +494,7 @@ fn run_order(kind: Kind, run: Run) -> Order
 
 /// Returns the par value that an order sets for BO, if the company that it names is BO.
 fn par_of_baltimore(company: Company, price: Amount) -> Option<Amount>
-    ensures { result ≡ par_of_baltimore_in (order.Par company price) }
+    ensures { result ≡ par_of_baltimore_in (order.Play (play_order.Par company price)) }
 {
     if company == Company::BaltimoreOhio && par_square(price).is_some() {
         Some(price)

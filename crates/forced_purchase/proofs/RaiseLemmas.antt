@@ -8,12 +8,13 @@ use Rattle.forced_purchase.specs.declared.operator.Operator.{Operator}
 use Rattle.order_grammar.specs.declared.fault.Fault.{Fault}
 use Rattle.order_grammar.specs.declared.order.Order.{Order}
 use Rattle.order_grammar.specs.declared.order.Order.TheVariants as order
+use Rattle.order_grammar.specs.declared.play.PlayOrder.TheVariants as play
 use Rattle.sheets.specs.Part.{Numbered}
 
 -- a line that is no RAISE changes nothing
 no_raise : (due : Bool) (by : Operator) (game : Game) (line : Numbered) (reading : Result Order Fault)
     → is_raise reading ≡ false → after_raise_line due by game line reading ≡ game
-no_raise due by game line (Ok (order.Raise company shares)) is = absurd cc
+no_raise due by game line (Ok (order.Play (play.Raise company shares))) is = absurd cc
 no_raise due by game line other is = refl
 
 pub raises_alone : (due : Bool) (by : Operator) (lines : List Numbered) (game : Game)

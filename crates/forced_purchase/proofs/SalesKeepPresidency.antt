@@ -1,8 +1,7 @@
 -- No sale by which money is raised for a company moves its presidency.
 use Rattle.std.proofs.Common.{◌≡◌, ℕ, ◌*◌, ◌==◌, Bool, true, false, ◌&&◌, ◌||◌, if◌then◌else◌, List, [], ◌∷◌, ◌++◌}
 use Rattle.std.proofs.Common.{Option, Some, None, ℤ, pos, ◌≤ℤ◌, ◌<ℤ◌, ◌+ℤ◌, ◌-ℤ◌, refl, sym, ap, subst, ◌∙◌, arith}
-use Rattle.std.proofs.lemmas.Bool.{or_parts}
-use Rattle.std.proofs.lemmas.Bool.Decides.{nat_tests}
+use Rattle.std.proofs.lemmas.Bool.{or_parts, eq-eqb}
 use Rattle.std.proofs.lemmas.Int.{ints}
 use Rattle.std.specs.Int.Signed.{le_z, lt_z}
 use Rattle.certs.specs.Counted.{presides}
@@ -24,7 +23,7 @@ use Rattle.history.specs.Record.{breaks}
 use Rattle.market.specs.Moves.{fallen}
 use Rattle.market.specs.Token.{moved_from, same_square}
 use Rattle.forced_purchase.proofs.CheapestTrain.{not_less_is}
-use Rattle.forced_purchase.specs.Raise.{after_presidents_sale, sale_rule}
+use Rattle.forced_purchase.specs.Raise.{after_presidents_sale, raised_sale_judgement}
 use Rattle.forced_purchase.specs.declared.operator.Operator.{Operator}
 use Rattle.tables.proofs.Rules.{not_broken}
 use Rattle.tables.specs.Roster.{same_company}
@@ -65,10 +64,6 @@ fewer_then before after brought taken is none = omega (arith, ints, is, none)
 rest_then : (before after : ℤ) (brought taken shares : ℕ) → after ≡ ((before +ℤ pos brought) -ℤ pos taken)
     → brought ≡ 0 → taken ≡ shares → after ≡ before -ℤ pos shares
 rest_then before after brought taken shares is none all = omega (arith, ints, is, none, all)
-
--- a number is itself
-itself : (n : ℕ) → (n == n) ≡ true
-itself n = grind (arith, nat_tests)
 
 module _ (game : Game) (seat : Seat) (sale : Sale) where
   abbrev company : Company
@@ -117,7 +112,7 @@ module _ (game : Game) (seat : Seat) (sale : Sale) where
       sale.shares (shares_of_at_end game.events (event.Sells company seat sale.shares
       (sale.shares * market_price_of game.events company)) company (OfSeat seat))
       (none_brought (same_company company company) sale.shares)
-      (all_taken (same_company company company) (seat.0 == seat.0) sale.shares (company_itself company) (itself seat.0))
+      (all_taken (same_company company company) (seat.0 == seat.0) sale.shares (company_itself company) (eq-eqb seat.0 seat.0 refl))
 
   -- so it still presides, where the sale is not to move the presidency
   stays_president : one_has game.events company (kept_after game.events seat sale +ℤ pos 1)
@@ -137,7 +132,7 @@ module _ (game : Game) (seat : Seat) (sale : Sale) where
   of_same its same leads none =
       let found : president_of paid.events company ≡ Some seat = ap (president_of paid.events) (sym same) ∙ leads in
       let stays : ((successor_of game.seats paid.events company seat).0 == seat.0) ≡ true =
-      ap (λ (new : Seat). new.0 == seat.0) (stays_president none) ∙ itself seat.0 in
+      ap (λ (new : Seat). new.0 == seat.0) (stays_president none) ∙ eq-eqb seat.0 seat.0 refl in
       ap (λ (old : Option Seat). president_of (with_successor paid company old) its) found
       ∙ ap (λ (b : Bool). president_of (if b then paid.events else paid.events
       ++ event.President company (successor_of game.seats paid.events company seat) ∷ []) its) stays
@@ -172,14 +167,14 @@ not_another true another none same = none
 not_another false another none same = absurd cc
 
 -- what the rules of such a sale leave
-stays_where_allowed : (by : Operator) (game : Game) (sale : Sale) → sale_rule by game sale ≡ None
+stays_where_allowed : (by : Operator) (game : Game) (sale : Sale) → raised_sale_judgement by game sale ≡ None
     → must_stay game.seats game.events by.president sale (Some by.company) ≡ false
-unfolding sale_rule sale_judgement
+unfolding raised_sale_judgement sale_judgement
 stays_where_allowed by game sale none =
     not_broken code_of_stock_rule (sale_rules game.seats game.events by.president sale (Some by.company)) none
     PresidentMustStay
 
-none_over : (by : Operator) (game : Game) (sale : Sale) → sale_rule by game sale ≡ None → by.company ≡ sale.company
+none_over : (by : Operator) (game : Game) (sale : Sale) → raised_sale_judgement by game sale ≡ None → by.company ≡ sale.company
     → president_of game.events by.company ≡ Some by.president →
     one_has game.events sale.company (kept_after game.events by.president sale +ℤ pos 1)
     (others_from game.seats by.president) ≡ false
@@ -188,7 +183,7 @@ none_over by game sale none same leads =
     let found : president_of game.events sale.company ≡ Some by.president =
     ap (president_of game.events) (sym same) ∙ leads in
     let he : presides by.president (president_of game.events sale.company) ≡ true =
-    ap (presides by.president) found ∙ itself by.president.0 in
+    ap (presides by.president) found ∙ eq-eqb by.president.0 by.president.0 refl in
     let moves : moves_operating game.seats game.events by.president sale (Some by.company) ≡ false =
     no_move (presides by.president (president_of game.events sale.company))
     (none_is_left game.seats game.events by.president sale)
@@ -210,7 +205,7 @@ token_leaves move events moved its (Some square) =
     ]
 
 -- after the whole sale
-pub sale_leaves : (by : Operator) (game : Game) (sale : Sale) → sale_rule by game sale ≡ None
+pub sale_leaves : (by : Operator) (game : Game) (sale : Sale) → raised_sale_judgement by game sale ≡ None
     → president_of game.events by.company ≡ Some by.president →
     president_of (after_presidents_sale by game sale).events by.company ≡ Some by.president
 sale_leaves by game sale none leads =

@@ -19,14 +19,15 @@ use Rattle.history.specs.Conditions.{is_met}
 use Rattle.totals.specs.LookBack.{Game, with_event}
 use Rattle.forced_purchase.specs.Forced.{after_forced, concluded, next_to_sell, one_share, sold_further, sold_singly}
 use Rattle.forced_purchase.specs.Forced.{with_aid, with_one_sold}
-use Rattle.forced_purchase.specs.Raise.{after_presidents_sale, after_raise, after_raises, needed_rule, raise_rule}
-use Rattle.forced_purchase.specs.Raise.{raise_ruled, sale_rule, with_ruling}
+use Rattle.forced_purchase.specs.Raise.{after_presidents_sale, after_raise, after_raises, needed_judgement, raise_judgement}
+use Rattle.forced_purchase.specs.Raise.{raise_ruled, raised_sale_judgement, with_ruling}
 use Rattle.forced_purchase.specs.Shortfall.{cheapest, falls_short}
 use Rattle.purchases.specs.Train.{after_train}
 use Rattle.forced_purchase.specs.declared.operator.Operator.{Operator}
 use Rattle.purchases.specs.declared.train.TrainPurchase.{TrainPurchase}
 use Rattle.order_grammar.specs.declared.condition.Condition.{Condition}
 use Rattle.order_grammar.specs.declared.order.Order.TheVariants as order
+use Rattle.order_grammar.specs.declared.play.PlayOrder.TheVariants as play
 use Rattle.sheets.specs.Part.{Numbered}
 use Rattle.tables.specs.Roster.{companies}
 use Rattle.tables.specs.Steps.{iterate}
@@ -40,24 +41,24 @@ none_refused (Some rule) none = absurd cc
 
 -- a RAISE that is needed and breaks no rule is a sale that breaks none
 needed_obeyed : (by : Operator) (game : Game) (condition : Option Condition) (sale : Sale)
-    → needed_rule by game condition sale ≡ None → sale_rule by game sale ≡ None
+    → needed_judgement by game condition sale ≡ None → raised_sale_judgement by game sale ≡ None
 needed_obeyed by game condition sale none =
     elim (is_met game.events condition) as (λ (met : Bool).
-    (if met then option_map refusal.Stock (sale_rule by game sale) else Some refusal.Condition) ≡ None
-    → sale_rule by game sale ≡ None) [
-      | true ↦ none_refused (sale_rule by game sale)
+    (if met then option_map refusal.Stock (raised_sale_judgement by game sale) else Some refusal.Condition) ≡ None
+    → raised_sale_judgement by game sale ≡ None) [
+      | true ↦ none_refused (raised_sale_judgement by game sale)
       | false ↦ λ wrong. absurd cc
     ]
     none
 
 -- so is one that breaks none, be it needed or not
 pub raise_obeyed : (due : Bool) (by : Operator) (game : Game) (condition : Option Condition) (sale : Sale)
-    → raise_rule due by game condition sale ≡ None
+    → raise_judgement due by game condition sale ≡ None
     → sale_judgement game.seats game.events by.president sale (Some by.company) ≡ None
-unfolding raise_rule sale_rule
+unfolding raise_judgement raised_sale_judgement
 raise_obeyed due by game condition sale none =
     elim (due && falls_short by game) as (λ (b : Bool).
-    (if b then needed_rule by game condition sale else Some (refusal.Stock NotOfStock)) ≡ None
+    (if b then needed_judgement by game condition sale else Some (refusal.Stock NotOfStock)) ≡ None
     → sale_judgement game.seats game.events by.president sale (Some by.company) ≡ None) [
       | true ↦ needed_obeyed by game condition sale
       | false ↦ λ wrong. absurd cc
@@ -66,16 +67,16 @@ raise_obeyed due by game condition sale none =
 
 -- and sells what it says
 pub raised : (due : Bool) (by : Operator) (old recorded new : Game) (line : Numbered) (sale : Sale)
-    → raise_rule due by old line.condition sale ≡ None
-    → recorded ≡ with_ruling by old line (Obeyed line.condition (order.Raise sale.company sale.shares))
+    → raise_judgement due by old line.condition sale ≡ None
+    → recorded ≡ with_ruling by old line (Obeyed line.condition (order.Play (play.Raise sale.company sale.shares)))
     → new ≡ after_presidents_sale by recorded sale → new ≡ after_raise due by old line sale
 raised due by old recorded new line sale none is_recorded sold =
     sold ∙ ap (λ (game : Game). after_presidents_sale by game sale) is_recorded ∙ ap (raise_ruled by old line sale) (sym none)
 
 -- one that breaks a rule is recorded, and sells nothing
 pub raise_refused : (due : Bool) (by : Operator) (old new : Game) (line : Numbered) (sale : Sale)
-    (broken : Option Refusal) → raise_rule due by old line.condition sale ≡ broken → is_none broken ≡ false
-    → new ≡ with_ruling by old line (judged line.condition (order.Raise sale.company sale.shares) broken)
+    (broken : Option Refusal) → raise_judgement due by old line.condition sale ≡ broken → is_none broken ≡ false
+    → new ≡ with_ruling by old line (judged line.condition (order.Play (play.Raise sale.company sale.shares)) broken)
     → new ≡ after_raise due by old line sale
 raise_refused due by old new line sale None is none recorded = absurd cc
 raise_refused due by old new line sale (Some rule) is none recorded =
@@ -103,7 +104,7 @@ found_passes test (first ∷ others) company is =
 -- the share of the first company that the president may sell one of can be sold
 pub may_sell_share : (by : Operator) (game : Game) (company : Company) (sale : Sale) → sale ≡ one_share company
     → next_to_sell by game ≡ Some company → MaySell game by.president sale
-unfolding next_to_sell sale_rule
+unfolding next_to_sell raised_sale_judgement
 may_sell_share by game company sale is found =
     let passes : is_none (sale_judgement game.seats game.events by.president (one_share company) (Some by.company))
     ≡ true = found_passes (λ its. is_none (sale_judgement game.seats game.events by.president (one_share its)
@@ -115,8 +116,8 @@ may_sell_share by game company sale is found =
 -- a sale that breaks no rule breaks none after a ruling
 pub still_allowed : (by : Operator) (game : Game) (line : Numbered) (ruling : Ruling) (sale : Sale) →
     sale_judgement game.seats game.events by.president sale (Some by.company) ≡ None
-    → sale_rule by (with_ruling by game line ruling) sale ≡ None
-unfolding sale_rule
+    → raised_sale_judgement by (with_ruling by game line ruling) sale ≡ None
+unfolding raised_sale_judgement
 still_allowed by game line ruling sale none =
     let its : Event = event.Ruled by.president line.number ruling in
     let quiet : IsQuiet its = record {
@@ -141,11 +142,11 @@ still_allowed by game line ruling sale none =
 
 -- nor does that of the share which is sold next
 pub next_allowed : (by : Operator) (game : Game) (company : Company) → next_to_sell by game ≡ Some company
-    → sale_rule by game (one_share company) ≡ None
+    → raised_sale_judgement by game (one_share company) ≡ None
 unfolding next_to_sell
 next_allowed by game company found =
-    nothing (sale_rule by game (one_share company))
-    (found_passes (λ its. is_none (sale_rule by game (one_share its))) companies company found)
+    nothing (raised_sale_judgement by game (one_share company))
+    (found_passes (λ its. is_none (raised_sale_judgement by game (one_share its))) companies company found)
 
 -- one is sold
 pub one_sold : (by : Operator) (old new : Game) (company : Company) (sale : Sale) → sale ≡ one_share company

@@ -19,13 +19,14 @@ use Rattle.totals.specs.Trains.{train_count, trains_held, trains_of_kinds}
 use Rattle.market.specs.Moves.{fallen}
 use Rattle.market.specs.Token.{moved_from, same_square}
 use Rattle.forced_purchase.specs.Forced.{next_to_sell, sold_further, sold_singly, with_one_sold}
-use Rattle.forced_purchase.specs.Raise.{after_raise_line, after_raises, raise_rule, raise_ruled}
+use Rattle.forced_purchase.specs.Raise.{after_raise_line, after_raises, raise_judgement, raise_ruled}
 use Rattle.forced_purchase.specs.Shortfall.{falls_short}
 use Rattle.purchases.specs.Train.{has_trains}
 use Rattle.forced_purchase.specs.declared.operator.Operator.{Operator}
 use Rattle.order_grammar.specs.declared.fault.Fault.{Fault}
 use Rattle.order_grammar.specs.declared.order.Order.{Order}
 use Rattle.order_grammar.specs.declared.order.Order.TheVariants as order
+use Rattle.order_grammar.specs.declared.play.PlayOrder.TheVariants as play
 use Rattle.sheets.specs.Part.{Numbered}
 use Rattle.tables.specs.Steps.{iterate}
 use Rattle.tables.specs.Train.{kinds}
@@ -93,18 +94,18 @@ module _ (owner : Option Company) where
       → size (raise_ruled by game line sale broken).events ≡ size game.events
   size_raise_ruled by game line sale None =
       let ruled : Event = event.Ruled by.president line.number
-      (Obeyed line.condition (order.Raise sale.company sale.shares)) in
+      (Obeyed line.condition (order.Play (play.Raise sale.company sale.shares))) in
       size_sale (with_event game ruled) by.president sale.company sale.shares
       ∙ size_before game.events ruled owner refl
   size_raise_ruled by game line sale (Some rule) =
       size_before game.events (event.Ruled by.president line.number
-      (Refused rule line.condition (order.Raise sale.company sale.shares))) owner refl
+      (Refused rule line.condition (order.Play (play.Raise sale.company sale.shares)))) owner refl
 
   size_raise_line : (due : Bool) (by : Operator) (game : Game) (line : Numbered) (reading : Result Order Fault)
       → size (after_raise_line due by game line reading).events ≡ size game.events
-  size_raise_line due by game line (Ok (order.Raise company shares)) =
+  size_raise_line due by game line (Ok (order.Play (play.Raise company shares))) =
       let sale : Sale = record { company = company; shares = shares } in
-      size_raise_ruled by game line sale (raise_rule due by game line.condition sale)
+      size_raise_ruled by game line sale (raise_judgement due by game line.condition sale)
   size_raise_line due by game line other = refl
 
   -- nor do the RAISE lines of a company's orders

@@ -12,7 +12,7 @@ use Rattle.events.specs.declared.event.Event.TheVariants as event
 use Rattle.totals.specs.LookBack.{Game, with_event}
 use Rattle.totals.specs.Trains.{at_least_zero}
 use Rattle.purchases.specs.Train.{after_train}
-use Rattle.forced_purchase.specs.Raise.{after_presidents_sale, after_raises, sale_rule}
+use Rattle.forced_purchase.specs.Raise.{after_presidents_sale, after_raises, raised_sale_judgement}
 use Rattle.forced_purchase.specs.Shortfall.{cheapest, falls_short, lack_of}
 use Rattle.forced_purchase.specs.declared.operator.Operator.{Operator}
 use Rattle.sheets.specs.Part.{Numbered}
@@ -26,7 +26,7 @@ one_share company = record { company = company; shares = 1 }
 
 -- the first of these companies of which the president may sell a share
 abbrev pub first_to_sell : Operator → Game → List Company → Option Company
-first_to_sell by game among = find (λ company. is_none (sale_rule by game (one_share company))) among
+first_to_sell by game among = find (λ company. is_none (raised_sale_judgement by game (one_share company))) among
 
 -- the first company in roster order of which they may sell one
 unfoldable pub next_to_sell : Operator → Game → Option Company

@@ -21,23 +21,24 @@ use Rattle.order_grammar.specs.declared.condition.Condition.{Condition}
 use Rattle.order_grammar.specs.declared.fault.Fault.{Fault}
 use Rattle.order_grammar.specs.declared.order.Order.{Order}
 use Rattle.order_grammar.specs.declared.order.Order.TheVariants as order
+use Rattle.order_grammar.specs.declared.play.PlayOrder.TheVariants as play
 use Rattle.sheets.specs.Part.{Numbered}
 use Rattle.turns.specs.Ruling.{done, judged, obeyed_order}
 
 -- the first rule that a sale to raise money for the company breaks
-unfoldable pub sale_rule : Operator → Game → Sale → Option StockRule
-sale_rule by game sale = sale_judgement game.seats game.events by.president sale (Some by.company)
+unfoldable pub raised_sale_judgement : Operator → Game → Sale → Option StockRule
+raised_sale_judgement by game sale = sale_judgement game.seats game.events by.president sale (Some by.company)
 
 -- the first rule that a RAISE under this condition breaks, if it is needed: the condition comes
 -- first, and then the rules of a sale
-abbrev pub needed_rule : Operator → Game → Option Condition → Sale → Option Refusal
-needed_rule by game condition sale =
-    if is_met game.events condition then option_map refusal.Stock (sale_rule by game sale) else Some refusal.Condition
+abbrev pub needed_judgement : Operator → Game → Option Condition → Sale → Option Refusal
+needed_judgement by game condition sale =
+    if is_met game.events condition then option_map refusal.Stock (raised_sale_judgement by game sale) else Some refusal.Condition
 
 -- the first rule that it breaks, given whether a purchase is due
-unfoldable pub raise_rule : Bool → Operator → Game → Option Condition → Sale → Option Refusal
-raise_rule due by game condition sale =
-    if due && falls_short by game then needed_rule by game condition sale else Some (refusal.Stock NotOfStock)
+unfoldable pub raise_judgement : Bool → Operator → Game → Option Condition → Sale → Option Refusal
+raise_judgement due by game condition sale =
+    if due && falls_short by game then needed_judgement by game condition sale else Some (refusal.Stock NotOfStock)
 
 -- the list after a sale of the president
 abbrev pub after_presidents_sale : Operator → Game → Sale → Game
@@ -50,24 +51,24 @@ with_ruling by game line ruling = with_event game (event.Ruled by.president line
 -- after a RAISE in this line, with the rule that refuses it, if one does
 abbrev pub raise_ruled : Operator → Game → Numbered → Sale → Option Refusal → Game
 raise_ruled by game line sale broken =
-    let ruling = judged line.condition (order.Raise sale.company sale.shares) broken in
+    let ruling = judged line.condition (order.Play (play.Raise sale.company sale.shares)) broken in
     done (λ (after : Game) (its : Order). after_presidents_sale by after sale) (with_ruling by game line ruling)
     (obeyed_order ruling)
 
 -- after a sale of a RAISE in this line
 abbrev pub after_raise : Bool → Operator → Game → Numbered → Sale → Game
-after_raise due by game line sale = raise_ruled by game line sale (raise_rule due by game line.condition sale)
+after_raise due by game line sale = raise_ruled by game line sale (raise_judgement due by game line.condition sale)
 
 -- after this line of the company's orders with this reading: lines other than RAISE were ruled at
 -- their place
 abbrev pub after_raise_line : Bool → Operator → Game → Numbered → Result Order Fault → Game
-after_raise_line due by game line (Ok (order.Raise company shares)) =
+after_raise_line due by game line (Ok (order.Play (play.Raise company shares))) =
     after_raise due by game line (record { company = company; shares = shares })
 after_raise_line due by game line other = game
 
 -- a line with this reading is a RAISE
 abbrev pub is_raise : Result Order Fault → Bool
-is_raise (Ok (order.Raise company shares)) = true
+is_raise (Ok (order.Play (play.Raise company shares))) = true
 is_raise other = false
 
 -- the RAISE lines among some

@@ -13,7 +13,7 @@ ghost use Rattle.forced_purchase.specs.Shortfall.{falls_short, lack_of};
 ghost use Rattle.purchases.specs.Train.{has_trains};
 
 use crate::operator::Operator;
-use crate::raise::{HeldRaise, rule_raises, sale_rule};
+use crate::raise::{HeldRaise, judge_raised_sale, rule_raises};
 use crate::shortfall::{cheapest, falls_short, lack};
 use certs::{Sale, sell_block};
 use history::{Event, History, at_least_zero};
@@ -114,7 +114,11 @@ fn next_to_sell(history: &History, by: Operator) -> Option<Company>
 fn first_to_sell(history: &History, by: Operator, among: &[Company]) -> Option<Company>
     ensures { result ≡ first_to_sell by history.now among.now }
 {
-    among.iter().copied().find(|company| sale_rule(history, by, share_of(*company)).is_none())
+    among.iter().copied().find(|company| judge_raised_sale(
+        history,
+        by,
+        share_of(*company),
+    ).is_none())
 }
 
 /// Pays what the company lacks with the president's money, and buys the train; or makes a president

@@ -18,5 +18,5 @@ mod shortfall;
 
 pub use forced::buy_by_force;
 pub use operator::Operator;
-pub use raise::{HeldRaise, hold_if_raise, raise_rule, rule_raises, sale_rule};
+pub use raise::{HeldRaise, hold_if_raise, judge_raise, judge_raised_sale, rule_raises};
 pub use shortfall::{cheapest, falls_short, lack};

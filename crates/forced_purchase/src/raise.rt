@@ -7,15 +7,15 @@
 ghost use Rattle.std.specs.Prelude.{◌≡◌, ◌<◌, ◌++◌, ◌∷◌, [], OnOk};
 ghost use Rattle.std.specs.Option.{option_copied};
 ghost use Rattle.history.specs.Games.{IsGame};
-ghost use Rattle.forced_purchase.specs.Raise.{after_raise_line, after_raises, needed_rule, raise_rule, raises_in};
-ghost use Rattle.forced_purchase.specs.Raise.{sale_rule};
+ghost use Rattle.forced_purchase.specs.Raise.{after_raise_line, after_raises, needed_judgement, raise_judgement, raises_in};
+ghost use Rattle.forced_purchase.specs.Raise.{raised_sale_judgement};
 ghost use Rattle.sheets.specs.Part.{line_with};
 
 use crate::operator::Operator;
 use crate::shortfall::falls_short;
 use certs::{Sale, may_sell, sell_block};
 use history::{History, PackedLine, Refusal, StockRule};
-use order_grammar::{Condition, Order};
+use order_grammar::{Condition, Order, PlayOrder};
 use sheets::ReadLine;
 use std::alloc::AllocError;
 use std::marker::Model;
@@ -34,15 +34,16 @@ pub struct HeldRaise {
 impl Model for HeldRaise {
     ghost use Rattle.std.specs.Prelude.{◌≡◌};
     ghost use Rattle.order_grammar.specs.Condition.{ordered};
-    ghost use Rattle.order_grammar.specs.declared.order.Order.TheVariants.{Raise};
+    ghost use Rattle.order_grammar.specs.declared.order.Order.TheVariants.{Play};
+    ghost use Rattle.order_grammar.specs.declared.play.PlayOrder.TheVariants.{Raise};
     ghost use Rattle.sheets.specs.Part.{Numbered, line_with};
 
     ghost Value = { Numbered };
 
-    ghost view = { λ held. line_with held.line (Raise held.sale.company held.sale.shares) };
+    ghost view = { λ held. line_with held.line (Play (Raise held.sale.company held.sale.shares)) };
 
     ghost invariant = { λ held. held.order
-        ≡ ordered held.line.condition (Raise held.sale.company held.sale.shares) };
+        ≡ ordered held.line.condition (Play (Raise held.sale.company held.sale.shares)) };
 }
 
 /// Holds the order of this line until the end of the turn if it is a RAISE: adds it to those held.
@@ -57,7 +58,7 @@ pub fn hold_if_raise(
         ≡ raises.old.items ++ raises_in (line_with line order.now ∷ [])) }
 {
     match order {
-        Order::Raise { company, shares } => {
+        Order::Play(PlayOrder::Raise { company, shares }) => {
             let (company, shares) = (*company, *shares);
             let packed = history.pack(line.condition.as_ref(), order)?;
             raises.push(HeldRaise {
@@ -73,8 +74,8 @@ pub fn hold_if_raise(
 
 /// Returns the first rule that a RAISE with this condition breaks, given whether a purchase is due.
 /// A RAISE that is not needed is refused whatever its condition.
-#[tactic(auto, unfolding(crate::specs::Raise::raise_rule))]
-pub fn raise_rule(
+#[tactic(auto, unfolding(crate::specs::Raise::raise_judgement))]
+pub fn judge_raise(
     history: &History,
     by: Operator,
     condition: Option<&Condition>,
@@ -82,36 +83,36 @@ pub fn raise_rule(
     due: bool,
 ) -> Option<Refusal>
     ensures { result
-        ≡ raise_rule due by history.now (option_copied condition.entry) sale }
+        ≡ raise_judgement due by history.now (option_copied condition.entry) sale }
 {
     if due && falls_short(history, by) {
-        needed_rule(history, by, condition, sale)
+        judge_needed(history, by, condition, sale)
     } else {
         Some(Refusal::Stock(StockRule::NotOfStock))
     }
 }
 
 /// Returns the first rule that a RAISE with this condition breaks, if it is needed.
-fn needed_rule(
+fn judge_needed(
     history: &History,
     by: Operator,
     condition: Option<&Condition>,
     sale: Sale,
 ) -> Option<Refusal>
     ensures { result
-        ≡ needed_rule by history.now (option_copied condition.entry) sale }
+        ≡ needed_judgement by history.now (option_copied condition.entry) sale }
 {
     if history.is_met(condition) {
-        sale_rule(history, by, sale).map(Refusal::Stock)
+        judge_raised_sale(history, by, sale).map(Refusal::Stock)
     } else {
         Some(Refusal::Condition)
     }
 }
 
 /// Returns the first rule that a sale to raise money for the company breaks.
-#[tactic(auto, unfolding(crate::specs::Raise::sale_rule))]
-pub fn sale_rule(history: &History, by: Operator, sale: Sale) -> Option<StockRule>
-    ensures { result ≡ sale_rule by history.now sale }
+#[tactic(auto, unfolding(crate::specs::Raise::raised_sale_judgement))]
+pub fn judge_raised_sale(history: &History, by: Operator, sale: Sale) -> Option<StockRule>
+    ensures { result ≡ raised_sale_judgement by history.now sale }
 {
     match may_sell(history, by.president, sale, Some(by.company)) {
         Ok(()) => None,
@@ -156,7 +157,7 @@ fn rule_raise(
     ensures game { OnOk result (IsGame history.new) }
 {
     let HeldRaise { line, sale, order } = held;
-    let broken = raise_rule(history, by, line.condition.as_ref(), sale, due);
+    let broken = judge_raise(history, by, line.condition.as_ref(), sale, due);
     if record_packed(history, by.president, line.number, order, broken)? {
         sell_block(history, by.president, sale)?;
     }

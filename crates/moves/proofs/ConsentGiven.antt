@@ -41,6 +41,7 @@ use Rattle.order_grammar.specs.declared.order.Offer.TheVariants as offer
 use Rattle.order_grammar.specs.declared.order.Order.TheVariants as order
 use Rattle.order_grammar.specs.declared.order.TrainSource.{TrainSource}
 use Rattle.order_grammar.specs.declared.order.TrainSource.TheVariants as source
+use Rattle.order_grammar.specs.declared.play.PlayOrder.TheVariants as play
 use Rattle.purchases.proofs.TrainLemmas.{so}
 use Rattle.purchases.specs.Private.{is_given_by, is_too_early, is_wrong_price, owner_agrees_by, private_bought}
 use Rattle.purchases.specs.Private.{private_judgement_by, private_rules_by}
@@ -64,6 +65,7 @@ use Rattle.totals.proofs.EventAtEnd.{option_or_assoc}
 use Rattle.totals.specs.LookBack.{Game, in_round, last_said, owner_of}
 use Rattle.totals.specs.Offers.{has_offered}
 use Rattle.totals.specs.Shares.{president_of}
+use Rattle.turns.proofs.Ruled.{none_as_refusal}
 
 same_as_itself : (sale : Offer) → same_offer sale sale ≡ true
 same_as_itself (offer.Private private buyer price) = grind (arith, nat_tests)
@@ -109,7 +111,7 @@ is_offered before after giver number condition sale none =
     let says : Event → Option Offer = λ event. said_by giver (offered_in sale) (obeyed_of event) in
     let line : Event = offer_line giver number condition sale in
     let word : says line ≡ Some sale =
-    ap (λ (b : Bool). if b then offered_in sale (order.Offer sale) else None) (eq-eqb giver.0 giver.0 refl)
+    ap (λ (b : Bool). if b then offered_in sale (order.Play (play.Offer sale)) else None) (eq-eqb giver.0 giver.0 refl)
     ∙ ap (λ (b : Bool). if b then Some sale else None) (same_as_itself sale) in
     let here : in_round says line ≡ Some (Some sale) = ap (option_map (λ (its : Offer). Some its)) word in
     holds_behind (in_round says) before (line ∷ after)
@@ -191,11 +193,6 @@ consent_named cost (Some rule) None None price giver sale is = absurd (none_is_n
 consent_named cost (Some rule) None (Some (p, named)) price giver sale is =
     record { costs = ap price_in is; free = refl; asks = ap consent_in is }
 
--- no rule is broken where none is printed
-pub unmapped : {Code : Type 0} (wrap : Code → Refusal) (broken : Option Code) → option_map wrap broken ≡ None → broken ≡ None
-unmapped wrap None none = refl
-unmapped wrap (Some code) none = absurd (cc)
-
 -- an answer to an order that breaks no rule
 obeyed_at : (cost price : ℤ) (broken given : Option Refusal) (asked : Option (Seat × Offer)) → broken ≡ None
     → cost ≡ price → answer_if_given cost broken given asked ≡ Obeyed price
@@ -235,7 +232,7 @@ train_kept : (seats : ℕ) (before after : List Event) (giver : Seat) (number : 
     }) buyer (purchase_of kind (source.Company seller price)) ≡ None
 train_kept seats before after giver number condition buyer seller kind price none leads kept =
     let sale : Offer = offer.Train kind seller buyer price in
-    let done : Ruling = ruling.Obeyed condition (order.Offer sale) in
+    let done : Ruling = ruling.Obeyed condition (order.Play (play.Offer sale)) in
     let old : List Event = before ++ after in
     let new : List Event = before ++ offer_line giver number condition sale ∷ after in
     let game : Game = record { seats = seats; events = old } in
@@ -283,7 +280,7 @@ private_kept : (seats : ℕ) (before after : List Event) (giver : Seat) (number 
     }) buyer private price ≡ None
 private_kept seats before after giver number condition buyer private price none owns kept =
     let sale : Offer = offer.Private private buyer price in
-    let done : Ruling = ruling.Obeyed condition (order.Offer sale) in
+    let done : Ruling = ruling.Obeyed condition (order.Play (play.Offer sale)) in
     let old : List Event = before ++ after in
     let new : List Event = before ++ offer_line giver number condition sale ∷ after in
     let game : Game = record { seats = seats; events = old } in
@@ -338,7 +335,7 @@ train_told_from seats before after number condition company kind (source.Company
     let parts = asked_by (president_of (before ++ after) seller) (offer.Train kind seller company cost) giver sale asks in
     let its : TrainSource = source.Company seller cost in
     let kept = train_kept seats before after giver number condition company seller kind cost none parts.0
-    (unmapped refusal.Train (train_judgement_by All game company (purchase_of kind its)) free) in
+    (none_as_refusal refusal.Train (train_judgement_by All game company (purchase_of kind its)) free) in
     subst (λ (s : Offer). train_answer (record {
       seats = seats;
       events = before ++ offer_line giver number condition s ∷ after;
@@ -378,7 +375,7 @@ private_told_of seats before after number condition company private cost price g
     sale told in
     let parts = asked_owner (owner_of game.events private) (offer.Private private company cost) giver sale named.asks in
     let kept = private_kept seats before after giver number condition company private cost none parts.0
-    (unmapped refusal.Private (private_judgement_by All game company private cost) named.free) in
+    (none_as_refusal refusal.Private (private_judgement_by All game company private cost) named.free) in
     subst (λ (s : Offer). private_answer (record {
       seats = seats;
       events = before ++ offer_line giver number condition s ∷ after;
@@ -403,7 +400,7 @@ offered_privates_told game offered company private cost price giver sale told is
 pub offered_trains_obeyed : OfferedTrainsAreObeyed
 offered_trains_obeyed by turn offered line kind from price giver sale new past told is leads =
     let there : TurnState = turn_state offered turn.progress in
-    let ruled_by : TurnState → Option Refusal → TurnState = λ turn rule. ruled by turn line (order.BuyTrain kind from) rule
+    let ruled_by : TurnState → Option Refusal → TurnState = λ turn rule. ruled by turn line (order.Play (play.BuyTrain kind from)) rule
     (λ (after : TurnState). turn_state (after_train after.game by.company (purchase_of kind from)) after.progress) in
     leads
     ∙ ap (λ (b : Bool). let paid : TurnState = if b then turn_state (withheld offered by.company turn.progress.runs.revenue) (pay_done turn.progress) else there in
@@ -416,7 +413,7 @@ pub offered_privates_obeyed : OfferedPrivatesAreObeyed
 offered_privates_obeyed by turn offered line private cost price giver sale new told is leads =
     let there : TurnState = turn_state offered turn.progress in
     leads
-    ∙ ap (λ (rule : Option Refusal). ruled by there line (order.BuyOwnedPrivate private cost) rule
+    ∙ ap (λ (rule : Option Refusal). ruled by there line (order.Play (play.BuyOwnedPrivate private cost)) rule
     (λ (after : TurnState). turn_state (private_bought after.game by.company private cost) after.progress))
     (sym (told_private offered by.company private cost))
     ∙ ap (private_told by there line private cost)

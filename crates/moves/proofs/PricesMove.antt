@@ -24,7 +24,6 @@ use Rattle.events.specs.declared.ruling.Ruling.TheVariants as ruling
 use Rattle.history.specs.Record.{breaks, with_broken}
 use Rattle.market.specs.Moves.{fallen}
 use Rattle.market.specs.Token.{moved_from, same_square}
-use Rattle.moves.proofs.ConsentGiven.{unmapped}
 use Rattle.moves.proofs.RowRulings.{opening_ruled, stock_ruled}
 use Rattle.moves.specs.CompanyRows.{asked_for_private, asked_for_train, private_refusal_by}
 use Rattle.moves.specs.CompanyRows.{train_cost, train_refusal_by}
@@ -46,6 +45,7 @@ use Rattle.order_grammar.specs.declared.order.ShareSource.{ShareSource}
 use Rattle.order_grammar.specs.declared.order.ShareSource.TheVariants.{InitialOffering, BankPool}
 use Rattle.order_grammar.specs.declared.order.TrainSource.{TrainSource}
 use Rattle.order_grammar.specs.declared.order.TrainSource.TheVariants as source
+use Rattle.order_grammar.specs.declared.play.PlayOrder.TheVariants as play
 use Rattle.privates.specs.Bank.{price_of_private}
 use Rattle.privates.specs.ParOfBo.{par_set_by}
 use Rattle.privates.specs.Sale.{after_private_sale, gifts}
@@ -84,6 +84,7 @@ use Rattle.totals.specs.Bids.{bid_of}
 use Rattle.totals.specs.LookBack.{Game, cash_of, owner_of, paid_by, paid_to, with_event}
 use Rattle.totals.specs.Shares.{par_of, president_of, square_of}
 use Rattle.totals.specs.Trains.{at_least_zero, trains_held}
+use Rattle.turns.proofs.Ruled.{none_as_refusal}
 use Rattle.turns.specs.RoundOfTurns.{in_turn}
 use Rattle.turns.specs.Ruling.{judged}
 use Rattle.tables.proofs.Companies.{company_itself}
@@ -187,7 +188,7 @@ buyer_pays seat its shares from price = ap (λ (b : Bool). if b then price else 
 left_by_act : (game : Game) (seat : Seat) (its : Order)
     → cash_of game.seats (after_stock_order game seat its).events (party_at seat)
     ≡ left_after its (pos (stock_cost game.events its)) (cash_of game.seats game.events (party_at seat))
-left_by_act game seat (order.Par its price) =
+left_by_act game seat (order.Play (play.Par its price)) =
     let seats = game.seats in
     let events = game.events in
     let pay : Event = event.Bought its seat president_shares InitialOffering (president_shares * price) in
@@ -197,17 +198,17 @@ left_by_act game seat (order.Par its price) =
     (buyer_pays seat its president_shares InitialOffering (president_shares * price))
     ∙ ap (λ (cash : ℤ). cash -ℤ pos (2 * price))
     (cash_of_before seats events (event.Par its price) (party_at seat) refl)
-left_by_act game seat (order.BuyShare its from) =
+left_by_act game seat (order.Play (play.BuyShare its from)) =
     let price : ℕ = share_price_of game.events its from in
     let paid : Game = share_bought game seat its from in
     float_moves_none (with_president paid its) its seat
     ∙ successor_moves_none paid its (president_of paid.events its) (party_at seat)
     ∙ pays game.seats game.events (event.Bought its seat 1 from price) (party_at seat) price refl
     (buyer_pays seat its 1 from price)
-left_by_act game seat (order.Sell its shares) =
+left_by_act game seat (order.Play (play.Sell its shares)) =
     let seats = game.seats in
     let events = game.events in
-    let price : ℕ = stock_cost events (order.Sell its shares) in
+    let price : ℕ = stock_cost events (order.Play (play.Sell its shares)) in
     let sells : Event = event.Sells its seat shares price in
     let paid : Game = sold game seat its shares in
     let led : List Event = (with_president paid its).events in
@@ -215,7 +216,7 @@ left_by_act game seat (order.Sell its shares) =
     ∙ successor_moves_none paid its (president_of paid.events its) (party_at seat)
     ∙ broken_moves_none seats (events ++ sells ∷ []) (party_at seat)
     ∙ gets seats events sells (party_at seat) price (ap (λ (b : Bool). if b then price else 0) (eq-eqb seat.0 seat.0 refl)) refl
-left_by_act game seat order.ExchangeMohawk =
+left_by_act game seat (order.Play play.ExchangeMohawk) =
     let nyc : Company = company.NewYorkCentral in
     let given : Game = exchanged game seat in
     float_moves_none (with_president given nyc) nyc seat
@@ -227,12 +228,12 @@ left_by_act game seat other = less_none (cash_of game.seats game.events (party_a
 -- a ruling changes no price
 same_stock_cost : (events : List Event) (seat : Seat) (number : ℕ) (done : Ruling) (its : Order)
     → stock_cost (events ++ event.Ruled seat number done ∷ []) its ≡ stock_cost events its
-same_stock_cost events seat number done (order.Par its price) = refl
-same_stock_cost events seat number done (order.BuyShare its InitialOffering) =
+same_stock_cost events seat number done (order.Play (play.Par its price)) = refl
+same_stock_cost events seat number done (order.Play (play.BuyShare its InitialOffering)) =
     ap (λ (par : Option ℕ). unwrap_or par 0) (par_of_before events (event.Ruled seat number done) its refl)
-same_stock_cost events seat number done (order.BuyShare its BankPool) =
+same_stock_cost events seat number done (order.Play (play.BuyShare its BankPool)) =
     ap price_on (square_of_before events (event.Ruled seat number done) its refl)
-same_stock_cost events seat number done (order.Sell its shares) =
+same_stock_cost events seat number done (order.Play (play.Sell its shares)) =
     ap (λ (square : Option Square). shares * price_on square)
     (square_of_before events (event.Ruled seat number done) its refl)
 same_stock_cost events seat number done other = refl
@@ -306,7 +307,7 @@ moves_in_opening : (seats : ℕ) (events : List Event) (seat : Seat) (number : �
     → pos (opening_cost events its) ≡ price
     → MovesInOpening seats seat its price events
     (after_opening_order seats seat (events ++ event.Ruled seat number done ∷ []) its)
-moves_in_opening seats events seat number done (order.BuyPrivate its) price costs =
+moves_in_opening seats events seat number done (order.Play (play.BuyPrivate its)) price costs =
     let ruled_list : List Event = events ++ event.Ruled seat number done ∷ [] in
     record {
       paid = after_private_sale ruled_list its seat (price_of_private ruled_list its);
@@ -317,7 +318,7 @@ moves_in_opening seats events seat number done (order.BuyPrivate its) price cost
           (ap pos (same_private_price events its seat number done) ∙ costs);
       settles = refl;
     }
-moves_in_opening seats events seat number done (order.Bid its amount) price costs =
+moves_in_opening seats events seat number done (order.Play (play.Bid its amount)) price costs =
     let ruled_list : List Event = events ++ event.Ruled seat number done ∷ [] in
     let bids : Event = event.Bids its seat amount in
     record {
@@ -456,14 +457,14 @@ pub train_prices_move : TrainPricesMove
 unfolding train_refusal_by
 train_prices_move by turn line kind from price new past told leads =
     let purchase : TrainPurchase = purchase_of kind from in
-    let done : Ruling = ruling.Obeyed line.condition (order.BuyTrain kind from) in
+    let done : Ruling = ruling.Obeyed line.condition (order.Play (play.BuyTrain kind from)) in
     let its : Event = event.Ruled by.president line.number done in
     let recorded : Game = with_event turn.game its in
     let parts = price_given (pos (train_cost kind from)) price (train_refusal_by OfGame turn.game by.company kind from)
     (train_refusal_by All turn.game by.company kind from) (asked_for_train turn.game.events by.company kind from) told in
     let kept : train_judgement turn.game by.company purchase ≡ None =
-    unmapped refusal.Train (train_judgement turn.game by.company purchase) parts.0 in
-    let ruled_by : TurnState → Option Refusal → TurnState = λ turn rule. ruled by turn line (order.BuyTrain kind from) rule
+    none_as_refusal refusal.Train (train_judgement turn.game by.company purchase) parts.0 in
+    let ruled_by : TurnState → Option Refusal → TurnState = λ turn rule. ruled by turn line (order.Play (play.BuyTrain kind from)) rule
     (λ (after : TurnState). turn_state (after_train after.game by.company purchase) after.progress) in
     let is : new ≡ turn_state (after_train recorded by.company purchase) turn.progress =
     leads
@@ -490,17 +491,17 @@ owned_paid game buyer its cost owner seller owns =
 pub private_prices_move : PrivatePricesMove
 unfolding private_refusal_by
 private_prices_move by turn line its cost price new told leads =
-    let done : Ruling = ruling.Obeyed line.condition (order.BuyOwnedPrivate its cost) in
+    let done : Ruling = ruling.Obeyed line.condition (order.Play (play.BuyOwnedPrivate its cost)) in
     let recorded : Event = event.Ruled by.president line.number done in
     let after : Game = with_event turn.game recorded in
     let parts = price_given (pos cost) price (private_refusal_by OfGame turn.game by.company its cost)
     (private_refusal_by All turn.game by.company its cost) (asked_for_private turn.game.events by.company its cost) told in
     let kept : private_judgement turn.game by.company its cost ≡ None =
-    unmapped refusal.Private (private_judgement turn.game by.company its cost) parts.0 in
+    none_as_refusal refusal.Private (private_judgement turn.game by.company its cost) parts.0 in
     let agreed = owners_agree turn.game by.company its cost kept in
     let is : new ≡ turn_state (private_bought after by.company its cost) turn.progress =
     leads
-    ∙ ap (λ (rule : Option Refusal). ruled by turn line (order.BuyOwnedPrivate its cost) rule
+    ∙ ap (λ (rule : Option Refusal). ruled by turn line (order.Play (play.BuyOwnedPrivate its cost)) rule
     (λ (then_is : TurnState). turn_state (private_bought then_is.game by.company its cost) then_is.progress)) parts.0 in
     ap (λ (t : TurnState). cash_in t.game by.company) is
     ∙ owned_paid after by.company its cost (owner_of after.events its) agreed.giver

@@ -27,9 +27,10 @@ use Rattle.order_grammar.specs.declared.fault.Fault.TheVariants.{OutOfPlace}
 use Rattle.order_grammar.specs.declared.order.Offer.{Offer}
 use Rattle.order_grammar.specs.declared.order.Offer.TheVariants as offer
 use Rattle.order_grammar.specs.declared.order.Order.{Order}
-use Rattle.order_grammar.specs.declared.order.Order.TheVariants.{BuyOwnedPrivate, BuyTrain}
+use Rattle.order_grammar.specs.declared.order.Order.TheVariants.{Play}
 use Rattle.order_grammar.specs.declared.order.TrainSource.{TrainSource}
 use Rattle.order_grammar.specs.declared.order.TrainSource.TheVariants as source
+use Rattle.order_grammar.specs.declared.play.PlayOrder.TheVariants.{BuyOwnedPrivate, BuyTrain}
 use Rattle.privates.specs.Standing.{has_place_before_turns, opening_standing_refusal}
 use Rattle.privates.specs.Turn.{opening_refusal}
 use Rattle.purchases.specs.Private.{is_given_by, is_too_early, is_wrong_price, private_bought, private_costs_too_much}
@@ -229,7 +230,7 @@ told_private game company private price =
 pub private_ruled : PrivateRowsAreRuled
 private_ruled by game line private price new leads =
     leads
-    ∙ ap (λ (rule : Option Refusal). ruled by (turn_state game at_start) line (BuyOwnedPrivate private price) rule
+    ∙ ap (λ (rule : Option Refusal). ruled by (turn_state game at_start) line (Play (BuyOwnedPrivate private price)) rule
     (λ (after : TurnState). turn_state (private_bought after.game by.company private price) after.progress))
     (sym (told_private game by.company private price))
 
@@ -237,6 +238,6 @@ pub train_ruled : TrainRowsAreRuled
 train_ruled by game line kind from new leads =
     let paid = withheld_if_unpaid by.company (turn_state game at_start) in
     leads
-    ∙ ap (λ (rule : Option Refusal). ruled by paid line (BuyTrain kind from) rule
+    ∙ ap (λ (rule : Option Refusal). ruled by paid line (Play (BuyTrain kind from)) rule
     (λ (after : TurnState). turn_state (after_train after.game by.company (purchase_of kind from)) after.progress))
     (sym (told_train paid.game by.company kind from))

@@ -2,7 +2,8 @@
 -- names over 4,294,967,295 dollars.
 use Rattle.std.specs.Prelude.{◌≡◌, ◌≤◌, ℕ, ◌+◌, min, max, false, List, Option, Some, None}
 use Rattle.events.specs.declared.event.Event.{Event}
-use Rattle.order_grammar.specs.declared.order.Order.TheVariants.{Bid}
+use Rattle.order_grammar.specs.declared.order.Order.TheVariants.{Play}
+use Rattle.order_grammar.specs.declared.play.PlayOrder.TheVariants.{Bid}
 use Rattle.privates.specs.Turn.{opening_judgement}
 use Rattle.tables.specs.Roster.{face_of}
 use Rattle.tables.specs.declared.roster.Private.{Private}
@@ -26,6 +27,6 @@ least_bid_of events private = least_over (step_over (face_of private)) (greatest
 abbrev pub LeastBidIsLeast : Type 0
 LeastBidIsLeast =
     (seats : ℕ) (events : List Event) (seat : Seat) (private : Private) (amount : ℕ) → amount ≤ 4294967295
-    → opening_judgement seats events seat false (Bid private amount) ≡ None
+    → opening_judgement seats events seat false (Play (Bid private amount)) ≡ None
     → (least_bid_of events private ≤ amount)
-    × (opening_judgement seats events seat false (Bid private (least_bid_of events private)) ≡ None)
+    × (opening_judgement seats events seat false (Play (Bid private (least_bid_of events private))) ≡ None)

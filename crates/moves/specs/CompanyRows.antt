@@ -16,9 +16,9 @@ use Rattle.moves.specs.declared.row.Answer.{Answer}
 use Rattle.moves.specs.declared.row.Row.{Row}
 use Rattle.order_grammar.specs.declared.order.Offer.{Offer}
 use Rattle.order_grammar.specs.declared.order.Offer.TheVariants as offer
-use Rattle.order_grammar.specs.declared.order.Order.TheVariants.{BuyOwnedPrivate, BuyTrain}
 use Rattle.order_grammar.specs.declared.order.TrainSource.{TrainSource}
 use Rattle.order_grammar.specs.declared.order.TrainSource.TheVariants as source
+use Rattle.order_grammar.specs.declared.play.PlayOrder.TheVariants.{BuyOwnedPrivate, BuyTrain}
 use Rattle.purchases.specs.Discard.{has_train}
 use Rattle.purchases.specs.Private.{private_judgement_by}
 use Rattle.purchases.specs.Train.{purchase_of, train_judgement_by, train_purchase_cost}

@@ -17,6 +17,7 @@ use Rattle.order_grammar.specs.declared.condition.Condition.{Condition}
 use Rattle.order_grammar.specs.declared.order.Offer.{Offer}
 use Rattle.order_grammar.specs.declared.order.Order.TheVariants as order
 use Rattle.order_grammar.specs.declared.order.TrainSource.{TrainSource}
+use Rattle.order_grammar.specs.declared.play.PlayOrder.TheVariants as play
 use Rattle.sheets.specs.Part.{Numbered}
 use Rattle.tables.specs.declared.rolling_stock.Kind.{Kind}
 use Rattle.tables.specs.declared.roster.Company.{Company}
@@ -31,7 +32,7 @@ NoRoundBegins (event ∷ events) = (round_begun_by event ≡ None) × NoRoundBeg
 
 -- the line of a seat that offers a sale, obeyed
 abbrev pub offer_line : Seat → ℕ → Option Condition → Offer → Event
-offer_line giver number condition sale = event.Ruled giver number (ruling.Obeyed condition (order.Offer sale))
+offer_line giver number condition sale = event.Ruled giver number (ruling.Obeyed condition (order.Play (play.Offer sale)))
 
 -- a game, and the same with the OFFER of a seat obeyed at some place since its last round began
 pub record IsOffered (giver : Seat) (sale : Offer) (game offered : Game) : Type 0 where
@@ -67,7 +68,7 @@ OfferedTrainsAreObeyed =
     (price : ℤ) (giver : Seat) (sale : Offer) (new : TurnState) → is_unpaid turn.progress ≡ false
     → train_answer turn.game by.company kind from ≡ WithConsent price giver sale
     → IsOffered giver sale turn.game offered
-    → OrderLeads by (turn_state offered turn.progress) line (order.BuyTrain kind from) new
+    → OrderLeads by (turn_state offered turn.progress) line (order.Play (play.BuyTrain kind from)) new
     → new ≡ train_told by (turn_state offered turn.progress) line kind from (Obeyed price)
 
 -- so is that of such a private
@@ -77,5 +78,5 @@ OfferedPrivatesAreObeyed =
     (price : ℤ) (giver : Seat) (sale : Offer) (new : TurnState)
     → private_answer turn.game by.company private cost ≡ WithConsent price giver sale
     → IsOffered giver sale turn.game offered
-    → OrderLeads by (turn_state offered turn.progress) line (order.BuyOwnedPrivate private cost) new
+    → OrderLeads by (turn_state offered turn.progress) line (order.Play (play.BuyOwnedPrivate private cost)) new
     → new ≡ private_told by (turn_state offered turn.progress) line private cost (Obeyed price)

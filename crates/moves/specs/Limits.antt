@@ -5,7 +5,8 @@
 use Rattle.std.specs.Prelude.{◌≡◌, ◌≤◌, ℕ, ◌+◌, true, None, pos, ◌≤ℤ◌}
 use Rattle.events.specs.Event.{is_par_value}
 use Rattle.events.specs.declared.event.Shareholder.TheVariants.{Seat as OfSeat}
-use Rattle.order_grammar.specs.declared.order.Order.TheVariants.{Par, Sell}
+use Rattle.order_grammar.specs.declared.order.Order.TheVariants.{Play}
+use Rattle.order_grammar.specs.declared.play.PlayOrder.TheVariants.{Par, Sell}
 use Rattle.purchases.specs.Private.{private_judgement}
 use Rattle.stock_round.specs.Orders.{stock_judgement}
 use Rattle.tables.specs.Roster.{face_of}
@@ -19,14 +20,14 @@ use Rattle.totals.specs.Shares.{shares_of}
 abbrev pub SalesAreOfWhatIsHeld : Type 0
 SalesAreOfWhatIsHeld =
     (game : Game) (seat : Seat) (company : Company) (shares : ℕ)
-    → stock_judgement game seat None (Sell company shares) ≡ None
+    → stock_judgement game seat None (Play (Sell company shares)) ≡ None
     → pos shares ≤ℤ shares_of game.events company (OfSeat seat)
 
 -- a company is started at one of the six par values
 abbrev pub StartsAreAtParValues : Type 0
 StartsAreAtParValues =
     (game : Game) (seat : Seat) (company : Company) (price : ℕ)
-    → stock_judgement game seat None (Par company price) ≡ None → is_par_value price ≡ true
+    → stock_judgement game seat None (Play (Par company price)) ≡ None → is_par_value price ≡ true
 
 -- a company pays for a private from half of the face value to twice that
 abbrev pub PrivatesHaveTheirPrice : Type 0

@@ -14,8 +14,9 @@ use Rattle.operating.specs.CompanyOrders.{OrderLeads}
 use Rattle.operating.specs.Progress.{is_unpaid}
 use Rattle.operating.specs.TurnState.{TurnState}
 use Rattle.order_grammar.specs.declared.order.Order.{Order}
-use Rattle.order_grammar.specs.declared.order.Order.TheVariants.{Bid, BuyOwnedPrivate, BuyPrivate, BuyTrain, Sell}
+use Rattle.order_grammar.specs.declared.order.Order.TheVariants.{Play}
 use Rattle.order_grammar.specs.declared.order.TrainSource.{TrainSource}
+use Rattle.order_grammar.specs.declared.play.PlayOrder.TheVariants.{Bid, BuyOwnedPrivate, BuyPrivate, BuyTrain, Sell}
 use Rattle.privates.specs.Sale.{settled}
 use Rattle.privates.specs.Turn.{after_opening_line}
 use Rattle.sheets.specs.Part.{Numbered}
@@ -32,7 +33,7 @@ use Rattle.turns.specs.Ruling.{has_place_in_turn}
 
 -- what is left of a seat's cash after an order of a stock round of this price: a sale adds it, and any other takes it
 abbrev pub left_after : Order → ℤ → ℤ → ℤ
-left_after (Sell company shares) price cash = cash +ℤ price
+left_after (Play (Sell company shares)) price cash = cash +ℤ price
 left_after other price cash = cash -ℤ price
 
 -- the price of a row of a stock round moves as its line is obeyed
@@ -59,8 +60,8 @@ pub record IsBid (seats : ℕ) (seat : Seat) (private : Private) (amount : ℕ) 
 
 -- what the price of a row of an opening is
 abbrev pub MovesInOpening : ℕ → Seat → Order → ℤ → List Event → List Event → Type 0
-MovesInOpening seats seat (BuyPrivate private) price old new = IsPaidFor seats seat price old new
-MovesInOpening seats seat (Bid private amount) price old new = IsBid seats seat private amount price old new
+MovesInOpening seats seat (Play (BuyPrivate private)) price old new = IsPaidFor seats seat price old new
+MovesInOpening seats seat (Play (Bid private amount)) price old new = IsBid seats seat private amount price old new
 MovesInOpening seats seat other price old new = ⊤
 
 -- the price of a row of an opening moves as its line is obeyed, or stands as a bid
@@ -81,7 +82,7 @@ abbrev pub TrainPricesMove : Type 0
 TrainPricesMove =
     (by : Operator) (turn : TurnState) (line : Numbered) (kind : Kind) (from : TrainSource) (price : ℤ)
     (new : TurnState) → is_unpaid turn.progress ≡ false → train_answer turn.game by.company kind from ≡ Obeyed price
-    → OrderLeads by turn line (BuyTrain kind from) new
+    → OrderLeads by turn line (Play (BuyTrain kind from)) new
     → cash_in new.game by.company ≡ cash_in turn.game by.company -ℤ price
 
 -- so does that of a private
@@ -89,5 +90,5 @@ abbrev pub PrivatePricesMove : Type 0
 PrivatePricesMove =
     (by : Operator) (turn : TurnState) (line : Numbered) (private : Private) (cost : ℕ) (price : ℤ) (new : TurnState)
     → private_answer turn.game by.company private cost ≡ Obeyed price
-    → OrderLeads by turn line (BuyOwnedPrivate private cost) new
+    → OrderLeads by turn line (Play (BuyOwnedPrivate private cost)) new
     → cash_in new.game by.company ≡ cash_in turn.game by.company -ℤ price

@@ -23,8 +23,9 @@ use Rattle.operating.specs.TurnState.{TurnState, ruled, turn_state}
 use Rattle.order_grammar.specs.declared.order.Offer.{Offer}
 use Rattle.order_grammar.specs.declared.order.Offer.TheVariants as offer
 use Rattle.order_grammar.specs.declared.order.Order.{Order}
-use Rattle.order_grammar.specs.declared.order.Order.TheVariants.{BuyOwnedPrivate, BuyTrain}
+use Rattle.order_grammar.specs.declared.order.Order.TheVariants.{Play}
 use Rattle.order_grammar.specs.declared.order.TrainSource.{TrainSource}
+use Rattle.order_grammar.specs.declared.play.PlayOrder.TheVariants.{BuyOwnedPrivate, BuyTrain}
 use Rattle.privates.specs.Standing.{has_place_before_turns, opening_standing_ruling}
 use Rattle.privates.specs.Turn.{opening_line_ruling}
 use Rattle.purchases.specs.Private.{private_bought}
@@ -91,21 +92,21 @@ StandingRowsAreRuled =
 -- no rule
 abbrev pub private_told : Operator → TurnState → Numbered → Private → ℕ → Answer → TurnState
 private_told by turn line private price answer =
-    ruled by turn line (BuyOwnedPrivate private price) (rule_told answer)
+    ruled by turn line (Play (BuyOwnedPrivate private price)) (rule_told answer)
     (λ (after : TurnState). turn_state (private_bought after.game by.company private price) after.progress)
 
 -- what the row of a private tells becomes of it in the first line of a company's orders
 abbrev pub PrivateRowsAreRuled : Type 0
 PrivateRowsAreRuled =
     (by : Operator) (game : Game) (line : Numbered) (private : Private) (price : ℕ) (new : TurnState)
-    → OrderLeads by (turn_state game at_start) line (BuyOwnedPrivate private price) new
+    → OrderLeads by (turn_state game at_start) line (Play (BuyOwnedPrivate private price)) new
     → new ≡ private_told by (turn_state game at_start) line private price
     (private_answer game by.company private price)
 
 -- after the order to buy a train in this line, of which this is told
 abbrev pub train_told : Operator → TurnState → Numbered → Kind → TrainSource → Answer → TurnState
 train_told by turn line kind from answer =
-    ruled by turn line (BuyTrain kind from) (rule_told answer)
+    ruled by turn line (Play (BuyTrain kind from)) (rule_told answer)
     (λ (after : TurnState). turn_state (after_train after.game by.company (purchase_of kind from)) after.progress)
 
 -- what the row of a train tells in the game after the company has withheld becomes of it in the
@@ -113,6 +114,6 @@ train_told by turn line kind from answer =
 abbrev pub TrainRowsAreRuled : Type 0
 TrainRowsAreRuled =
     (by : Operator) (game : Game) (line : Numbered) (kind : Kind) (from : TrainSource) (new : TurnState)
-    → OrderLeads by (turn_state game at_start) line (BuyTrain kind from) new
+    → OrderLeads by (turn_state game at_start) line (Play (BuyTrain kind from)) new
     → new ≡ train_told by (withheld_if_unpaid by.company (turn_state game at_start)) line kind from
     (train_answer (withheld_if_unpaid by.company (turn_state game at_start)).game by.company kind from)

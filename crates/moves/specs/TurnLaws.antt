@@ -20,6 +20,7 @@ use Rattle.operating.specs.Progress.{at_start}
 use Rattle.operating.specs.Token.{token_answered}
 use Rattle.operating.specs.TurnState.{TurnState, turn_state}
 use Rattle.order_grammar.specs.declared.order.Order.TheVariants as order
+use Rattle.order_grammar.specs.declared.play.PlayOrder.TheVariants as play
 use Rattle.reach.specs.Position.{IsAmong}
 use Rattle.sheets.specs.Part.{Numbered}
 use Rattle.tables.specs.declared.roster.Company.{Company}
@@ -39,7 +40,7 @@ AreTokensAtStart game company listed =
 abbrev pub ListedLaysAreObeyed : Type 0
 ListedLaysAreObeyed =
     (by : Operator) (game : Game) (line : Numbered) (lay : Lay) (listed : List (Priced Lay)) (new : TurnState) →
-    AreLaysAtStart game by.company listed → OrderLeads by (turn_state game at_start) line (order.Lay lay) new
+    AreLaysAtStart game by.company listed → OrderLeads by (turn_state game at_start) line (order.Play (play.Lay lay)) new
     → (price : ℤ) → IsAmong (record { what = lay; price = price }) listed
     → new ≡ lay_answered by (turn_state game at_start) line lay (Ok price)
 
@@ -53,7 +54,7 @@ pub record IsLayRefused (by : Operator) (turn : TurnState) (line : Numbered) (la
 abbrev pub OtherLaysAreRefused : Type 0
 OtherLaysAreRefused =
     (by : Operator) (game : Game) (line : Numbered) (lay : Lay) (listed : List (Priced Lay)) (new : TurnState) →
-    AreLaysAtStart game by.company listed → OrderLeads by (turn_state game at_start) line (order.Lay lay) new
+    AreLaysAtStart game by.company listed → OrderLeads by (turn_state game at_start) line (order.Play (play.Lay lay)) new
     → ((price : ℤ) → IsAmong (record { what = lay; price = price }) listed → ⊥)
     → IsLayRefused by (turn_state game at_start) line lay new
 
@@ -61,7 +62,7 @@ OtherLaysAreRefused =
 abbrev pub ListedTokensAreObeyed : Type 0
 ListedTokensAreObeyed =
     (by : Operator) (game : Game) (line : Numbered) (place : Place) (listed : List (Priced Place)) (new : TurnState) →
-    AreTokensAtStart game by.company listed → OrderLeads by (turn_state game at_start) line (order.Token place) new
+    AreTokensAtStart game by.company listed → OrderLeads by (turn_state game at_start) line (order.Play (play.Token place)) new
     → (price : ℤ) → IsAmong (record { what = place; price = price }) listed
     → new ≡ token_answered by (turn_state game at_start) line place (Ok price)
 
@@ -75,6 +76,6 @@ pub record IsTokenRefused (by : Operator) (turn : TurnState) (line : Numbered) (
 abbrev pub OtherTokensAreRefused : Type 0
 OtherTokensAreRefused =
     (by : Operator) (game : Game) (line : Numbered) (place : Place) (listed : List (Priced Place)) (new : TurnState) →
-    AreTokensAtStart game by.company listed → OrderLeads by (turn_state game at_start) line (order.Token place) new
+    AreTokensAtStart game by.company listed → OrderLeads by (turn_state game at_start) line (order.Play (play.Token place)) new
     → ((price : ℤ) → IsAmong (record { what = place; price = price }) listed → ⊥)
     → IsTokenRefused by (turn_state game at_start) line place new

@@ -6,12 +6,13 @@ ghost use Rattle.moves.specs.CompanyRows.{private_row, train_answer, train_cost,
 ghost use Rattle.moves.specs.CompanyRows.{train_of, train_order, train_orders, train_row, trains_of_bank};
 ghost use Rattle.moves.specs.CompanyRows.{trains_of_kind, trains_of_sellers};
 ghost use Rattle.moves.specs.Rows.{answer_if_given};
-ghost use Rattle.order_grammar.specs.declared.order.Order.TheVariants.{BuyTrain};
+ghost use Rattle.order_grammar.specs.declared.order.Order.TheVariants.{Play};
+ghost use Rattle.order_grammar.specs.declared.play.PlayOrder.TheVariants.{BuyTrain};
 ghost use Rattle.turns.specs.Small.{IsSmallOrder};
 
 use crate::row::{Answer, Row, push_row};
 use history::{History, Holder, Refusal};
-use order_grammar::{Offer, Order, TrainSource};
+use order_grammar::{Offer, PlayOrder, TrainSource};
 use purchases::{Consents, has_train, judge_private, judge_purchase, purchase_of};
 use std::alloc::{AllocError, Global};
 use tables::{Amount, Company, Kind, Money, Private, Seat, face};
@@ -149,17 +150,17 @@ fn push_train(
     kind: Kind,
     from: TrainSource,
 ) -> Result<(), AllocError>
-    requires { IsSmallOrder (BuyTrain kind from) }
+    requires { IsSmallOrder (Play (BuyTrain kind from)) }
     ensures { OnOk result (rows.new.items ≡ rows.old.items
         ++ train_row history.now company (train_order kind from) ∷ []) }
 {
     let answer = answer_to_train(history, company, kind, from);
-    push_row(rows, Order::BuyTrain { kind, from }, answer)
+    push_row(rows, PlayOrder::BuyTrain { kind, from }, answer)
 }
 
 /// Returns the outcome of the order to buy a train as the first line of a company's orders.
 fn answer_to_train(history: &History, company: Company, kind: Kind, from: TrainSource) -> Answer
-    requires { IsSmallOrder (BuyTrain kind from) }
+    requires { IsSmallOrder (Play (BuyTrain kind from)) }
     ensures { result ≡ train_answer history.now company kind from }
 {
     answer_if_given(
@@ -172,7 +173,7 @@ fn answer_to_train(history: &History, company: Company, kind: Kind, from: TrainS
 
 /// Returns what a train costs, in dollars.
 fn train_cost(kind: Kind, from: TrainSource) -> Money
-    requires { IsSmallOrder (BuyTrain kind from) }
+    requires { IsSmallOrder (Play (BuyTrain kind from)) }
     ensures { result ≡ pos (train_cost kind from) }
 {
     Money::from(purchase_of(kind, from).price())
@@ -188,7 +189,7 @@ fn judge_train(
     from: TrainSource,
     consents: Consents,
 ) -> Option<Refusal>
-    requires { IsSmallOrder (BuyTrain kind from) }
+    requires { IsSmallOrder (Play (BuyTrain kind from)) }
     ensures { result ≡ train_refusal_by consents history.now company kind from }
 {
     judge_purchase(history, company, purchase_of(kind, from), consents).map(Refusal::Train)
@@ -254,7 +255,7 @@ fn push_private_at(
         ++ private_row history.now company (private_order private price) ∷ []) }
 {
     let answer = answer_to_private(history, company, private, price);
-    push_row(rows, Order::BuyOwnedPrivate { private, price }, answer)
+    push_row(rows, PlayOrder::BuyOwnedPrivate { private, price }, answer)
 }
 
 /// Returns the outcome of the order to buy a private as the first line of a company's orders.

@@ -3,10 +3,11 @@
 ghost use Rattle.std.specs.Prelude.{◌≡◌, ◌++◌, ◌∷◌, [], IfOk, OnOk, map, pos};
 ghost use Rattle.moves.specs.Bids.{least_bid_of};
 ghost use Rattle.moves.specs.OpeningRows.{opening_answer, opening_cost, opening_orders, opening_row, orders_on};
+ghost use Rattle.order_grammar.specs.declared.order.Order.TheVariants.{Play};
 
 use crate::row::{Answer, Row, answer_of, push_row};
 use history::{History, Refusal};
-use order_grammar::Order;
+use order_grammar::PlayOrder;
 use privates::{judge, price_of_private};
 use std::alloc::{AllocError, Global};
 use tables::{Amount, BID_STEP, Money, Private, Seat, face};
@@ -59,13 +60,13 @@ fn push_private(
         (orders_on history.now.events private)) }
 {
     let least = least_bid(history, private);
-    push_order(rows, history, seat, used, Order::BuyPrivate(private))?;
-    let bid = Order::Bid {
+    push_order(rows, history, seat, used, PlayOrder::BuyPrivate(private))?;
+    let bid = PlayOrder::Bid {
         private,
         amount: least,
     };
     push_order(rows, history, seat, used, bid)?;
-    let lower = Order::Bid {
+    let lower = PlayOrder::Bid {
         private,
         amount: least.saturating_sub(1),
     };
@@ -79,30 +80,30 @@ fn push_order(
     history: &History,
     seat: Seat,
     used: bool,
-    order: Order,
+    order: PlayOrder,
 ) -> Result<(), AllocError>
     ensures { OnOk result (rows.new.items ≡ rows.old.items
         ++ opening_row history.now seat used order ∷ []) }
 {
-    let answer = answer_to(history, seat, used, &order);
+    let answer = answer_to(history, seat, used, order);
     push_row(rows, order, answer)
 }
 
 /// Returns the outcome of an order as the next line of a seat's turn.
-fn answer_to(history: &History, seat: Seat, used: bool, order: &Order) -> Answer
-    ensures { result ≡ opening_answer history.now seat used order.now }
+fn answer_to(history: &History, seat: Seat, used: bool, order: PlayOrder) -> Answer
+    ensures { result ≡ opening_answer history.now seat used (Play order) }
 {
     let broken = judge(history, seat, order, used).map(Refusal::Opening);
     answer_of(cost(history, order), broken)
 }
 
 /// Returns what an order costs, in dollars: a private its price, a bid its sum.
-fn cost(history: &History, order: &Order) -> Money
-    ensures { result ≡ pos (opening_cost history.now.events order.now) }
+fn cost(history: &History, order: PlayOrder) -> Money
+    ensures { result ≡ pos (opening_cost history.now.events (Play order)) }
 {
     match order {
-        Order::BuyPrivate(private) => Money::from(price_of_private(&history.now(), *private)),
-        Order::Bid { amount, .. } => Money::from(*amount),
+        PlayOrder::BuyPrivate(private) => Money::from(price_of_private(&history.now(), private)),
+        PlayOrder::Bid { amount, .. } => Money::from(amount),
         _ => 0,
     }
 }

@@ -3,15 +3,16 @@ ghost use Rattle.std.specs.Prelude.{◌≡◌, ◌++◌, ◌∷◌, [], OnOk};
 ghost use Rattle.moves.specs.Rows.{answer_of};
 
 use history::Refusal;
-use order_grammar::{Offer, Order};
+use order_grammar::{Offer, PlayOrder};
 use std::alloc::AllocError;
 use tables::{Money, Seat};
 
-/// An order, and its outcome as the next line of a turn or as the first standing line.
+/// An order of play, but no run through places, and its outcome as the next line of a turn or as
+/// the first standing line.
 #[derive(Drop)]
 pub struct Row {
     /// The order.
-    pub order: Order,
+    pub order: PlayOrder,
     /// Its outcome.
     pub answer: Answer,
 }
@@ -50,7 +51,11 @@ pub(crate) fn answer_of(price: Money, broken: Option<Refusal>) -> Answer
 }
 
 /// Adds an order with its outcome. Fails only if allocation fails.
-pub(crate) fn push_row(rows: &mut Vec<Row>, order: Order, answer: Answer) -> Result<(), AllocError>
+pub(crate) fn push_row(
+    rows: &mut Vec<Row>,
+    order: PlayOrder,
+    answer: Answer,
+) -> Result<(), AllocError>
     ensures { OnOk result (rows.new.items
         ≡ rows.old.items ++ record { order = order; answer = answer } ∷ []) }
 {

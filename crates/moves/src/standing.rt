@@ -5,10 +5,11 @@ ghost use Rattle.moves.specs.StandingRows.{limit_on, limits, may_give, may_take_
 ghost use Rattle.moves.specs.StandingRows.{private_offer, private_offers, private_offers_of, standing_orders};
 ghost use Rattle.moves.specs.StandingRows.{standing_row, standing_rows, train_offer, train_offers, train_offers_of};
 ghost use Rattle.totals.specs.LookBack.{is_owner, owner_of};
+ghost use Rattle.order_grammar.specs.declared.order.Order.TheVariants.{Play};
 
 use crate::row::{Answer, Row, answer_of, push_row};
 use history::{History, Holder, Refusal};
-use order_grammar::{Offer, Order};
+use order_grammar::{Offer, PlayOrder};
 use purchases::{has_train, is_president, judge_standing};
 use std::alloc::{AllocError, Global};
 use tables::{Company, Kind, Money, Private, Round, Seat, face, train};
@@ -71,25 +72,25 @@ fn push_limit(
     let Some(amount) = history.now().standing_bid(private, seat) else {
         return Ok(());
     };
-    let order = Order::Limit { private, amount };
-    let answer = answer_before(history, &order);
+    let order = PlayOrder::Limit { private, amount };
+    let answer = answer_before(history, order);
     push_row(rows, order, answer)
 }
 
 /// Returns the outcome of an order as a standing line of an opening.
-fn answer_before(history: &History, order: &Order) -> Answer
-    ensures { result ≡ before_answer history.now.events order.now }
+fn answer_before(history: &History, order: PlayOrder) -> Answer
+    ensures { result ≡ before_answer history.now.events (Play order) }
 {
     let broken = privates::judge_standing(history, order).map(Refusal::Opening);
     answer_of(sum_of(order), broken)
 }
 
 /// Returns the sum that a standing line of an opening names, in dollars.
-fn sum_of(order: &Order) -> Money
-    ensures { result ≡ pos (before_cost order.now) }
+fn sum_of(order: PlayOrder) -> Money
+    ensures { result ≡ pos (before_cost (Play order)) }
 {
     match order {
-        Order::Limit { amount, .. } => Money::from(*amount),
+        PlayOrder::Limit { amount, .. } => Money::from(amount),
         _ => 0,
     }
 }
@@ -149,7 +150,7 @@ fn push_discard(
     if !may_give(history, seat, company, kind) {
         return Ok(());
     }
-    push_order(rows, history, seat, Order::Discard { company, kind })
+    push_order(rows, history, seat, PlayOrder::Discard { company, kind })
 }
 
 /// Returns whether a seat presides over a company that has a train of a kind.
@@ -229,7 +230,7 @@ fn push_train_offer(
         buyer,
         price: train(kind).price,
     };
-    push_order(rows, history, seat, Order::Offer(offer))
+    push_order(rows, history, seat, PlayOrder::Offer(offer))
 }
 
 /// Returns whether a company has started and is not the seller.
@@ -288,7 +289,7 @@ fn push_private_offer(
         buyer,
         price: face(private),
     };
-    push_order(rows, history, seat, Order::Offer(offer))
+    push_order(rows, history, seat, PlayOrder::Offer(offer))
 }
 
 /// Returns whether a seat owns a private.
@@ -303,11 +304,11 @@ fn push_order(
     rows: &mut Vec<Row>,
     history: &History,
     seat: Seat,
-    order: Order,
+    order: PlayOrder,
 ) -> Result<(), AllocError>
     ensures { OnOk result (rows.new.items ≡ rows.old.items
         ++ standing_row history.now.events seat order ∷ []) }
 {
-    let answer = answer_of(0, judge_standing(history, seat, &order));
+    let answer = answer_of(0, judge_standing(history, seat, order));
     push_row(rows, order, answer)
 }

@@ -5,11 +5,12 @@ ghost use Rattle.moves.specs.StockRows.{is_number_asked, orders_of, orders_of_co
 ghost use Rattle.moves.specs.StockRows.{sales_of, shares_from, starts_of, stock_answer, stock_cost, stock_orders, stock_row};
 ghost use Rattle.stock_round.specs.Exchange.{exchange_judgement};
 ghost use Rattle.stock_round.specs.Orders.{stock_judgement};
+ghost use Rattle.order_grammar.specs.declared.order.Order.TheVariants.{Play};
 
 use crate::row::{Answer, Row, answer_of, push_row};
 use certs::{Purchase, Sale, market_price, may_buy, may_sell, purchase_cost};
 use history::{GameView, History, Refusal, ShareCount, Shareholder, StockRule};
-use order_grammar::{Order, ShareSource};
+use order_grammar::{PlayOrder, ShareSource};
 use std::alloc::{AllocError, Global};
 use stock_round::is_no_exchange;
 use tables::{Amount, CHART_ROWS, Company, Money, Seat, par_value};
@@ -48,7 +49,7 @@ fn push_orders(
         (stock_orders history.now.events seat)) }
 {
     push_companies(rows, history, seat, bought)?;
-    push_order(rows, history, seat, bought, Order::ExchangeMohawk)?;
+    push_order(rows, history, seat, bought, PlayOrder::ExchangeMohawk)?;
     Ok(())
 }
 
@@ -100,7 +101,13 @@ fn push_starts(
 {
     for row in (0..CHART_ROWS).rev() {
         if let Some(price) = par_value(row) {
-            push_order(rows, history, seat, bought, Order::Par { company, price })?;
+            push_order(
+                rows,
+                history,
+                seat,
+                bought,
+                PlayOrder::Par { company, price },
+            )?;
         }
     }
     Ok(())
@@ -124,7 +131,7 @@ fn push_shares(
             history,
             seat,
             bought,
-            Order::BuyShare { company, from },
+            PlayOrder::BuyShare { company, from },
         )?;
     }
     Ok(())
@@ -164,7 +171,13 @@ fn push_sale(
     if !is_number_asked(history, seat, company, shares) {
         return Ok(());
     }
-    push_order(rows, history, seat, bought, Order::Sell { company, shares })
+    push_order(
+        rows,
+        history,
+        seat,
+        bought,
+        PlayOrder::Sell { company, shares },
+    )
 }
 
 /// Returns whether a sale of this many shares is considered: from one up to one more than the seat
@@ -182,18 +195,18 @@ fn push_order(
     history: &History,
     seat: Seat,
     bought: Option<Company>,
-    order: Order,
+    order: PlayOrder,
 ) -> Result<(), AllocError>
     ensures { OnOk result (rows.new.items ≡ rows.old.items
         ++ stock_row history.now seat bought order ∷ []) }
 {
-    let answer = answer_to(history, seat, bought, &order);
+    let answer = answer_to(history, seat, bought, order);
     push_row(rows, order, answer)
 }
 
 /// Returns the outcome of an order as the next line of a seat's turn.
-fn answer_to(history: &History, seat: Seat, bought: Option<Company>, order: &Order) -> Answer
-    ensures { result ≡ stock_answer history.now seat bought order.now }
+fn answer_to(history: &History, seat: Seat, bought: Option<Company>, order: PlayOrder) -> Answer
+    ensures { result ≡ stock_answer history.now seat bought (Play order) }
 {
     let broken = judge(history, seat, bought, order).map(Refusal::Stock);
     answer_of(cost(history, order), broken)
@@ -201,23 +214,25 @@ fn answer_to(history: &History, seat: Seat, bought: Option<Company>, order: &Ord
 
 /// Returns the first rule that an order of a seat breaks in its turn, in which it has bought of
 /// this company or of none; `None` if it breaks none.
-fn judge(history: &History, seat: Seat, bought: Option<Company>, order: &Order) -> Option<StockRule>
-    ensures { result ≡ stock_judgement history.now seat bought order.now }
+fn judge(
+    history: &History,
+    seat: Seat,
+    bought: Option<Company>,
+    order: PlayOrder,
+) -> Option<StockRule>
+    ensures { result ≡ stock_judgement history.now seat bought (Play order) }
 {
     match order {
-        Order::Par { company, price } => {
-            let (company, price) = (*company, *price);
+        PlayOrder::Par { company, price } => {
             may_buy(history, seat, Purchase::Par { company, price }, bought).err()
         }
-        Order::BuyShare { company, from } => {
-            let (company, from) = (*company, *from);
+        PlayOrder::BuyShare { company, from } => {
             may_buy(history, seat, Purchase::Share { company, from }, bought).err()
         }
-        Order::Sell { company, shares } => {
-            let (company, shares) = (*company, *shares);
+        PlayOrder::Sell { company, shares } => {
             may_sell(history, seat, Sale { company, shares }, None).err()
         }
-        Order::ExchangeMohawk => judge_exchange(history, seat),
+        PlayOrder::ExchangeMohawk => judge_exchange(history, seat),
         _ => Some(StockRule::NotOfStock),
     }
 }
@@ -233,23 +248,18 @@ fn judge_exchange(history: &History, seat: Seat) -> Option<StockRule>
 }
 
 /// Returns what an order costs, or what a sale brings, in dollars; 0 if no money moves.
-fn cost(history: &History, order: &Order) -> Money
-    ensures { result ≡ pos (stock_cost history.now.events order.now) }
+fn cost(history: &History, order: PlayOrder) -> Money
+    ensures { result ≡ pos (stock_cost history.now.events (Play order)) }
 {
     let now = history.now();
     match order {
-        Order::Par { company, price } => {
-            let (company, price) = (*company, *price);
+        PlayOrder::Par { company, price } => {
             purchase_cost(&now, Purchase::Par { company, price })
         }
-        Order::BuyShare { company, from } => {
-            let (company, from) = (*company, *from);
+        PlayOrder::BuyShare { company, from } => {
             purchase_cost(&now, Purchase::Share { company, from })
         }
-        Order::Sell { company, shares } => {
-            let (company, shares) = (*company, *shares);
-            brought_by(&now, Sale { company, shares })
-        }
+        PlayOrder::Sell { company, shares } => { brought_by(&now, Sale { company, shares }) }
         _ => 0,
     }
 }

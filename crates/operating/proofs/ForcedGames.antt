@@ -32,7 +32,7 @@ use Rattle.forced_purchase.specs.Raise.{after_raise_line, after_raises}
 use Rattle.forced_purchase.specs.Shortfall.{cheapest, falls_short}
 use Rattle.forced_purchase.specs.Shortfall.{lack_of}
 use Rattle.forced_purchase.specs.Forced.{next_to_sell, one_share}
-use Rattle.forced_purchase.specs.Raise.{raise_rule, raise_ruled, sale_rule}
+use Rattle.forced_purchase.specs.Raise.{raise_judgement, raise_ruled, raised_sale_judgement}
 use Rattle.forced_purchase.specs.Forced.{sold_further, sold_singly, with_aid, with_one_sold}
 use Rattle.forced_purchase.specs.Raise.{after_presidents_sale, with_ruling}
 use Rattle.purchases.specs.Train.{has_trains, train_judgement}
@@ -47,6 +47,7 @@ use Rattle.order_grammar.specs.declared.fault.Fault.{Fault}
 use Rattle.order_grammar.specs.declared.order.Order.{Order}
 use Rattle.order_grammar.specs.declared.order.Order.TheVariants as order
 use Rattle.order_grammar.specs.declared.order.TrainSource.TheVariants as source
+use Rattle.order_grammar.specs.declared.play.PlayOrder.TheVariants as play
 use Rattle.sheets.specs.CompanyOrders.{company_orders_for}
 use Rattle.sheets.specs.Part.{Numbered}
 use Rattle.tables.specs.Steps.{iterate}
@@ -102,7 +103,7 @@ OfPresidents R = (game : Game) (company : Company) (seat : Seat)
 
 -- it holds of the sales by the rules by which money is raised
 abbrev pub OfSales : Operator → (Game → Game → Type 0) → Type 0
-OfSales by R = (game : Game) (sale : Sale) → sale_rule by game sale ≡ None → R game (after_presidents_sale by game sale)
+OfSales by R = (game : Game) (sale : Sale) → raised_sale_judgement by game sale ≡ None → R game (after_presidents_sale by game sale)
 
 -- it holds of the president's bankruptcy
 abbrev pub OfBankruptcies : Operator → (Game → Game → Type 0) → Type 0
@@ -170,23 +171,23 @@ gained_none by lines game none =
 module _ (by : Operator) (R : Game → Game → Type 0) (of : OfEvents by.company R) (sales : OfSales by R) where
   -- of a RAISE
   of_raise_ruled : (due : Bool) (game : Game) (line : Numbered) (sale : Sale) (broken : Option Refusal)
-      → raise_rule due by game line.condition sale ≡ broken →
+      → raise_judgement due by game line.condition sale ≡ broken →
       R game (raise_ruled by game line sale broken)
   of_raise_ruled due game line sale None none =
-      let obeyed : Ruling = Obeyed line.condition (order.Raise sale.company sale.shares) in
+      let obeyed : Ruling = Obeyed line.condition (order.Play (play.Raise sale.company sale.shares)) in
       let ruled : Game = with_ruling by game line obeyed in
       of.on.both game ruled (after_presidents_sale by ruled sale)
       (of.others game (event.Ruled by.president line.number obeyed) tt refl refl refl)
       (sales ruled sale (still_allowed by game line obeyed sale (raise_obeyed due by game line.condition sale none)))
   of_raise_ruled due game line sale (Some rule) some =
       of.others game (event.Ruled by.president line.number
-      (Refused rule line.condition (order.Raise sale.company sale.shares))) tt refl refl refl
+      (Refused rule line.condition (order.Play (play.Raise sale.company sale.shares)))) tt refl refl refl
 
   of_raise_line : (due : Bool) (game : Game) (line : Numbered) (reading : Result Order Fault)
       → R game (after_raise_line due by game line reading)
-  of_raise_line due game line (Ok (order.Raise company shares)) =
+  of_raise_line due game line (Ok (order.Play (play.Raise company shares))) =
       let sale : Sale = record { company = company; shares = shares } in
-      of_raise_ruled due game line sale (raise_rule due by game line.condition sale) refl
+      of_raise_ruled due game line sale (raise_judgement due by game line.condition sale) refl
   of_raise_line due game line other = of.on.same game
 
   pub of_raises : (due : Bool) (lines : List Numbered) (game : Game) → R game (after_raises due by game lines)

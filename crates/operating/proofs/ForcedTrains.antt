@@ -22,7 +22,7 @@ use Rattle.operating.specs.TurnEnd.{EndLeads, IsDue}
 use Rattle.forced_purchase.specs.Forced.{after_forced, concluded}
 use Rattle.forced_purchase.specs.Raise.{after_raise_line, after_raises}
 use Rattle.forced_purchase.specs.Shortfall.{cheapest, falls_short}
-use Rattle.forced_purchase.specs.Raise.{raise_rule, with_ruling}
+use Rattle.forced_purchase.specs.Raise.{raise_judgement, with_ruling}
 use Rattle.forced_purchase.specs.Forced.{with_aid}
 use Rattle.purchases.specs.Train.{has_trains}
 use Rattle.operating.specs.ForcedLaws.{TurnsEndWithTrains}
@@ -35,6 +35,7 @@ use Rattle.forced_purchase.specs.declared.operator.Operator.{Operator}
 use Rattle.order_grammar.specs.declared.fault.Fault.{Fault}
 use Rattle.order_grammar.specs.declared.order.Order.{Order}
 use Rattle.order_grammar.specs.declared.order.Order.TheVariants as order
+use Rattle.order_grammar.specs.declared.play.PlayOrder.TheVariants as play
 use Rattle.sheets.specs.CompanyOrders.{company_orders_for}
 use Rattle.sheets.specs.Part.{Numbered}
 use Rattle.tables.specs.declared.roster.Company.{Company}
@@ -69,8 +70,8 @@ alike_ruled by game line ruling =
 
 alike_line : (by : Operator) (game : Game) (line : Numbered) (reading : Result Order Fault)
     → Alike game (after_raise_line false by game line reading)
-unfolding raise_rule
-alike_line by game line (Ok (order.Raise company shares)) = alike_ruled by game line _
+unfolding raise_judgement
+alike_line by game line (Ok (order.Play (play.Raise company shares))) = alike_ruled by game line _
 alike_line by game line other = alike_same game
 
 alike_raises : (by : Operator) (lines : List Numbered) (game : Game) → Alike game (after_raises false by game lines)

@@ -19,6 +19,7 @@ use Rattle.operating.specs.TurnState.{TurnState}
 use Rattle.order_grammar.specs.declared.fault.Fault.{Fault}
 use Rattle.order_grammar.specs.declared.order.Order.{Order}
 use Rattle.order_grammar.specs.declared.order.Order.TheVariants as order
+use Rattle.order_grammar.specs.declared.play.PlayOrder.TheVariants as play
 use Rattle.sheets.specs.Part.{Numbered}
 use Rattle.tables.specs.declared.round.Round.{Round}
 use Rattle.totals.specs.LookBack.{Game}
@@ -56,9 +57,9 @@ best_unbegun by round line None turn = inl (inr (refl, refl))
 
 order_unbegun : (by : Operator) (round : Round) (line : Numbered) (its : Order) (turn : TurnState)
     → OrderCalls by round line its turn (Err Memory) []
-order_unbegun by round line order.RunBest turn =
+order_unbegun by round line (order.Play play.RunBest) turn =
     inl (refl, best_unbegun by round line (best_judgement turn by.company) turn)
-order_unbegun by round line other turn = inr ((λ (best : other ≡ order.RunBest). cc), (refl, refl))
+order_unbegun by round line other turn = inr ((λ (best : other ≡ order.Play play.RunBest). cc), (refl, refl))
 
 asked_unbegun : (by : Operator) (round : Round) (line : Numbered) (its : Order) (held : Bool) (turn : TurnState)
     → AskedCalls by round line its held turn (Err Memory) []

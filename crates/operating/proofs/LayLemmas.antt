@@ -32,6 +32,7 @@ use Rattle.operating.specs.TurnState.{TurnState, turn_state}
 use Rattle.operating.specs.declared.progress.Progress.{Progress}
 use Rattle.order_grammar.specs.declared.order.Order.{Order}
 use Rattle.order_grammar.specs.declared.order.Order.TheVariants as order
+use Rattle.order_grammar.specs.declared.play.PlayOrder.TheVariants as play
 use Rattle.sheets.specs.Part.{Numbered}
 use Rattle.tables.proofs.Rules.{none_broken}
 use Rattle.tables.specs.Rules.{first_broken}
@@ -87,7 +88,7 @@ lay_done_by board laid asker its lay before after is_board is_asker is =
 pub laid_steps : (by : Operator) (turn : TurnState) (line : Numbered) (lay : Lay) (cost : ℤ) (ruled paid : Game)
     (kept : Order) (amount : ℕ) (progress : Progress)
     → ruled ≡ with_event turn.game (event.Ruled by.president line.number (Obeyed line.condition kept))
-    → kept ≡ order.Lay lay → paid ≡ with_event ruled (event.Laid by.company lay amount) → amount ≡ unsigned_abs cost
+    → kept ≡ order.Play (play.Lay lay) → paid ≡ with_event ruled (event.Laid by.company lay amount) → amount ≡ unsigned_abs cost
     → progress ≡ lay_done (lays_of turn.game.events) (asker_of turn.game by.company turn.progress) lay turn.progress
     → turn_state paid progress ≡ lay_answered by turn line lay (Ok cost)
 laid_steps by turn line lay cost ruled paid kept amount progress is_ruled is_kept is_paid is_amount is_progress =
@@ -97,7 +98,7 @@ laid_steps by turn line lay cost ruled paid kept amount progress is_ruled is_kep
     (is_ruled ∙ ap (λ (o : Order). with_event turn.game
     (event.Ruled by.president line.number (Obeyed line.condition o))) is_kept)
     ∙ ap (λ (p : Progress). turn_state (with_event (with_event turn.game
-    (event.Ruled by.president line.number (Obeyed line.condition (order.Lay lay))))
+    (event.Ruled by.president line.number (Obeyed line.condition (order.Play (play.Lay lay)))))
     (event.Laid by.company lay (unsigned_abs cost))) p) is_progress
 
 -- a lay that was refused
@@ -105,7 +106,7 @@ pub lay_refused_steps :
     (by : Operator) (turn : TurnState) (line : Numbered) (lay : Lay) (rule : LayRule) (ruled : Game) (kept : Order) →
     ruled ≡ with_event turn.game (event.Ruled by.president line.number
     (Refused (refusal.Lay rule) line.condition kept)) →
-    kept ≡ order.Lay lay → turn_state ruled turn.progress ≡ lay_answered by turn line lay (Err rule)
+    kept ≡ order.Play (play.Lay lay) → turn_state ruled turn.progress ≡ lay_answered by turn line lay (Err rule)
 lay_refused_steps by turn line lay rule ruled kept is_ruled is_kept =
     ap (λ (g : Game). turn_state g turn.progress)
     (is_ruled ∙ ap (λ (o : Order). with_event turn.game

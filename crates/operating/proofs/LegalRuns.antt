@@ -24,6 +24,7 @@ use Rattle.operating.specs.declared.completed_runs.Runs.{Runs}
 use Rattle.order_grammar.specs.declared.fault.Fault.{Fault}
 use Rattle.order_grammar.specs.declared.order.Order.{Order}
 use Rattle.order_grammar.specs.declared.order.Order.TheVariants as order
+use Rattle.order_grammar.specs.declared.play.PlayOrder.TheVariants as play
 use Rattle.reach.specs.declared.walk.WalkStep.{WalkStep}
 use Rattle.sheets.specs.Part.{Numbered}
 use Rattle.tables.specs.declared.rolling_stock.Kind.{Kind}
@@ -69,7 +70,7 @@ after_order by turn line before (order.Run kind run) new leads are =
     subst (λ (next : TurnState). AreWalks (walk_ordered by.company turn (order.Run kind run) ++ before) next)
     (sym leads)
     (after_run by turn line (order.Run kind run) kind run before (judged_run turn by.company kind run) refl are)
-after_order by turn line before order.RunBest new leads are =
+after_order by turn line before (order.Play play.RunBest) new leads are =
     left_as before turn new (after_best by turn line (best_judgement turn by.company) new leads) are
 after_order by turn line before other new leads are =
     left_as before turn new (ap (λ (done : Bool × Runs). done.1.borders)

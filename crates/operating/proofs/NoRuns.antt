@@ -3,7 +3,7 @@
 use Rattle.std.proofs.Common.{◌≡◌, ℕ, zero, suc, ◌<◌, Bool, true, false, not, ◌||◌, inl, inr, List, [], ◌∷◌, Option}
 use Rattle.std.proofs.Common.{Some, None, Result, Ok, Err, ℤ, pos, ◌≤ℤ◌, ◌<ℤ◌, ◌+ℤ◌, length, get_or, set, refl, sym}
 use Rattle.std.proofs.Common.{subst, ◌∙◌, arith, get_or-set_other, length-set}
-use Rattle.std.proofs.lemmas.Bool.{cases_eq}
+use Rattle.std.proofs.lemmas.Bool.{cases_eq, or_parts}
 use Rattle.std.proofs.lemmas.Grind.{get_or-set_at}
 use Rattle.std.proofs.lemmas.Int.{ints}
 use Rattle.std.specs.Int.Signed.{lt_z}
@@ -14,7 +14,6 @@ use Rattle.map_tables.specs.declared.rules.RunRule.{RunRule}
 use Rattle.map_tables.specs.declared.rules.RunRule.TheVariants as run_rule
 use Rattle.forced_purchase.proofs.CheapestTrain.{less_is}
 use Rattle.operating.proofs.OtherOrders.{after_other}
-use Rattle.operating.proofs.RunLemmas.{second_false}
 use Rattle.operating.specs.RunBest.{BestRuled, best_judgement, rules_of_best}
 use Rattle.purchases.specs.Train.{has_trains}
 use Rattle.operating.specs.CompanyOrders.{AskedLeads, LinesLead, OrderLeads, ReadingLeads, is_held}
@@ -29,6 +28,7 @@ use Rattle.operating.specs.declared.completed_runs.Runs.{Runs}
 use Rattle.order_grammar.specs.declared.fault.Fault.{Fault}
 use Rattle.order_grammar.specs.declared.order.Order.{Order}
 use Rattle.order_grammar.specs.declared.order.Order.TheVariants as order
+use Rattle.order_grammar.specs.declared.play.PlayOrder.TheVariants as play
 use Rattle.sheets.specs.Part.{Numbered}
 use Rattle.tables.proofs.Rules.{not_broken}
 use Rattle.tables.specs.Train.{index_of_kind}
@@ -128,7 +128,7 @@ after_order : (by : Operator) (turn : TurnState) (line : Numbered) (its : Order)
     IsKeptIn turn → IsKeptIn new
 after_order by turn line (order.Run kind run) new leads are =
     subst IsKeptIn (sym leads) (after_run by turn line (order.Run kind run) (judged_run turn by.company kind run) are)
-after_order by turn line order.RunBest new leads are =
+after_order by turn line (order.Play play.RunBest) new leads are =
     after_best by turn line (best_judgement turn by.company) new leads are
 after_order by turn line other new leads are =
     subst (λ (done : Bool × Runs). AreKept done.0 done.1) (sym (after_other by turn line other new tt leads)) are
@@ -173,5 +173,5 @@ pub nothing_ran : (by : Operator) (game : Game) (lines : List Numbered) (turn : 
     best_judgement turn by.company ≡ None → turn.progress.runs ≡ no_runs
 nothing_ran by game lines turn leads none =
     (after_lines by (begun game by.company) lines turn leads none_kept).none
-    (second_false (not (has_trains turn.game.events by.company)) (has_any_run turn.progress)
-    (not_broken code_of_run_rule (rules_of_best turn.game by.company turn.progress) none run_rule.NoTrain))
+    ((or_parts (not (has_trains turn.game.events by.company)) (has_any_run turn.progress)
+    (not_broken code_of_run_rule (rules_of_best turn.game by.company turn.progress) none run_rule.NoTrain)).1)

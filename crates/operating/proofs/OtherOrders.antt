@@ -27,6 +27,7 @@ use Rattle.purchases.specs.declared.train.TrainPurchase.{TrainPurchase}
 use Rattle.operating.specs.declared.completed_runs.Runs.{Runs}
 use Rattle.order_grammar.specs.declared.order.Order.{Order}
 use Rattle.order_grammar.specs.declared.order.Order.TheVariants as order
+use Rattle.order_grammar.specs.declared.play.PlayOrder.TheVariants as play
 use Rattle.sheets.specs.Part.{Numbered}
 use Rattle.tables.specs.declared.roster.Company.{Company}
 use Rattle.tables.specs.declared.roster.Private.{Private}
@@ -38,7 +39,7 @@ did turn = (turn.progress.best_run, turn.progress.runs)
 -- an order runs no train
 abbrev pub RunsNone : Order → Type 0
 RunsNone (order.Run kind run) = ⊥
-RunsNone order.RunBest = ⊥
+RunsNone (order.Play play.RunBest) = ⊥
 RunsNone other = Unit
 
 -- a LAY
@@ -91,22 +92,22 @@ pub after_other :
     → OrderLeads by turn line its new →
     did new ≡ did turn
 after_other by turn line (order.Run kind run) new none leads = absurd none
-after_other by turn line order.RunBest new none leads = absurd none
-after_other by turn line (order.Lay lay) new none leads = ap did leads.after ∙ after_lay by turn line lay leads.answer
-after_other by turn line (order.Token place) new none leads =
+after_other by turn line (order.Play play.RunBest) new none leads = absurd none
+after_other by turn line (order.Play (play.Lay lay)) new none leads = ap did leads.after ∙ after_lay by turn line lay leads.answer
+after_other by turn line (order.Play (play.Token place)) new none leads =
     ap did leads.after ∙ after_token by turn line place leads.answer
-after_other by turn line order.Pay new none leads =
-    ap did leads ∙ after_pay by turn line order.Pay (pay_judgement turn.progress)
+after_other by turn line (order.Play play.Pay) new none leads =
+    ap did leads ∙ after_pay by turn line (order.Play play.Pay) (pay_judgement turn.progress)
     (λ game. paid_out game by.company turn.progress.runs.revenue)
-after_other by turn line order.Withhold new none leads =
-    ap did leads ∙ after_pay by turn line order.Withhold (withhold_judgement turn.progress)
+after_other by turn line (order.Play play.Withhold) new none leads =
+    ap did leads ∙ after_pay by turn line (order.Play play.Withhold) (withhold_judgement turn.progress)
     (λ game. withheld game by.company turn.progress.runs.revenue)
-after_other by turn line (order.BuyTrain kind from) new none leads =
+after_other by turn line (order.Play (play.BuyTrain kind from)) new none leads =
     let paid = withheld_if_unpaid by.company turn in
     let purchase = purchase_of kind from in
     ap did leads
-    ∙ after_train by paid line (order.BuyTrain kind from) purchase (train_judgement paid.game by.company purchase)
+    ∙ after_train by paid line (order.Play (play.BuyTrain kind from)) purchase (train_judgement paid.game by.company purchase)
     ∙ after_withholding by.company turn
-after_other by turn line (order.BuyOwnedPrivate private price) new none leads =
+after_other by turn line (order.Play (play.BuyOwnedPrivate private price)) new none leads =
     ap did leads ∙ after_private by turn line private price (private_judgement turn.game by.company private price)
 after_other by turn line other new none leads = ap did leads

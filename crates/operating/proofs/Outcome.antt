@@ -35,6 +35,7 @@ use Rattle.forced_purchase.specs.declared.operator.Operator.{Operator}
 use Rattle.order_grammar.specs.declared.fault.Fault.{Fault}
 use Rattle.order_grammar.specs.declared.order.Order.{Order}
 use Rattle.order_grammar.specs.declared.order.Order.TheVariants as order
+use Rattle.order_grammar.specs.declared.play.PlayOrder.TheVariants as play
 use Rattle.reach.specs.Lawful.{IsLawful}
 use Rattle.reach.specs.Position.{Position}
 use Rattle.reach.proofs.Decided.{Decided}
@@ -125,14 +126,14 @@ module _ (all : AllLawful) where
 
   -- an order leads to one turn
   one_order : (by : Operator) (turn : TurnState) (line : Numbered) (its : Order) → IsOne (OrderLeads by turn line its)
-  one_order by turn line (order.Lay lay) =
+  one_order by turn line (order.Play (play.Lay lay)) =
       let answer = one_lay_answer (map_state_now turn.game.events) (asker_of turn.game by.company turn.progress) lay in
       record {
         it = lay_answered by turn line lay answer.it;
         so = record { answer = answer.it; answered = answer.so; after = refl };
         only = λ new leads. leads.after ∙ ap (lay_answered by turn line lay) (answer.only leads.answer leads.answered);
       }
-  one_order by turn line (order.Token place) =
+  one_order by turn line (order.Play (play.Token place)) =
       let answer = one_token_answer (map_state_now turn.game.events) (asker_of turn.game by.company turn.progress)
       place in
       record {
@@ -141,7 +142,7 @@ module _ (all : AllLawful) where
         only = λ new leads. leads.after ∙ ap (token_answered by turn line place)
             (answer.only leads.answer leads.answered);
       }
-  one_order by turn line order.RunBest = one_best by turn line (best_judgement turn by.company)
+  one_order by turn line (order.Play play.RunBest) = one_best by turn line (best_judgement turn by.company)
   one_order by turn line other = record { it = _; so = refl; only = λ new leads. leads }
 
   -- two turns to which an order leads are the same

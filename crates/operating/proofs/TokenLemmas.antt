@@ -27,6 +27,7 @@ use Rattle.operating.specs.TurnState.{TurnState, turn_state}
 use Rattle.operating.specs.declared.progress.Progress.{Progress}
 use Rattle.order_grammar.specs.declared.order.Order.{Order}
 use Rattle.order_grammar.specs.declared.order.Order.TheVariants as order
+use Rattle.order_grammar.specs.declared.play.PlayOrder.TheVariants as play
 use Rattle.sheets.specs.Part.{Numbered}
 use Rattle.tables.proofs.Rules.{none_broken}
 use Rattle.tables.specs.Rules.{first_broken}
@@ -70,7 +71,7 @@ token_by board laid asker its place answer is_board is_asker answered =
 pub placed_steps : (by : Operator) (turn : TurnState) (line : Numbered) (place : Place) (cost : ℤ) (ruled paid : Game)
     (kept : Order) (amount : ℕ) (progress : Progress)
     → ruled ≡ with_event turn.game (event.Ruled by.president line.number (Obeyed line.condition kept))
-    → kept ≡ order.Token place → paid ≡ with_event ruled (event.Token by.company place amount)
+    → kept ≡ order.Play (play.Token place) → paid ≡ with_event ruled (event.Token by.company place amount)
     → amount ≡ unsigned_abs cost → progress ≡ token_done turn.progress
     → turn_state paid progress ≡ token_answered by turn line place (Ok cost)
 placed_steps by turn line place cost ruled paid kept amount progress is_ruled is_kept is_paid is_amount is_progress =
@@ -80,7 +81,7 @@ placed_steps by turn line place cost ruled paid kept amount progress is_ruled is
     (is_ruled ∙ ap (λ (o : Order). with_event turn.game
     (event.Ruled by.president line.number (Obeyed line.condition o))) is_kept)
     ∙ ap (λ (p : Progress). turn_state (with_event (with_event turn.game
-    (event.Ruled by.president line.number (Obeyed line.condition (order.Token place))))
+    (event.Ruled by.president line.number (Obeyed line.condition (order.Play (play.Token place)))))
     (event.Token by.company place (unsigned_abs cost))) p) is_progress
 
 -- a token that was refused
@@ -89,7 +90,7 @@ pub token_refused_steps :
     (kept : Order) →
     ruled ≡ with_event turn.game (event.Ruled by.president line.number
     (Refused (refusal.Token rule) line.condition kept)) →
-    kept ≡ order.Token place → turn_state ruled turn.progress ≡ token_answered by turn line place (Err rule)
+    kept ≡ order.Play (play.Token place) → turn_state ruled turn.progress ≡ token_answered by turn line place (Err rule)
 token_refused_steps by turn line place rule ruled kept is_ruled is_kept =
     ap (λ (g : Game). turn_state g turn.progress)
     (is_ruled ∙ ap (λ (o : Order). with_event turn.game

@@ -8,9 +8,10 @@ use Rattle.operating.specs.Pay.{withheld_if_unpaid}
 use Rattle.operating.specs.Train.{after_buying, train_ruled}
 use Rattle.operating.specs.TurnState.{TurnState, line_recorded, turn_state}
 use Rattle.order_grammar.specs.declared.order.Order.{Order}
-use Rattle.order_grammar.specs.declared.order.Order.TheVariants.{BuyTrain}
 use Rattle.order_grammar.specs.declared.order.Order.TheVariants as order
 use Rattle.order_grammar.specs.declared.order.TrainSource.{TrainSource}
+use Rattle.order_grammar.specs.declared.play.PlayOrder.TheVariants.{BuyTrain}
+use Rattle.order_grammar.specs.declared.play.PlayOrder.TheVariants as play
 use Rattle.purchases.specs.Train.{after_train}
 use Rattle.purchases.specs.Train.{purchase_of, train_judgement}
 use Rattle.purchases.specs.declared.train.TrainPurchase.{TrainPurchase}
@@ -21,7 +22,7 @@ use Rattle.totals.specs.LookBack.{Game, with_event}
 -- a TRAIN that breaks no rule leads where its purchase does
 pub bought_steps : (by : Operator) (turn : TurnState) (line : Numbered) (kind : Kind) (from : TrainSource)
     (purchase : TrainPurchase) (its : Order) (ruled new : Game) → purchase ≡ purchase_of kind from
-    → its ≡ BuyTrain kind from → train_judgement turn.game by.company purchase ≡ None
+    → its ≡ order.Play (BuyTrain kind from) → train_judgement turn.game by.company purchase ≡ None
     → ruled ≡ with_event turn.game (Ruled by.president line.number (Obeyed line.condition its))
     → new ≡ after_train ruled by.company purchase → turn_state new turn.progress ≡ after_buying by turn line kind from
 bought_steps by turn line kind from purchase its ruled new is_purchase is_its none is_ruled is_new =
@@ -33,12 +34,12 @@ bought_steps by turn line kind from purchase its ruled new is_purchase is_its no
     ∙ ap (λ (one : Order). turn_state (after_train (line_recorded by turn line
     (Obeyed line.condition one)).game by.company
     purchase) turn.progress) is_its
-    ∙ ap (λ (one : TrainPurchase). train_ruled by turn line (BuyTrain kind from) one None) is_purchase
-    ∙ ap (train_ruled by turn line (BuyTrain kind from) ordered) (sym allowed)
+    ∙ ap (λ (one : TrainPurchase). train_ruled by turn line (order.Play (BuyTrain kind from)) one None) is_purchase
+    ∙ ap (train_ruled by turn line (order.Play (BuyTrain kind from)) ordered) (sym allowed)
 
 -- a TRAIN line, from what the company withholds by itself and what then becomes of the line
 pub train_leads : (by : Operator) (turn paid : TurnState) (line : Numbered) (its : Order) (kind : Kind)
-    (from : TrainSource) (new : TurnState) → its ≡ order.BuyTrain kind from → paid ≡ withheld_if_unpaid by.company turn
+    (from : TrainSource) (new : TurnState) → its ≡ order.Play (play.BuyTrain kind from) → paid ≡ withheld_if_unpaid by.company turn
     → new ≡ after_buying by paid line kind from → OrderLeads by turn line its new
 train_leads by turn paid line its kind from new is is_paid ruled =
     subst (λ (o : Order). OrderLeads by turn line o new) (sym is)
@@ -48,7 +49,7 @@ train_leads by turn paid line its kind from new is is_paid ruled =
 pub train_leads_on :
     (by same : Operator) (turn paid : TurnState) (line : Numbered) (its : Order) (kind : Kind) (from : TrainSource)
     (new : TurnState) →
-    its ≡ order.BuyTrain kind from → same ≡ by → paid ≡ withheld_if_unpaid by.company turn
+    its ≡ order.Play (play.BuyTrain kind from) → same ≡ by → paid ≡ withheld_if_unpaid by.company turn
     → new ≡ after_buying same paid line kind from →
     OrderLeads by turn line its new
 train_leads_on by same turn paid line its kind from new is is_by is_paid ruled =

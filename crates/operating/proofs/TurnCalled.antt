@@ -23,6 +23,7 @@ use Rattle.forced_purchase.specs.declared.operator.Operator.{Operator}
 use Rattle.order_grammar.specs.declared.fault.Fault.{Fault}
 use Rattle.order_grammar.specs.declared.order.Order.{Order}
 use Rattle.order_grammar.specs.declared.order.Order.TheVariants as order
+use Rattle.order_grammar.specs.declared.play.PlayOrder.TheVariants as play
 use Rattle.sheets.specs.CompanyOrders.{company_orders_for}
 use Rattle.sheets.specs.Part.{Numbered}
 use Rattle.tables.specs.declared.roster.Company.{Company}
@@ -216,9 +217,9 @@ best_called by round line None turn new leads = (
 order_called :
     (by : Operator) (round : Round) (line : Numbered) (its : Order) (turn new : TurnState) →
     OrderLeads by turn line its new → (calls : List Call) × OrderCalls by round line its turn (Ok new) calls
-order_called by round line order.RunBest turn new leads =
+order_called by round line (order.Play play.RunBest) turn new leads =
     let best = best_called by round line (best_judgement turn by.company) turn new leads in (best.0, inl (refl, best.1))
-order_called by round line other turn new leads = ([], inr ((λ (best : other ≡ order.RunBest). cc), (leads, refl)))
+order_called by round line other turn new leads = ([], inr ((λ (best : other ≡ order.Play play.RunBest). cc), (leads, refl)))
 
 -- so does one whose condition is checked
 asked_called :

@@ -62,6 +62,7 @@ use Rattle.order_grammar.specs.declared.fault.Fault.{Fault}
 use Rattle.order_grammar.specs.declared.order.Order.{Order}
 use Rattle.order_grammar.specs.declared.order.Order.TheVariants as order
 use Rattle.order_grammar.specs.declared.order.TrainSource.{TrainSource}
+use Rattle.order_grammar.specs.declared.play.PlayOrder.TheVariants as play
 use Rattle.sheets.specs.CompanyOrders.{company_orders_for}
 use Rattle.sheets.specs.Part.{Numbered}
 use Rattle.tables.specs.Rules.{first_broken}
@@ -127,10 +128,10 @@ module _ (by : Operator) (R : TurnState → TurnState → Type 0) (steps : OfSte
   of_lay turn line lay (Err rule) answered = of_ruling turn line _
   of_lay turn line lay (Ok cost) answered =
       let asker : Asker = asker_of turn.game by.company turn.progress in
-      let ruled = line_recorded by turn line (Obeyed line.condition (order.Lay lay)) in
-      let same = same_after_ruling turn.game ruled.game by.president line (Obeyed line.condition (order.Lay lay))
+      let ruled = line_recorded by turn line (Obeyed line.condition (order.Play (play.Lay lay))) in
+      let same = same_after_ruling turn.game ruled.game by.president line (Obeyed line.condition (order.Play (play.Lay lay)))
       refl in
-      after_ruling turn line (order.Lay lay) (lay_answered by turn line lay (Ok cost))
+      after_ruling turn line (order.Play (play.Lay lay)) (lay_answered by turn line lay (Ok cost))
       (steps.laid ruled (lays_of turn.game.events) asker lay (unsigned_abs cost)
       (subst (λ (g : MapState). first_broken (map_rules g asker lay) ≡ None) (sym same)
       (lay_allowed (map_state_now turn.game.events) asker lay cost answered).allowed))
@@ -142,10 +143,10 @@ module _ (by : Operator) (R : TurnState → TurnState → Type 0) (steps : OfSte
   of_token turn line at (Err rule) answered = of_ruling turn line _
   of_token turn line at (Ok cost) answered =
       let asker : Asker = asker_of turn.game by.company turn.progress in
-      let ruled = line_recorded by turn line (Obeyed line.condition (order.Token at)) in
-      let same = same_after_ruling turn.game ruled.game by.president line (Obeyed line.condition (order.Token at))
+      let ruled = line_recorded by turn line (Obeyed line.condition (order.Play (play.Token at))) in
+      let same = same_after_ruling turn.game ruled.game by.president line (Obeyed line.condition (order.Play (play.Token at)))
       refl in
-      after_ruling turn line (order.Token at) (token_answered by turn line at (Ok cost))
+      after_ruling turn line (order.Play (play.Token at)) (token_answered by turn line at (Ok cost))
       (steps.placed ruled asker at (unsigned_abs cost) refl
       (subst (λ (g : MapState). first_broken (slot_rules g asker at) ≡ None) (sym same)
       (token_allowed (map_state_now turn.game.events) asker at cost answered).allowed))
@@ -165,8 +166,8 @@ module _ (by : Operator) (R : TurnState → TurnState → Type 0) (steps : OfSte
   of_best turn line (Some rule) new leads = subst (R turn) (sym leads) (of_ruling turn line _)
   of_best turn line None new leads =
       subst (R turn) (sym leads.2)
-      (after_ruling turn line order.RunBest (best_earned by turn line leads.0)
-      (steps.ran (line_recorded by turn line (Obeyed line.condition order.RunBest)) (best_done turn.progress leads.0)
+      (after_ruling turn line (order.Play play.RunBest) (best_earned by turn line leads.0)
+      (steps.ran (line_recorded by turn line (Obeyed line.condition (order.Play play.RunBest))) (best_done turn.progress leads.0)
       leads.0))
 
   -- of PAY or WITHHOLD
@@ -181,10 +182,10 @@ module _ (by : Operator) (R : TurnState → TurnState → Type 0) (steps : OfSte
   -- of TRAIN
   of_train : (turn : TurnState) (line : Numbered) (kind : Kind) (from : TrainSource) (rule : Option TrainRule) →
       train_judgement turn.game by.company (purchase_of kind from) ≡ rule →
-      R turn (train_ruled by turn line (order.BuyTrain kind from) (purchase_of kind from) rule)
+      R turn (train_ruled by turn line (order.Play (play.BuyTrain kind from)) (purchase_of kind from) rule)
   of_train turn line kind from (Some rule) broken = of_ruling turn line _
   of_train turn line kind from None none =
-      let its = order.BuyTrain kind from in
+      let its = order.Play (play.BuyTrain kind from) in
       let purchase = purchase_of kind from in
       let ruled = line_recorded by turn line (Obeyed line.condition its) in
       after_ruling turn line its (train_ruled by turn line its purchase None)
@@ -207,43 +208,43 @@ module _ (by : Operator) (R : TurnState → TurnState → Type 0) (steps : OfSte
       → R turn (private_ruled by turn line private price rule)
   of_private turn line private price (Some rule) broken = of_ruling turn line _
   of_private turn line private price None none =
-      let ruled = line_recorded by turn line (Obeyed line.condition (order.BuyOwnedPrivate private price)) in
-      after_ruling turn line (order.BuyOwnedPrivate private price) (private_ruled by turn line private price None)
+      let ruled = line_recorded by turn line (Obeyed line.condition (order.Play (play.BuyOwnedPrivate private price))) in
+      after_ruling turn line (order.Play (play.BuyOwnedPrivate private price)) (private_ruled by turn line private price None)
       (of_sale ruled private price (owner_of ruled.game.events private) refl
       (same_after_line turn.game ruled.game by.president line by.company private price refl ∙ none))
 
   -- of an order
   of_order : (turn : TurnState) (line : Numbered) (its : Order) (new : TurnState) → OrderLeads by turn line its new
       → R turn new
-  of_order turn line (order.Lay lay) new leads =
+  of_order turn line (order.Play (play.Lay lay)) new leads =
       subst (R turn) (sym leads.after) (of_lay turn line lay leads.answer leads.answered)
-  of_order turn line (order.Token at) new leads =
+  of_order turn line (order.Play (play.Token at)) new leads =
       subst (R turn) (sym leads.after) (of_token turn line at leads.answer leads.answered)
   of_order turn line (order.Run kind run) new leads =
       subst (R turn) (sym leads) (of_run turn line (order.Run kind run) (judged_run turn by.company kind run))
-  of_order turn line order.RunBest new leads = of_best turn line (best_judgement turn by.company) new leads
-  of_order turn line order.Pay new leads =
+  of_order turn line (order.Play play.RunBest) new leads = of_best turn line (best_judgement turn by.company) new leads
+  of_order turn line (order.Play play.Pay) new leads =
       subst (R turn) (sym leads)
-      (of_pay turn line order.Pay (pay_judgement turn.progress)
+      (of_pay turn line (order.Play play.Pay) (pay_judgement turn.progress)
       (λ game. paid_out game by.company turn.progress.runs.revenue)
-      (steps.paid (line_recorded by turn line (Obeyed line.condition order.Pay))))
-  of_order turn line order.Withhold new leads =
+      (steps.paid (line_recorded by turn line (Obeyed line.condition (order.Play play.Pay)))))
+  of_order turn line (order.Play play.Withhold) new leads =
       subst (R turn) (sym leads)
-      (of_pay turn line order.Withhold (withhold_judgement turn.progress)
+      (of_pay turn line (order.Play play.Withhold) (withhold_judgement turn.progress)
       (λ game. withheld game by.company turn.progress.runs.revenue)
-      (λ rules. steps.kept (line_recorded by turn line (Obeyed line.condition order.Withhold))))
-  of_order turn line (order.BuyTrain kind from) new leads =
+      (λ rules. steps.kept (line_recorded by turn line (Obeyed line.condition (order.Play play.Withhold)))))
+  of_order turn line (order.Play (play.BuyTrain kind from)) new leads =
       let paid = withheld_if_unpaid by.company turn in
       let purchase = purchase_of kind from in
       let rule = train_judgement paid.game by.company purchase in
       subst (R turn) (sym leads)
-      (steps.both turn paid (train_ruled by paid line (order.BuyTrain kind from) purchase rule)
+      (steps.both turn paid (train_ruled by paid line (order.Play (play.BuyTrain kind from)) purchase rule)
       (of_withheld_if_unpaid by.company R steps turn)
       (of_train paid line kind from rule refl))
-  of_order turn line (order.BuyOwnedPrivate private price) new leads =
+  of_order turn line (order.Play (play.BuyOwnedPrivate private price)) new leads =
       subst (R turn) (sym leads) (of_private turn line private price
       (private_judgement turn.game by.company private price) refl)
-  of_order turn line (order.Raise company shares) new leads = subst (R turn) (sym leads) (steps.same turn)
+  of_order turn line (order.Play (play.Raise company shares)) new leads = subst (R turn) (sym leads) (steps.same turn)
   of_order turn line other new leads = subst (R turn) (sym leads) (of_ruling turn line _)
 
   -- of an order whose condition is checked

@@ -24,33 +24,34 @@ use Rattle.order_grammar.specs.declared.fault.Fault.{Fault}
 use Rattle.order_grammar.specs.declared.fault.Fault.TheVariants.{OutOfPlace}
 use Rattle.order_grammar.specs.declared.order.Order.{Order}
 use Rattle.order_grammar.specs.declared.order.Order.TheVariants as order
+use Rattle.order_grammar.specs.declared.play.PlayOrder.TheVariants as play
 use Rattle.sheets.specs.Part.{Numbered}
 
 -- an order in this line of the company's orders leads to new; those that are not named here have no
 -- place there
 abbrev pub OrderLeads : Operator → TurnState → Numbered → Order → TurnState → Type 0
-OrderLeads by turn line (order.Lay lay) new = LayLeads by turn line lay new
-OrderLeads by turn line (order.Token place) new = TokenLeads by turn line place new
+OrderLeads by turn line (order.Play (play.Lay lay)) new = LayLeads by turn line lay new
+OrderLeads by turn line (order.Play (play.Token place)) new = TokenLeads by turn line place new
 OrderLeads by turn line (order.Run kind run) new = new ≡ after_run by turn line (order.Run kind run) kind run
-OrderLeads by turn line order.RunBest new = BestLeads by turn line new
-OrderLeads by turn line order.Pay new = new ≡ after_pay by turn line order.Pay
-OrderLeads by turn line order.Withhold new = new ≡ after_withhold by turn line order.Withhold
-OrderLeads by turn line (order.BuyTrain kind from) new =
+OrderLeads by turn line (order.Play play.RunBest) new = BestLeads by turn line new
+OrderLeads by turn line (order.Play play.Pay) new = new ≡ after_pay by turn line (order.Play play.Pay)
+OrderLeads by turn line (order.Play play.Withhold) new = new ≡ after_withhold by turn line (order.Play play.Withhold)
+OrderLeads by turn line (order.Play (play.BuyTrain kind from)) new =
     new ≡ after_buying by (withheld_if_unpaid by.company turn) line kind from
-OrderLeads by turn line (order.BuyOwnedPrivate private price) new = new ≡ after_private by turn line private price
-OrderLeads by turn line (order.Raise company shares) new = new ≡ turn
+OrderLeads by turn line (order.Play (play.BuyOwnedPrivate private price)) new = new ≡ after_private by turn line private price
+OrderLeads by turn line (order.Play (play.Raise company shares)) new = new ≡ turn
 OrderLeads by turn line other new = new ≡ line_recorded by turn line (Faulty OutOfPlace)
 
 -- the orders that are ruled at their place: a RAISE waits for the end, and others have no place
 abbrev pub is_ruled_there : Order → Bool
-is_ruled_there (order.Lay lay) = true
-is_ruled_there (order.Token place) = true
+is_ruled_there (order.Play (play.Lay lay)) = true
+is_ruled_there (order.Play (play.Token place)) = true
 is_ruled_there (order.Run kind run) = true
-is_ruled_there order.RunBest = true
-is_ruled_there order.Pay = true
-is_ruled_there order.Withhold = true
-is_ruled_there (order.BuyTrain kind from) = true
-is_ruled_there (order.BuyOwnedPrivate private price) = true
+is_ruled_there (order.Play play.RunBest) = true
+is_ruled_there (order.Play play.Pay) = true
+is_ruled_there (order.Play play.Withhold) = true
+is_ruled_there (order.Play (play.BuyTrain kind from)) = true
+is_ruled_there (order.Play (play.BuyOwnedPrivate private price)) = true
 is_ruled_there other = false
 
 -- an order that is to be ruled there is under a condition that is not met by these events

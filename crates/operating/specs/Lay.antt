@@ -16,6 +16,7 @@ use Rattle.operating.specs.MapState.{map_state_now}
 use Rattle.operating.specs.Progress.{lay_done}
 use Rattle.operating.specs.TurnState.{TurnState, turn_state, line_recorded}
 use Rattle.order_grammar.specs.declared.order.Order.TheVariants as order
+use Rattle.order_grammar.specs.declared.play.PlayOrder.TheVariants as play
 use Rattle.sheets.specs.Part.{Numbered}
 use Rattle.tables.specs.declared.roster.Company.{Company}
 use Rattle.totals.specs.LookBack.{Game, with_event}
@@ -29,11 +30,11 @@ after_lay game company lay cost = with_event game (event.Laid company lay cost)
 abbrev pub lay_answered : Operator → TurnState → Numbered → Lay → Result ℤ LayRule → TurnState
 lay_answered by turn line lay (Ok cost) =
     turn_state
-    (after_lay (line_recorded by turn line (Obeyed line.condition (order.Lay lay))).game by.company lay
+    (after_lay (line_recorded by turn line (Obeyed line.condition (order.Play (play.Lay lay)))).game by.company lay
     (unsigned_abs cost)) (lay_done (lays_of turn.game.events) (asker_of turn.game by.company turn.progress) lay
     turn.progress)
 lay_answered by turn line lay (Err rule) = line_recorded by turn line (Refused (refusal.Lay rule) line.condition
-    (order.Lay lay))
+    (order.Play (play.Lay lay)))
 
 -- a LAY in this line leads to new: the rules of lays give an outcome, by the map state
 pub record LayLeads (by : Operator) (turn : TurnState) (line : Numbered) (lay : Lay) (new : TurnState) : Type 0 where

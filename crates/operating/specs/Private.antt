@@ -6,6 +6,7 @@ use Rattle.events.specs.declared.ruling.Refusal.TheVariants as refusal
 use Rattle.forced_purchase.specs.declared.operator.Operator.{Operator}
 use Rattle.operating.specs.TurnState.{TurnState, turn_state, ruled}
 use Rattle.order_grammar.specs.declared.order.Order.TheVariants as order
+use Rattle.order_grammar.specs.declared.play.PlayOrder.TheVariants as play
 use Rattle.purchases.specs.Private.{private_bought, private_judgement}
 use Rattle.sheets.specs.Part.{Numbered}
 use Rattle.tables.specs.declared.roster.Private.{Private}
@@ -13,7 +14,7 @@ use Rattle.tables.specs.declared.roster.Private.{Private}
 -- after a PRIVATE in this line, with the rule that refuses it, if one does
 abbrev pub private_ruled : Operator → TurnState → Numbered → Private → ℕ → Option PrivateRule → TurnState
 private_ruled by turn line private price broken =
-    ruled by turn line (order.BuyOwnedPrivate private price) (option_map refusal.Private broken)
+    ruled by turn line (order.Play (play.BuyOwnedPrivate private price)) (option_map refusal.Private broken)
     (λ (after : TurnState). turn_state (private_bought after.game by.company private price) after.progress)
 
 -- after a PRIVATE in this line

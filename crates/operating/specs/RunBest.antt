@@ -18,6 +18,7 @@ use Rattle.operating.specs.Progress.{best_done, has_any_run, is_past_runs}
 use Rattle.operating.specs.TurnState.{TurnState, turn_state, line_recorded}
 use Rattle.operating.specs.declared.progress.Progress.{Progress}
 use Rattle.order_grammar.specs.declared.order.Order.TheVariants as order
+use Rattle.order_grammar.specs.declared.play.PlayOrder.TheVariants as play
 use Rattle.purchases.specs.Train.{has_trains}
 use Rattle.sheets.specs.Part.{Numbered}
 use Rattle.tables.specs.Rules.{Rule, first_broken}
@@ -53,13 +54,13 @@ best_judgement turn company = first_broken (rules_of_best turn.game company turn
 -- after a RUN BEST in this line was obeyed, which earned this much
 abbrev pub best_earned : Operator → TurnState → Numbered → ℕ → TurnState
 best_earned by turn line revenue =
-    turn_state (with_event (line_recorded by turn line (Obeyed line.condition order.RunBest)).game
+    turn_state (with_event (line_recorded by turn line (Obeyed line.condition (order.Play play.RunBest))).game
     (event.Runs by.company revenue)) (best_done turn.progress revenue)
 
 -- a RUN BEST in this line leads to new, with the rule that refuses it, if one does
 abbrev pub BestRuled : Operator → TurnState → Numbered → Option RunRule → TurnState → Type 0
 BestRuled by turn line (Some rule) new = new ≡ line_recorded by turn line
-    (Refused (refusal.Run rule) line.condition order.RunBest)
+    (Refused (refusal.Run rule) line.condition (order.Play play.RunBest))
 BestRuled by turn line None new =
     (revenue : ℕ) × IsGreatest (position_now turn.game.events) by.company (trains_now turn.game.events by.company)
     revenue × (new ≡ best_earned by turn line revenue)

@@ -15,6 +15,7 @@ use Rattle.operating.specs.MapState.{map_state_now}
 use Rattle.operating.specs.Progress.{token_done}
 use Rattle.operating.specs.TurnState.{TurnState, turn_state, line_recorded}
 use Rattle.order_grammar.specs.declared.order.Order.TheVariants as order
+use Rattle.order_grammar.specs.declared.play.PlayOrder.TheVariants as play
 use Rattle.sheets.specs.Part.{Numbered}
 use Rattle.tables.specs.declared.roster.Company.{Company}
 use Rattle.totals.specs.LookBack.{Game, with_event}
@@ -27,10 +28,10 @@ after_token game company place cost = with_event game (event.Token company place
 abbrev pub token_answered : Operator → TurnState → Numbered → Place → Result ℤ TokenRule → TurnState
 token_answered by turn line place (Ok cost) =
     turn_state
-    (after_token (line_recorded by turn line (Obeyed line.condition (order.Token place))).game by.company place
+    (after_token (line_recorded by turn line (Obeyed line.condition (order.Play (play.Token place)))).game by.company place
     (unsigned_abs cost)) (token_done turn.progress)
 token_answered by turn line place (Err rule) =
-    line_recorded by turn line (Refused (refusal.Token rule) line.condition (order.Token place))
+    line_recorded by turn line (Refused (refusal.Token rule) line.condition (order.Play (play.Token place)))
 
 -- a TOKEN in this line leads to new
 pub record TokenLeads (by : Operator) (turn : TurnState) (line : Numbered) (place : Place)

@@ -9,6 +9,7 @@ use Rattle.operating.specs.TurnState.{TurnState, turn_state, ruled}
 use Rattle.order_grammar.specs.declared.order.Order.{Order}
 use Rattle.order_grammar.specs.declared.order.Order.TheVariants as order
 use Rattle.order_grammar.specs.declared.order.TrainSource.{TrainSource}
+use Rattle.order_grammar.specs.declared.play.PlayOrder.TheVariants as play
 use Rattle.purchases.specs.Train.{after_train}
 use Rattle.purchases.specs.Train.{purchase_of, train_judgement}
 use Rattle.purchases.specs.declared.train.TrainPurchase.{TrainPurchase}
@@ -24,5 +25,5 @@ train_ruled by turn line order purchase broken =
 -- after a TRAIN in this line
 abbrev pub after_buying : Operator → TurnState → Numbered → Kind → TrainSource → TurnState
 after_buying by turn line kind from =
-    train_ruled by turn line (order.BuyTrain kind from) (purchase_of kind from)
+    train_ruled by turn line (order.Play (play.BuyTrain kind from)) (purchase_of kind from)
     (train_judgement turn.game by.company (purchase_of kind from))

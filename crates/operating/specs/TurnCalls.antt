@@ -24,6 +24,7 @@ use Rattle.forced_purchase.specs.declared.operator.Operator.{Operator}
 use Rattle.order_grammar.specs.declared.fault.Fault.{Fault}
 use Rattle.order_grammar.specs.declared.order.Order.{Order}
 use Rattle.order_grammar.specs.declared.order.Order.TheVariants as order
+use Rattle.order_grammar.specs.declared.play.PlayOrder.TheVariants as play
 use Rattle.sheets.specs.CompanyOrders.{company_orders_for}
 use Rattle.sheets.specs.Part.{Numbered}
 use Rattle.tables.specs.declared.roster.Company.{Company}
@@ -64,8 +65,8 @@ BestCalls by round line None turn =
 -- the course of an order in this line
 abbrev pub OrderCalls : Operator → Round → Numbered → Order → Course TurnState TurnState RunnerFault
 OrderCalls by round line its turn outcome calls =
-    ((its ≡ order.RunBest) × BestCalls by round line (best_judgement turn by.company) turn outcome calls)
-    ⊎ ((its ≢ order.RunBest) × Unasked Memory (λ old new. OrderLeads by old line its new) turn outcome calls)
+    ((its ≡ order.Play play.RunBest) × BestCalls by round line (best_judgement turn by.company) turn outcome calls)
+    ⊎ ((its ≢ order.Play play.RunBest) × Unasked Memory (λ old new. OrderLeads by old line its new) turn outcome calls)
 
 -- the course of an order in this line, given whether its condition is not met: then the runner is
 -- not called

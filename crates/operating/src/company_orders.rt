@@ -1,6 +1,7 @@
 //! The orders that a president has for a company, ruled line by line. The checks of a line are in
 //! this order: its own fault, its place, its condition, and the rules of its order.
-ghost use Rattle.std.specs.Prelude.{◌≡◌, ◌≢◌, ◌≤◌, ◌++◌, ◌∷◌, [], IfErr, OnOk, true};
+ghost use Rattle.std.specs.Prelude.{◌≡◌, ◌≢◌, ◌≤◌, ◌++◌, ◌∷◌, [], IfErr, OnOk, not, true};
+ghost use Rattle.std.specs.Bool.{OnTrue};
 ghost use Rattle.std.specs.Option.{option_copied};
 ghost use Rattle.legal_runs.specs.declared.runner.RunnerFault.TheVariants.{Refused};
 ghost use Rattle.events.specs.declared.ruling.Ruling.TheVariants.{Faulty};
@@ -11,7 +12,8 @@ ghost use Rattle.operating.specs.CompanyOrders.{is_held, is_ruled_there};
 ghost use Rattle.operating.specs.CompanyTurn.{GoesOn, IsInOrder, state};
 ghost use Rattle.operating.specs.TurnCalls.{AskedCalls, LineCalls, LinesCall, OrderCalls, led_to};
 ghost use Rattle.operating.specs.TurnState.{line_recorded};
-ghost use Rattle.order_grammar.specs.declared.order.Order.TheVariants.{RunBest};
+ghost use Rattle.order_grammar.specs.declared.order.Order.TheVariants.{Play};
+ghost use Rattle.order_grammar.specs.declared.play.PlayOrder.TheVariants.{RunBest};
 ghost use Rattle.sheets.specs.Part.{faulty_line, line_unread, line_with};
 ghost use Rattle.turns.specs.Small.{AreSmall, IsSmallOrder, IsSmallReading};
 
@@ -19,7 +21,7 @@ use crate::company_turn::CompanyTurn;
 use forced_purchase::{HeldRaise, hold_if_raise};
 use history::{History, Refusal};
 use legal_runs::{Runner, RunnerFault};
-use order_grammar::{Condition, Fault, Order};
+use order_grammar::{Condition, Fault, Order, PlayOrder};
 use sheets::{PartsLeft, ReadLine, UnreadLine};
 use std::alloc::AllocError;
 use turns::{record, record_fault};
@@ -152,41 +154,71 @@ impl CompanyTurn {
         ensures order { OnOk result (GoesOn self.old self.new) }
         ensures refuses { IfErr result (λ fault. fault ≡ Refused → R.may_refuse ≡ true) }
     {
-        match order {
-            Order::RunBest => self.rule_best(line, runner),
-            _ => Ok(self.rule_other(line, order)?),
+        if is_best(order) {
+            return self.rule_best(line, runner);
         }
+        Ok(self.rule_other(line, order)?)
     }
 
-    /// Rules an order other than RUN BEST. A RAISE is ruled at the end of the turn. Any other order
-    /// is out of place.
+    /// Rules an order other than RUN BEST. What is no order of play is out of place.
     fn rule_other(&mut self, line: ReadLine, order: &Order) -> Result<(), AllocError>
         requires few { self.old.history.seats ≤ 6 }
         requires small { IsSmallOrder order.now }
         requires order { IsInOrder self.old }
-        requires other { order.now ≢ RunBest }
+        requires other { order.now ≢ Play RunBest }
         ensures turn { OnOk result (OrderLeads self.old.by (state self.old)
             (line_with line order.now) order.now (state self.new)) }
         ensures order { OnOk result (GoesOn self.old self.new) }
     {
         match order {
-            Order::Lay(lay) => self.rule_lay(line, order, *lay),
-            Order::Token(place) => self.rule_token(line, order, *place),
             Order::Run { kind, run } => self.rule_run(line, order, *kind, run),
-            Order::Pay => self.rule_pay(line, order),
-            Order::Withhold => self.rule_withhold(line, order),
-            Order::BuyTrain { kind, from } => {
-                self.withhold_if_unpaid()?;
-                self.rule_train(line, order, *kind, *from)?;
-                Ok(())
-            }
-            Order::BuyOwnedPrivate { private, price } => {
-                self.rule_private(line, order, *private, *price)
-            }
-            Order::Raise { .. } => Ok(()),
+            Order::Play(play) => self.rule_play(line, order, *play),
             _ => self.rule_faulty(line.number, Fault::OutOfPlace),
         }
     }
+
+    /// Rules an order of play other than a run. A RAISE is ruled at the end of the turn. Any order
+    /// that is not of companies is out of place.
+    fn rule_play(
+        &mut self,
+        line: ReadLine,
+        order: &Order,
+        play: PlayOrder,
+    ) -> Result<(), AllocError>
+        requires few { self.old.history.seats ≤ 6 }
+        requires small { IsSmallOrder order.now }
+        requires order { IsInOrder self.old }
+        requires is { order.now ≡ Play play }
+        requires other { order.now ≢ Play RunBest }
+        ensures turn { OnOk result (OrderLeads self.old.by (state self.old)
+            (line_with line order.now) order.now (state self.new)) }
+        ensures order { OnOk result (GoesOn self.old self.new) }
+    {
+        match play {
+            PlayOrder::Lay(lay) => self.rule_lay(line, order, lay),
+            PlayOrder::Token(place) => self.rule_token(line, order, place),
+            PlayOrder::Pay => self.rule_pay(line, order),
+            PlayOrder::Withhold => self.rule_withhold(line, order),
+            PlayOrder::BuyTrain { kind, from } => {
+                self.withhold_if_unpaid()?;
+                self.rule_train(line, order, kind, from)?;
+                Ok(())
+            }
+            PlayOrder::BuyOwnedPrivate { private, price } => {
+                self.rule_private(line, order, private, price)
+            }
+            PlayOrder::Raise { .. } => Ok(()),
+            _ => self.rule_faulty(line.number, Fault::OutOfPlace),
+        }
+    }
+}
+
+/// Returns whether an order is RUN BEST.
+fn is_best(order: &Order) -> bool
+    ensures best { OnTrue result (order.now ≡ Play RunBest) }
+    ensures other { OnTrue (not result) (order.now ≢ Play RunBest) }
+{
+    matches!(order, Order::Play(PlayOrder::RunBest))
 }
 
 /// Returns whether an order that is ruled at its place in a company's orders has a condition that
@@ -206,13 +238,14 @@ fn is_ruled_there(order: &Order) -> bool
 {
     matches!(
         order,
-        Order::Lay(_)
-            | Order::Token(_)
+        Order::Play(PlayOrder::Lay(_) | PlayOrder::Token(_))
             | Order::Run { .. }
-            | Order::RunBest
-            | Order::Pay
-            | Order::Withhold
-            | Order::BuyTrain { .. }
-            | Order::BuyOwnedPrivate { .. }
+            | Order::Play(
+                PlayOrder::RunBest
+                    | PlayOrder::Pay
+                    | PlayOrder::Withhold
+                    | PlayOrder::BuyTrain { .. }
+                    | PlayOrder::BuyOwnedPrivate { .. }
+            )
     )
 }

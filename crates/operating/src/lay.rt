@@ -4,6 +4,7 @@ ghost use Rattle.std.specs.Prelude.{◌≡◌, OnOk};
 ghost use Rattle.operating.specs.CompanyTurn.{GoesOn, IsInOrder, state};
 ghost use Rattle.operating.specs.Lay.{LayLeads};
 ghost use Rattle.order_grammar.specs.declared.order.Order.TheVariants as form;
+ghost use Rattle.order_grammar.specs.declared.play.PlayOrder.TheVariants as play;
 ghost use Rattle.sheets.specs.Part.{line_with};
 
 use crate::board_asker::asker;
@@ -27,9 +28,9 @@ impl CompanyTurn {
         lay: Lay,
     ) -> Result<(), AllocError>
         requires order { IsInOrder self.old }
-        requires is { order.now ≡ form.Lay lay }
+        requires is { order.now ≡ form.Play (play.Lay lay) }
         ensures turn { OnOk result (LayLeads self.old.by (state self.old)
-            (line_with line (form.Lay lay)) lay (state self.new)) }
+            (line_with line (form.Play (play.Lay lay))) lay (state self.new)) }
         ensures order { OnOk result (GoesOn self.old self.new) }
     {
         let board = &mut *self.board;

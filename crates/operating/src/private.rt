@@ -3,7 +3,8 @@
 ghost use Rattle.std.specs.Prelude.{◌≡◌, OnOk};
 ghost use Rattle.operating.specs.CompanyTurn.{GoesOn, IsInOrder, state};
 ghost use Rattle.operating.specs.Private.{after_private};
-ghost use Rattle.order_grammar.specs.declared.order.Order.TheVariants.{BuyOwnedPrivate};
+ghost use Rattle.order_grammar.specs.declared.order.Order.TheVariants.{Play};
+ghost use Rattle.order_grammar.specs.declared.play.PlayOrder.TheVariants.{BuyOwnedPrivate};
 ghost use Rattle.sheets.specs.Part.{line_with};
 
 use crate::company_turn::CompanyTurn;
@@ -26,10 +27,10 @@ impl CompanyTurn {
         price: Amount,
     ) -> Result<(), AllocError>
         requires order { IsInOrder self.old }
-        requires is { order.now ≡ BuyOwnedPrivate private price }
+        requires is { order.now ≡ Play (BuyOwnedPrivate private price) }
         ensures turn { OnOk result (state self.new
             ≡ after_private self.old.by (state self.old)
-            (line_with line (BuyOwnedPrivate private price)) private price) }
+            (line_with line (Play (BuyOwnedPrivate private price))) private price) }
         ensures order { OnOk result (GoesOn self.old self.new) }
     {
         let by = self.by;

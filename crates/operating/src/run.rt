@@ -30,7 +30,7 @@ use tables::{Amount, Company, Kind, rules};
 use turns::record;
 
 /// Returns the first rule of the turn that a run of a train of a kind breaks.
-fn rule_of_turn(
+fn judge_turn(
     history: &History,
     company: Company,
     kind: Kind,
@@ -115,7 +115,7 @@ impl CompanyTurn {
         ensures order { OnOk result (GoesOn self.old self.new) }
     {
         let company = self.by.company;
-        if let Some(rule) = rule_of_turn(&self.history, company, kind, &self.progress) {
+        if let Some(rule) = judge_turn(&self.history, company, kind, &self.progress) {
             return Ok(Err(rule));
         }
         let board = &mut *self.board;

@@ -16,6 +16,7 @@ ghost use Rattle.operating.specs.RunBest.{trains_now};
 ghost use Rattle.operating.specs.TurnCalls.{Asks, BestCalls, led_to};
 ghost use Rattle.operating.specs.TurnState.{turn_state, line_recorded};
 ghost use Rattle.order_grammar.specs.declared.order.Order.TheVariants as order;
+ghost use Rattle.order_grammar.specs.declared.play.PlayOrder.TheVariants as play;
 ghost use Rattle.sheets.specs.Part.{line_with};
 
 use crate::company_turn::CompanyTurn;
@@ -24,7 +25,7 @@ use crate::progress::Progress;
 use crate::run::record_runs;
 use history::{GameView, History, Refusal, RunRule, TrainCount, at_least_zero};
 use legal_runs::{Runner, RunnerFault};
-use order_grammar::Order;
+use order_grammar::{Order, PlayOrder};
 use purchases::has_trains;
 use reach::Network;
 use sheets::ReadLine;
@@ -66,10 +67,10 @@ impl CompanyTurn {
     ) -> Result<(), RunnerFault>
         requires { IsInOrder self.old }
         ensures turn { OnOk result (BestLeads self.old.by (state self.old)
-            (line_with line order.RunBest) (state self.new)) }
+            (line_with line (order.Play play.RunBest)) (state self.new)) }
         ensures calls { let turn = state self.old in
             Makes R.earns runner.old (BestCalls self.old.by self.old.round
-            (line_with line order.RunBest) (best_judgement turn self.old.by.company) turn
+            (line_with line (order.Play play.RunBest)) (best_judgement turn self.old.by.company) turn
             (led_to (state self.new) result))
             runner.new }
         ensures order { OnOk result (GoesOn self.old self.new) }
@@ -88,8 +89,8 @@ impl CompanyTurn {
     fn refuse_best(&mut self, line: ReadLine, rule: RunRule) -> Result<(), AllocError>
         requires { IsInOrder self.old }
         ensures recorded { OnOk result (state self.new ≡ line_recorded self.old.by (state self.old)
-            (line_with line order.RunBest)
-            (Refused (refusal.Run rule) line.condition order.RunBest)) }
+            (line_with line (order.Play play.RunBest))
+            (Refused (refusal.Run rule) line.condition (order.Play play.RunBest))) }
         ensures order { OnOk result (GoesOn self.old self.new) }
     {
         let (seat, refusal) = (self.by.president, Refusal::Run(rule));
@@ -97,7 +98,7 @@ impl CompanyTurn {
             &mut self.history,
             seat,
             line,
-            &Order::RunBest,
+            &Order::Play(PlayOrder::RunBest),
             Some(refusal),
         )?;
         Ok(())
@@ -108,11 +109,17 @@ impl CompanyTurn {
         requires order { IsInOrder self.old }
         requires small { revenue ≤ 50000 }
         ensures recorded { OnOk result (state self.new
-            ≡ best_earned self.old.by (state self.old) (line_with line order.RunBest) revenue) }
+            ≡ best_earned self.old.by (state self.old) (line_with line (order.Play play.RunBest)) revenue) }
         ensures order { OnOk result (GoesOn self.old self.new) }
     {
         let by = self.by;
-        record(&mut self.history, by.president, line, &Order::RunBest, None)?;
+        record(
+            &mut self.history,
+            by.president,
+            line,
+            &Order::Play(PlayOrder::RunBest),
+            None,
+        )?;
         record_runs(&mut self.history, by.company, revenue)?;
         self.progress.count_best(revenue);
         Ok(())

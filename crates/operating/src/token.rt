@@ -4,6 +4,7 @@ ghost use Rattle.std.specs.Prelude.{◌≡◌, OnOk};
 ghost use Rattle.operating.specs.CompanyTurn.{GoesOn, IsInOrder, state};
 ghost use Rattle.operating.specs.Token.{TokenLeads};
 ghost use Rattle.order_grammar.specs.declared.order.Order.TheVariants as form;
+ghost use Rattle.order_grammar.specs.declared.play.PlayOrder.TheVariants as play;
 ghost use Rattle.sheets.specs.Part.{line_with};
 
 use crate::board_asker::asker;
@@ -27,9 +28,9 @@ impl CompanyTurn {
         place: Place,
     ) -> Result<(), AllocError>
         requires order { IsInOrder self.old }
-        requires is { order.now ≡ form.Token place }
+        requires is { order.now ≡ form.Play (play.Token place) }
         ensures turn { OnOk result (TokenLeads self.old.by (state self.old)
-            (line_with line (form.Token place)) place (state self.new)) }
+            (line_with line (form.Play (play.Token place))) place (state self.new)) }
         ensures order { OnOk result (GoesOn self.old self.new) }
     {
         let board = &mut *self.board;

@@ -3,7 +3,8 @@
 //! carries it out with its consequences. The step of the turn does not change.
 ghost use Rattle.std.specs.Prelude.{◌≡◌, OnOk};
 ghost use Rattle.operating.specs.CompanyTurn.{GoesOn, IsInOrder, state};
-ghost use Rattle.order_grammar.specs.declared.order.Order.TheVariants.{BuyTrain};
+ghost use Rattle.order_grammar.specs.declared.order.Order.TheVariants.{Play};
+ghost use Rattle.order_grammar.specs.declared.play.PlayOrder.TheVariants.{BuyTrain};
 ghost use Rattle.sheets.specs.Part.{line_with};
 ghost use Rattle.turns.specs.Small.{IsSmallOrder};
 ghost use Rattle.operating.specs.Train.{after_buying};
@@ -27,11 +28,11 @@ impl CompanyTurn {
         kind: Kind,
         from: TrainSource,
     ) -> Result<(), AllocError>
-        requires small { IsSmallOrder (BuyTrain kind from) }
+        requires small { IsSmallOrder (Play (BuyTrain kind from)) }
         requires order { IsInOrder self.old }
-        requires is { order.now ≡ BuyTrain kind from }
+        requires is { order.now ≡ Play (BuyTrain kind from) }
         ensures turn { OnOk result (state self.new
-            ≡ after_buying self.old.by (state self.old) (line_with line (BuyTrain kind from)) kind
+            ≡ after_buying self.old.by (state self.old) (line_with line (Play (BuyTrain kind from))) kind
             from) }
         ensures order { OnOk result (GoesOn self.old self.new) }
         ensures board { OnOk result (self.new.board ≡ self.old.board) }

@@ -17,11 +17,9 @@ use Rattle.order_grammar.specs.Spells.{IsHex, IsRotation, IsPlace, AreHexDigits,
 use Rattle.order_grammar.specs.declared.keyword.Keyword.{Keyword}
 use Rattle.order_grammar.specs.declared.keyword.Keyword.TheVariants as keyword
 use Rattle.order_grammar.specs.declared.order.Order.{Order}
-use Rattle.order_grammar.specs.declared.order.Order.TheVariants.{Blank, Game, Players, Sheet, Turn, BuyPrivate, Bid}
-use Rattle.order_grammar.specs.declared.order.Order.TheVariants.{Limit, Par, BuyShare, Sell, ExchangeMohawk}
-use Rattle.order_grammar.specs.declared.order.Order.TheVariants.{Company as CompanyTurn, Lay, Token, Run, RunBest, Pay}
-use Rattle.order_grammar.specs.declared.order.Order.TheVariants.{Withhold, BuyTrain, Discard, BuyOwnedPrivate, Raise}
-use Rattle.order_grammar.specs.declared.order.Order.TheVariants.{Offer, Certs, Cert, Claim, Marks}
+use Rattle.order_grammar.specs.declared.order.Order.TheVariants.{Blank, Game, Players, Sheet, Turn}
+use Rattle.order_grammar.specs.declared.order.Order.TheVariants.{Company as CompanyTurn, Run, Certs, Cert, Claim}
+use Rattle.order_grammar.specs.declared.order.Order.TheVariants.{Marks, Play}
 use Rattle.order_grammar.specs.declared.order.Offer.TheVariants as offer
 use Rattle.order_grammar.specs.declared.order.ShareSource.TheVariants.{InitialOffering, BankPool}
 use Rattle.order_grammar.specs.declared.order.Trailing.{Trailing}
@@ -29,6 +27,10 @@ use Rattle.order_grammar.specs.declared.order.Trailing.TheVariants as trailing
 use Rattle.order_grammar.specs.declared.order.TrainSource.TheVariants as source
 use Rattle.order_grammar.specs.declared.order.Value.{Value}
 use Rattle.order_grammar.specs.declared.order.Value.TheVariants as value
+use Rattle.order_grammar.specs.declared.play.PlayOrder.TheVariants.{BuyPrivate, Bid, Limit, Par, BuyShare, Sell}
+use Rattle.order_grammar.specs.declared.play.PlayOrder.TheVariants.{ExchangeMohawk, Lay, Token, RunBest, Pay}
+use Rattle.order_grammar.specs.declared.play.PlayOrder.TheVariants.{Withhold, BuyTrain, Discard, BuyOwnedPrivate}
+use Rattle.order_grammar.specs.declared.play.PlayOrder.TheVariants.{Raise, Offer}
 
 -- an order that is made of parts
 pub record IsFormed (k : Keyword) (values : List Value) (t : Trailing) : Type 0 where
@@ -46,57 +48,57 @@ formed keyword.Sheet ((value.Name name) ∷ (value.Round round) ∷ []) trailing
     record { order = Sheet name round; made = refl; parts = refl }
 formed keyword.Turn [] trailing.Nothing h = record { order = Turn; made = refl; parts = refl }
 formed keyword.Buy ((value.Private private) ∷ []) trailing.Nothing h =
-    record { order = BuyPrivate private; made = refl; parts = refl }
+    record { order = Play (BuyPrivate private); made = refl; parts = refl }
 formed keyword.Bid ((value.Private private) ∷ (value.Number amount) ∷ []) trailing.Nothing h =
-    record { order = Bid private amount; made = refl; parts = refl }
+    record { order = Play (Bid private amount); made = refl; parts = refl }
 formed keyword.Limit ((value.Private private) ∷ (value.Number amount) ∷ []) trailing.Nothing h =
-    record { order = Limit private amount; made = refl; parts = refl }
+    record { order = Play (Limit private amount); made = refl; parts = refl }
 formed keyword.Par ((value.Company company) ∷ (value.Number price) ∷ []) trailing.Nothing h =
-    record { order = Par company price; made = refl; parts = refl }
+    record { order = Play (Par company price); made = refl; parts = refl }
 formed keyword.Buy ((value.Company company) ∷ (value.Word keyword.InitialOffering) ∷ []) trailing.Nothing h =
-    record { order = BuyShare company InitialOffering; made = refl; parts = refl }
+    record { order = Play (BuyShare company InitialOffering); made = refl; parts = refl }
 formed keyword.Buy ((value.Company company) ∷ (value.Word keyword.Pool) ∷ []) trailing.Nothing h =
-    record { order = BuyShare company BankPool; made = refl; parts = refl }
+    record { order = Play (BuyShare company BankPool); made = refl; parts = refl }
 formed keyword.Sell ((value.Company company) ∷ (value.Number shares) ∷ []) trailing.Nothing h =
-    record { order = Sell company shares; made = refl; parts = refl }
+    record { order = Play (Sell company shares); made = refl; parts = refl }
 formed keyword.Exchange ((value.Word keyword.Mohawk) ∷ []) trailing.Nothing h =
-    record { order = ExchangeMohawk; made = refl; parts = refl }
+    record { order = Play ExchangeMohawk; made = refl; parts = refl }
 formed keyword.Company ((value.Company company) ∷ []) trailing.Nothing h =
     record { order = CompanyTurn company; made = refl; parts = refl }
 formed keyword.Lay ((value.Tile tile) ∷ (value.Hex hex) ∷ (value.Rotation rot) ∷ []) trailing.Nothing h =
-    record { order = Lay (lay_of tile hex rot false); made = refl; parts = refl }
+    record { order = Play (Lay (lay_of tile hex rot false)); made = refl; parts = refl }
 formed keyword.Lay ((value.Tile tile) ∷ (value.Hex hex) ∷ (value.Rotation rot) ∷ (value.Word keyword.Swap) ∷ [])
     trailing.Nothing h =
-    record { order = Lay (lay_of tile hex rot true); made = refl; parts = refl }
+    record { order = Play (Lay (lay_of tile hex rot true)); made = refl; parts = refl }
 formed keyword.Token ((value.Place place) ∷ []) trailing.Nothing h =
-    record { order = Token place; made = refl; parts = refl }
+    record { order = Play (Token place); made = refl; parts = refl }
 formed keyword.Run ((value.Kind kind) ∷ []) (trailing.Places run) h =
     record { order = Run kind run; made = refl; parts = refl }
 formed keyword.Run ((value.Word keyword.Best) ∷ []) trailing.Nothing h =
-    record { order = RunBest; made = refl; parts = refl }
-formed keyword.Pay [] trailing.Nothing h = record { order = Pay; made = refl; parts = refl }
-formed keyword.Withhold [] trailing.Nothing h = record { order = Withhold; made = refl; parts = refl }
+    record { order = Play RunBest; made = refl; parts = refl }
+formed keyword.Pay [] trailing.Nothing h = record { order = Play Pay; made = refl; parts = refl }
+formed keyword.Withhold [] trailing.Nothing h = record { order = Play Withhold; made = refl; parts = refl }
 formed keyword.Train ((value.Kind kind) ∷ (value.Word keyword.Bank) ∷ []) trailing.Nothing h =
-    record { order = BuyTrain kind source.Bank; made = refl; parts = refl }
+    record { order = Play (BuyTrain kind source.Bank); made = refl; parts = refl }
 formed keyword.Train ((value.Kind kind) ∷ (value.Word keyword.Bank) ∷ (value.Word keyword.Trade) ∷ (value.Kind other)
     ∷ []) trailing.Nothing h =
-    record { order = BuyTrain kind (source.Trade other); made = refl; parts = refl }
+    record { order = Play (BuyTrain kind (source.Trade other)); made = refl; parts = refl }
 formed keyword.Train ((value.Kind kind) ∷ (value.Word keyword.Pool) ∷ []) trailing.Nothing h =
-    record { order = BuyTrain kind source.BankPool; made = refl; parts = refl }
+    record { order = Play (BuyTrain kind source.BankPool); made = refl; parts = refl }
 formed keyword.Train ((value.Kind kind) ∷ (value.Company seller) ∷ (value.Number price) ∷ []) trailing.Nothing h =
-    record { order = BuyTrain kind (source.Company seller price); made = refl; parts = refl }
+    record { order = Play (BuyTrain kind (source.Company seller price)); made = refl; parts = refl }
 formed keyword.Discard ((value.Company company) ∷ (value.Kind kind) ∷ []) trailing.Nothing h =
-    record { order = Discard company kind; made = refl; parts = refl }
+    record { order = Play (Discard company kind); made = refl; parts = refl }
 formed keyword.Private ((value.Private private) ∷ (value.Number price) ∷ []) trailing.Nothing h =
-    record { order = BuyOwnedPrivate private price; made = refl; parts = refl }
+    record { order = Play (BuyOwnedPrivate private price); made = refl; parts = refl }
 formed keyword.Raise ((value.Company company) ∷ (value.Number shares) ∷ []) trailing.Nothing h =
-    record { order = Raise company shares; made = refl; parts = refl }
+    record { order = Play (Raise company shares); made = refl; parts = refl }
 formed keyword.Offer ((value.Word keyword.Private) ∷ (value.Private private) ∷ (value.Company buyer)
     ∷ (value.Number price) ∷ []) trailing.Nothing h =
-    record { order = Offer (offer.Private private buyer price); made = refl; parts = refl }
+    record { order = Play (Offer (offer.Private private buyer price)); made = refl; parts = refl }
 formed keyword.Offer ((value.Word keyword.Train) ∷ (value.Kind kind) ∷ (value.Company seller) ∷ (value.Company buyer)
     ∷ (value.Number price) ∷ []) trailing.Nothing h =
-    record { order = Offer (offer.Train kind seller buyer price); made = refl; parts = refl }
+    record { order = Play (Offer (offer.Train kind seller buyer price)); made = refl; parts = refl }
 formed keyword.Certs ((value.Word keyword.One) ∷ []) trailing.Nothing h =
     record { order = Certs; made = refl; parts = refl }
 formed keyword.Cert ((value.Round round) ∷ (value.Company company) ∷ (value.Number revenue) ∷ []) trailing.Nothing h =
@@ -112,21 +114,21 @@ IsMadeAgain order None = order ≡ Blank
 IsMadeAgain order (Some parts) = order_from parts.keyword parts.values parts.trailing ≡ Some order
 
 lay_made_again : (tile : TileNo) (hex : Hex) (rot : Rotation) (swap : Bool) →
-    IsMadeAgain (Lay (lay_of tile hex rot swap)) (parts_of (Lay (lay_of tile hex rot swap)))
+    IsMadeAgain (Play (Lay (lay_of tile hex rot swap))) (parts_of (Play (Lay (lay_of tile hex rot swap))))
 lay_made_again tile hex rot true = refl
 lay_made_again tile hex rot false = refl
 
 pub made_again : (order : Order) → IsMadeAgain order (parts_of order)
 made_again Blank = refl
-made_again (BuyShare company InitialOffering) = refl
-made_again (BuyShare company BankPool) = refl
-made_again (BuyTrain kind source.Bank) = refl
-made_again (BuyTrain kind (source.Trade other)) = refl
-made_again (BuyTrain kind source.BankPool) = refl
-made_again (BuyTrain kind (source.Company seller price)) = refl
-made_again (Offer (offer.Private private buyer price)) = refl
-made_again (Offer (offer.Train kind seller buyer price)) = refl
-made_again (Lay lay) = lay_made_again lay.tile lay.hex lay.rot lay.swap
+made_again (Play (BuyShare company InitialOffering)) = refl
+made_again (Play (BuyShare company BankPool)) = refl
+made_again (Play (BuyTrain kind source.Bank)) = refl
+made_again (Play (BuyTrain kind (source.Trade other))) = refl
+made_again (Play (BuyTrain kind source.BankPool)) = refl
+made_again (Play (BuyTrain kind (source.Company seller price))) = refl
+made_again (Play (Offer (offer.Private private buyer price))) = refl
+made_again (Play (Offer (offer.Train kind seller buyer price))) = refl
+made_again (Play (Lay lay)) = lay_made_again lay.tile lay.hex lay.rot lay.swap
 made_again other = refl
 
 -- the word of a value
@@ -233,14 +235,14 @@ run_of_parts (first ∷ second ∷ words) kind run h =
 
 -- the words of a lay
 lay_by_parts : (tile : TileNo) (hex : Hex) (rot : Rotation) (swap : Bool) (words : List (List ℕ))
-    → AreWordsFor (Lay (lay_of tile hex rot swap)) words →
-    AreWordsByParts (parts_of (Lay (lay_of tile hex rot swap))) words
+    → AreWordsFor (Play (Lay (lay_of tile hex rot swap))) words →
+    AreWordsByParts (parts_of (Play (Lay (lay_of tile hex rot swap)))) words
 lay_by_parts tile hex rot true words h = (h, refl)
 lay_by_parts tile hex rot false words h = (h, refl)
 
 lay_of_parts : (tile : TileNo) (hex : Hex) (rot : Rotation) (swap : Bool) (words : List (List ℕ)) →
-    AreWordsByParts (parts_of (Lay (lay_of tile hex rot swap))) words
-    → AreWordsFor (Lay (lay_of tile hex rot swap)) words
+    AreWordsByParts (parts_of (Play (Lay (lay_of tile hex rot swap)))) words
+    → AreWordsFor (Play (Lay (lay_of tile hex rot swap))) words
 lay_of_parts tile hex rot true words h = h.0
 lay_of_parts tile hex rot false words h = h.0
 
@@ -249,17 +251,17 @@ pub by_parts : (order : Order) (words : List (List ℕ)) → AreWordsFor order w
     → AreWordsByParts (parts_of order) words
 by_parts Blank words h = h
 by_parts (Players names) words h = players_by_parts words names.items h
-by_parts (BuyShare company InitialOffering) words h = (h, refl)
-by_parts (BuyShare company BankPool) words h = (h, refl)
+by_parts (Play (BuyShare company InitialOffering)) words h = (h, refl)
+by_parts (Play (BuyShare company BankPool)) words h = (h, refl)
 by_parts (Run kind run) words h = run_by_parts words kind run h
 by_parts (Claim kind run) words h = claim_by_parts words kind run h
-by_parts (BuyTrain kind source.Bank) words h = (h, refl)
-by_parts (BuyTrain kind (source.Trade other)) words h = (h, refl)
-by_parts (BuyTrain kind source.BankPool) words h = (h, refl)
-by_parts (BuyTrain kind (source.Company seller price)) words h = (h, refl)
-by_parts (Offer (offer.Private private buyer price)) words h = (h, refl)
-by_parts (Offer (offer.Train kind seller buyer price)) words h = (h, refl)
-by_parts (Lay lay) words h = lay_by_parts lay.tile lay.hex lay.rot lay.swap words h
+by_parts (Play (BuyTrain kind source.Bank)) words h = (h, refl)
+by_parts (Play (BuyTrain kind (source.Trade other))) words h = (h, refl)
+by_parts (Play (BuyTrain kind source.BankPool)) words h = (h, refl)
+by_parts (Play (BuyTrain kind (source.Company seller price))) words h = (h, refl)
+by_parts (Play (Offer (offer.Private private buyer price))) words h = (h, refl)
+by_parts (Play (Offer (offer.Train kind seller buyer price))) words h = (h, refl)
+by_parts (Play (Lay lay)) words h = lay_by_parts lay.tile lay.hex lay.rot lay.swap words h
 by_parts other words h = (h, refl)
 
 -- of the forms only that of a players line has names
@@ -295,15 +297,15 @@ pub of_parts : (order : Order) (words : List (List ℕ)) → AreWordsByParts (pa
     → AreWordsFor order words
 of_parts Blank words h = h
 of_parts (Players names) words h = players_of_parts words names.items h
-of_parts (BuyShare company InitialOffering) words h = h.0
-of_parts (BuyShare company BankPool) words h = h.0
+of_parts (Play (BuyShare company InitialOffering)) words h = h.0
+of_parts (Play (BuyShare company BankPool)) words h = h.0
 of_parts (Run kind run) words h = run_of_parts words kind run h
 of_parts (Claim kind run) words h = claim_of_parts words kind run h
-of_parts (BuyTrain kind source.Bank) words h = h.0
-of_parts (BuyTrain kind (source.Trade other)) words h = h.0
-of_parts (BuyTrain kind source.BankPool) words h = h.0
-of_parts (BuyTrain kind (source.Company seller price)) words h = h.0
-of_parts (Offer (offer.Private private buyer price)) words h = h.0
-of_parts (Offer (offer.Train kind seller buyer price)) words h = h.0
-of_parts (Lay lay) words h = lay_of_parts lay.tile lay.hex lay.rot lay.swap words h
+of_parts (Play (BuyTrain kind source.Bank)) words h = h.0
+of_parts (Play (BuyTrain kind (source.Trade other))) words h = h.0
+of_parts (Play (BuyTrain kind source.BankPool)) words h = h.0
+of_parts (Play (BuyTrain kind (source.Company seller price))) words h = h.0
+of_parts (Play (Offer (offer.Private private buyer price))) words h = h.0
+of_parts (Play (Offer (offer.Train kind seller buyer price))) words h = h.0
+of_parts (Play (Lay lay)) words h = lay_of_parts lay.tile lay.hex lay.rot lay.swap words h
 of_parts other words h = h.0

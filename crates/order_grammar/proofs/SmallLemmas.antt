@@ -9,11 +9,12 @@ use Rattle.order_grammar.specs.Order.{parts_of, swap_values, Parts}
 use Rattle.order_grammar.specs.Spells.{HasSmallNumbers, IsSmallRound}
 use Rattle.order_grammar.specs.declared.order.Offer.TheVariants as offer
 use Rattle.order_grammar.specs.declared.order.Order.{Order}
-use Rattle.order_grammar.specs.declared.order.Order.TheVariants.{Game, Sheet, Bid, Limit, Par, Sell, Lay, BuyTrain}
-use Rattle.order_grammar.specs.declared.order.Order.TheVariants.{BuyOwnedPrivate, Raise, Offer, Cert}
+use Rattle.order_grammar.specs.declared.order.Order.TheVariants.{Game, Sheet, Cert, Play}
 use Rattle.order_grammar.specs.declared.order.TrainSource.TheVariants as source
 use Rattle.order_grammar.specs.declared.order.Value.{Value}
 use Rattle.order_grammar.specs.declared.order.Value.TheVariants as value
+use Rattle.order_grammar.specs.declared.play.PlayOrder.TheVariants.{Bid, Limit, Par, Sell, Lay, BuyTrain}
+use Rattle.order_grammar.specs.declared.play.PlayOrder.TheVariants.{BuyOwnedPrivate, Raise, Offer}
 
 -- whether a round's number, or that of its set, is small enough for a line
 abbrev pub is_small_round : Round → Bool
@@ -51,19 +52,19 @@ swap_small other = refl
 pub small_by_parts : (order : Order) → HasSmallNumbers order → are_small (parts_of order) ≡ true
 small_by_parts (Game game version) small = rw (le-leb game number_most small.0, le-leb version number_most small.1) refl
 small_by_parts (Sheet name round) small = rw (round_by_parts round small) refl
-small_by_parts (Bid private amount) small = rw (le-leb amount number_most small) refl
-small_by_parts (Limit private amount) small = rw (le-leb amount number_most small) refl
-small_by_parts (Par company price) small = rw (le-leb price number_most small) refl
-small_by_parts (Sell company shares) small = rw (le-leb shares number_most small) refl
-small_by_parts (Lay lay) small = swap_small lay.swap
-small_by_parts (BuyTrain kind source.Bank) small = refl
-small_by_parts (BuyTrain kind (source.Trade other)) small = refl
-small_by_parts (BuyTrain kind source.BankPool) small = refl
-small_by_parts (BuyTrain kind (source.Company seller price)) small = rw (le-leb price number_most small) refl
-small_by_parts (BuyOwnedPrivate private price) small = rw (le-leb price number_most small) refl
-small_by_parts (Raise company shares) small = rw (le-leb shares number_most small) refl
-small_by_parts (Offer (offer.Private private buyer price)) small = rw (le-leb price number_most small) refl
-small_by_parts (Offer (offer.Train kind seller buyer price)) small = rw (le-leb price number_most small) refl
+small_by_parts (Play (Bid private amount)) small = rw (le-leb amount number_most small) refl
+small_by_parts (Play (Limit private amount)) small = rw (le-leb amount number_most small) refl
+small_by_parts (Play (Par company price)) small = rw (le-leb price number_most small) refl
+small_by_parts (Play (Sell company shares)) small = rw (le-leb shares number_most small) refl
+small_by_parts (Play (Lay lay)) small = swap_small lay.swap
+small_by_parts (Play (BuyTrain kind source.Bank)) small = refl
+small_by_parts (Play (BuyTrain kind (source.Trade other))) small = refl
+small_by_parts (Play (BuyTrain kind source.BankPool)) small = refl
+small_by_parts (Play (BuyTrain kind (source.Company seller price))) small = rw (le-leb price number_most small) refl
+small_by_parts (Play (BuyOwnedPrivate private price)) small = rw (le-leb price number_most small) refl
+small_by_parts (Play (Raise company shares)) small = rw (le-leb shares number_most small) refl
+small_by_parts (Play (Offer (offer.Private private buyer price))) small = rw (le-leb price number_most small) refl
+small_by_parts (Play (Offer (offer.Train kind seller buyer price))) small = rw (le-leb price number_most small) refl
 small_by_parts (Cert round company revenue) small =
     rw (round_by_parts round small.0, le-leb revenue number_most small.1) refl
 small_by_parts other small = refl
@@ -77,26 +78,26 @@ small_of_parts (Game game version) small =
           (and_parts (nat_le version number_most) true first.1).0,
     )
 small_of_parts (Sheet name round) small = round_of_parts round (and_parts (is_small_round round) true small).0
-small_of_parts (Bid private amount) small = leb-true amount number_most
+small_of_parts (Play (Bid private amount)) small = leb-true amount number_most
     (and_parts (nat_le amount number_most) true small).0
-small_of_parts (Limit private amount) small = leb-true amount number_most
+small_of_parts (Play (Limit private amount)) small = leb-true amount number_most
     (and_parts (nat_le amount number_most) true small).0
-small_of_parts (Par company price) small = leb-true price number_most
+small_of_parts (Play (Par company price)) small = leb-true price number_most
     (and_parts (nat_le price number_most) true small).0
-small_of_parts (Sell company shares) small = leb-true shares number_most
+small_of_parts (Play (Sell company shares)) small = leb-true shares number_most
     (and_parts (nat_le shares number_most) true small).0
-small_of_parts (BuyTrain kind source.Bank) small = tt
-small_of_parts (BuyTrain kind (source.Trade other)) small = tt
-small_of_parts (BuyTrain kind source.BankPool) small = tt
-small_of_parts (BuyTrain kind (source.Company seller price)) small =
+small_of_parts (Play (BuyTrain kind source.Bank)) small = tt
+small_of_parts (Play (BuyTrain kind (source.Trade other))) small = tt
+small_of_parts (Play (BuyTrain kind source.BankPool)) small = tt
+small_of_parts (Play (BuyTrain kind (source.Company seller price))) small =
     leb-true price number_most (and_parts (nat_le price number_most) true small).0
-small_of_parts (BuyOwnedPrivate private price) small =
+small_of_parts (Play (BuyOwnedPrivate private price)) small =
     leb-true price number_most (and_parts (nat_le price number_most) true small).0
-small_of_parts (Raise company shares) small = leb-true shares number_most
+small_of_parts (Play (Raise company shares)) small = leb-true shares number_most
     (and_parts (nat_le shares number_most) true small).0
-small_of_parts (Offer (offer.Private private buyer price)) small =
+small_of_parts (Play (Offer (offer.Private private buyer price))) small =
     leb-true price number_most (and_parts (nat_le price number_most) true small).0
-small_of_parts (Offer (offer.Train kind seller buyer price)) small =
+small_of_parts (Play (Offer (offer.Train kind seller buyer price))) small =
     leb-true price number_most (and_parts (nat_le price number_most) true small).0
 small_of_parts (Cert round company revenue) small =
     let first = and_parts (is_small_round round) (nat_le revenue number_most && true) small in

@@ -5,7 +5,6 @@ pub mod Words
 pub mod Keyword
 pub mod Class
 pub mod Order
-pub mod Short
 pub mod Family
 pub mod Form
 pub mod Line

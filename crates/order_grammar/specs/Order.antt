@@ -11,11 +11,9 @@ use Rattle.order_grammar.specs.declared.keyword.Keyword.TheVariants as keyword
 use Rattle.order_grammar.specs.declared.order.Offer as offers
 use Rattle.order_grammar.specs.declared.order.Offer.TheVariants as offer
 use Rattle.order_grammar.specs.declared.order.Order.{Order}
-use Rattle.order_grammar.specs.declared.order.Order.TheVariants.{Blank, Game, Players, Sheet, Turn, BuyPrivate, Bid}
-use Rattle.order_grammar.specs.declared.order.Order.TheVariants.{Limit, Par, BuyShare, Sell, ExchangeMohawk}
-use Rattle.order_grammar.specs.declared.order.Order.TheVariants.{Company as CompanyTurn, Lay, Token, Run, RunBest, Pay}
-use Rattle.order_grammar.specs.declared.order.Order.TheVariants.{Withhold, BuyTrain, Discard, BuyOwnedPrivate, Raise}
-use Rattle.order_grammar.specs.declared.order.Order.TheVariants.{Offer, Certs, Cert, Claim, Marks}
+use Rattle.order_grammar.specs.declared.order.Order.TheVariants.{Blank, Game, Players, Sheet, Turn}
+use Rattle.order_grammar.specs.declared.order.Order.TheVariants.{Company as CompanyTurn, Run, Certs, Cert, Claim}
+use Rattle.order_grammar.specs.declared.order.Order.TheVariants.{Marks, Play}
 use Rattle.order_grammar.specs.declared.order.ShareSource.{ShareSource}
 use Rattle.order_grammar.specs.declared.order.ShareSource.TheVariants.{InitialOffering, BankPool}
 use Rattle.order_grammar.specs.declared.order.Trailing.{Trailing}
@@ -24,6 +22,10 @@ use Rattle.order_grammar.specs.declared.order.TrainSource.{TrainSource}
 use Rattle.order_grammar.specs.declared.order.TrainSource.TheVariants as source
 use Rattle.order_grammar.specs.declared.order.Value.{Value}
 use Rattle.order_grammar.specs.declared.order.Value.TheVariants as value
+use Rattle.order_grammar.specs.declared.play.PlayOrder.TheVariants.{BuyPrivate, Bid, Limit, Par, BuyShare, Sell}
+use Rattle.order_grammar.specs.declared.play.PlayOrder.TheVariants.{ExchangeMohawk, Lay, Token, RunBest, Pay}
+use Rattle.order_grammar.specs.declared.play.PlayOrder.TheVariants.{Withhold, BuyTrain, Discard, BuyOwnedPrivate}
+use Rattle.order_grammar.specs.declared.play.PlayOrder.TheVariants.{Raise, Offer}
 
 -- the literal word that names where a share is bought
 abbrev pub keyword_of_source : ShareSource → Keyword
@@ -74,33 +76,33 @@ parts_of (Game game version) = made_of keyword.Game (value.Number game ∷ value
 parts_of (Players names) = made_of keyword.Players [] (trailing.Names names)
 parts_of (Sheet name round) = made_of keyword.Sheet (value.Name name ∷ value.Round round ∷ []) trailing.Nothing
 parts_of Turn = made_of keyword.Turn [] trailing.Nothing
-parts_of (BuyPrivate private) = made_of keyword.Buy (value.Private private ∷ []) trailing.Nothing
-parts_of (Bid private amount) = made_of keyword.Bid (value.Private private ∷ value.Number amount ∷ []) trailing.Nothing
-parts_of (Limit private amount) = made_of keyword.Limit (value.Private private ∷ value.Number amount ∷ [])
+parts_of (Play (BuyPrivate private)) = made_of keyword.Buy (value.Private private ∷ []) trailing.Nothing
+parts_of (Play (Bid private amount)) = made_of keyword.Bid (value.Private private ∷ value.Number amount ∷ []) trailing.Nothing
+parts_of (Play (Limit private amount)) = made_of keyword.Limit (value.Private private ∷ value.Number amount ∷ [])
     trailing.Nothing
-parts_of (Par company price) = made_of keyword.Par (value.Company company ∷ value.Number price ∷ []) trailing.Nothing
-parts_of (BuyShare company from) = made_of keyword.Buy
+parts_of (Play (Par company price)) = made_of keyword.Par (value.Company company ∷ value.Number price ∷ []) trailing.Nothing
+parts_of (Play (BuyShare company from)) = made_of keyword.Buy
     (value.Company company ∷ value.Word (keyword_of_source from) ∷ []) trailing.Nothing
-parts_of (Sell company shares) = made_of keyword.Sell (value.Company company ∷ value.Number shares ∷ [])
+parts_of (Play (Sell company shares)) = made_of keyword.Sell (value.Company company ∷ value.Number shares ∷ [])
     trailing.Nothing
-parts_of ExchangeMohawk = made_of keyword.Exchange (value.Word keyword.Mohawk ∷ []) trailing.Nothing
+parts_of (Play ExchangeMohawk) = made_of keyword.Exchange (value.Word keyword.Mohawk ∷ []) trailing.Nothing
 parts_of (CompanyTurn company) = made_of keyword.Company (value.Company company ∷ []) trailing.Nothing
-parts_of (Lay lay) =
+parts_of (Play (Lay lay)) =
     made_of keyword.Lay (value.Tile lay.tile ∷ value.Hex lay.hex ∷ value.Rotation lay.rot ∷ swap_values lay.swap)
     trailing.Nothing
-parts_of (Token place) = made_of keyword.Token (value.Place place ∷ []) trailing.Nothing
+parts_of (Play (Token place)) = made_of keyword.Token (value.Place place ∷ []) trailing.Nothing
 parts_of (Run kind run) = made_of keyword.Run (value.Kind kind ∷ []) (trailing.Places run)
-parts_of RunBest = made_of keyword.Run (value.Word keyword.Best ∷ []) trailing.Nothing
-parts_of Pay = made_of keyword.Pay [] trailing.Nothing
-parts_of Withhold = made_of keyword.Withhold [] trailing.Nothing
-parts_of (BuyTrain kind from) = made_of keyword.Train (value.Kind kind ∷ source_values from) trailing.Nothing
-parts_of (Discard company kind) = made_of keyword.Discard (value.Company company ∷ value.Kind kind ∷ [])
+parts_of (Play RunBest) = made_of keyword.Run (value.Word keyword.Best ∷ []) trailing.Nothing
+parts_of (Play Pay) = made_of keyword.Pay [] trailing.Nothing
+parts_of (Play Withhold) = made_of keyword.Withhold [] trailing.Nothing
+parts_of (Play (BuyTrain kind from)) = made_of keyword.Train (value.Kind kind ∷ source_values from) trailing.Nothing
+parts_of (Play (Discard company kind)) = made_of keyword.Discard (value.Company company ∷ value.Kind kind ∷ [])
     trailing.Nothing
-parts_of (BuyOwnedPrivate private price) = made_of keyword.Private (value.Private private ∷ value.Number price ∷ [])
+parts_of (Play (BuyOwnedPrivate private price)) = made_of keyword.Private (value.Private private ∷ value.Number price ∷ [])
     trailing.Nothing
-parts_of (Raise company shares) = made_of keyword.Raise (value.Company company ∷ value.Number shares ∷ [])
+parts_of (Play (Raise company shares)) = made_of keyword.Raise (value.Company company ∷ value.Number shares ∷ [])
     trailing.Nothing
-parts_of (Offer offer) = made_of keyword.Offer (offer_values offer) trailing.Nothing
+parts_of (Play (Offer offer)) = made_of keyword.Offer (offer_values offer) trailing.Nothing
 parts_of Certs = made_of keyword.Certs (value.Word keyword.One ∷ []) trailing.Nothing
 parts_of (Cert round company revenue) =
     made_of keyword.Cert (value.Round round ∷ value.Company company ∷ value.Number revenue ∷ []) trailing.Nothing
@@ -113,52 +115,52 @@ order_from keyword.Game ((value.Number game) ∷ (value.Number version) ∷ []) 
 order_from keyword.Players [] (trailing.Names names) = Some (Players names)
 order_from keyword.Sheet ((value.Name name) ∷ (value.Round round) ∷ []) trailing.Nothing = Some (Sheet name round)
 order_from keyword.Turn [] trailing.Nothing = Some Turn
-order_from keyword.Buy ((value.Private private) ∷ []) trailing.Nothing = Some (BuyPrivate private)
+order_from keyword.Buy ((value.Private private) ∷ []) trailing.Nothing = Some (Play (BuyPrivate private))
 order_from keyword.Buy ((value.Company company) ∷ (value.Word keyword.InitialOffering) ∷ []) trailing.Nothing =
-    Some (BuyShare company InitialOffering)
+    Some (Play (BuyShare company InitialOffering))
 order_from keyword.Buy ((value.Company company) ∷ (value.Word keyword.Pool) ∷ []) trailing.Nothing =
-    Some (BuyShare company BankPool)
+    Some (Play (BuyShare company BankPool))
 order_from keyword.Bid ((value.Private private) ∷ (value.Number amount) ∷ []) trailing.Nothing = Some
-    (Bid private amount)
+    (Play (Bid private amount))
 order_from keyword.Limit ((value.Private private) ∷ (value.Number amount) ∷ []) trailing.Nothing =
-    Some (Limit private amount)
-order_from keyword.Par ((value.Company company) ∷ (value.Number price) ∷ []) trailing.Nothing = Some (Par company price)
+    Some (Play (Limit private amount))
+order_from keyword.Par ((value.Company company) ∷ (value.Number price) ∷ []) trailing.Nothing = Some (Play (Par company price))
 order_from keyword.Sell ((value.Company company) ∷ (value.Number shares) ∷ []) trailing.Nothing = Some
-    (Sell company shares)
-order_from keyword.Exchange ((value.Word keyword.Mohawk) ∷ []) trailing.Nothing = Some ExchangeMohawk
+    (Play (Sell company shares))
+order_from keyword.Exchange ((value.Word keyword.Mohawk) ∷ []) trailing.Nothing = Some (Play ExchangeMohawk)
 order_from keyword.Company ((value.Company company) ∷ []) trailing.Nothing = Some (CompanyTurn company)
 order_from keyword.Lay ((value.Tile tile) ∷ (value.Hex hex) ∷ (value.Rotation rotation) ∷ []) trailing.Nothing =
-    Some (Lay (lay_of tile hex rotation false))
+    Some (Play (Lay (lay_of tile hex rotation false)))
 order_from keyword.Lay ((value.Tile tile) ∷ (value.Hex hex) ∷ (value.Rotation rotation) ∷ (value.Word keyword.Swap)
     ∷ []) trailing.Nothing =
-    Some (Lay (lay_of tile hex rotation true))
-order_from keyword.Token ((value.Place place) ∷ []) trailing.Nothing = Some (Token place)
+    Some (Play (Lay (lay_of tile hex rotation true)))
+order_from keyword.Token ((value.Place place) ∷ []) trailing.Nothing = Some (Play (Token place))
 order_from keyword.Run ((value.Kind kind) ∷ []) (trailing.Places run) = Some (Run kind run)
-order_from keyword.Run ((value.Word keyword.Best) ∷ []) trailing.Nothing = Some RunBest
-order_from keyword.Pay [] trailing.Nothing = Some Pay
-order_from keyword.Withhold [] trailing.Nothing = Some Withhold
+order_from keyword.Run ((value.Word keyword.Best) ∷ []) trailing.Nothing = Some (Play RunBest)
+order_from keyword.Pay [] trailing.Nothing = Some (Play Pay)
+order_from keyword.Withhold [] trailing.Nothing = Some (Play Withhold)
 order_from keyword.Train ((value.Kind kind) ∷ (value.Word keyword.Bank) ∷ []) trailing.Nothing =
-    Some (BuyTrain kind source.Bank)
+    Some (Play (BuyTrain kind source.Bank))
 order_from keyword.Train ((value.Kind kind) ∷ (value.Word keyword.Bank) ∷ (value.Word keyword.Trade)
     ∷ (value.Kind other) ∷ []) trailing.Nothing =
-    Some (BuyTrain kind (source.Trade other))
+    Some (Play (BuyTrain kind (source.Trade other)))
 order_from keyword.Train ((value.Kind kind) ∷ (value.Word keyword.Pool) ∷ []) trailing.Nothing =
-    Some (BuyTrain kind source.BankPool)
+    Some (Play (BuyTrain kind source.BankPool))
 order_from keyword.Train ((value.Kind kind) ∷ (value.Company seller) ∷ (value.Number price) ∷ []) trailing.Nothing =
-    Some (BuyTrain kind (source.Company seller price))
+    Some (Play (BuyTrain kind (source.Company seller price)))
 order_from keyword.Discard ((value.Company company) ∷ (value.Kind kind) ∷ []) trailing.Nothing = Some
-    (Discard company kind)
+    (Play (Discard company kind))
 order_from keyword.Private ((value.Private private) ∷ (value.Number price) ∷ []) trailing.Nothing =
-    Some (BuyOwnedPrivate private price)
+    Some (Play (BuyOwnedPrivate private price))
 order_from keyword.Raise ((value.Company company) ∷ (value.Number shares) ∷ []) trailing.Nothing =
-    Some (Raise company shares)
+    Some (Play (Raise company shares))
 order_from keyword.Offer ((value.Word keyword.Private) ∷ (value.Private private) ∷ (value.Company buyer)
     ∷ (value.Number price) ∷ []) trailing.Nothing =
-    Some (Offer (offer.Private private buyer price))
+    Some (Play (Offer (offer.Private private buyer price)))
 order_from keyword.Offer ((value.Word keyword.Train) ∷ (value.Kind kind) ∷ (value.Company seller)
     ∷ (value.Company buyer) ∷ (value.Number price) ∷ [])
     trailing.Nothing =
-    Some (Offer (offer.Train kind seller buyer price))
+    Some (Play (Offer (offer.Train kind seller buyer price)))
 order_from keyword.Certs ((value.Word keyword.One) ∷ []) trailing.Nothing = Some Certs
 order_from keyword.Cert ((value.Round round) ∷ (value.Company company) ∷ (value.Number revenue) ∷ []) trailing.Nothing =
     Some (Cert round company revenue)

@@ -24,14 +24,16 @@ use Rattle.order_grammar.specs.Words.{words_of, before_comment, is_printable}
 use Rattle.order_grammar.specs.declared.order.Offer as offers
 use Rattle.order_grammar.specs.declared.order.Offer.TheVariants as offer
 use Rattle.order_grammar.specs.declared.order.Order.{Order}
-use Rattle.order_grammar.specs.declared.order.Order.TheVariants.{Blank, Game, Players, Sheet, Turn, BuyPrivate, Bid}
-use Rattle.order_grammar.specs.declared.order.Order.TheVariants.{Limit, Par, BuyShare, Sell, ExchangeMohawk}
-use Rattle.order_grammar.specs.declared.order.Order.TheVariants.{Company as CompanyTurn, Lay, Token, Run, RunBest, Pay}
-use Rattle.order_grammar.specs.declared.order.Order.TheVariants.{Withhold, BuyTrain, Discard, BuyOwnedPrivate, Raise}
-use Rattle.order_grammar.specs.declared.order.Order.TheVariants.{Offer, Certs, Cert, Claim, Marks}
+use Rattle.order_grammar.specs.declared.order.Order.TheVariants.{Blank, Game, Players, Sheet, Turn}
+use Rattle.order_grammar.specs.declared.order.Order.TheVariants.{Company as CompanyTurn, Run, Certs, Cert, Claim}
+use Rattle.order_grammar.specs.declared.order.Order.TheVariants.{Marks, Play}
 use Rattle.order_grammar.specs.declared.order.ShareSource.TheVariants.{InitialOffering, BankPool}
 use Rattle.order_grammar.specs.declared.order.TrainSource.{TrainSource}
 use Rattle.order_grammar.specs.declared.order.TrainSource.TheVariants as source
+use Rattle.order_grammar.specs.declared.play.PlayOrder.TheVariants.{BuyPrivate, Bid, Limit, Par, BuyShare, Sell}
+use Rattle.order_grammar.specs.declared.play.PlayOrder.TheVariants.{ExchangeMohawk, Lay, Token, RunBest, Pay}
+use Rattle.order_grammar.specs.declared.play.PlayOrder.TheVariants.{Withhold, BuyTrain, Discard, BuyOwnedPrivate}
+use Rattle.order_grammar.specs.declared.play.PlayOrder.TheVariants.{Raise, Offer}
 
 -- this exact word
 abbrev pub IsWord : List ℕ → List ℕ → Type 0
@@ -153,37 +155,37 @@ AreWordsFor (Players names) words = Then (IsWord (codes "PLAYERS")) (AreNames na
 AreWordsFor (Sheet name round) words =
     Then (IsWord (codes "SHEET")) (Then (IsName name) (Then (IsRoundOfLine round) End)) words
 AreWordsFor Turn words = Then (IsWord (codes "TURN")) End words
-AreWordsFor (BuyPrivate private) words = Then (IsWord (codes "BUY")) (Then (IsPrivate private) End) words
-AreWordsFor (Bid private amount) words =
+AreWordsFor (Play (BuyPrivate private)) words = Then (IsWord (codes "BUY")) (Then (IsPrivate private) End) words
+AreWordsFor (Play (Bid private amount)) words =
     Then (IsWord (codes "BID")) (Then (IsPrivate private) (Then (IsNumber amount) End)) words
-AreWordsFor (Limit private amount) words =
+AreWordsFor (Play (Limit private amount)) words =
     Then (IsWord (codes "LIMIT")) (Then (IsPrivate private) (Then (IsNumber amount) End)) words
-AreWordsFor (Par company price) words =
+AreWordsFor (Play (Par company price)) words =
     Then (IsWord (codes "PAR")) (Then (IsCompany company) (Then (IsNumber price) End)) words
-AreWordsFor (BuyShare company InitialOffering) words =
+AreWordsFor (Play (BuyShare company InitialOffering)) words =
     Then (IsWord (codes "BUY")) (Then (IsCompany company) (Then (IsWord (codes "IPO")) End)) words
-AreWordsFor (BuyShare company BankPool) words =
+AreWordsFor (Play (BuyShare company BankPool)) words =
     Then (IsWord (codes "BUY")) (Then (IsCompany company) (Then (IsWord (codes "POOL")) End)) words
-AreWordsFor (Sell company shares) words =
+AreWordsFor (Play (Sell company shares)) words =
     Then (IsWord (codes "SELL")) (Then (IsCompany company) (Then (IsNumber shares) End)) words
-AreWordsFor ExchangeMohawk words = Then (IsWord (codes "EXCHANGE")) (Then (IsWord (codes "MH")) End) words
+AreWordsFor (Play ExchangeMohawk) words = Then (IsWord (codes "EXCHANGE")) (Then (IsWord (codes "MH")) End) words
 AreWordsFor (CompanyTurn company) words = Then (IsWord (codes "COMPANY")) (Then (IsCompany company) End) words
-AreWordsFor (Lay lay) words =
+AreWordsFor (Play (Lay lay)) words =
     Then (IsWord (codes "LAY")) (Then (IsTile lay.tile)
     (Then (IsHex lay.hex) (Then (IsRotation lay.rot) (AreSwapWords lay.swap)))) words
-AreWordsFor (Token place) words = Then (IsWord (codes "TOKEN")) (Then (IsPlace place) End) words
+AreWordsFor (Play (Token place)) words = Then (IsWord (codes "TOKEN")) (Then (IsPlace place) End) words
 AreWordsFor (Run kind run) words = Then (IsWord (codes "RUN")) (Then (IsKind kind) (ArePlaces run)) words
-AreWordsFor RunBest words = Then (IsWord (codes "RUN")) (Then (IsWord (codes "BEST")) End) words
-AreWordsFor Pay words = Then (IsWord (codes "PAY")) End words
-AreWordsFor Withhold words = Then (IsWord (codes "WITHHOLD")) End words
-AreWordsFor (BuyTrain kind from) words = Then (IsWord (codes "TRAIN")) (Then (IsKind kind) (AreSourceWords from)) words
-AreWordsFor (Discard company kind) words =
+AreWordsFor (Play RunBest) words = Then (IsWord (codes "RUN")) (Then (IsWord (codes "BEST")) End) words
+AreWordsFor (Play Pay) words = Then (IsWord (codes "PAY")) End words
+AreWordsFor (Play Withhold) words = Then (IsWord (codes "WITHHOLD")) End words
+AreWordsFor (Play (BuyTrain kind from)) words = Then (IsWord (codes "TRAIN")) (Then (IsKind kind) (AreSourceWords from)) words
+AreWordsFor (Play (Discard company kind)) words =
     Then (IsWord (codes "DISCARD")) (Then (IsCompany company) (Then (IsKind kind) End)) words
-AreWordsFor (BuyOwnedPrivate private price) words =
+AreWordsFor (Play (BuyOwnedPrivate private price)) words =
     Then (IsWord (codes "PRIVATE")) (Then (IsPrivate private) (Then (IsNumber price) End)) words
-AreWordsFor (Raise company shares) words =
+AreWordsFor (Play (Raise company shares)) words =
     Then (IsWord (codes "RAISE")) (Then (IsCompany company) (Then (IsNumber shares) End)) words
-AreWordsFor (Offer offer) words = Then (IsWord (codes "OFFER")) (AreOfferWords offer) words
+AreWordsFor (Play (Offer offer)) words = Then (IsWord (codes "OFFER")) (AreOfferWords offer) words
 AreWordsFor Certs words = Then (IsWord (codes "CERTS")) (Then (IsWord (codes "1")) End) words
 AreWordsFor (Cert round company revenue) words =
     Then (IsWord (codes "CERT")) (Then (IsRoundOfLine round) (Then (IsCompany company) (Then (IsNumber revenue) End)))
@@ -223,14 +225,14 @@ HasSmallOffer (offer.Train kind seller buyer price) = price ≤ number_most
 abbrev pub HasSmallNumbers : Order → Type 0
 HasSmallNumbers (Game game version) = (game ≤ number_most) × (version ≤ number_most)
 HasSmallNumbers (Sheet name round) = IsSmallRound round
-HasSmallNumbers (Bid private amount) = amount ≤ number_most
-HasSmallNumbers (Limit private amount) = amount ≤ number_most
-HasSmallNumbers (Par company price) = price ≤ number_most
-HasSmallNumbers (Sell company shares) = shares ≤ number_most
-HasSmallNumbers (BuyTrain kind from) = HasSmallPrice from
-HasSmallNumbers (BuyOwnedPrivate private price) = price ≤ number_most
-HasSmallNumbers (Raise company shares) = shares ≤ number_most
-HasSmallNumbers (Offer offer) = HasSmallOffer offer
+HasSmallNumbers (Play (Bid private amount)) = amount ≤ number_most
+HasSmallNumbers (Play (Limit private amount)) = amount ≤ number_most
+HasSmallNumbers (Play (Par company price)) = price ≤ number_most
+HasSmallNumbers (Play (Sell company shares)) = shares ≤ number_most
+HasSmallNumbers (Play (BuyTrain kind from)) = HasSmallPrice from
+HasSmallNumbers (Play (BuyOwnedPrivate private price)) = price ≤ number_most
+HasSmallNumbers (Play (Raise company shares)) = shares ≤ number_most
+HasSmallNumbers (Play (Offer offer)) = HasSmallOffer offer
 HasSmallNumbers (Cert round company revenue) = IsSmallRound round × (revenue ≤ number_most)
 HasSmallNumbers other = Unit {0}
 

@@ -18,8 +18,9 @@
 //! ```
 //!
 //! Reading order: `name`, `fault`, `words` (a line and its words), `keyword` (the literal words),
-//! `order` (orders), `short` (orders of few bytes), `class` (the texts of each class of words),
-//! `form` (the table), `condition` (versions, and conditional orders), `read`, `print`, `laws`.
+//! `order` (what a line says), `play` (the orders of play in few bytes), `class` (the texts of each
+//! class of words), `form` (the table), `condition` (versions, and conditional orders), `read`,
+//! `print`, `laws`.
 #![tactic(auto)]
 
 mod class;
@@ -30,9 +31,9 @@ mod keyword;
 pub mod laws;
 mod name;
 mod order;
+mod play;
 mod print;
 mod read;
-mod short;
 mod words;
 
 pub use class::MARKS_DIGITS_MOST;
@@ -40,13 +41,13 @@ pub use condition::{Condition, Version};
 pub use fault::Fault;
 pub use name::{NAME_MOST, Name};
 pub use order::{Offer, Order, ShareSource, TrainSource};
+pub use play::PlayOrder;
 pub use print::{
-    print_condition, print_conditional, print_line, print_number, print_order, print_round,
-    print_run_prefix, print_short_order,
+    print_condition, print_conditional, print_line, print_number, print_order, print_play_order,
+    print_round, print_run_prefix,
 };
 pub use read::{
     CERT_LINE_MOST, LINE_MOST, Line, is_printable, read_cert_line, read_line, read_line_in,
     read_order_in,
 };
-pub use short::ShortOrder;
 pub use words::{Span, Token, Words, begins_with_word, has_word};

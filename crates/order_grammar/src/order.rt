@@ -3,7 +3,6 @@
 ghost use Rattle.std.specs.Prelude.{◌≡◌, false};
 ghost use Rattle.order_grammar.specs.Family.{IsOfAmount, IsOfCertificate, IsOfFile, IsOfOne, IsOfTrains};
 ghost use Rattle.order_grammar.specs.Order.{keyword_of_source, order_from, put_if, text_of_source};
-ghost use Rattle.order_grammar.specs.Short.{has_short_form};
 ghost use Rattle.order_grammar.specs.declared.keyword.Keyword.TheVariants.{Buy, Lay as LayWord, Offer as OfferWord};
 ghost use Rattle.order_grammar.specs.declared.keyword.Keyword.TheVariants.{Train};
 ghost use Rattle.order_grammar.specs.declared.order.Trailing.TheVariants.{Nothing};
@@ -11,7 +10,7 @@ ghost use Rattle.order_grammar.specs.declared.order.Value.TheVariants.{Number};
 
 use crate::keyword::Keyword;
 use crate::name::Name;
-use crate::short::ShortOrder;
+use crate::play::PlayOrder;
 use arrayvec::ArrayVec;
 use map_tables::{Hex, Lay, Place, Rotation, Run, TileNo};
 use tables::{Amount, Company, Kind, PLAYERS_MOST, Private, Round};
@@ -35,77 +34,15 @@ pub enum Order {
     },
     /// `TURN`: the lines for one turn begin.
     Turn,
-    /// `BUY p`: buy a private at its price.
-    BuyPrivate(Private),
-    /// `BID p n`: bid this many dollars for a private.
-    Bid {
-        private: Private,
-        amount: Amount,
-    },
-    /// `LIMIT p n`: bid up to this many dollars if a private is auctioned.
-    Limit {
-        private: Private,
-        amount: Amount,
-    },
-    /// `PAR co n`: start a company at a par value in dollars.
-    Par {
-        company: Company,
-        price: Amount,
-    },
-    /// `BUY co IPO` or `BUY co POOL`: buy one share of a company.
-    BuyShare {
-        company: Company,
-        from: ShareSource,
-    },
-    /// `SELL co n`: sell this many shares of a company as one block.
-    Sell {
-        company: Company,
-        shares: Amount,
-    },
-    /// `EXCHANGE MH`: give up the private MH for one share of NYC.
-    ExchangeMohawk,
     /// `COMPANY co`: a company's orders begin.
     Company(Company),
-    /// `LAY tile hex rot` or `LAY tile hex rot SWAP`: lay a tile on a hex, turned by this many
-    /// sixths, with its stops swapped or not.
-    Lay(Lay),
-    /// `TOKEN place`: place a token at a stop.
-    Token(Place),
+    /// An order of play in few bytes.
+    Play(PlayOrder),
     /// `RUN kind place place ..`: run a train of a kind through 2 to 280 places.
     Run {
         kind: Kind,
         run: Run,
     },
-    /// `RUN BEST`: run the trains so that they earn the greatest revenue.
-    RunBest,
-    /// `PAY`: pay out the revenue of the turn.
-    Pay,
-    /// `WITHHOLD`: keep the revenue of the turn.
-    Withhold,
-    /// `TRAIN kind BANK`, `TRAIN kind BANK TRADE kind`, `TRAIN kind POOL` or `TRAIN kind co n`: buy
-    /// a train of a kind.
-    BuyTrain {
-        kind: Kind,
-        from: TrainSource,
-    },
-    /// `DISCARD co kind`: if a company has too many trains, give up one of this kind.
-    Discard {
-        company: Company,
-        kind: Kind,
-    },
-    /// `PRIVATE p n`: buy a private from the player who owns it, for this many dollars.
-    BuyOwnedPrivate {
-        private: Private,
-        price: Amount,
-    },
-    /// `RAISE co n`: sell this many shares of a company, if it must buy a train that it and its
-    /// president cannot pay for.
-    Raise {
-        company: Company,
-        shares: Amount,
-    },
-    /// `OFFER PRIVATE p co n` or `OFFER TRAIN kind co co n`: consent to a sale in this round.
-    Offer(Offer),
     /// `CERTS 1`: the text of a certificate begins, of version 1.
     Certs,
     /// `CERT round co n`: the certificate of a company's best runs in a round begins; they earn
@@ -232,18 +169,8 @@ impl Order {
     pub fn duplicate(&self) -> Order
         ensures { result ≡ self.now }
     {
-        match ShortOrder::of(self) {
-            Some(short) => short.order(),
-            None => self.duplicate_other(),
-        }
-    }
-
-    /// Returns an order equal to this one, which has no short form.
-    fn duplicate_other(&self) -> Order
-        requires { has_short_form self.now ≡ false }
-        ensures { result ≡ self.now }
-    {
         match self {
+            Order::Blank => Order::Blank,
             Order::Game { game, version } => Order::Game {
                 game: *game,
                 version: *version,
@@ -255,6 +182,7 @@ impl Order {
             },
             Order::Turn => Order::Turn,
             Order::Company(company) => Order::Company(*company),
+            Order::Play(order) => Order::Play(*order),
             Order::Run { kind, run } => Order::Run {
                 kind: *kind,
                 run: run.duplicate(),
@@ -274,8 +202,6 @@ impl Order {
                 run: run.duplicate(),
             },
             Order::Marks => Order::Marks,
-            // A line without words; all others have a short form.
-            _ => Order::Blank,
         }
     }
 }
@@ -375,23 +301,23 @@ fn put_line_of_file(keyword: Keyword, values: &[Value], order: &mut Order) -> bo
 fn put_purchase(values: &[Value], order: &mut Order) -> bool
     ensures { put_if result order.new ≡ order_from Buy values.now Nothing }
 {
-    *order = match values {
-        [Value::Private(private)] => Order::BuyPrivate(*private),
+    *order = Order::Play(match values {
+        [Value::Private(private)] => PlayOrder::BuyPrivate(*private),
         [
             Value::Company(company),
             Value::Word(Keyword::InitialOffering),
         ] => {
-            Order::BuyShare {
+            PlayOrder::BuyShare {
                 company: *company,
                 from: ShareSource::InitialOffering,
             }
         }
-        [Value::Company(company), Value::Word(Keyword::Pool)] => Order::BuyShare {
+        [Value::Company(company), Value::Word(Keyword::Pool)] => PlayOrder::BuyShare {
             company: *company,
             from: ShareSource::BankPool,
         },
         _ => return false,
-    };
+    });
     true
 }
 
@@ -404,35 +330,35 @@ fn put_amount(keyword: Keyword, values: &[Value], order: &mut Order) -> bool
         return false;
     };
     let number = *number;
-    *order = match (keyword, *subject) {
-        (Keyword::Bid, Value::Private(private)) => Order::Bid {
+    *order = Order::Play(match (keyword, *subject) {
+        (Keyword::Bid, Value::Private(private)) => PlayOrder::Bid {
             private,
             amount: number,
         },
-        (Keyword::Limit, Value::Private(private)) => Order::Limit {
+        (Keyword::Limit, Value::Private(private)) => PlayOrder::Limit {
             private,
             amount: number,
         },
-        (Keyword::Par, Value::Company(company)) => Order::Par {
+        (Keyword::Par, Value::Company(company)) => PlayOrder::Par {
             company,
             price: number,
         },
         (Keyword::Private, Value::Private(private)) => {
-            Order::BuyOwnedPrivate {
+            PlayOrder::BuyOwnedPrivate {
                 private,
                 price: number,
             }
         }
-        (Keyword::Sell, Value::Company(company)) => Order::Sell {
+        (Keyword::Sell, Value::Company(company)) => PlayOrder::Sell {
             company,
             shares: number,
         },
-        (Keyword::Raise, Value::Company(company)) => Order::Raise {
+        (Keyword::Raise, Value::Company(company)) => PlayOrder::Raise {
             company,
             shares: number,
         },
         _ => return false,
-    };
+    });
     true
 }
 
@@ -442,12 +368,12 @@ fn order_from_one(keyword: Keyword, values: &[Value], order: &mut Order) -> bool
     requires { IsOfOne keyword }
     ensures { put_if result order.new ≡ order_from keyword values.now Nothing }
 {
-    *order = match (keyword, values) {
-        (Keyword::Exchange, [Value::Word(Keyword::Mohawk)]) => Order::ExchangeMohawk,
-        (Keyword::Token, [Value::Place(place)]) => Order::Token(*place),
-        (Keyword::Run, [Value::Word(Keyword::Best)]) => Order::RunBest,
+    *order = Order::Play(match (keyword, values) {
+        (Keyword::Exchange, [Value::Word(Keyword::Mohawk)]) => PlayOrder::ExchangeMohawk,
+        (Keyword::Token, [Value::Place(place)]) => PlayOrder::Token(*place),
+        (Keyword::Run, [Value::Word(Keyword::Best)]) => PlayOrder::RunBest,
         _ => return false,
-    };
+    });
     true
 }
 
@@ -465,12 +391,12 @@ fn put_lay(values: &[Value], order: &mut Order) -> bool
         ] => { (*tile, *hex, *rot, true) }
         _ => return false,
     };
-    *order = Order::Lay(Lay {
+    *order = Order::Play(PlayOrder::Lay(Lay {
         hex,
         tile,
         rot,
         swap,
-    });
+    }));
     true
 }
 
@@ -479,15 +405,15 @@ fn put_revenue_or_discard(keyword: Keyword, values: &[Value], order: &mut Order)
     requires { IsOfTrains keyword }
     ensures { put_if result order.new ≡ order_from keyword values.now Nothing }
 {
-    *order = match (keyword, values) {
-        (Keyword::Pay, []) => Order::Pay,
-        (Keyword::Withhold, []) => Order::Withhold,
-        (Keyword::Discard, [Value::Company(company), Value::Kind(kind)]) => Order::Discard {
+    *order = Order::Play(match (keyword, values) {
+        (Keyword::Pay, []) => PlayOrder::Pay,
+        (Keyword::Withhold, []) => PlayOrder::Withhold,
+        (Keyword::Discard, [Value::Company(company), Value::Kind(kind)]) => PlayOrder::Discard {
             company: *company,
             kind: *kind,
         },
         _ => return false,
-    };
+    });
     true
 }
 
@@ -514,7 +440,7 @@ fn put_train(values: &[Value], order: &mut Order) -> bool
         }
         _ => return false,
     };
-    *order = Order::BuyTrain { kind, from };
+    *order = Order::Play(PlayOrder::BuyTrain { kind, from });
     true
 }
 
@@ -551,7 +477,7 @@ fn put_offer(values: &[Value], order: &mut Order) -> bool
         }
         _ => return false,
     };
-    *order = Order::Offer(offer);
+    *order = Order::Play(PlayOrder::Offer(offer));
     true
 }
 

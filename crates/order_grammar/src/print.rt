@@ -8,17 +8,17 @@ ghost use Rattle.order_grammar.specs.Keyword.{text_of_keyword};
 ghost use Rattle.order_grammar.specs.Print.{AddsPrefix, condition_text, conditional_spelling, joined, places_line};
 ghost use Rattle.order_grammar.specs.Print.{places_text, spaced, spelling_of, text_of_round, text_of_value};
 ghost use Rattle.order_grammar.specs.Print.{values_text, words_text};
-ghost use Rattle.order_grammar.specs.Short.{has_short_form, order_in_short};
 ghost use Rattle.order_grammar.specs.declared.keyword.Keyword.TheVariants.{If, Players};
-ghost use Rattle.order_grammar.specs.declared.order.Order.TheVariants.{BuyTrain, Lay as LayOrder, Offer as OfferOrder};
-ghost use Rattle.order_grammar.specs.declared.order.Order.TheVariants.{Run};
+ghost use Rattle.order_grammar.specs.declared.order.Order.TheVariants.{Play, Run};
 ghost use Rattle.order_grammar.specs.declared.order.Value.TheVariants.{Number};
+ghost use Rattle.order_grammar.specs.declared.play.PlayOrder.TheVariants.{BuyTrain, Lay as LayOrder};
+ghost use Rattle.order_grammar.specs.declared.play.PlayOrder.TheVariants.{Offer as OfferOrder};
 
 use crate::condition::Condition;
 use crate::keyword::Keyword;
 use crate::name::Name;
 use crate::order::{Offer, Order, TrainSource, Value};
-use crate::short::ShortOrder;
+use crate::play::PlayOrder;
 use itoa::Integer;
 use map_tables::{Lay, Place};
 use std::alloc::{AllocError, Global};
@@ -101,19 +101,8 @@ pub fn print_order(text: &mut Vec<u8>, order: &Order) -> Result<(), AllocError>
     ensures ok { OnOk result (text.new.items ≡ text.old.items ++ spelling_of order.now) }
     ensures err { OnErr result (AddsPrefix text.old.items text.new.items (spelling_of order.now)) }
 {
-    match ShortOrder::of(order) {
-        Some(short) => print_short_order(text, short),
-        None => print_other_order(text, order),
-    }
-}
-
-/// Adds the spelling of an order that has no short form.
-fn print_other_order(text: &mut Vec<u8>, order: &Order) -> Result<(), AllocError>
-    requires { has_short_form order.now ≡ false }
-    ensures ok { OnOk result (text.new.items ≡ text.old.items ++ spelling_of order.now) }
-    ensures err { OnErr result (AddsPrefix text.old.items text.new.items (spelling_of order.now)) }
-{
     match order {
+        Order::Blank => Ok(()),
         Order::Game { game, version } => {
             let numbers = [Value::Number(*game), Value::Number(*version)];
             print_words(text, Keyword::Game, &numbers)
@@ -127,6 +116,7 @@ fn print_other_order(text: &mut Vec<u8>, order: &Order) -> Result<(), AllocError
         Order::Company(company) => {
             print_words(text, Keyword::Company, &[Value::Company(*company)])
         }
+        Order::Play(order) => print_play_order(text, *order),
         Order::Run { kind, run } => print_of_places(text, Keyword::Run, *kind, run.as_slice()),
         Order::Certs => print_words(text, Keyword::Certs, &[Value::Word(Keyword::One)]),
         Order::Cert {
@@ -143,8 +133,6 @@ fn print_other_order(text: &mut Vec<u8>, order: &Order) -> Result<(), AllocError
         }
         Order::Claim { kind, run } => print_of_places(text, Keyword::Claim, *kind, run.as_slice()),
         Order::Marks => print_words(text, Keyword::Marks, &[Value::HexDigits]),
-        // A line without words; all others have a short form.
-        _ => Ok(()),
     }
 }
 
@@ -184,54 +172,54 @@ pub fn print_run_prefix(text: &mut Vec<u8>, kind: Kind) -> Result<(), AllocError
     print_words(text, Keyword::Run, &[Value::Kind(kind)])
 }
 
-/// Adds the spelling of an order of few bytes: upper case, single spaces, no leading zeros. If
-/// allocation fails, a prefix of that may have been added.
-pub fn print_short_order(text: &mut Vec<u8>, order: ShortOrder) -> Result<(), AllocError>
+/// Adds the spelling of an order of play in few bytes: upper case, single spaces, no leading zeros.
+/// If allocation fails, a prefix of that may have been added.
+pub fn print_play_order(text: &mut Vec<u8>, order: PlayOrder) -> Result<(), AllocError>
     ensures ok { OnOk result (text.new.items
-        ≡ text.old.items ++ spelling_of (order_in_short order)) }
+        ≡ text.old.items ++ spelling_of (Play order)) }
     ensures err { OnErr result (AddsPrefix text.old.items text.new.items
-        (spelling_of (order_in_short order))) }
+        (spelling_of (Play order))) }
 {
     match order {
-        ShortOrder::BuyPrivate(private) => {
+        PlayOrder::BuyPrivate(private) => {
             print_words(text, Keyword::Buy, &[Value::Private(private)])
         }
-        ShortOrder::Bid { private, amount } => {
+        PlayOrder::Bid { private, amount } => {
             print_amount(text, Keyword::Bid, Value::Private(private), amount)
         }
-        ShortOrder::Limit { private, amount } => {
+        PlayOrder::Limit { private, amount } => {
             print_amount(text, Keyword::Limit, Value::Private(private), amount)
         }
-        ShortOrder::Par { company, price } => {
+        PlayOrder::Par { company, price } => {
             print_amount(text, Keyword::Par, Value::Company(company), price)
         }
-        ShortOrder::BuyShare { company, from } => {
+        PlayOrder::BuyShare { company, from } => {
             let shares = [Value::Company(company), Value::Word(from.keyword())];
             print_words(text, Keyword::Buy, &shares)
         }
-        ShortOrder::Sell { company, shares } => {
+        PlayOrder::Sell { company, shares } => {
             print_amount(text, Keyword::Sell, Value::Company(company), shares)
         }
-        ShortOrder::ExchangeMohawk => {
+        PlayOrder::ExchangeMohawk => {
             print_words(text, Keyword::Exchange, &[Value::Word(Keyword::Mohawk)])
         }
-        ShortOrder::Lay(lay) => print_lay(text, lay),
-        ShortOrder::Token(place) => print_words(text, Keyword::Token, &[Value::Place(place)]),
-        ShortOrder::RunBest => print_words(text, Keyword::Run, &[Value::Word(Keyword::Best)]),
-        ShortOrder::Pay => print_words(text, Keyword::Pay, &[]),
-        ShortOrder::Withhold => print_words(text, Keyword::Withhold, &[]),
-        ShortOrder::BuyTrain { kind, from } => print_purchase(text, kind, from),
-        ShortOrder::Discard { company, kind } => {
+        PlayOrder::Lay(lay) => print_lay(text, lay),
+        PlayOrder::Token(place) => print_words(text, Keyword::Token, &[Value::Place(place)]),
+        PlayOrder::RunBest => print_words(text, Keyword::Run, &[Value::Word(Keyword::Best)]),
+        PlayOrder::Pay => print_words(text, Keyword::Pay, &[]),
+        PlayOrder::Withhold => print_words(text, Keyword::Withhold, &[]),
+        PlayOrder::BuyTrain { kind, from } => print_purchase(text, kind, from),
+        PlayOrder::Discard { company, kind } => {
             let train = [Value::Company(company), Value::Kind(kind)];
             print_words(text, Keyword::Discard, &train)
         }
-        ShortOrder::BuyOwnedPrivate { private, price } => {
+        PlayOrder::BuyOwnedPrivate { private, price } => {
             print_amount(text, Keyword::Private, Value::Private(private), price)
         }
-        ShortOrder::Raise { company, shares } => {
+        PlayOrder::Raise { company, shares } => {
             print_amount(text, Keyword::Raise, Value::Company(company), shares)
         }
-        ShortOrder::Offer(offer) => print_offer(text, offer),
+        PlayOrder::Offer(offer) => print_offer(text, offer),
     }
 }
 
@@ -252,9 +240,9 @@ fn print_amount(
 
 /// Adds the order of a lay.
 fn print_lay(text: &mut Vec<u8>, lay: Lay) -> Result<(), AllocError>
-    ensures ok { OnOk result (text.new.items ≡ text.old.items ++ spelling_of (LayOrder lay)) }
+    ensures ok { OnOk result (text.new.items ≡ text.old.items ++ spelling_of (Play (LayOrder lay))) }
     ensures err { OnErr result (AddsPrefix text.old.items text.new.items
-        (spelling_of (LayOrder lay))) }
+        (spelling_of (Play (LayOrder lay)))) }
 {
     let (tile, hex) = (Value::Tile(lay.tile), Value::Hex(lay.hex));
     let rotation = Value::Rotation(lay.rot);
@@ -269,9 +257,9 @@ fn print_lay(text: &mut Vec<u8>, lay: Lay) -> Result<(), AllocError>
 /// Adds the order to buy a train.
 fn print_purchase(text: &mut Vec<u8>, kind: Kind, from: TrainSource) -> Result<(), AllocError>
     ensures ok { OnOk result (text.new.items
-        ≡ text.old.items ++ spelling_of (BuyTrain kind from)) }
+        ≡ text.old.items ++ spelling_of (Play (BuyTrain kind from))) }
     ensures err { OnErr result (AddsPrefix text.old.items text.new.items
-        (spelling_of (BuyTrain kind from))) }
+        (spelling_of (Play (BuyTrain kind from)))) }
 {
     let (kind, bank) = (Value::Kind(kind), Value::Word(Keyword::Bank));
     match from {
@@ -297,9 +285,9 @@ fn print_purchase(text: &mut Vec<u8>, kind: Kind, from: TrainSource) -> Result<(
 /// Adds the consent to a sale.
 fn print_offer(text: &mut Vec<u8>, offer: Offer) -> Result<(), AllocError>
     ensures ok { OnOk result (text.new.items
-        ≡ text.old.items ++ spelling_of (OfferOrder offer)) }
+        ≡ text.old.items ++ spelling_of (Play (OfferOrder offer))) }
     ensures err { OnErr result (AddsPrefix text.old.items text.new.items
-        (spelling_of (OfferOrder offer))) }
+        (spelling_of (Play (OfferOrder offer)))) }
 {
     match offer {
         Offer::Private {

@@ -14,8 +14,8 @@ use Rattle.moves.specs.declared.priced.Priced.{Priced}
 use Rattle.operating.specs.BoardAsker.{asker_of}
 use Rattle.operating.specs.MapState.{map_state_now}
 use Rattle.operating.specs.TurnState.{TurnState}
-use Rattle.order_grammar.specs.declared.order.Order.{Order}
-use Rattle.order_grammar.specs.declared.order.Order.TheVariants as order
+use Rattle.order_grammar.specs.declared.play.PlayOrder.{PlayOrder}
+use Rattle.order_grammar.specs.declared.play.PlayOrder.TheVariants as play
 use Rattle.page_lays.specs.declared.move_lines.Line.{Line}
 use Rattle.page_lays.specs.declared.move_rows.Move.{Move}
 use Rattle.page_lays.specs.declared.move_rows.Move.TheVariants as move
@@ -27,9 +27,9 @@ hex_of_move (move.Lay lay) = lay.hex
 hex_of_move (move.Token place) = place.hex
 
 -- the order for it
-abbrev pub order_of_move : Move → Order
-order_of_move (move.Lay lay) = order.Lay lay
-order_of_move (move.Token place) = order.Token place
+abbrev pub order_of_move : Move → PlayOrder
+order_of_move (move.Lay lay) = play.Lay lay
+order_of_move (move.Token place) = play.Token place
 
 -- a map once it is done
 abbrev pub with_move : MapState → Move → Company → MapState

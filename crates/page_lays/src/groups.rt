@@ -9,7 +9,7 @@ use map_tables::Hex;
 use markup::PagePiece::{Hex as Hexed, Name, Number, Round as Named, Words};
 use markup::{Attr, Tag, Writer};
 use moves::{Answer, Row};
-use order_grammar::{Offer, Order, print_order};
+use order_grammar::{Offer, PlayOrder, print_play_order};
 use page_map::Scene;
 use std::alloc::{AllocError, Global};
 use tables::{Company, Money, Round, Seat};
@@ -126,13 +126,13 @@ pub(crate) fn put_group(
 /// Adds a row with its price, and the offer that it needs.
 fn put_row(alloc: Global, out: &mut Writer, of: Of, row: &Row) -> Result<(), AllocError> {
     match row.answer {
-        Answer::Obeyed { price } => put_order(alloc, out, &row.order, price),
+        Answer::Obeyed { price } => put_order(alloc, out, row.order, price),
         Answer::WithConsent {
             price,
             giver,
             offer,
         } => {
-            put_order(alloc, out, &row.order, price)?;
+            put_order(alloc, out, row.order, price)?;
             put_offer(alloc, out, of.scene.name(giver), offer)
         }
         Answer::Refused(_) => Ok(()),
@@ -143,11 +143,11 @@ fn put_row(alloc: Global, out: &mut Writer, of: Of, row: &Row) -> Result<(), All
 fn put_order(
     alloc: Global,
     out: &mut Writer,
-    order: &Order,
+    order: PlayOrder,
     price: Money,
 ) -> Result<(), AllocError> {
     let mut text = Vec::new(alloc);
-    print_order(&mut text, order)?;
+    print_play_order(&mut text, order)?;
     out.put(&[Words(" ")]);
     out.begin(Tag::Span);
     out.begin(Tag::Button);
@@ -161,7 +161,7 @@ fn put_order(
 /// Adds the offer that an order needs.
 fn put_offer(alloc: Global, out: &mut Writer, name: &[u8], offer: Offer) -> Result<(), AllocError> {
     let mut text = Vec::new(alloc);
-    print_order(&mut text, &Order::Offer(offer))?;
+    print_play_order(&mut text, PlayOrder::Offer(offer))?;
     out.put(&[Words(" (if "), Name(name), Words(" has ")]);
     out.text(text.as_slice());
     out.put(&[Words(")")]);

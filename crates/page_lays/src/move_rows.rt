@@ -1,6 +1,7 @@
 //! A company's lays and tokens as rows with prices, lays first.
 ghost use Rattle.std.specs.Prelude.{◌≡◌, ◌++◌, IfOk, OnOk, map};
 ghost use Rattle.order_grammar.specs.Print.{spelling_of};
+ghost use Rattle.order_grammar.specs.declared.order.Order.TheVariants.{Play};
 ghost use Rattle.page_lays.specs.MoveRows.{AreMovesIn, hex_of_move, lay_row, order_of_move};
 ghost use Rattle.page_lays.specs.MoveRows.{token_row};
 
@@ -8,7 +9,7 @@ use desk_base::board_at;
 use foresight::OrdersAhead;
 use map_tables::{Hex, Lay, Place};
 use moves::{Priced, lays, tokens};
-use order_grammar::{Order, print_order};
+use order_grammar::{PlayOrder, print_play_order};
 use std::alloc::{AllocError, Global};
 
 /// What a company may do on the map.
@@ -32,21 +33,21 @@ impl Move {
     }
 
     /// Returns its order.
-    fn order(self) -> Order
+    fn order(self) -> PlayOrder
         ensures { result ≡ order_of_move self }
     {
         match self {
-            Move::Lay(lay) => Order::Lay(lay),
-            Move::Token(place) => Order::Token(place),
+            Move::Lay(lay) => PlayOrder::Lay(lay),
+            Move::Token(place) => PlayOrder::Token(place),
         }
     }
 
     /// Returns its order as a line of a sheet. Fails only if allocation fails.
     pub(crate) fn text(self, alloc: Global) -> Result<Vec<u8>, AllocError>
-        ensures { IfOk result (λ text. text.items ≡ spelling_of (order_of_move self)) }
+        ensures { IfOk result (λ text. text.items ≡ spelling_of (Play (order_of_move self))) }
     {
         let mut text = Vec::new(alloc);
-        print_order(&mut text, &self.order())?;
+        print_play_order(&mut text, self.order())?;
         Ok(text)
     }
 }

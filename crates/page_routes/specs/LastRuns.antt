@@ -10,6 +10,7 @@ use Rattle.events.specs.declared.ruling.Ruling.{Ruling}
 use Rattle.events.specs.declared.ruling.Ruling.TheVariants.{Obeyed}
 use Rattle.order_grammar.specs.declared.order.Order.{Order}
 use Rattle.order_grammar.specs.declared.order.Order.TheVariants as order
+use Rattle.order_grammar.specs.declared.play.PlayOrder.TheVariants as play
 use Rattle.page_routes.specs.ShownRuns.{AddsBest, all_shown}
 use Rattle.page_routes.specs.declared.routes.RunLine.{RunLine}
 use Rattle.page_routes.specs.declared.routes.Route.{Route}
@@ -91,7 +92,7 @@ ran_in_last events = those_in (last_operating events) events
 abbrev pub AddsOrdered : List Event → Company → Order → List Route → List Route → Type 0
 AddsOrdered events company (order.Run kind run) old new =
     all_shown new ≡ all_shown old ++ (company, kind, false, run) ∷ []
-AddsOrdered events company order.RunBest old new = AddsBest events company old new
+AddsOrdered events company (order.Play play.RunBest) old new = AddsBest events company old new
 AddsOrdered events company other old new = new ≡ old
 
 -- by the order that a ruling obeys, if it obeys one

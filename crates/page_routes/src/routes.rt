@@ -15,7 +15,7 @@ use history::{Event, GameView, History, Ruling, Walk};
 use legal_runs::ClaimedRun;
 use map_tables::{Hex, Place, Run, Side};
 use markup::Point;
-use order_grammar::Order;
+use order_grammar::{Order, PlayOrder};
 use picture::{Look, centre};
 use reach::Network;
 use std::alloc::{AllocError, Global};
@@ -319,7 +319,7 @@ fn add_ordered(
             let board = board_at(alloc, view)?;
             add_route(alloc, routes, &board, company, *kind, run, false)
         }
-        Order::RunBest => add_best(alloc, routes, view, company),
+        Order::Play(PlayOrder::RunBest) => add_best(alloc, routes, view, company),
         _ => Ok(()),
     }
 }

@@ -16,7 +16,7 @@ use Rattle.events.specs.declared.event.Holder.{Holder}
 use Rattle.events.specs.declared.ruling.Refusal.TheVariants.{Opening}
 use Rattle.events.specs.declared.ruling.Ruling.{Ruling}
 use Rattle.events.specs.declared.ruling.Ruling.TheVariants.{Obeyed}
-use Rattle.history.proofs.BidWords.{seated_after_bid}
+use Rattle.history.proofs.BidWords.{seated_after_bid, sale_cases}
 use Rattle.history.proofs.NearlySound.{ruling_quiet}
 use Rattle.totals.proofs.EventAtEnd.{bid_of_at_end}
 use Rattle.totals.specs.Bids.{bid_of, bid_said, bids_on}
@@ -26,6 +26,7 @@ use Rattle.history.specs.Record.{after_revenues, breaks, paid_to_owner, with_bro
 use Rattle.order_grammar.specs.declared.condition.Condition.{Condition}
 use Rattle.order_grammar.specs.declared.order.Order.{Order}
 use Rattle.order_grammar.specs.declared.order.Order.TheVariants as order
+use Rattle.order_grammar.specs.declared.play.PlayOrder.TheVariants as play
 use Rattle.privates.proofs.RulesAtTable.{by_rules, is_under, rules_at}
 use Rattle.privates.proofs.TurnLemmas.{may_act_after}
 use Rattle.privates.specs.Bid.{MayBid, is_near_some}
@@ -79,12 +80,6 @@ never_near None (event ∷ events) none = never_near None events none
 never_near (Some (Made private bid)) (event ∷ events) none = absurd (cc)
 never_near (Some (Ended private)) (event ∷ events) none = never_near (Some (Ended private)) events none
 
--- a bid on a private that is or isn't ended was before, if it stands
-pub not_ended : (here : Bool) (before : Option ℕ) (amount : ℕ)
-    → unwrap_or (if here then Some None else None) before ≡ Some amount → before ≡ Some amount
-not_ended true before amount is_bid = absurd (cc)
-not_ended false before amount is_bid = is_bid
-
 -- a bid that is after what is no bid was before
 stood : (word : Option Bidding) (private : Private) (seat : Seat) (before : Option ℕ) (amount : ℕ)
     → is_no_bid word ≡ true →
@@ -92,7 +87,7 @@ stood : (word : Option Bidding) (private : Private) (seat : Seat) (before : Opti
 stood None private seat before amount none is_bid = is_bid
 stood (Some (Made other bid)) private seat before amount none is_bid = absurd (cc)
 stood (Some (Ended other)) private seat before amount none is_bid =
-    not_ended (same_private other private) before amount is_bid
+    sale_cases (same_private other private) before amount is_bid
 
 -- bids rise with one more event that is no bid
 with_other : (seats : ℕ) (events : List Event) (event : Event) → is_no_bid (bidding_of event) ≡ true
@@ -227,21 +222,21 @@ order_rise : (seats : ℕ) (seat : Seat) (turn : InOpeningTurn) (number : ℕ) �
     → (condition : Option Condition) (done : Order) →
     opening_refusal seats turn.events seat turn.actions done ≡ None
     → RiseAt seats (after_opening_ruling seats seat turn number (Obeyed condition done)).events
-order_rise seats seat turn number under before condition (order.BuyPrivate private) kept =
-    let recorded : Event = event.Ruled seat number (Obeyed condition (order.BuyPrivate private)) in
+order_rise seats seat turn number under before condition (order.Play (play.BuyPrivate private)) kept =
+    let recorded : Event = event.Ruled seat number (Obeyed condition (order.Play (play.BuyPrivate private))) in
     let ruled : List Event = turn.events ++ recorded ∷ [] in
     settled_rise seats (after_private_sale ruled private seat (price_of_private ruled private))
     (after_sale_rise seats ruled private seat (price_of_private ruled private) (with_other seats turn.events recorded refl
     before))
-order_rise seats seat turn number under before condition (order.Bid private amount) kept =
-    let recorded : Event = event.Ruled seat number (Obeyed condition (order.Bid private amount)) in
+order_rise seats seat turn number under before condition (order.Play (play.Bid private amount)) kept =
+    let recorded : Event = event.Ruled seat number (Obeyed condition (order.Play (play.Bid private amount))) in
     let ruled : List Event = turn.events ++ recorded ∷ [] in
-    let none = none_as_refusal Opening (opening_judgement seats turn.events seat turn.actions (order.Bid private amount))
+    let none = none_as_refusal Opening (opening_judgement seats turn.events seat turn.actions (order.Play (play.Bid private amount)))
     kept in
     bid_rise seats ruled seat private amount
     (may_act_after (record { seats = seats; events = turn.events }) (record { seats = seats; events = ruled }) recorded
-    seat turn.actions (order.Bid private amount) refl
-    (ruling_quiet seat number (Obeyed condition (order.Bid private amount))) none)
+    seat turn.actions (order.Play (play.Bid private amount)) refl
+    (ruling_quiet seat number (Obeyed condition (order.Play (play.Bid private amount)))) none)
     under (with_other seats turn.events recorded refl before)
 order_rise seats seat turn number under before condition other kept = absurd (cc)
 

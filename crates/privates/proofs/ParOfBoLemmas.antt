@@ -10,6 +10,7 @@ use Rattle.events.specs.declared.event.Event.{Event}
 use Rattle.totals.specs.Orders.{par_ordered_of}
 use Rattle.order_grammar.specs.declared.order.Order.{Order}
 use Rattle.order_grammar.specs.declared.order.Order.TheVariants as order
+use Rattle.order_grammar.specs.declared.play.PlayOrder.TheVariants as play
 use Rattle.privates.specs.ParOfBo.{par_set_by}
 use Rattle.tables.specs.Chart.{least_par, par_squares, price_of}
 use Rattle.tables.specs.Roster.{same_company}
@@ -27,7 +28,7 @@ let_through false par price said is named = cc
 
 -- what an order says of BO's par is a par value
 par_in : (its : Order) (said : ℕ) → par_of_baltimore_in its ≡ Some said → is_par_value said ≡ true
-par_in (order.Par company price) said named = let_through (same_company company BaltimoreOhio) (is_par_value price)
+par_in (order.Play (play.Par company price)) said named = let_through (same_company company BaltimoreOhio) (is_par_value price)
     price said refl named
 par_in other said named = cc
 

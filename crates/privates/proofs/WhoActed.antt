@@ -1,5 +1,6 @@
 -- The new events of a line of an opening turn say who acted in it.
-use Rattle.std.proofs.Common.{◌≡◌, ℕ, Bool, true, false, ◌||◌, List, [], ◌∷◌, ◌++◌, Option, Some, None, refl}
+use Rattle.std.proofs.Common.{◌≡◌, ℕ, true, false, List, [], ◌∷◌, ◌++◌, Option, Some, None, refl, sym}
+use Rattle.std.proofs.Math.Bool.{or-true}
 use Rattle.events.specs.Event.{actor_of}
 use Rattle.events.specs.declared.event.Bid.{Bid}
 use Rattle.events.specs.declared.event.Event.{Event}
@@ -10,6 +11,7 @@ use Rattle.totals.specs.LookBack.{cheapest_of, last_said}
 use Rattle.order_grammar.specs.declared.condition.Condition.{Condition}
 use Rattle.order_grammar.specs.declared.order.Order.{Order}
 use Rattle.order_grammar.specs.declared.order.Order.TheVariants as order
+use Rattle.order_grammar.specs.declared.play.PlayOrder.TheVariants as play
 use Rattle.privates.specs.Bank.{price_of_private}
 use Rattle.privates.specs.Sale.{after_private_sale, gifts, settle_auctions, settled, settled_by, settled_of}
 use Rattle.privates.specs.Turn.{InOpeningTurn, after_opening_ruling, opening_refusal, opening_rules}
@@ -22,11 +24,6 @@ use Rattle.turns.proofs.Acted.{LineSaysWhoActed, in_both, nobody, nobody_in_step
 use Rattle.turns.proofs.Ruled.{of_ruled}
 use Rattle.turns.specs.Acted.{SaysWhoActed, TurnsSayWhoActed}
 use Rattle.turns.specs.Ruling.{has_place_in_turn, recorded}
-
--- a seat that has bought or bid has acted
-now_acted : (before : Bool) → true ≡ (before || true)
-now_acted true = refl
-now_acted false = refl
 
 -- nobody acts by what comes with a sale
 no_giver : (events : List Event) (private : Private) (buyer : Seat)
@@ -72,29 +69,29 @@ in_settled seat seats events = nobody_in_steps seat (settle_auctions seats)
 order_says : (seats : ℕ) (seat : Seat) (turn : InOpeningTurn) (number : ℕ) (condition : Option Condition) (done : Order)
     → opening_refusal seats turn.events seat turn.actions done ≡ None →
     LineSaysWhoActed opening_rules seat turn (after_opening_ruling seats seat turn number (Obeyed condition done))
-order_says seats seat turn number condition (order.BuyPrivate private) kept =
-    let ruled : List Event = recorded seat number (Obeyed condition (order.BuyPrivate private)) turn.events in
+order_says seats seat turn number condition (order.Play (play.BuyPrivate private)) kept =
+    let ruled : List Event = recorded seat number (Obeyed condition (order.Play (play.BuyPrivate private))) turn.events in
     let sold : List Event = after_private_sale ruled private seat (price_of_private ruled private) in
     record {
       acts = true;
       says_who =
           in_both seat true false turn.events ruled (settled seats sold)
-          (one_more seat true turn.events (event.Ruled seat number (Obeyed condition (order.BuyPrivate private)))
+          (one_more seat true turn.events (event.Ruled seat number (Obeyed condition (order.Play (play.BuyPrivate private))))
           refl)
           (in_both seat false false ruled sold (settled seats sold)
           (in_sale seat ruled private seat (price_of_private ruled private)) (in_settled seat seats sold));
-      acted = now_acted turn.actions;
+      acted = sym (or-true turn.actions);
     }
-order_says seats seat turn number condition (order.Bid private amount) kept =
-    let ruled : List Event = recorded seat number (Obeyed condition (order.Bid private amount)) turn.events in
+order_says seats seat turn number condition (order.Play (play.Bid private amount)) kept =
+    let ruled : List Event = recorded seat number (Obeyed condition (order.Play (play.Bid private amount))) turn.events in
     record {
       acts = true;
       says_who =
           in_both seat true false turn.events ruled (ruled ++ event.Bids private seat amount ∷ [])
-          (one_more seat true turn.events (event.Ruled seat number (Obeyed condition (order.Bid private amount)))
+          (one_more seat true turn.events (event.Ruled seat number (Obeyed condition (order.Play (play.Bid private amount))))
           refl)
           (one_more seat false ruled (event.Bids private seat amount) refl);
-      acted = now_acted turn.actions;
+      acted = sym (or-true turn.actions);
     }
 order_says seats seat turn number condition other kept = absurd (cc)
 

@@ -12,6 +12,7 @@ use Rattle.totals.specs.LookBack.{in_round}
 use Rattle.totals.specs.Orders.{bid_limit_of}
 use Rattle.order_grammar.specs.declared.order.Order.{Order}
 use Rattle.order_grammar.specs.declared.order.Order.TheVariants as order
+use Rattle.order_grammar.specs.declared.play.PlayOrder.TheVariants as play
 use Rattle.turns.specs.Small.{IsSmallOrder, IsSmallRuling}
 use Rattle.privates.specs.Underway.{LimitsAreSmall}
 use Rattle.tables.specs.Roster.{same_private}
@@ -46,7 +47,7 @@ named_small false limit amount small said = cc
 -- the limit of a small order is small
 limit_small : (private : Private) (its : Order) (amount : ℕ) → IsSmallOrder its → limit_in private its ≡ Some amount
     → amount ≤ 99999
-limit_small private (order.Limit other limit) amount small said =
+limit_small private (order.Play (play.Limit other limit)) amount small said =
     named_small (same_private other private) limit amount small said
 limit_small private other amount small said = cc
 

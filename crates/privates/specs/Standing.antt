@@ -8,7 +8,8 @@ use Rattle.events.specs.declared.ruling.Refusal.{Refusal}
 use Rattle.events.specs.declared.ruling.Refusal.TheVariants.{Opening}
 use Rattle.events.specs.declared.ruling.Ruling.{Ruling}
 use Rattle.order_grammar.specs.declared.order.Order.{Order}
-use Rattle.order_grammar.specs.declared.order.Order.TheVariants.{Limit, Par}
+use Rattle.order_grammar.specs.declared.order.Order.TheVariants.{Play}
+use Rattle.order_grammar.specs.declared.play.PlayOrder.TheVariants.{Limit, Par}
 use Rattle.privates.specs.Limit.{limit_rules}
 use Rattle.privates.specs.ParOfBo.{par_rules}
 use Rattle.sheets.specs.Part.{Numbered}
@@ -18,14 +19,14 @@ use Rattle.turns.specs.Ruling.{line_ruling, recorded}
 
 -- the orders that may be before the first written turn
 abbrev pub has_place_before_turns : Order → Bool
-has_place_before_turns (Limit private amount) = true
-has_place_before_turns (Par company price) = true
+has_place_before_turns (Play (Limit private amount)) = true
+has_place_before_turns (Play (Par company price)) = true
 has_place_before_turns other = false
 
 -- the first rule that a standing order breaks; any order but a LIMIT or a PAR breaks the first
 abbrev pub opening_standing_judgement : List Event → Order → Option OpeningRule
-opening_standing_judgement events (Limit private amount) = first_broken (limit_rules events private)
-opening_standing_judgement events (Par company price) = first_broken (par_rules company price)
+opening_standing_judgement events (Play (Limit private amount)) = first_broken (limit_rules events private)
+opening_standing_judgement events (Play (Par company price)) = first_broken (par_rules company price)
 opening_standing_judgement events other = Some NotOfOpening
 
 -- the rule that a standing order breaks, as a ruling refuses an order

@@ -8,7 +8,8 @@ use Rattle.events.specs.declared.ruling.Refusal.{Refusal}
 use Rattle.events.specs.declared.ruling.Refusal.TheVariants.{Opening}
 use Rattle.events.specs.declared.ruling.Ruling.{Ruling}
 use Rattle.order_grammar.specs.declared.order.Order.{Order}
-use Rattle.order_grammar.specs.declared.order.Order.TheVariants.{BuyPrivate, Bid}
+use Rattle.order_grammar.specs.declared.order.Order.TheVariants.{Play}
+use Rattle.order_grammar.specs.declared.play.PlayOrder.TheVariants.{BuyPrivate, Bid}
 use Rattle.privates.specs.Bank.{MayPay, price_of_private}
 use Rattle.privates.specs.Bid.{MayBid, after_bid, bid_rules}
 use Rattle.privates.specs.Buy.{after_private_purchase, private_purchase_rules}
@@ -28,9 +29,9 @@ InOpeningTurn = turns.InTurn Bool
 
 -- the first rule that an order breaks in a turn; any order but a purchase or a bid breaks the first
 abbrev pub opening_judgement : ℕ → List Event → Seat → Bool → Order → Option OpeningRule
-opening_judgement seats events seat used (BuyPrivate private) =
+opening_judgement seats events seat used (Play (BuyPrivate private)) =
     first_broken (private_purchase_rules seats events seat used private)
-opening_judgement seats events seat used (Bid private amount) =
+opening_judgement seats events seat used (Play (Bid private amount)) =
     first_broken (bid_rules seats events seat used private amount)
 opening_judgement seats events seat used other = Some NotOfOpening
 
@@ -40,14 +41,14 @@ opening_refusal seats events seat used order = option_map Opening (opening_judge
 
 -- the order can be done, whatever the turn has done before
 abbrev pub MayAct : ℕ → List Event → Seat → Order → Type 0
-MayAct seats events seat (BuyPrivate private) = MayPay seats events seat private (price_of_private events private)
-MayAct seats events seat (Bid private amount) = MayBid seats events seat private amount
+MayAct seats events seat (Play (BuyPrivate private)) = MayPay seats events seat private (price_of_private events private)
+MayAct seats events seat (Play (Bid private amount)) = MayBid seats events seat private amount
 MayAct seats events seat other = Unit {0}
 
 -- after what follows from an order that was obeyed in a turn
 abbrev pub after_opening_order : ℕ → Seat → List Event → Order → List Event
-after_opening_order seats seat events (BuyPrivate private) = after_private_purchase seats seat events private
-after_opening_order seats seat events (Bid private amount) = after_bid seat events private amount
+after_opening_order seats seat events (Play (BuyPrivate private)) = after_private_purchase seats seat events private
+after_opening_order seats seat events (Play (Bid private amount)) = after_bid seat events private amount
 after_opening_order seats seat events other = events
 
 -- in a turn, after what follows from an order that is done: the seat has bought or bid

@@ -1,5 +1,6 @@
 //! The standing lines of an opening sheet, the lines before its first written turn: LIMIT and PAR.
 ghost use Rattle.std.specs.Prelude.{◌≡◌, OnOk};
+ghost use Rattle.order_grammar.specs.declared.order.Order.TheVariants.{Play};
 ghost use Rattle.totals.specs.LookBack.{with_events};
 ghost use Rattle.turns.specs.Small.{IsSmallReading};
 ghost use Rattle.privates.specs.Standing.{after_opening_standing_line, has_place_before_turns};
@@ -10,7 +11,7 @@ ghost use Rattle.sheets.specs.Part.{line_unread};
 use crate::limit::judge_limit;
 use crate::par_of_bo::judge_par;
 use history::{History, OpeningRule, Refusal};
-use order_grammar::Order;
+use order_grammar::{Order, PlayOrder};
 use sheets::UnreadLine;
 use std::alloc::AllocError;
 use tables::Seat;
@@ -31,7 +32,7 @@ impl Family for StandingLines {
     }
 
     fn judge(&self, history: &History, _seat: Seat, order: &Order) -> Option<Refusal> {
-        judge_standing(history, order).map(Refusal::Opening)
+        judge_line(history, order).map(Refusal::Opening)
     }
 }
 
@@ -56,18 +57,31 @@ pub(crate) fn rule_standing_line(
 fn has_place_before_turns(order: &Order) -> bool
     ensures { result ≡ has_place_before_turns order.now }
 {
-    matches!(order, Order::Limit { .. } | Order::Par { .. })
+    matches!(
+        order,
+        Order::Play(PlayOrder::Limit { .. } | PlayOrder::Par { .. })
+    )
+}
+
+/// Returns the rule that a line breaks as a standing line; `None` if it breaks none.
+fn judge_line(history: &History, order: &Order) -> Option<OpeningRule>
+    ensures { result ≡ opening_standing_judgement history.now.events order.now }
+{
+    match order {
+        Order::Play(order) => judge_standing(history, *order),
+        _ => Some(OpeningRule::NotOfOpening),
+    }
 }
 
 /// Returns the rule that an order breaks as a standing line; `None` if it breaks none. A LIMIT
 /// breaks A2 if its private is sold. A PAR breaks A1 if it is not for BO or sets no par value, and
 /// so does every other order.
-pub fn judge_standing(history: &History, order: &Order) -> Option<OpeningRule>
-    ensures { result ≡ opening_standing_judgement history.now.events order.now }
+pub fn judge_standing(history: &History, order: PlayOrder) -> Option<OpeningRule>
+    ensures { result ≡ opening_standing_judgement history.now.events (Play order) }
 {
     match order {
-        Order::Limit { private, .. } => judge_limit(&history.now(), *private),
-        Order::Par { company, price } => judge_par(*company, *price),
+        PlayOrder::Limit { private, .. } => judge_limit(&history.now(), private),
+        PlayOrder::Par { company, price } => judge_par(company, price),
         _ => Some(OpeningRule::NotOfOpening),
     }
 }

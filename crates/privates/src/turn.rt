@@ -1,5 +1,6 @@
 //! The lines of a written turn: in a turn a seat may buy or bid, once.
 ghost use Rattle.std.specs.Prelude.{◌≡◌, ◌<◌, OnOk, IfOk};
+ghost use Rattle.order_grammar.specs.declared.order.Order.TheVariants.{Play};
 ghost use Rattle.totals.specs.LookBack.{with_events};
 ghost use Rattle.privates.specs.Turn.{MayAct, after_opening_line, after_opening_order, opening_judgement};
 ghost use Rattle.privates.specs.Turn.{opening_refusal};
@@ -12,7 +13,7 @@ ghost use Rattle.turns.specs.Small.{IsSmallOrder, IsSmallReading};
 use crate::bid::{bid, judge_bid};
 use crate::buy::{buy, judge_purchase};
 use history::{History, OpeningRule, Refusal};
-use order_grammar::Order;
+use order_grammar::{Order, PlayOrder};
 use sheets::{UnreadLine, is_of_file};
 use std::alloc::AllocError;
 use tables::Seat;
@@ -37,7 +38,7 @@ impl Family for TurnLines {
     }
 
     fn judge(&self, history: &History, seat: Seat, order: &Order) -> Option<Refusal> {
-        judge(history, seat, order, self.turn_used).map(Refusal::Opening)
+        judge_line(history, seat, order, self.turn_used).map(Refusal::Opening)
     }
 }
 
@@ -66,16 +67,33 @@ pub(crate) fn rule_line(
     Ok(true)
 }
 
-/// Returns the first rule that an order of a seat breaks in its turn, given whether it has used the
-/// turn; `None` if it breaks none. `judge_standing` judges standing lines.
-pub fn judge(history: &History, seat: Seat, order: &Order, turn_used: bool) -> Option<OpeningRule>
+/// Returns the first rule that a line of a seat breaks in its turn, given whether it has used the
+/// turn; `None` if it breaks none.
+fn judge_line(history: &History, seat: Seat, order: &Order, turn_used: bool) -> Option<OpeningRule>
     ensures { result
         ≡ opening_judgement history.now.seats history.now.events seat turn_used order.now }
 {
+    match order {
+        Order::Play(order) => judge(history, seat, *order, turn_used),
+        _ => Some(OpeningRule::NotOfOpening),
+    }
+}
+
+/// Returns the first rule that an order of a seat breaks in its turn, given whether it has used the
+/// turn; `None` if it breaks none. `judge_standing` judges standing lines.
+pub fn judge(
+    history: &History,
+    seat: Seat,
+    order: PlayOrder,
+    turn_used: bool,
+) -> Option<OpeningRule>
+    ensures { result
+        ≡ opening_judgement history.now.seats history.now.events seat turn_used (Play order) }
+{
     let now = history.now();
     match order {
-        Order::BuyPrivate(private) => judge_purchase(&now, seat, *private, turn_used),
-        Order::Bid { private, amount } => judge_bid(&now, seat, *private, *amount, turn_used),
+        PlayOrder::BuyPrivate(private) => judge_purchase(&now, seat, private, turn_used),
+        PlayOrder::Bid { private, amount } => judge_bid(&now, seat, private, amount, turn_used),
         _ => Some(OpeningRule::NotOfOpening),
     }
 }
@@ -91,8 +109,8 @@ fn act(history: &mut History, seat: Seat, order: &Order) -> Result<(), AllocErro
     ensures underway { OnOk result (IsUnderway history.new) }
 {
     match order {
-        Order::BuyPrivate(private) => buy(history, seat, *private),
-        Order::Bid { private, amount } => bid(history, seat, *private, *amount),
+        Order::Play(PlayOrder::BuyPrivate(private)) => buy(history, seat, *private),
+        Order::Play(PlayOrder::Bid { private, amount }) => bid(history, seat, *private, *amount),
         _ => Ok(()),
     }
 }

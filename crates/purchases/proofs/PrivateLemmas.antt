@@ -23,7 +23,8 @@ use Rattle.purchases.proofs.TrainLemmas.{not_less}
 use Rattle.purchases.specs.Private.{is_given, owner_agrees, private_judgement, private_rules}
 use Rattle.order_grammar.specs.declared.order.Offer.{Offer}
 use Rattle.order_grammar.specs.declared.order.Offer.TheVariants as offer
-use Rattle.order_grammar.specs.declared.order.Order.TheVariants.{BuyOwnedPrivate}
+use Rattle.order_grammar.specs.declared.order.Order.TheVariants.{Play}
+use Rattle.order_grammar.specs.declared.play.PlayOrder.TheVariants.{BuyOwnedPrivate}
 use Rattle.sheets.specs.Part.{Numbered}
 use Rattle.tables.proofs.Rules.{not_broken}
 use Rattle.tables.specs.Roster.{face_of}
@@ -71,7 +72,7 @@ may_sell game company private price none =
 module _ (events : List Event) (seat : Seat) (line : Numbered) (private : Private) (price : ℕ) where
   -- the ruling of a line PRIVATE that is obeyed
   abbrev obeyed : Event
-  obeyed = Ruled seat line.number (Obeyed line.condition (BuyOwnedPrivate private price))
+  obeyed = Ruled seat line.number (Obeyed line.condition (Play (BuyOwnedPrivate private price)))
 
   -- it offers nothing
   offers_none : (giver : Seat) (sale : Offer) → in_round (λ its. said_by giver (offered_in sale) (obeyed_of its))
@@ -119,11 +120,11 @@ module _ (events : List Event) (seat : Seat) (line : Numbered) (private : Privat
 -- the rules say the same
 pub same_after_line : (game ruled : Game) (seat : Seat) (line : Numbered) (company : Company) (private : Private)
     (price : ℕ) →
-    ruled ≡ with_event game (Ruled seat line.number (Obeyed line.condition (BuyOwnedPrivate private price))) →
+    ruled ≡ with_event game (Ruled seat line.number (Obeyed line.condition (Play (BuyOwnedPrivate private price)))) →
     private_judgement ruled company private price ≡ private_judgement game company private price
 same_after_line game ruled seat line company private price is =
     let events = game.events in
-    let its : Event = Ruled seat line.number (Obeyed line.condition (BuyOwnedPrivate private price)) in
+    let its : Event = Ruled seat line.number (Obeyed line.condition (Play (BuyOwnedPrivate private price))) in
     let same : private_rules (with_event game its) company private price ≡ private_rules game company private price =
     cc (
       same_phase events seat line private price,

@@ -29,8 +29,9 @@ use Rattle.purchases.specs.Train.{train_purchase_cost, train_purchase_rules}
 use Rattle.purchases.specs.declared.train.TrainPurchase.{TrainPurchase}
 use Rattle.order_grammar.specs.declared.order.Offer.{Offer}
 use Rattle.order_grammar.specs.declared.order.Offer.TheVariants as offer
-use Rattle.order_grammar.specs.declared.order.Order.TheVariants.{BuyTrain}
+use Rattle.order_grammar.specs.declared.order.Order.TheVariants.{Play}
 use Rattle.order_grammar.specs.declared.order.TrainSource.{TrainSource}
+use Rattle.order_grammar.specs.declared.play.PlayOrder.TheVariants.{BuyTrain}
 use Rattle.sheets.specs.Part.{Numbered}
 use Rattle.tables.specs.Roster.{same_company}
 use Rattle.tables.specs.Rules.{first_broken}
@@ -125,7 +126,7 @@ module _ (events : List Event) (seat : Seat) (line : Numbered) (ruling : Ruling)
 module _ (events : List Event) (seat : Seat) (line : Numbered) (kind : Kind) (from : TrainSource) where
   -- the ruling of a line TRAIN that is obeyed
   abbrev obeyed : Event
-  obeyed = Ruled seat line.number (Obeyed line.condition (BuyTrain kind from))
+  obeyed = Ruled seat line.number (Obeyed line.condition (Play (BuyTrain kind from)))
 
   -- it offers nothing
   offers_none : (giver : Seat) (sale : Offer) → in_round (λ its. said_by giver (offered_in sale) (obeyed_of its))
@@ -157,7 +158,7 @@ module _ (events : List Event) (seat : Seat) (line : Numbered) (kind : Kind) (fr
   same_lack buyer purchase seller.BankPool = refl
   same_lack buyer purchase (seller.Company company) =
       let sale : Offer = offer.Train purchase.kind company buyer (train_purchase_cost purchase) in
-      let ruling : Ruling = Obeyed line.condition (BuyTrain kind from) in
+      let ruling : Ruling = Obeyed line.condition (Play (BuyTrain kind from)) in
       ap (λ (agree : Bool). train_purchase_cost purchase == 0 || not agree)
       (same_agreement (president_of (events ++ obeyed ∷ []) company) (president_of (events ++ obeyed ∷ []) buyer) sale
       ∙ ap (λ (giver : Option Seat). presidents_agree events giver (president_of (events ++ obeyed ∷ []) buyer) sale)
@@ -168,11 +169,11 @@ module _ (events : List Event) (seat : Seat) (line : Numbered) (kind : Kind) (fr
 -- the rules say the same
 pub same_judgement : (game ruled : Game) (seat : Seat) (line : Numbered) (kind : Kind) (from : TrainSource)
     (company : Company) (purchase : TrainPurchase) →
-    ruled ≡ with_event game (Ruled seat line.number (Obeyed line.condition (BuyTrain kind from))) →
+    ruled ≡ with_event game (Ruled seat line.number (Obeyed line.condition (Play (BuyTrain kind from)))) →
     train_judgement ruled company purchase ≡ train_judgement game company purchase
 same_judgement game ruled seat line kind from company purchase is =
     let events = game.events in
-    let ruling : Ruling = Obeyed line.condition (BuyTrain kind from) in
+    let ruling : Ruling = Obeyed line.condition (Play (BuyTrain kind from)) in
     let its : Event = Ruled seat line.number ruling in
     let same : train_purchase_rules (with_event game its) company purchase ≡ train_purchase_rules game company purchase =
     cc (

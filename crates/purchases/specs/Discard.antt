@@ -19,6 +19,7 @@ use Rattle.totals.specs.Shares.{president_of, president_said}
 use Rattle.totals.specs.Trains.{trains_held}
 use Rattle.order_grammar.specs.declared.order.Order.{Order}
 use Rattle.order_grammar.specs.declared.order.Order.TheVariants as order
+use Rattle.order_grammar.specs.declared.play.PlayOrder.TheVariants as play
 use Rattle.tables.specs.Roster.{same_company}
 use Rattle.tables.specs.Rules.{Rule, first_broken}
 use Rattle.tables.specs.Train.{kinds, same_kind}
@@ -51,7 +52,7 @@ discard_judgement events seat company kind = first_broken (discard_rules events 
 
 -- the kind that a company is to discard by an order
 abbrev pub discard_in : Company → Order → Option Kind
-discard_in company (order.Discard other kind) = if same_company other company then Some kind else None
+discard_in company (order.Play (play.Discard other kind)) = if same_company other company then Some kind else None
 discard_in company other = None
 
 -- a seat's lines for a company that are still to be used, and whether the seat presides

@@ -13,6 +13,7 @@ use Rattle.purchases.specs.Discard.{discard_judgement}
 use Rattle.purchases.specs.Offer.{offer_judgement}
 use Rattle.order_grammar.specs.declared.order.Order.{Order}
 use Rattle.order_grammar.specs.declared.order.Order.TheVariants as order
+use Rattle.order_grammar.specs.declared.play.PlayOrder.TheVariants as play
 use Rattle.sheets.specs.Part.{Numbered}
 use Rattle.sheets.specs.Taken.{after_all_before}
 use Rattle.tables.specs.declared.round.Round.{Round}
@@ -21,15 +22,15 @@ use Rattle.turns.specs.Ruling.{line_ruling, recorded}
 
 -- the orders that may be before the first head
 abbrev pub has_place_before_companies : Order → Bool
-has_place_before_companies (order.Discard company kind) = true
-has_place_before_companies (order.Offer sale) = true
+has_place_before_companies (order.Play (play.Discard company kind)) = true
+has_place_before_companies (order.Play (play.Offer sale)) = true
 has_place_before_companies other = false
 
 -- the rule that a standing order of a seat breaks, if it breaks one
 abbrev pub operating_standing_judgement : List Event → Seat → Order → Option Refusal
-operating_standing_judgement events seat (order.Discard company kind) =
+operating_standing_judgement events seat (order.Play (play.Discard company kind)) =
     option_map refusal.Train (discard_judgement events seat company kind)
-operating_standing_judgement events seat (order.Offer sale) = offer_judgement events seat sale
+operating_standing_judgement events seat (order.Play (play.Offer sale)) = offer_judgement events seat sale
 operating_standing_judgement events seat other = None
 
 -- what becomes of a standing line of a seat

@@ -15,7 +15,7 @@ ghost use Rattle.purchases.specs.Discard.{without_first};
 ghost use Rattle.totals.specs.Shares.{president_said};
 
 use history::{Event, GameView, History, Ruling, TrainRule};
-use order_grammar::Order;
+use order_grammar::{Order, PlayOrder};
 use std::alloc::{AllocError, Global};
 use tables::{Company, Kind, Seat, same_kind};
 
@@ -195,10 +195,12 @@ fn discard_in(order: &Order, company: Company) -> Option<Kind>
     ensures { result ≡ discard_in company order.now }
 {
     match order {
-        Order::Discard {
-            company: other,
-            kind,
-        } if *other == company => Some(*kind),
+        Order::Play(
+            PlayOrder::Discard {
+                company: other,
+                kind,
+            },
+        ) if *other == company => Some(*kind),
         _ => None,
     }
 }

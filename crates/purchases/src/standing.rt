@@ -3,6 +3,7 @@
 //! of its order. Only DISCARD and OFFER are allowed there.
 ghost use Rattle.std.specs.Prelude.{◌≡◌, OnOk, length};
 ghost use Rattle.history.specs.Sound.{IsSound};
+ghost use Rattle.order_grammar.specs.declared.order.Order.TheVariants.{Play};
 ghost use Rattle.purchases.specs.Standing.{after_all_standing_lines, after_operating_standing_line};
 ghost use Rattle.purchases.specs.Standing.{has_place_before_companies, operating_standing_judgement};
 ghost use Rattle.sheets.specs.File.{players_of};
@@ -12,7 +13,7 @@ ghost use Rattle.totals.specs.LookBack.{with_events};
 use crate::discard::judge_discard;
 use crate::offer::judge_offer;
 use history::{History, Refusal};
-use order_grammar::Order;
+use order_grammar::{Order, PlayOrder};
 use sheets::{PartsLeft, Sheets};
 use std::alloc::AllocError;
 use tables::{Round, Seat};
@@ -81,24 +82,30 @@ impl Family for StandingLines {
     ghost may_judge = { λ game seat. Unit {0} };
 
     fn has_place(&self, order: &Order) -> bool {
-        matches!(order, Order::Discard { .. } | Order::Offer(_))
+        matches!(
+            order,
+            Order::Play(PlayOrder::Discard { .. } | PlayOrder::Offer(_))
+        )
     }
 
     fn judge(&self, history: &History, seat: Seat, order: &Order) -> Option<Refusal> {
-        judge_standing(history, seat, order)
+        match order {
+            Order::Play(order) => judge_standing(history, seat, *order),
+            _ => None,
+        }
     }
 }
 
 /// Returns the rule that an order of a seat breaks as a standing line of an operating round; `None`
 /// if it breaks none. Only DISCARD and OFFER have rules there.
-pub fn judge_standing(history: &History, seat: Seat, order: &Order) -> Option<Refusal>
-    ensures { result ≡ operating_standing_judgement history.now.events seat order.now }
+pub fn judge_standing(history: &History, seat: Seat, order: PlayOrder) -> Option<Refusal>
+    ensures { result ≡ operating_standing_judgement history.now.events seat (Play order) }
 {
     match order {
-        Order::Discard { company, kind } => {
-            judge_discard(history, seat, *company, *kind).map(Refusal::Train)
+        PlayOrder::Discard { company, kind } => {
+            judge_discard(history, seat, company, kind).map(Refusal::Train)
         }
-        Order::Offer(sale) => judge_offer(history, seat, *sale),
+        PlayOrder::Offer(sale) => judge_offer(history, seat, sale),
         _ => None,
     }
 }

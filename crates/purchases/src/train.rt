@@ -15,7 +15,8 @@ ghost use Rattle.purchases.specs.Train.{is_on_sale, lacks_consent_by, may_be_tra
 ghost use Rattle.purchases.specs.Train.{price_for_trade, price_of_train, purchase_of, sells, sells_diesels};
 ghost use Rattle.purchases.specs.Train.{traded_count, train_bought, train_costs_too_much, train_judgement};
 ghost use Rattle.purchases.specs.Train.{train_judgement_by, train_purchase_cost, with_bop_closed, with_trade};
-ghost use Rattle.order_grammar.specs.declared.order.Order.TheVariants.{BuyTrain};
+ghost use Rattle.order_grammar.specs.declared.order.Order.TheVariants.{Play};
+ghost use Rattle.order_grammar.specs.declared.play.PlayOrder.TheVariants.{BuyTrain};
 ghost use Rattle.turns.specs.Small.{IsSmallOrder};
 
 use crate::consents::Consents;
@@ -55,7 +56,7 @@ impl TrainPurchase {
 
 /// Returns the purchase that a TRAIN line orders.
 pub fn purchase_of(kind: Kind, from: TrainSource) -> TrainPurchase
-    requires { IsSmallOrder (BuyTrain kind from) }
+    requires { IsSmallOrder (Play (BuyTrain kind from)) }
     ensures purchase { result ≡ purchase_of kind from }
     ensures small { IsSmallPurchase result }
 {

@@ -20,6 +20,7 @@ use Rattle.history.specs.Record.{after_revenues}
 use Rattle.order_grammar.specs.declared.condition.Condition.{Condition}
 use Rattle.order_grammar.specs.declared.order.Order.{Order}
 use Rattle.order_grammar.specs.declared.order.Order.TheVariants as order
+use Rattle.order_grammar.specs.declared.play.PlayOrder.TheVariants as play
 use Rattle.privates.proofs.TurnLemmas.{may_act_after}
 use Rattle.privates.proofs.StandingBids.{cheapest_unsold}
 use Rattle.privates.specs.Closing.{after_fall, after_passing, all_sold, given_away, opening_round_closed}
@@ -77,16 +78,16 @@ ruling_quiet seat number ruling = search rules
 -- so a private that may be bought is unsold after it
 still_unsold : (seats : ℕ) (seat : Seat) (turn : InOpeningTurn) (number : ℕ) (ruling : Ruling)
     (private : Private) →
-    opening_refusal seats turn.events seat turn.actions (order.BuyPrivate private) ≡ None →
+    opening_refusal seats turn.events seat turn.actions (order.Play (play.BuyPrivate private)) ≡ None →
     is_sold (turn.events ++ event.Ruled seat number ruling ∷ []) private ≡ false
 still_unsold seats seat turn number ruling private kept =
     let its : Event = event.Ruled seat number ruling in
     (may_act_after (record { seats = seats; events = turn.events })
     (record { seats = seats; events = turn.events ++ its ∷ [] }) its seat turn.actions
-    (order.BuyPrivate private) refl
+    (order.Play (play.BuyPrivate private)) refl
     (ruling_quiet seat number ruling)
-    (none_as_refusal Opening (opening_judgement seats turn.events seat turn.actions (order.BuyPrivate
-    private)) kept)).unsold
+    (none_as_refusal Opening (opening_judgement seats turn.events seat turn.actions (order.Play (play.BuyPrivate
+    private))) kept)).unsold
 
 module _ (Sits : Seat → Type 0) (Sells : List Event → Private → Type 0) (R : List Event →
     List Event → Type 0)
@@ -143,11 +144,11 @@ module _ (Sits : Seat → Type 0) (Sells : List Event → Private → Type 0) (R
 
   -- of what follows from an order that is done
   pub of_act : (seats : ℕ) (seat : Seat) (events : List Event) (done : Order) → Sits seat →
-      ((private : Private) → done ≡ order.BuyPrivate private → Sells events private) →
+      ((private : Private) → done ≡ order.Play (play.BuyPrivate private) → Sells events private) →
       R events (after_opening_order seats seat events done)
-  of_act seats seat events (order.BuyPrivate private) sits sells =
+  of_act seats seat events (order.Play (play.BuyPrivate private)) sits sells =
       of_sales seats events private seat (price_of_private events private) (sells private refl)
-  of_act seats seat events (order.Bid private amount) sits sells = of.bids events private seat
+  of_act seats seat events (order.Play (play.Bid private amount)) sits sells = of.bids events private seat
       amount sits
   of_act seats seat events other sits sells = of.same events
 

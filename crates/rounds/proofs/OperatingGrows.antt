@@ -15,6 +15,7 @@ use Rattle.order_grammar.specs.declared.order.Offer.{Offer}
 use Rattle.order_grammar.specs.declared.order.Offer.TheVariants as offer
 use Rattle.order_grammar.specs.declared.order.Order.{Order}
 use Rattle.order_grammar.specs.declared.order.Order.TheVariants as order
+use Rattle.order_grammar.specs.declared.play.PlayOrder.TheVariants as play
 use Rattle.purchases.specs.Discard.{discard_judgement, is_president}
 use Rattle.purchases.specs.Offer.{offer_judgement}
 use Rattle.purchases.specs.Standing.{after_all_standing_lines, after_operating_standing_line}
@@ -104,9 +105,9 @@ offer_of_family events seat (offer.Private private buyer price) =
 
 -- so are standing lines
 standing_of_family : (events : List Event) (seat : Seat) (its : Order) → IsOfFamily (operating_standing_judgement events seat its)
-standing_of_family events seat (order.Discard company kind) =
+standing_of_family events seat (order.Play (play.Discard company kind)) =
     of_mapped refusal.Train (λ rule. tt) (discard_judgement events seat company kind)
-standing_of_family events seat (order.Offer sale) = offer_of_family events seat sale
+standing_of_family events seat (order.Play (play.Offer sale)) = offer_of_family events seat sale
 standing_of_family events seat other = tt
 
 -- where no sheet has a condition, the events before the first company are plain

@@ -38,8 +38,8 @@ use Rattle.operating.specs.RunBest.{BestRuled, best_judgement}
 use Rattle.certs.specs.Dividend.{all_paid, dividend_paid_to, paid_for, paid_out, paid_to_seats}
 use Rattle.operating.specs.TurnEnd.{EndLeads}
 use Rattle.operating.specs.ForcedPurchase.{Operator, after_forced, after_presidents_sale, after_raise_line}
-use Rattle.operating.specs.ForcedPurchase.{after_raises, cheapest, concluded, falls_short, lack_of, needed_rule}
-use Rattle.operating.specs.ForcedPurchase.{next_to_sell, one_share, raise_rule, raise_ruled, sale_rule}
+use Rattle.operating.specs.ForcedPurchase.{after_raises, cheapest, concluded, falls_short, lack_of, needed_judgement}
+use Rattle.operating.specs.ForcedPurchase.{next_to_sell, one_share, raise_judgement, raise_ruled, raised_sale_judgement}
 use Rattle.operating.specs.ForcedPurchase.{sold_further, sold_singly, with_aid, with_one_sold, with_ruling}
 use Rattle.operating.specs.Progress.{is_unpaid, pay_done}
 use Rattle.operating.specs.TurnState.{TurnState, turn_state, line_recorded, ruled}
@@ -61,6 +61,7 @@ use Rattle.order_grammar.specs.declared.order.Order.{Order}
 use Rattle.order_grammar.specs.declared.order.Order.TheVariants as order
 use Rattle.order_grammar.specs.declared.order.TrainSource.{TrainSource}
 use Rattle.order_grammar.specs.declared.order.TrainSource.TheVariants as source
+use Rattle.order_grammar.specs.declared.play.PlayOrder.TheVariants as play
 use Rattle.rounds.proofs.Growing.{◌⨾◌, broken_grows, by_one_event, is_still, passes_plain, stays}
 use Rattle.rounds.proofs.PlainRounds.{ArePlain, GrowsPlain, IsOfFamily, IsPlain, SheetsArePlain}
 use Rattle.rounds.proofs.PlainRounds.{company_orders_plain, not_held, of_mapped, refused_plain}
@@ -229,15 +230,15 @@ module _ (by : Operator) (line : Numbered) (plain : IsPlain line) where
   by_lay : (turn : TurnState) (lay : Lay) (answer : Result ℤ LayRule) →
       TurnAdds turn (lay_answered by turn line lay answer)
   by_lay turn lay (Err rule) = by_ruling turn (Refused (refusal.Lay rule) line.condition
-      (order.Lay lay)) clear
-  by_lay turn lay (Ok cost) = by_obeyed turn (order.Lay lay) (event.Laid by.company lay
+      (order.Play (play.Lay lay))) clear
+  by_lay turn lay (Ok cost) = by_obeyed turn (order.Play (play.Lay lay)) (event.Laid by.company lay
       (unsigned_abs cost)) refl
 
   by_token : (turn : TurnState) (at : Place) (answer : Result ℤ TokenRule) →
       TurnAdds turn (token_answered by turn line at answer)
   by_token turn at (Err rule) = by_ruling turn (Refused (refusal.Token rule) line.condition
-      (order.Token at)) clear
-  by_token turn at (Ok cost) = by_obeyed turn (order.Token at) (event.Token by.company at
+      (order.Play (play.Token at))) clear
+  by_token turn at (Ok cost) = by_obeyed turn (order.Play (play.Token at)) (event.Token by.company at
       (unsigned_abs cost)) refl
 
   by_run : (turn : TurnState) (its : Order) (judged : Result _ RunRule) →
@@ -250,55 +251,55 @@ module _ (by : Operator) (line : Numbered) (plain : IsPlain line) where
       BestRuled by turn line rule new → TurnAdds turn new
   by_best turn (Some rule) new leads =
       subst (TurnAdds turn) (sym leads)
-      (by_ruling turn (Refused (refusal.Run rule) line.condition order.RunBest) clear)
+      (by_ruling turn (Refused (refusal.Run rule) line.condition (order.Play play.RunBest)) clear)
   by_best turn None new leads =
-      subst (TurnAdds turn) (sym leads.2) (by_obeyed turn order.RunBest (event.Runs by.company
+      subst (TurnAdds turn) (sym leads.2) (by_obeyed turn (order.Play play.RunBest) (event.Runs by.company
       leads.0) refl)
 
   -- an order in this line
   by_order : (turn : TurnState) (its : Order) (new : TurnState) → OrderLeads by turn line its new →
       TurnAdds turn new
-  by_order turn (order.Lay lay) new leads = subst (TurnAdds turn) (sym leads.after) (by_lay turn lay
+  by_order turn (order.Play (play.Lay lay)) new leads = subst (TurnAdds turn) (sym leads.after) (by_lay turn lay
       leads.answer)
-  by_order turn (order.Token at) new leads = subst (TurnAdds turn) (sym leads.after) (by_token turn
+  by_order turn (order.Play (play.Token at)) new leads = subst (TurnAdds turn) (sym leads.after) (by_token turn
       at leads.answer)
   by_order turn (order.Run kind run) new leads =
       subst (TurnAdds turn) (sym leads) (by_run turn (order.Run kind run) (judged_run turn
       by.company kind run))
-  by_order turn order.RunBest new leads = by_best turn (best_judgement turn by.company) new leads
-  by_order turn order.Pay new leads =
+  by_order turn (order.Play play.RunBest) new leads = by_best turn (best_judgement turn by.company) new leads
+  by_order turn (order.Play play.Pay) new leads =
       subst (TurnAdds turn) (sym leads)
-      (by_ruled turn order.Pay (option_map refusal.Pay (pay_judgement turn.progress))
+      (by_ruled turn (order.Play play.Pay) (option_map refusal.Pay (pay_judgement turn.progress))
       (λ after. turn_state (paid_out after.game by.company turn.progress.runs.revenue)
       (pay_done after.progress))
       (of_mapped refusal.Pay (λ rule. tt) (pay_judgement turn.progress))
       (λ after. by_paid_out by.company after.game turn.progress.runs.revenue))
-  by_order turn order.Withhold new leads =
+  by_order turn (order.Play play.Withhold) new leads =
       subst (TurnAdds turn) (sym leads)
-      (by_ruled turn order.Withhold (option_map refusal.Pay (withhold_judgement turn.progress))
+      (by_ruled turn (order.Play play.Withhold) (option_map refusal.Pay (withhold_judgement turn.progress))
       (λ after. turn_state (withheld after.game by.company turn.progress.runs.revenue)
       (pay_done after.progress))
       (of_mapped refusal.Pay (λ rule. tt) (withhold_judgement turn.progress))
       (λ after. by_withheld by.company after.game turn.progress.runs.revenue))
-  by_order turn (order.BuyTrain kind from) new leads =
+  by_order turn (order.Play (play.BuyTrain kind from)) new leads =
       let paid : TurnState = withheld_if_unpaid by.company turn in
       let rule = train_judgement paid.game by.company (purchase_of kind from) in
       subst (TurnAdds turn) (sym leads)
       (by_withholding by.company turn
-      ⨾ by_ruled paid (order.BuyTrain kind from) (option_map refusal.Train rule)
+      ⨾ by_ruled paid (order.Play (play.BuyTrain kind from)) (option_map refusal.Train rule)
       (λ after. turn_state (after_train after.game by.company (purchase_of kind from))
       after.progress)
       (of_mapped refusal.Train (λ rule. tt) rule) (λ after. by_train by.company after.game kind
       from))
-  by_order turn (order.BuyOwnedPrivate private price) new leads =
+  by_order turn (order.Play (play.BuyOwnedPrivate private price)) new leads =
       let rule = private_judgement turn.game by.company private price in
       subst (TurnAdds turn) (sym leads)
-      (by_ruled turn (order.BuyOwnedPrivate private price) (option_map refusal.Private rule)
+      (by_ruled turn (order.Play (play.BuyOwnedPrivate private price)) (option_map refusal.Private rule)
       (λ after. turn_state (private_bought after.game by.company private price) after.progress)
       (of_mapped refusal.Private (λ rule. tt) rule)
       (λ after. by_private by.company after.game private price (owner_of after.game.events
       private)))
-  by_order turn (order.Raise its shares) new leads = subst (TurnAdds turn) (sym leads) stays
+  by_order turn (order.Play (play.Raise its shares)) new leads = subst (TurnAdds turn) (sym leads) stays
   by_order turn other new leads = subst (TurnAdds turn) (sym leads) (by_ruling turn (Faulty OutOfPlace) refl)
 
   -- one whose condition is checked
@@ -319,31 +320,31 @@ module _ (by : Operator) (line : Numbered) (plain : IsPlain line) where
 
   -- a RAISE is refused by the rules of a sale, or as not needed
   raise_of_family : (due : Bool) (game : Game) (sale : Sale) →
-      IsOfFamily (raise_rule due by game line.condition sale)
-  unfolding raise_rule
+      IsOfFamily (raise_judgement due by game line.condition sale)
+  unfolding raise_judgement
   raise_of_family due game sale =
       elim (due && falls_short by game) as (λ (needed : Bool). IsOfFamily (if needed
-      then needed_rule by game line.condition sale else Some (refusal.Stock NotOfStock))) [
+      then needed_judgement by game line.condition sale else Some (refusal.Stock NotOfStock))) [
         | true ↦
-            subst (λ (condition : Option Condition). IsOfFamily (needed_rule by game condition sale)) (sym plain)
-            (of_mapped refusal.Stock (λ rule. tt) (sale_rule by game sale))
+            subst (λ (condition : Option Condition). IsOfFamily (needed_judgement by game condition sale)) (sym plain)
+            (of_mapped refusal.Stock (λ rule. tt) (raised_sale_judgement by game sale))
         | false ↦ tt
       ]
 
   by_raise_ruled : (game : Game) (sale : Sale) (broken : Option Refusal) → IsOfFamily broken →
       AddsPlainly game (raise_ruled by game line sale broken)
   by_raise_ruled game sale (Some rule) of =
-      let its : Order = order.Raise sale.company sale.shares in
+      let its : Order = order.Play (play.Raise sale.company sale.shares) in
       by_event game (event.Ruled by.president line.number (Refused rule line.condition its))
       (refused_plain rule line.condition its plain of)
   by_raise_ruled game sale None of =
-      let obeyed : Ruling = Obeyed line.condition (order.Raise sale.company sale.shares) in
+      let obeyed : Ruling = Obeyed line.condition (order.Play (play.Raise sale.company sale.shares)) in
       by_event game (event.Ruled by.president line.number obeyed) clear
       ⨾ by_sale by (with_ruling by game line obeyed) sale
 
   by_raise : (due : Bool) (game : Game) (reading : Result Order Fault) →
       AddsPlainly game (after_raise_line due by game line reading)
-  by_raise due game (Ok (order.Raise its shares)) =
+  by_raise due game (Ok (order.Play (play.Raise its shares))) =
       let sale : Sale = record { company = its; shares = shares } in
       by_raise_ruled game sale _ (raise_of_family due game sale)
   by_raise due game other = stays

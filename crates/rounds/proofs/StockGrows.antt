@@ -18,6 +18,7 @@ use Rattle.order_grammar.specs.declared.condition.Condition.{Condition}
 use Rattle.order_grammar.specs.declared.order.Order.{Order}
 use Rattle.order_grammar.specs.declared.order.Order.TheVariants as order
 use Rattle.order_grammar.specs.declared.order.ShareSource.{ShareSource}
+use Rattle.order_grammar.specs.declared.play.PlayOrder.TheVariants as play
 use Rattle.rounds.proofs.Growing.{◌⨾◌, GrowsPlainly, GrowsStill, broken_grows, by_one_event}
 use Rattle.rounds.proofs.Growing.{in_either, is_still}
 use Rattle.rounds.proofs.Growing.{passes_plain, passes_test, stays}
@@ -102,12 +103,12 @@ exchange_grows game seat =
 -- by an order that was obeyed
 act_grows : (game : Game) (seat : Seat) (done : Order) →
     GrowsPlainly is_still game.events (after_stock_order game seat done).events
-act_grows game seat (order.Par company price) =
+act_grows game seat (order.Play (play.Par company price)) =
     by_one_event game.events (event.Par company price) refl ⨾ by_one_event _ _ refl
     ⨾ by_one_event _ (event.President company seat) refl
-act_grows game seat (order.BuyShare company from) = purchase_grows game seat company from
-act_grows game seat (order.Sell company shares) = sale_grows game seat company shares
-act_grows game seat order.ExchangeMohawk = exchange_grows game seat
+act_grows game seat (order.Play (play.BuyShare company from)) = purchase_grows game seat company from
+act_grows game seat (order.Play (play.Sell company shares)) = sale_grows game seat company shares
+act_grows game seat (order.Play play.ExchangeMohawk) = exchange_grows game seat
 act_grows game seat other = stays
 
 -- by a line of a turn

@@ -8,8 +8,9 @@ use Rattle.events.specs.declared.event.Event.{Event}
 use Rattle.events.specs.declared.event.Event.TheVariants as event
 use Rattle.events.specs.declared.event.Holder.TheVariants as holder
 use Rattle.events.specs.declared.ruling.Ruling.TheVariants.{Obeyed}
-use Rattle.order_grammar.specs.declared.order.Order.TheVariants.{BuyPrivate, BuyShare, Par}
+use Rattle.order_grammar.specs.declared.order.Order.TheVariants.{Play}
 use Rattle.order_grammar.specs.declared.order.ShareSource.TheVariants.{InitialOffering}
+use Rattle.order_grammar.specs.declared.play.PlayOrder.TheVariants.{BuyPrivate, BuyShare, Par}
 use Rattle.rounds.specs.Play.{Between}
 use Rattle.rounds.specs.declared.following.Next.TheVariants as next
 use Rattle.tables.specs.Seat.{seat_at}
@@ -26,7 +27,7 @@ first_file = codes "GAME 1830 1\nPLAYERS ANN BOB CYD\nSHEET ANN PR1\nTURN\nBUY S
 abbrev pub first_events : List Event
 first_events =
     event.Round (Opening 1)
-    ∷ event.Ruled (seat_at 0) 2 (Obeyed None (BuyPrivate SchuylkillValley))
+    ∷ event.Ruled (seat_at 0) 2 (Obeyed None (Play (BuyPrivate SchuylkillValley)))
     ∷ event.Sold SchuylkillValley (seat_at 0) 20
     ∷ event.Passes (seat_at 1)
     ∷ event.Passes (seat_at 2)
@@ -47,18 +48,18 @@ second_file =
 abbrev pub second_opening : List Event
 second_opening =
     event.Round (Opening 1)
-    ∷ event.Ruled (seat_at 0) 2 (Obeyed None (BuyPrivate SchuylkillValley))
+    ∷ event.Ruled (seat_at 0) 2 (Obeyed None (Play (BuyPrivate SchuylkillValley)))
     ∷ event.Sold SchuylkillValley (seat_at 0) 20
-    ∷ event.Ruled (seat_at 1) 2 (Obeyed None (BuyPrivate ChamplainStLawrence))
+    ∷ event.Ruled (seat_at 1) 2 (Obeyed None (Play (BuyPrivate ChamplainStLawrence)))
     ∷ event.Sold ChamplainStLawrence (seat_at 1) 40
-    ∷ event.Ruled (seat_at 2) 2 (Obeyed None (BuyPrivate DelawareHudson))
+    ∷ event.Ruled (seat_at 2) 2 (Obeyed None (Play (BuyPrivate DelawareHudson)))
     ∷ event.Sold DelawareHudson (seat_at 2) 70
-    ∷ event.Ruled (seat_at 0) 4 (Obeyed None (BuyPrivate MohawkHudson))
+    ∷ event.Ruled (seat_at 0) 4 (Obeyed None (Play (BuyPrivate MohawkHudson)))
     ∷ event.Sold MohawkHudson (seat_at 0) 110
-    ∷ event.Ruled (seat_at 1) 4 (Obeyed None (BuyPrivate CamdenAmboy))
+    ∷ event.Ruled (seat_at 1) 4 (Obeyed None (Play (BuyPrivate CamdenAmboy)))
     ∷ event.Sold CamdenAmboy (seat_at 1) 160
     ∷ event.Given company.Pennsylvania (seat_at 1) 1
-    ∷ event.Ruled (seat_at 2) 4 (Obeyed None (BuyPrivate BaltimoreOhio))
+    ∷ event.Ruled (seat_at 2) 4 (Obeyed None (Play (BuyPrivate BaltimoreOhio)))
     ∷ event.Sold BaltimoreOhio (seat_at 2) 220
     ∷ event.Par company.BaltimoreOhio 67
     ∷ event.Given company.BaltimoreOhio (seat_at 2) 2
@@ -69,11 +70,11 @@ second_opening =
 abbrev pub second_stock_round : List Event
 second_stock_round =
     event.Round (Stock 1)
-    ∷ event.Ruled (seat_at 0) 2 (Obeyed None (Par company.Pennsylvania 67))
+    ∷ event.Ruled (seat_at 0) 2 (Obeyed None (Play (Par company.Pennsylvania 67)))
     ∷ event.Par company.Pennsylvania 67
     ∷ event.Bought company.Pennsylvania (seat_at 0) 2 InitialOffering 134
     ∷ event.President company.Pennsylvania (seat_at 0)
-    ∷ event.Ruled (seat_at 1) 2 (Obeyed None (BuyShare company.Pennsylvania InitialOffering))
+    ∷ event.Ruled (seat_at 1) 2 (Obeyed None (Play (BuyShare company.Pennsylvania InitialOffering)))
     ∷ event.Bought company.Pennsylvania (seat_at 1) 1 InitialOffering 67
     ∷ event.Passes (seat_at 2)
     ∷ event.Passes (seat_at 0)

@@ -11,7 +11,7 @@ use Rattle.events.specs.declared.ruling.Refusal.TheVariants as refusal
 use Rattle.events.specs.declared.ruling.Ruling.{Ruling}
 use Rattle.events.specs.declared.ruling.Ruling.TheVariants.{Obeyed, Refused, Faulty}
 use Rattle.operating.specs.CompanyOrders.{is_held}
-use Rattle.operating.specs.ForcedPurchase.{Operator, needed_rule, sale_rule}
+use Rattle.operating.specs.ForcedPurchase.{Operator, needed_judgement, raised_sale_judgement}
 use Rattle.order_grammar.specs.declared.condition.Condition.{Condition}
 use Rattle.order_grammar.specs.declared.condition.Version.TheVariants.{One}
 use Rattle.order_grammar.specs.declared.order.Order.{Order}
@@ -54,4 +54,4 @@ pub record FamilyAloneJudges : Type 0 where
       → refusal_under events None judgement order ≡ judgement order
   pub companies : (events : List Event) (order : Order) → is_held events None order ≡ false
   pub raises : (by : Operator) (game : Game) (sale : Sale)
-      → needed_rule by game None sale ≡ option_map refusal.Stock (sale_rule by game sale)
+      → needed_judgement by game None sale ≡ option_map refusal.Stock (raised_sale_judgement by game sale)

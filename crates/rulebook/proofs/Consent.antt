@@ -8,6 +8,7 @@ use Rattle.events.specs.declared.ruling.Ruling.TheVariants.{Obeyed}
 use Rattle.order_grammar.specs.declared.order.Offer.{Offer}
 use Rattle.order_grammar.specs.declared.order.Offer.TheVariants as offer
 use Rattle.order_grammar.specs.declared.order.Order.TheVariants as order
+use Rattle.order_grammar.specs.declared.play.PlayOrder.TheVariants as play
 use Rattle.tables.specs.Seat.{seat_at}
 use Rattle.tables.specs.declared.rolling_stock.Kind.TheVariants.{Two}
 use Rattle.tables.specs.declared.roster.Company.TheVariants.{Pennsylvania, NewYorkCentral}
@@ -18,7 +19,7 @@ abbrev two_for : ℕ → Offer
 two_for price = offer.Train Two NewYorkCentral Pennsylvania price
 
 abbrev happened : List Event
-happened = event.Round (Operating 2 1) ∷ event.Ruled (seat_at 1) 1 (Obeyed None (order.Offer (two_for 30))) ∷ []
+happened = event.Round (Operating 2 1) ∷ event.Ruled (seat_at 1) 1 (Obeyed None (order.Play (play.Offer (two_for 30)))) ∷ []
 
 -- it is consent to exactly this sale
 pub for_30 : has_consent happened (seat_at 1) (seat_at 0) (two_for 30) ≡ true

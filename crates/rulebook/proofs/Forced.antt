@@ -11,11 +11,12 @@ use Rattle.events.specs.declared.event.Event.TheVariants as event
 use Rattle.events.specs.declared.event.TrainSeller.TheVariants as seller
 use Rattle.events.specs.declared.ruling.Ruling.TheVariants.{Obeyed}
 use Rattle.forced_purchase.specs.Forced.{after_forced, concluded, next_to_sell, sold_further, sold_singly, with_aid}
-use Rattle.forced_purchase.specs.Raise.{raise_rule, sale_rule}
+use Rattle.forced_purchase.specs.Raise.{raise_judgement, raised_sale_judgement}
 use Rattle.forced_purchase.specs.Shortfall.{cheapest, falls_short, first_on_sale, lack_of}
 use Rattle.forced_purchase.specs.declared.operator.Operator.{Operator}
 use Rattle.order_grammar.specs.declared.order.Order.TheVariants as order
 use Rattle.order_grammar.specs.declared.order.ShareSource.TheVariants.{InitialOffering}
+use Rattle.order_grammar.specs.declared.play.PlayOrder.TheVariants as play
 use Rattle.sheets.specs.Part.{Numbered}
 use Rattle.tables.specs.Seat.{seat_at}
 use Rattle.tables.specs.declared.rolling_stock.Kind.TheVariants.{Two}
@@ -54,7 +55,7 @@ ann = record { company = Pennsylvania; president = seat_at 0 }
 
 -- the one line of PRR's orders: RAISE NYC 1
 abbrev raise_nyc : Numbered
-raise_nyc = record { number = 2; condition = None; reading = Ok (order.Raise NewYorkCentral 1) }
+raise_nyc = record { number = 2; condition = None; reading = Ok (order.Play (play.Raise NewYorkCentral 1)) }
 
 -- she sells the share for 100, adds the 30 that PRR lacks, and PRR buys the 2
 pub ann_raises :
@@ -62,14 +63,14 @@ pub ann_raises :
     ≡ game
     (before 479 true
     ++ event.Forced Pennsylvania
-    ∷ event.Ruled (seat_at 0) 2 (Obeyed None (order.Raise NewYorkCentral 1))
+    ∷ event.Ruled (seat_at 0) 2 (Obeyed None (order.Play (play.Raise NewYorkCentral 1)))
     ∷ event.Sells NewYorkCentral (seat_at 0) 1 100
     ∷ event.Moves NewYorkCentral (record { row = 1; column = 7 })
     ∷ event.Aid (seat_at 0) Pennsylvania 30
     ∷ event.Train Pennsylvania Two seller.Bank 80
     ∷ [])
 unfolding after_forced concluded with_aid sold_singly sold_further next_to_sell falls_short lack_of cheapest
-    first_on_sale raise_rule sale_rule sale_judgement is_not_held is_over_five must_stay
+    first_on_sale raise_judgement raised_sale_judgement sale_judgement is_not_held is_over_five must_stay
 ann_raises = refl
 
 -- without the line she sells it all the same. Of PRR she may sell none, since BOB would then have
@@ -85,7 +86,7 @@ pub ann_must_sell :
     ∷ event.Train Pennsylvania Two seller.Bank 80
     ∷ [])
 unfolding after_forced concluded with_aid sold_singly sold_further next_to_sell falls_short lack_of cheapest
-    first_on_sale raise_rule sale_rule sale_judgement is_not_held is_over_five must_stay
+    first_on_sale raise_judgement raised_sale_judgement sale_judgement is_not_held is_over_five must_stay
 ann_must_sell = refl
 
 -- without the share she is bankrupt
@@ -93,5 +94,5 @@ pub ann_is_bankrupt :
     after_forced ann [] (game (before 579 false))
     ≡ game (before 579 false ++ event.Forced Pennsylvania ∷ event.Bankrupt (seat_at 0) ∷ [])
 unfolding after_forced concluded with_aid sold_singly sold_further next_to_sell falls_short lack_of cheapest
-    first_on_sale raise_rule sale_rule sale_judgement is_not_held is_over_five must_stay
+    first_on_sale raise_judgement raised_sale_judgement sale_judgement is_not_held is_over_five must_stay
 ann_is_bankrupt = refl

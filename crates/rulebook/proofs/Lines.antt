@@ -10,6 +10,7 @@ use Rattle.order_grammar.specs.Print.{spelling_of}
 use Rattle.order_grammar.specs.declared.fault.Fault.TheVariants as fault
 use Rattle.order_grammar.specs.declared.order.Order.{Order}
 use Rattle.order_grammar.specs.declared.order.Order.TheVariants as order
+use Rattle.order_grammar.specs.declared.play.PlayOrder.TheVariants as play
 use Rattle.tables.specs.declared.rolling_stock.Kind.TheVariants.{Two}
 use Rattle.tables.specs.declared.roster.Company.TheVariants.{Pennsylvania}
 use Rattle.map_tables.specs.Hex.{hex_at, hexes, site_of}
@@ -28,7 +29,7 @@ pub is_printed : spelling_of run ≡ codes "RUN 2 H12.0 H10.0"
 unfolding site_of digits
 is_printed = refl
 
-pub sale : reading_of (codes "SELL PRR 02") ≡ Ok (order.Sell Pennsylvania 2)
+pub sale : reading_of (codes "SELL PRR 02") ≡ Ok (order.Play (play.Sell Pennsylvania 2))
 sale = refl
 
 -- a first word that no form has (G3), words of no form (G4), a number over 99,999 (G5), a tab (G2)

@@ -22,6 +22,7 @@ use Rattle.map_tables.specs.declared.tiles.TileNo.TheVariants.{T9, T57}
 use Rattle.order_grammar.specs.declared.order.Order.TheVariants as order
 use Rattle.order_grammar.specs.declared.order.ShareSource.TheVariants.{InitialOffering}
 use Rattle.order_grammar.specs.declared.order.TrainSource.TheVariants as source
+use Rattle.order_grammar.specs.declared.play.PlayOrder.TheVariants as play
 use Rattle.market.specs.OperatingOrder.{operating_order_of}
 use Rattle.report.specs.Column.{left_aligned, right_aligned}
 use Rattle.report.specs.Report.{lines_of_round}
@@ -117,17 +118,17 @@ abbrev happens : List Event
 happens =
     event.Round (Operating 2 1)
     ∷ event.Revenue SchuylkillValley (holder.Seat (seat_at 1)) 5
-    ∷ event.Ruled (seat_at 0) 2 (Obeyed None (order.Lay lay))
+    ∷ event.Ruled (seat_at 0) 2 (Obeyed None (order.Play (play.Lay lay)))
     ∷ event.Laid Pennsylvania lay 0
-    ∷ event.Ruled (seat_at 0) 3 (Obeyed None (order.Token (record { hex = H10; stop = Some First })))
+    ∷ event.Ruled (seat_at 0) 3 (Obeyed None (order.Play (play.Token (record { hex = H10; stop = Some First }))))
     ∷ event.Token Pennsylvania (record { hex = H10; stop = Some First }) 40
     ∷ event.Ruled (seat_at 0) 4 (Obeyed None (order.Run Two run))
     ∷ event.Runs Pennsylvania 30
-    ∷ event.Ruled (seat_at 0) 5 (Obeyed None order.Pay)
+    ∷ event.Ruled (seat_at 0) 5 (Obeyed None (order.Play play.Pay))
     ∷ event.Dividend Pennsylvania (holder.Seat (seat_at 0)) 12
     ∷ event.Dividend Pennsylvania (holder.Seat (seat_at 1)) 6
     ∷ event.Moves Pennsylvania (record { row = 5; column = 8 })
-    ∷ event.Ruled (seat_at 0) 6 (Obeyed None (order.BuyTrain Four source.Bank))
+    ∷ event.Ruled (seat_at 0) 6 (Obeyed None (order.Play (play.BuyTrain Four source.Bank)))
     ∷ event.Train Pennsylvania Four seller.Bank 300
     ∷ event.Phase Four
     ∷ event.Rusted (Some Pennsylvania) Two
@@ -165,19 +166,19 @@ abbrev at_first : TurnState
 at_first = begun (operating_round_opened file (Operating 2 1) (game before)) Pennsylvania
 
 abbrev once_laid : TurnState
-once_laid = lay_answered prr at_first (line 2 (order.Lay lay)) lay (Ok (pos 0))
+once_laid = lay_answered prr at_first (line 2 (order.Play (play.Lay lay))) lay (Ok (pos 0))
 
 abbrev once_placed : TurnState
-once_placed = token_answered prr once_laid (line 3 (order.Token token_place)) token_place (Ok (pos 40))
+once_placed = token_answered prr once_laid (line 3 (order.Play (play.Token token_place))) token_place (Ok (pos 40))
 
 abbrev once_run : TurnState
 once_run = after_run prr once_placed (line 4 (order.Run Two run)) (order.Run Two run) Two run
 
 abbrev once_paid : TurnState
-once_paid = after_pay prr once_run (line 5 order.Pay) order.Pay
+once_paid = after_pay prr once_run (line 5 (order.Play play.Pay)) (order.Play play.Pay)
 
 abbrev once_bought : TurnState
-once_bought = after_buying prr (withheld_if_unpaid Pennsylvania once_paid) (line 6 (order.BuyTrain Four source.Bank)) Four source.Bank
+once_bought = after_buying prr (withheld_if_unpaid Pennsylvania once_paid) (line 6 (order.Play (play.BuyTrain Four source.Bank))) Four source.Bank
 
 -- out of H12.0 to the east and into H14, and out of it to the west and into the city of H10
 abbrev out_east : WalkStep

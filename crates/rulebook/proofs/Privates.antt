@@ -7,6 +7,7 @@ use Rattle.events.specs.declared.event.Event.TheVariants as event
 use Rattle.events.specs.declared.event.Holder.TheVariants as holder
 use Rattle.events.specs.declared.ruling.Ruling.TheVariants.{Obeyed}
 use Rattle.order_grammar.specs.declared.order.Order.TheVariants as order
+use Rattle.order_grammar.specs.declared.play.PlayOrder.TheVariants as play
 use Rattle.privates.specs.Sale.{after_private_sale}
 use Rattle.tables.specs.Seat.{seat_at}
 use Rattle.tables.specs.declared.roster.Company.TheVariants as company
@@ -14,7 +15,7 @@ use Rattle.tables.specs.declared.roster.Private.TheVariants.{CamdenAmboy, Baltim
 use Rattle.totals.specs.LookBack.{owner_of}
 
 abbrev before : List Event
-before = event.Ruled (seat_at 0) 1 (Obeyed None (order.Par company.BaltimoreOhio 76)) ∷ []
+before = event.Ruled (seat_at 0) 1 (Obeyed None (order.Play (play.Par company.BaltimoreOhio 76))) ∷ []
 
 -- with CA comes a share of PRR
 pub ca_brings :

@@ -22,7 +22,8 @@
 //!     panic!(rt; "too few lines")
 //! };
 //! assert!(rt; matches!(first.order(), Ok(Order::Turn)));
-//! assert!(rt; matches!(second.order(), Ok(Order::BuyPrivate(_))) && second.number == 2);
+//! assert!(rt; matches!(second.order(), Ok(Order::Play(PlayOrder::BuyPrivate(_)))));
+//! assert!(rt; second.number == 2);
 //! assert!(rt; lines.take_line().is_none());
 //! ```
 //!

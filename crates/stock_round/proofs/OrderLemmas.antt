@@ -8,7 +8,8 @@ use Rattle.totals.proofs.EventAtEnd.{quiet_same}
 use Rattle.totals.specs.AtEnd.{SaysTheSame}
 use Rattle.totals.specs.LookBack.{Game, with_event, with_events}
 use Rattle.order_grammar.specs.declared.order.Order.{Order}
-use Rattle.order_grammar.specs.declared.order.Order.TheVariants.{Par, BuyShare, Sell, ExchangeMohawk}
+use Rattle.order_grammar.specs.declared.order.Order.TheVariants.{Play}
+use Rattle.order_grammar.specs.declared.play.PlayOrder.TheVariants.{Par, BuyShare, Sell, ExchangeMohawk}
 use Rattle.stock_round.proofs.BuyLemmas.{purchase_allowed, still_may_buy}
 use Rattle.stock_round.proofs.ExchangeLemmas.{exchange_allowed, same_exchange}
 use Rattle.stock_round.proofs.ParLemmas.{start_allowed, still_may_start}
@@ -20,20 +21,20 @@ use Rattle.tables.specs.declared.seat.Seat.{Seat}
 -- an order that breaks no rule can be done
 may_act : (game : Game) (seat : Seat) (bought : Option Company) (order : Order)
     → stock_judgement game seat bought order ≡ None → MayAct game seat order
-may_act game seat bought (Par company price) none = start_allowed game seat company price bought none
-may_act game seat bought (BuyShare company from) none = purchase_allowed game seat company from bought none
-may_act game seat bought (Sell company shares) none = sale_allowed game seat (sale_of company shares) None none
-may_act game seat bought ExchangeMohawk none = exchange_allowed game seat none
+may_act game seat bought (Play (Par company price)) none = start_allowed game seat company price bought none
+may_act game seat bought (Play (BuyShare company from)) none = purchase_allowed game seat company from bought none
+may_act game seat bought (Play (Sell company shares)) none = sale_allowed game seat (sale_of company shares) None none
+may_act game seat bought (Play ExchangeMohawk) none = exchange_allowed game seat none
 may_act game seat bought other none = tt
 
 -- an order can still be done where a list says the same
 still_may : (game : Game) (after : List Event) (seat : Seat) (order : Order) → SaysTheSame game.events after
     → MayAct game seat order → MayAct (with_events game after) seat order
-still_may game after seat (Par company price) same may = still_may_start game after seat company price same may
-still_may game after seat (BuyShare company from) same may = still_may_buy game after seat company from same may
-still_may game after seat (Sell company shares) same may =
+still_may game after seat (Play (Par company price)) same may = still_may_start game after seat company price same may
+still_may game after seat (Play (BuyShare company from)) same may = still_may_buy game after seat company from same may
+still_may game after seat (Play (Sell company shares)) same may =
     still_may_sell game after seat (sale_of company shares) same may
-still_may game after seat ExchangeMohawk same may = same_exchange game.events after seat same ∙ may
+still_may game after seat (Play ExchangeMohawk) same may = same_exchange game.events after seat same ∙ may
 still_may game after seat other same may = tt
 
 -- an order that breaks no rule can be done after its ruling
@@ -47,8 +48,8 @@ may_act_after old new event seat bought order recorded quiet none =
 
 -- whatever is done, the table stays
 pub same_table : (game : Game) (seat : Seat) (order : Order) → (after_stock_order game seat order).seats ≡ game.seats
-same_table game seat (Par company price) = refl
-same_table game seat (BuyShare company from) = refl
-same_table game seat (Sell company shares) = refl
-same_table game seat ExchangeMohawk = refl
+same_table game seat (Play (Par company price)) = refl
+same_table game seat (Play (BuyShare company from)) = refl
+same_table game seat (Play (Sell company shares)) = refl
+same_table game seat (Play ExchangeMohawk) = refl
 same_table game seat other = refl

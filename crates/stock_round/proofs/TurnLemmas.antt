@@ -1,12 +1,14 @@
 -- The new events of a line of a stock turn say who acted in it.
-use Rattle.std.proofs.Common.{◌≡◌, ℕ, Bool, true, false, ◌||◌, Option, None, refl}
+use Rattle.std.proofs.Common.{◌≡◌, ℕ, Bool, true, false, ◌||◌, Option, None, refl, sym}
 use Rattle.std.specs.Prelude.{is_some}
+use Rattle.std.proofs.Math.Bool.{or-true, or-false}
 use Rattle.events.specs.declared.event.Event.{Event}
 use Rattle.events.specs.declared.event.Event.TheVariants as event
 use Rattle.events.specs.declared.ruling.Ruling.TheVariants.{Obeyed}
 use Rattle.order_grammar.specs.declared.condition.Condition.{Condition}
 use Rattle.order_grammar.specs.declared.order.Order.{Order}
 use Rattle.order_grammar.specs.declared.order.Order.TheVariants as order
+use Rattle.order_grammar.specs.declared.play.PlayOrder.TheVariants as play
 use Rattle.sheets.specs.Part.{Numbered}
 use Rattle.stock_round.proofs.BuyLemmas.{in_purchase}
 use Rattle.stock_round.proofs.ExchangeLemmas.{in_exchange}
@@ -19,16 +21,11 @@ use Rattle.stock_round.specs.Par.{after_start}
 use Rattle.stock_round.specs.Sell.{after_sale}
 use Rattle.stock_round.specs.Turn.{InStockTurn, after_stock_ruling, game_in, stock_rules, turn_after_stock_order}
 use Rattle.tables.specs.declared.seat.Seat.{Seat}
-use Rattle.turns.proofs.Acted.{LineSaysWhoActed, in_both, nobody_ruled, one_more, or_nothing, turns_say}
+use Rattle.turns.proofs.Acted.{LineSaysWhoActed, in_both, nobody_ruled, one_more, turns_say}
 use Rattle.turns.proofs.Ruled.{of_ruled}
 use Rattle.turns.specs.Acted.{TurnsSayWhoActed}
 use Rattle.turns.specs.Ruling.{has_place_in_turn}
 use Rattle.totals.specs.LookBack.{Game, with_event}
-
--- who has bought has acted
-has_bought : (before : Bool) → true ≡ (before || true)
-has_bought true = refl
-has_bought false = refl
 
 -- who has sold has acted
 has_sold : (before sold : Bool) → (before || true) ≡ ((before || sold) || true)
@@ -40,26 +37,26 @@ has_sold false false = refl
 order_says : (seats : ℕ) (seat : Seat) (turn : InStockTurn) (number : ℕ) (condition : Option Condition) (done : Order)
     → stock_refusal (game_in seats turn) seat turn.actions.bought done ≡ None →
     LineSaysWhoActed stock_rules seat turn (after_stock_ruling seats seat turn number (Obeyed condition done))
-order_says seats seat turn number condition (order.Par company price) kept =
-    let line : Event = event.Ruled seat number (Obeyed condition (order.Par company price)) in
+order_says seats seat turn number condition (order.Play (play.Par company price)) kept =
+    let line : Event = event.Ruled seat number (Obeyed condition (order.Play (play.Par company price))) in
     let ruled : Game = with_event (game_in seats turn) line in
     record {
       acts = true;
       says_who = in_both seat false true turn.events ruled.events (after_start ruled seat company price).events
           (one_more seat false turn.events line refl) (in_start ruled seat company price);
-      acted = has_bought (is_some turn.actions.bought || turn.actions.sold);
+      acted = sym (or-true (is_some turn.actions.bought || turn.actions.sold));
     }
-order_says seats seat turn number condition (order.BuyShare company from) kept =
-    let line : Event = event.Ruled seat number (Obeyed condition (order.BuyShare company from)) in
+order_says seats seat turn number condition (order.Play (play.BuyShare company from)) kept =
+    let line : Event = event.Ruled seat number (Obeyed condition (order.Play (play.BuyShare company from))) in
     let ruled : Game = with_event (game_in seats turn) line in
     record {
       acts = true;
       says_who = in_both seat false true turn.events ruled.events (after_purchase ruled seat company from).events
           (one_more seat false turn.events line refl) (in_purchase ruled seat company from);
-      acted = has_bought (is_some turn.actions.bought || turn.actions.sold);
+      acted = sym (or-true (is_some turn.actions.bought || turn.actions.sold));
     }
-order_says seats seat turn number condition (order.Sell company shares) kept =
-    let line : Event = event.Ruled seat number (Obeyed condition (order.Sell company shares)) in
+order_says seats seat turn number condition (order.Play (play.Sell company shares)) kept =
+    let line : Event = event.Ruled seat number (Obeyed condition (order.Play (play.Sell company shares))) in
     let ruled : Game = with_event (game_in seats turn) line in
     record {
       acts = true;
@@ -67,14 +64,14 @@ order_says seats seat turn number condition (order.Sell company shares) kept =
           (one_more seat true turn.events line refl) (in_sale ruled seat company shares);
       acted = has_sold (is_some turn.actions.bought) turn.actions.sold;
     }
-order_says seats seat turn number condition order.ExchangeMohawk kept =
-    let line : Event = event.Ruled seat number (Obeyed condition order.ExchangeMohawk) in
+order_says seats seat turn number condition (order.Play play.ExchangeMohawk) kept =
+    let line : Event = event.Ruled seat number (Obeyed condition (order.Play play.ExchangeMohawk)) in
     let ruled : Game = with_event (game_in seats turn) line in
     record {
       acts = false;
       says_who = in_both seat false false turn.events ruled.events (after_exchange ruled seat).events
           (one_more seat false turn.events line refl) (in_exchange ruled seat);
-      acted = or_nothing (is_some turn.actions.bought || turn.actions.sold);
+      acted = sym (or-false (is_some turn.actions.bought || turn.actions.sold));
     }
 order_says seats seat turn number condition other kept = absurd (cc)
 

@@ -1,7 +1,8 @@
 -- What a seat has done with shares in its turn.
 use Rattle.std.specs.Prelude.{Bool, true, false, ◌||◌, Some, None, is_some}
 use Rattle.order_grammar.specs.declared.order.Order.{Order}
-use Rattle.order_grammar.specs.declared.order.Order.TheVariants.{Par, BuyShare, Sell}
+use Rattle.order_grammar.specs.declared.order.Order.TheVariants.{Play}
+use Rattle.order_grammar.specs.declared.play.PlayOrder.TheVariants.{Par, BuyShare, Sell}
 use Rattle.stock_round.specs.declared.deals.ShareDeals.{ShareDeals}
 use Rattle.tables.specs.declared.roster.Company.{Company}
 
@@ -23,7 +24,7 @@ with_sale deals = record { bought = deals.bought; sold = true }
 
 -- what a seat has done after an order that was obeyed; an exchange is neither a purchase nor a sale
 abbrev pub with_deal : ShareDeals → Order → ShareDeals
-with_deal deals (Par company price) = with_purchase deals company
-with_deal deals (BuyShare company from) = with_purchase deals company
-with_deal deals (Sell company shares) = with_sale deals
+with_deal deals (Play (Par company price)) = with_purchase deals company
+with_deal deals (Play (BuyShare company from)) = with_purchase deals company
+with_deal deals (Play (Sell company shares)) = with_sale deals
 with_deal deals other = deals

@@ -9,7 +9,8 @@ use Rattle.events.specs.declared.ruling.Refusal.TheVariants.{Stock}
 use Rattle.events.specs.declared.ruling.StockRule.{StockRule}
 use Rattle.events.specs.declared.ruling.StockRule.TheVariants.{NotOfStock}
 use Rattle.order_grammar.specs.declared.order.Order.{Order}
-use Rattle.order_grammar.specs.declared.order.Order.TheVariants.{Par, BuyShare, Sell, ExchangeMohawk}
+use Rattle.order_grammar.specs.declared.order.Order.TheVariants.{Play}
+use Rattle.order_grammar.specs.declared.play.PlayOrder.TheVariants.{Par, BuyShare, Sell, ExchangeMohawk}
 use Rattle.stock_round.specs.Buy.{MayBuy, after_purchase, buy_judgement}
 use Rattle.stock_round.specs.Exchange.{MayExchange, after_exchange, exchange_judgement}
 use Rattle.stock_round.specs.Par.{MayStart, after_start, par_judgement}
@@ -21,10 +22,10 @@ use Rattle.totals.specs.LookBack.{Game}
 -- The first rule that an order breaks in a turn in which the seat has bought of this company, if it
 -- has bought. Any order but these four breaks the first.
 abbrev pub stock_judgement : Game → Seat → Option Company → Order → Option StockRule
-stock_judgement game seat bought (Par company price) = par_judgement game seat company price bought
-stock_judgement game seat bought (BuyShare company from) = buy_judgement game seat company from bought
-stock_judgement game seat bought (Sell company shares) = sell_judgement game seat company shares
-stock_judgement game seat bought ExchangeMohawk = exchange_judgement game seat
+stock_judgement game seat bought (Play (Par company price)) = par_judgement game seat company price bought
+stock_judgement game seat bought (Play (BuyShare company from)) = buy_judgement game seat company from bought
+stock_judgement game seat bought (Play (Sell company shares)) = sell_judgement game seat company shares
+stock_judgement game seat bought (Play ExchangeMohawk) = exchange_judgement game seat
 stock_judgement game seat bought other = Some NotOfStock
 
 -- the first rule that an order breaks, as a ruling refuses an order
@@ -33,16 +34,16 @@ stock_refusal game seat bought order = option_map Stock (stock_judgement game se
 
 -- the order can be done
 abbrev pub MayAct : Game → Seat → Order → Type 0
-MayAct game seat (Par company price) = MayStart game seat company price
-MayAct game seat (BuyShare company from) = MayBuy game seat company from
-MayAct game seat (Sell company shares) = MaySell game seat (sale_of company shares)
-MayAct game seat ExchangeMohawk = MayExchange game seat
+MayAct game seat (Play (Par company price)) = MayStart game seat company price
+MayAct game seat (Play (BuyShare company from)) = MayBuy game seat company from
+MayAct game seat (Play (Sell company shares)) = MaySell game seat (sale_of company shares)
+MayAct game seat (Play ExchangeMohawk) = MayExchange game seat
 MayAct game seat other = Unit {0}
 
 -- after what follows from an obeyed order of a seat
 abbrev pub after_stock_order : Game → Seat → Order → Game
-after_stock_order game seat (Par company price) = after_start game seat company price
-after_stock_order game seat (BuyShare company from) = after_purchase game seat company from
-after_stock_order game seat (Sell company shares) = after_sale game seat company shares
-after_stock_order game seat ExchangeMohawk = after_exchange game seat
+after_stock_order game seat (Play (Par company price)) = after_start game seat company price
+after_stock_order game seat (Play (BuyShare company from)) = after_purchase game seat company from
+after_stock_order game seat (Play (Sell company shares)) = after_sale game seat company shares
+after_stock_order game seat (Play ExchangeMohawk) = after_exchange game seat
 after_stock_order game seat other = game

@@ -7,7 +7,7 @@ ghost use Rattle.stock_round.specs.Orders.{MayAct, after_stock_order, stock_judg
 use crate::deals::ShareDeals;
 use crate::{buy, exchange, par, sell};
 use history::{History, StockRule};
-use order_grammar::Order;
+use order_grammar::{Order, PlayOrder};
 use std::alloc::AllocError;
 use tables::{Company, Seat};
 
@@ -22,10 +22,16 @@ pub(crate) fn judge(
     ensures { result ≡ stock_judgement history.now seat bought order.now }
 {
     match order {
-        Order::Par { company, price } => par::judge(history, seat, *company, *price, bought),
-        Order::BuyShare { company, from } => buy::judge(history, seat, *company, *from, bought),
-        Order::Sell { company, shares } => sell::judge(history, seat, *company, *shares),
-        Order::ExchangeMohawk => exchange::judge(history, seat),
+        Order::Play(PlayOrder::Par { company, price }) => par::judge(
+            history, seat, *company, *price, bought,
+        ),
+        Order::Play(PlayOrder::BuyShare { company, from }) => buy::judge(
+            history, seat, *company, *from, bought,
+        ),
+        Order::Play(PlayOrder::Sell { company, shares }) => sell::judge(
+            history, seat, *company, *shares,
+        ),
+        Order::Play(PlayOrder::ExchangeMohawk) => exchange::judge(history, seat),
         _ => Some(StockRule::NotOfStock),
     }
 }
@@ -46,19 +52,19 @@ pub(crate) fn act(
     ensures game { OnOk result (IsGame history.new) }
 {
     match order {
-        Order::Par { company, price } => {
+        Order::Play(PlayOrder::Par { company, price }) => {
             par::act(history, seat, *company, *price)?;
             Ok(deals.with_purchase(*company))
         }
-        Order::BuyShare { company, from } => {
+        Order::Play(PlayOrder::BuyShare { company, from }) => {
             buy::act(history, seat, *company, *from)?;
             Ok(deals.with_purchase(*company))
         }
-        Order::Sell { company, shares } => {
+        Order::Play(PlayOrder::Sell { company, shares }) => {
             sell::act(history, seat, *company, *shares)?;
             Ok(deals.with_sale())
         }
-        Order::ExchangeMohawk => {
+        Order::Play(PlayOrder::ExchangeMohawk) => {
             exchange::act(history, seat)?;
             Ok(deals)
         }

@@ -1,7 +1,7 @@
 //! The examples at the roots of `sheets` and `umpire`, word for word: `./check docs` compares them.
 
 use crate::support::{FIRST, FIRST_REPORT};
-use order_grammar::Order;
+use order_grammar::{Order, PlayOrder};
 use sheets::collect;
 use tables::{Round, Seat};
 use umpire::{Watched, run};
@@ -20,7 +20,8 @@ fn sheets_collects_a_file(rt: HostRuntime) {
         panic!(rt; "too few lines")
     };
     assert!(rt; matches!(first.order(), Ok(Order::Turn)));
-    assert!(rt; matches!(second.order(), Ok(Order::BuyPrivate(_))) && second.number == 2);
+    assert!(rt; matches!(second.order(), Ok(Order::Play(PlayOrder::BuyPrivate(_)))));
+    assert!(rt; second.number == 2);
     assert!(rt; lines.take_line().is_none());
 }
 

@@ -10,8 +10,9 @@ use Rattle.order_grammar.specs.declared.condition.Version.{Version}
 use Rattle.order_grammar.specs.declared.fault.Fault.{Fault}
 use Rattle.order_grammar.specs.declared.fault.Fault.TheVariants.{PastLastLine}
 use Rattle.order_grammar.specs.declared.order.Order.{Order}
-use Rattle.order_grammar.specs.declared.order.Order.TheVariants.{Bid, BuyTrain, Limit}
+use Rattle.order_grammar.specs.declared.order.Order.TheVariants.{Play}
 use Rattle.order_grammar.specs.declared.order.TrainSource.TheVariants.{Bank, BankPool, Company, Trade}
+use Rattle.order_grammar.specs.declared.play.PlayOrder.TheVariants.{Bid, BuyTrain, Limit}
 use Rattle.turns.specs.Small.{IsReady, IsSmallOrder, IsSmallReading, PartsAreSmall}
 use Rattle.sheets.specs.File.{sheet_of, version_of}
 use Rattle.sheets.specs.Limits.{lines_most}
@@ -22,12 +23,12 @@ use Rattle.tables.specs.declared.round.Round.{Round}
 
 -- an order with small numbers is small
 small_order : (order : Order) → HasSmallNumbers order → IsSmallOrder order
-small_order (Bid private amount) small = grind (arith, nat_tests)
-small_order (Limit private amount) small = grind (arith, nat_tests)
-small_order (BuyTrain kind (Company seller price)) small = grind (arith, nat_tests)
-small_order (BuyTrain kind Bank) small = tt
-small_order (BuyTrain kind (Trade trade_in)) small = tt
-small_order (BuyTrain kind BankPool) small = tt
+small_order (Play (Bid private amount)) small = grind (arith, nat_tests)
+small_order (Play (Limit private amount)) small = grind (arith, nat_tests)
+small_order (Play (BuyTrain kind (Company seller price))) small = grind (arith, nat_tests)
+small_order (Play (BuyTrain kind Bank)) small = tt
+small_order (Play (BuyTrain kind (Trade trade_in))) small = tt
+small_order (Play (BuyTrain kind BankPool)) small = tt
 small_order other small = tt
 
 -- what a line is read as is small

@@ -4,16 +4,17 @@ use Rattle.events.specs.declared.ruling.Ruling.{Ruling}
 use Rattle.events.specs.declared.ruling.Ruling.TheVariants.{Obeyed}
 use Rattle.order_grammar.specs.declared.fault.Fault.{Fault}
 use Rattle.order_grammar.specs.declared.order.Order.{Order}
-use Rattle.order_grammar.specs.declared.order.Order.TheVariants.{Bid, BuyTrain, Limit}
+use Rattle.order_grammar.specs.declared.order.Order.TheVariants.{Play}
 use Rattle.order_grammar.specs.declared.order.TrainSource.TheVariants.{Company}
+use Rattle.order_grammar.specs.declared.play.PlayOrder.TheVariants.{Bid, BuyTrain, Limit}
 use Rattle.sheets.specs.Part.{Numbered, SheetParts, IsAtHead, written_turns_of}
 
 -- the sum of a bid or a limit is at most 99,999, and the price at which a company is to sell a
 -- train
 abbrev pub IsSmallOrder : Order → Type 0
-IsSmallOrder (Bid private amount) = amount ≤ 99999
-IsSmallOrder (Limit private amount) = amount ≤ 99999
-IsSmallOrder (BuyTrain kind (Company seller price)) = price ≤ 99999
+IsSmallOrder (Play (Bid private amount)) = amount ≤ 99999
+IsSmallOrder (Play (Limit private amount)) = amount ≤ 99999
+IsSmallOrder (Play (BuyTrain kind (Company seller price))) = price ≤ 99999
 IsSmallOrder other = Unit {0}
 
 -- the sums of an order that is obeyed are at most 99,999

@@ -1,7 +1,7 @@
 use Rattle.std.proofs.Common.{◌∷◌, []}
 use Rattle.moves.proofs.RowLemmas.{rows_both}
 use Rattle.moves.specs.StockRows.{orders_of_companies, stock_row}
-use Rattle.order_grammar.specs.declared.order.Order.TheVariants.{ExchangeMohawk}
+use Rattle.order_grammar.specs.declared.play.PlayOrder.TheVariants.{ExchangeMohawk}
 use Rattle.moves.proofs.stock.push_orders.Goals as goal
 
 pub returns : goal.returns

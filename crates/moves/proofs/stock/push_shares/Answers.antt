@@ -3,7 +3,7 @@ use Rattle.moves.proofs.RowLemmas.{rows_done, rows_next, rows_none}
 use Rattle.moves.specs.StockRows.{stock_row}
 use Rattle.moves.specs.Deals.{sources}
 use Rattle.order_grammar.specs.declared.order.ShareSource.{ShareSource}
-use Rattle.order_grammar.specs.declared.order.Order.TheVariants.{BuyShare}
+use Rattle.order_grammar.specs.declared.play.PlayOrder.TheVariants.{BuyShare}
 use Rattle.moves.proofs.stock.push_shares.Goals as goal
 
 pub loop-from-init : goal.loop-from-init

@@ -2,7 +2,7 @@
 use Rattle.std.proofs.Common.{◌≡◌, ◌∷◌, [], ◌++◌, map, take, flat_map}
 use Rattle.moves.specs.StockRows.{stock_row}
 use Rattle.order_grammar.specs.declared.order.ShareSource.{ShareSource}
-use Rattle.order_grammar.specs.declared.order.Order.TheVariants.{BuyShare}
+use Rattle.order_grammar.specs.declared.play.PlayOrder.TheVariants.{BuyShare}
 use Rattle.moves.proofs.stock.push_shares.Given as goal
 
 abbrev pub invariant-loop-from : goal.invariant-loop-from

@@ -1,7 +1,7 @@
 use Rattle.std.proofs.Common.{◌∷◌, [], ℕ}
 use Rattle.moves.proofs.ParRows.{rows_above}
 use Rattle.moves.specs.StockRows.{stock_row}
-use Rattle.order_grammar.specs.declared.order.Order.TheVariants.{Par}
+use Rattle.order_grammar.specs.declared.play.PlayOrder.TheVariants.{Par}
 use Rattle.moves.proofs.stock.push_starts.Goals as goal
 
 pub loop-row-preserved-in-Continue-1 : goal.loop-row-preserved-in-Continue-1

@@ -1,9 +1,10 @@
 use Rattle.std.proofs.Common.{◌≡◌, zero, suc, List, [], ◌++◌, Ok, refl, sym, ap, subst, ◌∙◌}
 use Rattle.certificate.specs.declared.group.Group.{Group}
+use Rattle.order_grammar.proofs.PrefixLemmas.{at_error}
 use Rattle.rounds.specs.Steps.{IsUnbroken, PlaysNext, StepLeads, Stays}
 use Rattle.rounds.specs.declared.steps.Step.{Step}
 use Rattle.umpire.proofs.CertsLemmas.{certified_more, cut_at_start, kept_of, prefix_grows, text_grows}
-use Rattle.umpire.proofs.Parts.{on_err, whole_prefix}
+use Rattle.umpire.proofs.Parts.{whole_prefix}
 use Rattle.umpire.proofs.certificates.write_game.Goals as goal
 
 pub loop-keeping-init : goal.loop-keeping-init
@@ -64,19 +65,19 @@ returns-in-Ended-clause-ok g c =
 -- nothing is certified yet
 pub returns-in_err-write_head-clause-prefix : goal.returns-in_err-write_head-clause-prefix
 returns-in_err-write_head-clause-prefix g c =
-    on_err c.from_residual.result
+    at_error c.from_residual.result
     (cut_at_start c.args.sheets.now _ _ c.requires.accepted c.in_err-write_head.ensures.prefix)
 
 pub returns-in_err-play-clause-prefix : goal.returns-in_err-play-clause-prefix
 returns-in_err-play-clause-prefix g c =
-    on_err c.from_residual-in_err-play.result
+    at_error c.from_residual-in_err-play.result
     (cut_at_start c.args.sheets.now _ _ c.requires.accepted (whole_prefix _ _ _ c.in_ok-write_head.ensures.ok))
 
 -- the groups so far are written
 pub returns-in_err-step-clause-prefix : goal.returns-in_err-step-clause-prefix
 returns-in_err-step-clause-prefix g c =
     let at = c.loop-keeping.invariant in
-    on_err c.from_residual-in_err-step.result (record {
+    at_error c.from_residual-in_err-step.result (record {
       file = c.args.sheets.now;
       whole = refl;
       accepted = c.requires.accepted;
@@ -102,7 +103,7 @@ returns-in_err-write_groups-clause-prefix g c =
     (c.calls_are_answered.ensures.steps _ _ _ made.0 step made.1) made.2 in
     let groups : c.kept.result.now ≡ kept.groups =
     c.kept.ensures ∙ kept.kept ∙ ap (λ (l : List Group). l ++ kept.groups) c.new-keeping.ensures in
-    on_err c.from_residual-in_err-write_groups.result (record {
+    at_error c.from_residual-in_err-write_groups.result (record {
       file = c.args.sheets.now;
       whole = refl;
       accepted = c.requires.accepted;

@@ -1,7 +1,8 @@
 use Rattle.std.proofs.Common.{Ok, refl, sym, subst}
+use Rattle.order_grammar.proofs.PrefixLemmas.{at_error}
 use Rattle.rounds.specs.Steps.{IsUnbroken, PlaysNext, StepLeads}
 use Rattle.rounds.specs.declared.steps.Step.{Step}
-use Rattle.umpire.proofs.Parts.{more_prefix, on_err, writes_more, writes_none, written_prefix}
+use Rattle.umpire.proofs.Parts.{more_prefix, writes_more, writes_none, written_prefix}
 use Rattle.umpire.proofs.program.write_rounds.Goals as goal
 
 pub loop-play-init : goal.loop-play-init
@@ -27,11 +28,11 @@ loop-play-preserved g c =
     }
 
 pub returns-in_err-step-clause-prefix : goal.returns-in_err-step-clause-prefix
-returns-in_err-step-clause-prefix g c = on_err c.from_residual.result (written_prefix _ _ _ _
+returns-in_err-step-clause-prefix g c = at_error c.from_residual.result (written_prefix _ _ _ _
     c.loop-play.invariant.rounds)
 
 pub returns-in_err-text-clause-prefix : goal.returns-in_err-text-clause-prefix
-returns-in_err-text-clause-prefix g c = on_err c.from_residual-in_err-text.result
+returns-in_err-text-clause-prefix g c = at_error c.from_residual-in_err-text.result
     (written_prefix _ _ _ _ c.loop-play.invariant.rounds)
 
 pub returns-in_err-write_text-clause-prefix : goal.returns-in_err-write_text-clause-prefix
@@ -42,4 +43,4 @@ returns-in_err-write_text-clause-prefix g c =
     in
     let bytes = rw c.as_slice.ensures.value at c.in_err-write_text.ensures.prefix in
     let prefix = rw c.in_ok-text.ensures at bytes in
-    on_err c.from_residual-in_err-write_text.result (more_prefix _ _ _ _ _ _ _ c.loop-play.invariant.rounds step prefix)
+    at_error c.from_residual-in_err-write_text.result (more_prefix _ _ _ _ _ _ _ c.loop-play.invariant.rounds step prefix)

@@ -5,7 +5,8 @@ use Rattle.operating.proofs.LayLemmas.{laid_sound, laid_steps, lay_allowed, lay_
 use Rattle.operating.specs.BoardAsker.{asker_of}
 use Rattle.operating.specs.MapState.{map_state_now}
 use Rattle.operating.specs.TurnState.{turn_state}
-use Rattle.order_grammar.specs.declared.order.Order.TheVariants.{Lay}
+use Rattle.order_grammar.specs.declared.order.Order.TheVariants.{Play}
+use Rattle.order_grammar.specs.declared.play.PlayOrder.TheVariants.{Lay}
 use Rattle.sheets.specs.Part.{line_with}
 use Rattle.operating.proofs.company_turn.CompanyTurn.rule_lay.Goals as goal
 
@@ -44,7 +45,7 @@ returns-in_ok-append-in-Ok-clause-turn c =
       answer = Ok cost;
       answered = answered;
       after = laid_steps c.args.self.now.by (turn_state game c.args.self.now.progress)
-          (line_with c.args.line (Lay c.args.lay)) c.args.lay cost c.record.new.history c.append.new.self _
+          (line_with c.args.line (Play (Lay c.args.lay))) c.args.lay cost c.record.new.history c.append.new.self _
           c.amount_of-cost.result c.count_lay.new.self (rw c.requires.is at c.in_ok-record-in-Ok.ensures.ruling) refl
           c.in_ok-append-in-Ok.ensures.ok (c.amount_of-cost.ensures ∙ ap unsigned_abs may.kept)
           (lay_done_by _ (map_state_now game.events) _ (asker_of game c.args.self.now.by.company
@@ -65,7 +66,7 @@ returns-in_ok-append-in-Ok-clause-order c =
       by = refl;
       round = refl;
       sound = laid_sound game c.record.new.history c.append.new.self c.args.self.now.by.company
-          c.args.self.now.progress c.args.self.now.by.president (line_with c.args.line (Lay c.args.lay)) _ c.args.lay
+          c.args.self.now.progress c.args.self.now.by.president (line_with c.args.line (Play (Lay c.args.lay))) _ c.args.lay
           cost c.amount_of-cost.result answered (rw c.requires.is at c.in_ok-record-in-Ok.ensures.ruling) c.in_ok-append-in-Ok.ensures.ok
           (c.amount_of-cost.ensures ∙ ap unsigned_abs may.kept) c.in_ok-record-in-Ok.ensures.sound;
       prefix = c.in_ok-update_map_state.ensures.prefix;
@@ -81,6 +82,6 @@ returns-in_ok-record-in-Err-Rule-clause-turn c =
       answered = lay_by _ _ _ _ c.args.lay (Err rule) c.in_ok-update_map_state.ensures.map_state c.asker-asker.ensures
           answered;
       after = lay_refused_steps c.args.self.now.by (turn_state game c.args.self.now.progress)
-          (line_with c.args.line (Lay c.args.lay)) c.args.lay rule c.record-in-Err-Rule.new.history _
+          (line_with c.args.line (Play (Lay c.args.lay))) c.args.lay rule c.record-in-Err-Rule.new.history _
           (rw c.in-Err-Rule.field-0-is at rw c.requires.is at c.in_ok-record-in-Err-Rule.ensures.ruling) refl;
     }

@@ -5,7 +5,8 @@ use Rattle.operating.proofs.TokenLemmas.{placed_sound, placed_steps, token_allow
 use Rattle.operating.specs.BoardAsker.{asker_of}
 use Rattle.operating.specs.MapState.{map_state_now}
 use Rattle.operating.specs.TurnState.{turn_state}
-use Rattle.order_grammar.specs.declared.order.Order.TheVariants.{Token}
+use Rattle.order_grammar.specs.declared.order.Order.TheVariants.{Play}
+use Rattle.order_grammar.specs.declared.play.PlayOrder.TheVariants.{Token}
 use Rattle.sheets.specs.Part.{line_with}
 use Rattle.operating.proofs.company_turn.CompanyTurn.rule_token.Goals as goal
 
@@ -44,7 +45,7 @@ returns-in_ok-append-in-Ok-clause-turn c =
       answer = Ok cost;
       answered = answered;
       after = placed_steps c.args.self.now.by (turn_state game c.args.self.now.progress)
-          (line_with c.args.line (Token c.args.place)) c.args.place cost c.record.new.history c.append.new.self _
+          (line_with c.args.line (Play (Token c.args.place))) c.args.place cost c.record.new.history c.append.new.self _
           c.amount_of-cost.result c.pass_token.new.self (rw c.requires.is at c.in_ok-record-in-Ok.ensures.ruling) refl
           c.in_ok-append-in-Ok.ensures.ok (c.amount_of-cost.ensures ∙ ap unsigned_abs may.kept)
           c.pass_token.ensures;
@@ -63,7 +64,7 @@ returns-in_ok-append-in-Ok-clause-order c =
       by = refl;
       round = refl;
       sound = placed_sound game c.record.new.history c.append.new.self c.args.self.now.by.company
-          c.args.self.now.progress c.args.self.now.by.president (line_with c.args.line (Token c.args.place)) _
+          c.args.self.now.progress c.args.self.now.by.president (line_with c.args.line (Play (Token c.args.place))) _
           c.args.place cost c.amount_of-cost.result answered (rw c.requires.is at c.in_ok-record-in-Ok.ensures.ruling)
           c.in_ok-append-in-Ok.ensures.ok (c.amount_of-cost.ensures ∙ ap unsigned_abs may.kept)
           c.in_ok-record-in-Ok.ensures.sound;
@@ -80,6 +81,6 @@ returns-in_ok-record-in-Err-Rule-clause-turn c =
       answered = token_by _ _ _ _ c.args.place (Err rule) c.in_ok-update_map_state.ensures.map_state
           c.asker-asker.ensures answered;
       after = token_refused_steps c.args.self.now.by (turn_state game c.args.self.now.progress)
-          (line_with c.args.line (Token c.args.place)) c.args.place rule c.record-in-Err-Rule.new.history _
+          (line_with c.args.line (Play (Token c.args.place))) c.args.place rule c.record-in-Err-Rule.new.history _
           (rw c.in-Err-Rule.field-0-is at rw c.requires.is at c.in_ok-record-in-Err-Rule.ensures.ruling) refl;
     }

@@ -6,12 +6,13 @@ use Rattle.operating.proofs.StaysInOrder.{after_withholding}
 use Rattle.operating.proofs.TrainLemmas.{train_leads_on}
 use Rattle.operating.specs.CompanyTurn.{state}
 use Rattle.operating.specs.MapState.{IsPrefix}
+use Rattle.order_grammar.specs.declared.order.Order.TheVariants.{Play}
 use Rattle.turns.specs.Small.{IsSmallOrder}
 use Rattle.sheets.specs.Part.{line_with}
-use Rattle.operating.proofs.company_turn.CompanyTurn.rule_other.Goals as goal
+use Rattle.operating.proofs.company_turn.CompanyTurn.rule_play.Goals as goal
 
 pub rule_train-requires-clause-small : goal.rule_train-requires-clause-small
-rule_train-requires-clause-small c = subst IsSmallOrder c.in-BuyTrain.is c.requires.small
+rule_train-requires-clause-small c = subst IsSmallOrder (c.requires.is ∙ ap Play c.in-BuyTrain.is) c.requires.small
 
 pub rule_train-requires-clause-order : goal.rule_train-requires-clause-order
 rule_train-requires-clause-order c =
@@ -22,7 +23,7 @@ pub returns-in_ok-rule_train-in-BuyTrain-clause-turn :
     goal.returns-in_ok-rule_train-in-BuyTrain-clause-turn
 returns-in_ok-rule_train-in-BuyTrain-clause-turn c =
     train_leads_on c.args.self.now.by c.withhold_if_unpaid.new.self.by (state c.args.self.now)
-    (state c.withhold_if_unpaid.new.self) (line_with c.args.line c.args.order.now) c.args.order.now _ _ (state c.rule_train.new.self) c.in-BuyTrain.is
+    (state c.withhold_if_unpaid.new.self) (line_with c.args.line c.args.order.now) c.args.order.now _ _ (state c.rule_train.new.self) (c.requires.is ∙ ap Play c.in-BuyTrain.is)
     c.in_ok-withhold_if_unpaid-in-BuyTrain.ensures.order.by c.in_ok-withhold_if_unpaid-in-BuyTrain.ensures.turn
     c.in_ok-rule_train-in-BuyTrain.ensures.turn
 
