@@ -20,7 +20,7 @@ CLAIMS = [
     Claim('`verify`: the report by certificates', ('umpire: verify',)),
     Claim('`migrate`: the file of version 2', ('umpire: migrate',)),
     Claim("the desk's words", (
-        'desk_round: round', 'desk_round: cause_of', 'desk_round: figures_of', 'desk_base: explain', 'desk_state: state', 'desk_state: purse_of',
+        'desk_round: round', 'desk_why: cause_of', 'desk_why: figures_of', 'desk_base: explain', 'desk_state: state', 'desk_state: purse_of',
         'desk_state: game_row', 'desk_state: private_row', 'desk_state: company_row', 'desk_state: share_row', 'desk_state: train_row', 'desk_state: earnings_of',
         'desk_state: all_in_order', 'desk_base: tokens_left', 'desk_base: trains_left', 'desk_base: tiles_left', 'desk_base: best_at',
         'desk_check: check', 'desk_check: look_at_sheet', 'desk_check: find_replaced', 'foresight: put_alone', 'foresight: put_all',

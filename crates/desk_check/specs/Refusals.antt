@@ -3,7 +3,7 @@ use Rattle.std.specs.Prelude.{ℕ, ◌==◌, Bool, true, false, if◌then◌else
 use Rattle.std.specs.List.{flat_map}
 use Rattle.desk_check.specs.declared.check_sheets.Sent.{Sent}
 use Rattle.desk_check.specs.declared.refusals.RefusedLine.{RefusedLine}
-use Rattle.desk_round.specs.Refused.{refused_in}
+use Rattle.desk_why.specs.Refused.{refused_in}
 use Rattle.events.specs.RulingText.{verdict_of}
 use Rattle.events.specs.declared.event.Event.{Event}
 use Rattle.events.specs.declared.event.Event.TheVariants.{Ruled}

@@ -4,7 +4,7 @@ ghost use Rattle.std.specs.List.{flat_map};
 ghost use Rattle.desk_check.specs.Refusals.{is_told, refused_of, row_at, row_in, row_of};
 
 use crate::check_sheets::Sent;
-use desk_round::refused_in;
+use desk_why::refused_in;
 use history::{Event, Refusal, Verdict};
 use std::alloc::{AllocError, Global};
 use tables::Seat;

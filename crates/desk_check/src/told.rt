@@ -12,7 +12,7 @@ use crate::refusals::RefusedLine;
 use crate::taken::push_taker;
 use desk_base::Piece::Words;
 use desk_base::{push, view_behind};
-use desk_round::{Ruled, SheetLine, find_line, lines_of, push_rule};
+use desk_why::{Ruled, SheetLine, find_line, lines_of, push_rule};
 use history::{Event, GameView, PackedRuling, Ruling, Verdict, Walk};
 use rounds::Game;
 use std::alloc::{AllocError, Global};

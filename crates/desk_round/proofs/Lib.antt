@@ -1,3 +1,2 @@
 -- What the proofs on a round share.
 pub mod RoundParts
-mod SheetSteps

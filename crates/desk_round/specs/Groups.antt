@@ -1,14 +1,14 @@
 -- The events of a round in groups, each of one turn.
 use Rattle.std.specs.Prelude.{ℕ, ◌+◌, ◌-◌, ◌==◌, Bool, true, false, if◌then◌else◌, List, [], ◌∷◌, ◌++◌, Option, Some, None, slice_get}
 use Rattle.std.specs.List.{fold}
-use Rattle.desk_round.specs.Why.{company_at, line_at}
 use Rattle.desk_round.specs.declared.groups.Group.{Group}
 use Rattle.desk_round.specs.declared.groups.Grouped.{Grouped}
 use Rattle.desk_round.specs.declared.groups.Grouping.{Grouping}
 use Rattle.desk_round.specs.declared.groups.Whose.{Whose}
 use Rattle.desk_round.specs.declared.groups.Whose.TheVariants as whose
-use Rattle.desk_round.specs.declared.sheet_line.LinePlace.{LinePlace}
-use Rattle.desk_round.specs.declared.sheet_line.SheetLine.{SheetLine}
+use Rattle.desk_why.specs.Why.{company_at, line_at}
+use Rattle.desk_why.specs.declared.sheet_line.LinePlace.{LinePlace}
+use Rattle.desk_why.specs.declared.sheet_line.SheetLine.{SheetLine}
 use Rattle.events.specs.Event.{round_begun_by}
 use Rattle.events.specs.declared.event.Event.{Event}
 use Rattle.events.specs.declared.event.Event.TheVariants.{Forced, Home, Laid, Left, Passes, Price, Revenue, Ruled, Runs, Token, Withheld}

@@ -6,9 +6,9 @@ use Rattle.std.specs.Option.{option_or}
 use Rattle.desk_base.specs.declared.fault.DeskFault.{DeskFault}
 use Rattle.desk_base.specs.declared.fault.DeskFault.TheVariants as desk
 use Rattle.desk_round.specs.Played.{was_played}
-use Rattle.desk_round.specs.Refused.{within_then}
 use Rattle.desk_round.specs.declared.train_runs.RunRow.{RunRow}
 use Rattle.desk_round.specs.declared.train_runs.Seen.{Seen}
+use Rattle.desk_why.specs.Refused.{within_then}
 use Rattle.events.specs.declared.event.Event.{Event}
 use Rattle.events.specs.declared.event.Event.TheVariants.{Round as Begun, Ruled, Runs}
 use Rattle.tables.specs.declared.roster.Company.{Company}

@@ -1,11 +1,9 @@
 //! The lines of a sheet that were not taken up in a round, and why not.
 
 use crate::bulletin_text::BROUGHT;
-use crate::played::same_round;
-use crate::sheet_line::{LINES_KEPT, LinePlace, SheetLine};
-use crate::why::FAULTY_COLUMNS;
 use desk_base::Piece::{Bytes, Column, Count, Cut, Right, Words};
 use desk_base::{fill, push, push_wrapped, who};
+use desk_why::{FAULTY_COLUMNS, LinePlace, SheetLine, same_round};
 use history::Event;
 use report::name;
 use sheets::Sheets;

@@ -6,13 +6,10 @@ ghost use Rattle.desk_round.specs.RoundPart.{round_asked, text_of_round};
 ghost use Rattle.sheets.specs.File.{IsAccepted};
 
 use crate::played::was_played;
-use crate::refusal_detail::Ruled;
-use crate::refused::refused_in;
 use crate::round_texts::{Told, tell};
-use crate::sheet_line::{SheetLine, lines_of};
-use crate::why::push_why;
 use desk_base::Piece::Bytes;
 use desk_base::{DeskFault, fill, push, view_behind};
+use desk_why::{Ruled, SheetLine, lines_of, push_why, refused_in};
 use history::{Event, Walk};
 use report::round_text;
 use rounds::{Game, play};

@@ -6,10 +6,10 @@ ghost use Rattle.desk_round.specs.RunsRound.{runs_by, runs_in, seen_then};
 ghost use Rattle.sheets.specs.File.{IsAccepted};
 
 use crate::played::was_played;
-use crate::refused::within_then;
 use crate::round_texts::{Told, tell};
 use desk_base::Piece::{Number, Words};
 use desk_base::{DeskFault, Piece, best_at, board_at, fill, push, push_run, view_behind};
+use desk_why::within_then;
 use history::{Event, GameView, History, Ruling, Walk};
 use order_grammar::{Order, PlayOrder};
 use rounds::Game;

@@ -5,8 +5,8 @@
 use Rattle.std.proofs.Common.{◌≡◌, refl, true, false, List, [], ◌∷◌, ◌++◌, Some, None}
 use Rattle.desk_state.specs.Earnings.{earnings_of}
 use Rattle.desk_base.specs.declared.cause.Cause.TheVariants as cause
-use Rattle.desk_round.specs.Cause.{cause_of_lay, cause_of_pay}
-use Rattle.desk_round.specs.Done.{last_done}
+use Rattle.desk_why.specs.Cause.{cause_of_lay, cause_of_pay}
+use Rattle.desk_why.specs.Done.{last_done}
 use Rattle.events.specs.declared.event.Event.{Event}
 use Rattle.events.specs.declared.event.Event.TheVariants as event
 use Rattle.events.specs.declared.event.Holder.TheVariants as holder

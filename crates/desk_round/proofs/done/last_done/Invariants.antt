@@ -1,8 +1,0 @@
-use Rattle.std.proofs.Common.{◌≡◌, None, take}
-use Rattle.std.specs.List.{fold}
-use Rattle.desk_round.specs.Done.{done_then}
-use Rattle.desk_round.proofs.done.last_done.Given as goal
-
--- what the events so far say that the company has done last
-abbrev pub invariant-loop-event : goal.invariant-loop-event
-invariant-loop-event l = l.done ≡ fold (done_then l.company) None (take l.event-index l.events)

@@ -1,0 +1,2 @@
+-- What the proofs of the lines of the sheets share.
+mod SheetSteps

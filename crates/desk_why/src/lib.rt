@@ -1,0 +1,24 @@
+//! Why a line of a round was refused: the rule that it broke, the cause if the rule has several,
+//! and the figures that the rule compared. Texts are added to bytes of the caller. No call reads or
+//! writes a stream.
+//!
+//! Reading order: `refused` (which lines were refused), `sheet_line` (the lines of the sheets),
+//! `why` (the rule that a line broke), `figures` (the figures that it compared), `done` (the last
+//! step of a company's turn), `cause` (which of several causes it was), `refusal_detail` (what is
+//! added after the rule), `track` and `ways` (where track breaks or leads).
+#![tactic(auto)]
+
+mod cause;
+mod done;
+mod figures;
+mod refusal_detail;
+mod refused;
+mod sheet_line;
+mod track;
+mod ways;
+mod why;
+
+pub use refusal_detail::Ruled;
+pub use refused::{refused_in, same_round, within_then};
+pub use sheet_line::{LinePlace, SheetLine, find_line, lines_of};
+pub use why::{FAULTY_COLUMNS, push_rule, push_why};
