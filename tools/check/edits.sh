@@ -97,7 +97,7 @@ compile_edits() {
     copy_tree "$copy"
     # (the program calls all crates that have wrong bodies but treasury, moves and the desk's, which then
     # are compiled too)
-    sed -i '/^umpire_cli:/ s/$/ treasury moves hints desk_base desk_check desk_state desk_why desk_round desk_may desk_moves/' "$copy/crates.txt"
+    sed -i '/^umpire_cli:/ s/$/ treasury moves hints desk_base desk_trials desk_check desk_state desk_why desk_round desk_may desk_moves/' "$copy/crates.txt"
     for edit in "$@"; do
       read_edit "$edit" "$copy/crates/$(crate_of "$edit")"
       if [ -n "$why" ]; then

@@ -24,7 +24,7 @@ CLAIMS = [
         'desk_state: game_row', 'desk_state: private_row', 'desk_state: company_row', 'desk_state: share_row', 'desk_state: train_row', 'desk_state: earnings_of',
         'desk_state: all_in_order', 'desk_base: tokens_left', 'desk_base: trains_left', 'desk_base: tiles_left', 'desk_base: best_at',
         'desk_check: check', 'desk_check: look_at_sheet', 'desk_check: find_replaced', 'foresight: put_alone', 'foresight: put_all',
-        'desk_check: refused_of', 'desk_may: push_lines_of_turn', 'desk_moves: line_text', 'desk_may: best_now',
+        'desk_trials: refused_of', 'desk_may: push_lines_of_turn', 'desk_moves: line_text', 'desk_may: best_now',
         'desk_may: best_after_lay', 'desk_may: best_after_token', 'desk_moves: trial', 'page: page')),
 ]
 

@@ -1,10 +1,6 @@
 -- What the proofs of a look through a file share.
 pub mod SaidLemmas
 pub mod FileLemmas
-pub mod HeadLemmas
-pub mod NumberedLemmas
 pub mod PlainLemmas
 pub mod RefusedLemmas
 pub mod RoundLemmas
-pub mod SentLemmas
-pub mod StepLemmas

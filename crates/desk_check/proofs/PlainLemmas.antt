@@ -5,9 +5,9 @@ use Rattle.std.specs.Char.{to_ascii_uppercase}
 use Rattle.std.specs.List.{find}
 use Rattle.std.proofs.lemmas.Bool.{and_parts, cases_Bool, eqb-false, eqb-true, ne_eqb, not-true, true≢false}
 use Rattle.std.proofs.lemmas.Grind.{common_steps}
-use Rattle.desk_check.specs.Mail.{is_mail}
 use Rattle.desk_check.specs.PlainLines.{IsBehindPlain, IsPlain, is_plain_start}
-use Rattle.desk_check.specs.SheetLines.{head_here, heads_in}
+use Rattle.desk_trials.specs.Mail.{is_mail}
+use Rattle.desk_trials.specs.SheetLines.{head_here, heads_in}
 use Rattle.order_grammar.proofs.FirstLemmas.{first_otherwise}
 use Rattle.sheets.proofs.TextLemmas.{lines_at_newline}
 use Rattle.sheets.specs.File.{begins, is_sheet_line}

@@ -6,14 +6,14 @@ use Rattle.std.proofs.lemmas.List.Folds.{list_any-append}
 use Rattle.std.specs.List.{list_any}
 use Rattle.std.specs.Map.{lookup}
 use Rattle.std.specs.Option.{option_or}
-use Rattle.desk_check.proofs.HeadLemmas.{or_by_test}
+use Rattle.desk_trials.proofs.HeadLemmas.{or_by_test}
 use Rattle.rounds.proofs.InOrder.{round_in_front}
 use Rattle.totals.proofs.EventAtEnd.{option_or_assoc, option_or_none}
-use Rattle.desk_check.specs.Heads.{came}
 use Rattle.desk_check.specs.RoundsPlayed.{AreRoundsOf, by_then, by_with, is_begun, ready_among}
-use Rattle.desk_check.specs.SheetLines.{HeadAt}
 use Rattle.desk_check.specs.declared.check_late.Rounds.{Rounds}
-use Rattle.desk_check.specs.declared.check_sheets.Heads.{Heads}
+use Rattle.desk_trials.specs.Heads.{came}
+use Rattle.desk_trials.specs.SheetLines.{HeadAt}
+use Rattle.desk_trials.specs.declared.check_sheets.Heads.{Heads}
 use Rattle.events.specs.Event.{round_begun_by}
 use Rattle.events.specs.declared.event.Event.{Event}
 use Rattle.rounds.specs.Begun.{rounds_begun, with_round}

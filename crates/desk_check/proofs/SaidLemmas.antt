@@ -5,19 +5,19 @@ use Rattle.std.proofs.lemmas.Bool.{ltb-false, or_parts}
 use Rattle.std.proofs.lemmas.List.{append-nil, flat_map_more, take_more}
 use Rattle.std.specs.List.{flat_map}
 use Rattle.std.specs.Prelude.{nat_lt}
-use Rattle.desk_check.specs.SheetFaults.{ends_sheet}
 use Rattle.desk_check.specs.SheetSaid.{Adds, Shown, next_read, nothing_read, read_behind, read_by, read_then, said_of_line}
 use Rattle.desk_check.specs.SheetSaid.{shown, shown_from, shown_in, silent_in}
 use Rattle.desk_check.specs.Unplayed.{look_of}
-use Rattle.desk_check.specs.declared.check_found.Found.{Found}
-use Rattle.desk_check.specs.declared.check_found.Said.{Said}
 use Rattle.desk_check.specs.declared.check_reading.Look.{Look}
 use Rattle.desk_check.specs.declared.check_reading.Look.TheVariants.{Head, Good, Bad}
 use Rattle.desk_check.specs.declared.check_reading.Read.{Read}
-use Rattle.desk_check.specs.declared.check_sheets.Sent.{Sent}
+use Rattle.desk_trials.specs.SheetFaults.{ends_sheet}
+use Rattle.desk_trials.specs.declared.check_found.Found.{Found}
+use Rattle.desk_trials.specs.declared.check_found.Said.{Said}
+use Rattle.desk_trials.specs.declared.check_sheets.Sent.{Sent}
 use Rattle.events.specs.declared.event.Event.{Event}
 use Rattle.order_grammar.specs.declared.condition.Version.{Version}
-use Rattle.desk_check.specs.SheetLike.{closes}
+use Rattle.desk_trials.specs.SheetLike.{closes}
 use Rattle.sheets.specs.Limits.{lines_most}
 use Rattle.sheets.specs.Part.{Numbered}
 use Rattle.sheets.specs.Text.{is_blank}

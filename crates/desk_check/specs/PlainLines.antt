@@ -1,10 +1,10 @@
 -- Lines of which there is nothing to say, as their first bytes show: they are no SHEET lines and do not look like mail.
 use Rattle.std.specs.Prelude.{◌≡◌, ℕ, ◌<◌, ◌≤◌, ◌==◌, Bool, false, not, ◌&&◌, List, [], ◌∷◌, Option, Some, None, length}
 use Rattle.std.specs.Char.{to_ascii_uppercase}
-use Rattle.desk_check.specs.Mail.{is_mail}
-use Rattle.desk_check.specs.SheetLines.{HeadAt, head_here, heads_in}
-use Rattle.desk_check.specs.declared.check_lines.FileLine.{FileLine}
-use Rattle.desk_check.specs.declared.check_lines.FileLines.{FileLines}
+use Rattle.desk_trials.specs.Mail.{is_mail}
+use Rattle.desk_trials.specs.SheetLines.{HeadAt, head_here, heads_in}
+use Rattle.desk_trials.specs.declared.check_lines.FileLine.{FileLine}
+use Rattle.desk_trials.specs.declared.check_lines.FileLines.{FileLines}
 use Rattle.sheets.specs.File.{begins}
 use Rattle.sheets.specs.Text.{lines_of}
 

@@ -3,23 +3,23 @@
 use Rattle.std.specs.Prelude.{◌≡◌, ℕ, ◌-◌, ◌==◌, Bool, true, false, ◌&&◌, ◌||◌, not, if◌then◌else◌, List, [], ◌∷◌, ◌++◌}
 use Rattle.std.specs.Prelude.{length, take, Option, Some, None, Err, nat_le, nat_lt}
 use Rattle.std.specs.List.{flat_map, fold}
-use Rattle.desk_check.specs.Found.{finding}
-use Rattle.desk_check.specs.Heads.{came}
 use Rattle.desk_check.specs.RoundsPlayed.{AreRoundsOf, line_kept}
-use Rattle.desk_check.specs.SheetLines.{complete_by, is_at, is_under}
-use Rattle.desk_check.specs.declared.check_found.Change.{Change}
-use Rattle.desk_check.specs.declared.check_found.Finding.{Finding}
-use Rattle.desk_check.specs.declared.check_found.Lateness.{Lateness}
-use Rattle.desk_check.specs.declared.check_found.Lateness.TheVariants as lateness
-use Rattle.desk_check.specs.declared.check_found.Matter.{Matter}
-use Rattle.desk_check.specs.declared.check_found.Matter.TheVariants as matter
-use Rattle.desk_check.specs.declared.check_found.Standing.{Standing}
 use Rattle.desk_check.specs.declared.check_late.Rounds.{Rounds}
 use Rattle.desk_check.specs.declared.check_late.Turn.{Turn}
 use Rattle.desk_check.specs.declared.check_late.Turning.{Turning}
-use Rattle.desk_check.specs.declared.check_lines.FileLine.{FileLine}
-use Rattle.desk_check.specs.declared.check_sheets.Head.{Head}
-use Rattle.desk_check.specs.declared.check_sheets.Heads.{Heads}
+use Rattle.desk_trials.specs.Found.{finding}
+use Rattle.desk_trials.specs.Heads.{came}
+use Rattle.desk_trials.specs.SheetLines.{complete_by, is_at, is_under}
+use Rattle.desk_trials.specs.declared.check_found.Change.{Change}
+use Rattle.desk_trials.specs.declared.check_found.Finding.{Finding}
+use Rattle.desk_trials.specs.declared.check_found.Lateness.{Lateness}
+use Rattle.desk_trials.specs.declared.check_found.Lateness.TheVariants as lateness
+use Rattle.desk_trials.specs.declared.check_found.Matter.{Matter}
+use Rattle.desk_trials.specs.declared.check_found.Matter.TheVariants as matter
+use Rattle.desk_trials.specs.declared.check_found.Standing.{Standing}
+use Rattle.desk_trials.specs.declared.check_lines.FileLine.{FileLine}
+use Rattle.desk_trials.specs.declared.check_sheets.Head.{Head}
+use Rattle.desk_trials.specs.declared.check_sheets.Heads.{Heads}
 use Rattle.totals.specs.LookBack.{round_of}
 use Rattle.rounds.specs.Play.{IsTheGame, Played}
 use Rattle.sheets.specs.File.{content_of}

@@ -5,10 +5,10 @@ use Rattle.std.specs.Prelude.{if◌then◌else◌}
 use Rattle.std.specs.HashMap.{get}
 use Rattle.std.specs.List.{list_any}
 use Rattle.std.specs.Option.{option_or}
-use Rattle.desk_check.specs.Heads.{came}
-use Rattle.desk_check.specs.SheetLines.{HeadAt, complete_by}
 use Rattle.desk_check.specs.declared.check_late.Rounds.{Rounds}
-use Rattle.desk_check.specs.declared.check_sheets.Heads.{Heads}
+use Rattle.desk_trials.specs.Heads.{came}
+use Rattle.desk_trials.specs.SheetLines.{HeadAt, complete_by}
+use Rattle.desk_trials.specs.declared.check_sheets.Heads.{Heads}
 use Rattle.events.specs.declared.event.Event.{Event}
 use Rattle.rounds.specs.Begun.{rounds_begun}
 use Rattle.tables.specs.Round.{same_round}

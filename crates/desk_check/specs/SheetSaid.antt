@@ -9,23 +9,23 @@ use Rattle.desk_base.specs.Belongings.{objection_by_view, other_president}
 use Rattle.desk_base.specs.Objections.{objection_to}
 use Rattle.desk_base.specs.declared.objection.Objection.{Objection}
 use Rattle.desk_check.specs.Looked.{has_to_order}
-use Rattle.desk_check.specs.Mail.{is_mail}
 use Rattle.desk_check.specs.OrderSteps.{block_then, no_orders, objection_behind}
-use Rattle.desk_check.specs.SheetFaults.{ends_sheet, said_of_fault}
 use Rattle.desk_check.specs.Unplayed.{look_of}
-use Rattle.desk_check.specs.declared.check_found.Finding.{Finding}
-use Rattle.desk_check.specs.declared.check_found.Found.{Found}
-use Rattle.desk_check.specs.declared.check_found.Matter.{Matter}
-use Rattle.desk_check.specs.declared.check_found.Matter.TheVariants as matter
-use Rattle.desk_check.specs.declared.check_found.Said.{Said}
-use Rattle.desk_check.specs.declared.check_found.Said.TheVariants.{Again, Breaks, Presided}
 use Rattle.desk_check.specs.declared.check_orders.Block.{Block}
 use Rattle.desk_check.specs.declared.check_reading.Look.{Look}
 use Rattle.desk_check.specs.declared.check_reading.Look.TheVariants as look
 use Rattle.desk_check.specs.declared.check_reading.Read.{Read}
 use Rattle.desk_check.specs.declared.check_reading.Reader.{Reader}
-use Rattle.desk_check.specs.declared.check_sheets.Head as its
-use Rattle.desk_check.specs.declared.check_sheets.Sent.{Sent}
+use Rattle.desk_trials.specs.Mail.{is_mail}
+use Rattle.desk_trials.specs.SheetFaults.{ends_sheet, said_of_fault}
+use Rattle.desk_trials.specs.declared.check_found.Finding.{Finding}
+use Rattle.desk_trials.specs.declared.check_found.Found.{Found}
+use Rattle.desk_trials.specs.declared.check_found.Matter.{Matter}
+use Rattle.desk_trials.specs.declared.check_found.Matter.TheVariants as matter
+use Rattle.desk_trials.specs.declared.check_found.Said.{Said}
+use Rattle.desk_trials.specs.declared.check_found.Said.TheVariants.{Again, Breaks, Presided}
+use Rattle.desk_trials.specs.declared.check_sheets.Head as its
+use Rattle.desk_trials.specs.declared.check_sheets.Sent.{Sent}
 use Rattle.events.specs.declared.event.Event.{Event}
 use Rattle.events.specs.declared.ruling.Refusal.{Refusal}
 use Rattle.order_grammar.specs.Version.{reading_in}

@@ -1,14 +1,13 @@
 //! Which sheets are checked line by line, and, for sheets of rounds that were not played, whether
 //! the round can come.
 ghost use Rattle.std.specs.Prelude.{◌≡◌};
-ghost use Rattle.desk_check.specs.Heads.{AreKept};
 ghost use Rattle.desk_check.specs.Looked.{is_looked_at};
+ghost use Rattle.desk_trials.specs.Heads.{AreKept};
 
-use crate::check_found::{Found, Matter};
 use crate::check_late::Rounds;
 use crate::check_reading::look_at_sheet;
-use crate::check_sheets::{Head, Heads};
 use desk_base::{can_come, view_behind};
+use desk_trials::{Found, Head, Heads, Matter};
 use history::{Event, GameView, Walk};
 use rounds::{End, Game};
 use std::alloc::AllocError;

@@ -1,15 +1,13 @@
 //! Sheets that replace others: whether the round had been played, and what they change.
 ghost use Rattle.std.specs.Prelude.{◌≡◌, ℕ, ◌++◌, IfOk, List, OnOk, Some};
-ghost use Rattle.desk_check.specs.Heads.{AreKept};
 ghost use Rattle.desk_check.specs.Replaced.{AddsReplaced, before, findings_of, is_of_batch, lateness_of};
 ghost use Rattle.desk_check.specs.Replaced.{matter_of, replaces_older, standing_of, turned, turning_of};
 ghost use Rattle.desk_check.specs.RoundsPlayed.{AppliesEvent, AreRoundsOf, line_kept};
-ghost use Rattle.desk_check.specs.SheetLines.{is_under};
+ghost use Rattle.desk_trials.specs.Heads.{AreKept};
+ghost use Rattle.desk_trials.specs.SheetLines.{is_under};
 ghost use Rattle.std.specs.List.{flat_map};
 
-use crate::check_changed::first_changed;
-use crate::check_found::{Change, Found, Lateness, Matter, Standing};
-use crate::check_sheets::{Head, Heads};
+use desk_trials::{Change, Found, Head, Heads, Lateness, Matter, Standing, first_changed};
 use history::Event;
 use rounds::{Game, play};
 use sheets::{FileFault, Sheets, collect};

@@ -1,21 +1,20 @@
 //! One pass over the lines of a file: its SHEET lines, lines outside sheets, and lines that look
 //! like mail.
 ghost use Rattle.std.specs.Prelude.{◌≡◌, ℕ, ◌<◌, ◌≤◌, ◌++◌, [], IfNone, IfOk, IfSome, List, OnOk, length};
-ghost use Rattle.desk_check.specs.Heads.{AreKept, came};
 ghost use Rattle.desk_check.specs.PlainLines.{head_on, heads_left};
-ghost use Rattle.desk_check.specs.SheetLines.{head_here, heads_in};
+ghost use Rattle.desk_trials.specs.Heads.{AreKept, came};
+ghost use Rattle.desk_trials.specs.SheetLines.{head_here, heads_in};
 ghost use Rattle.sheets.specs.File.{begins, players_of};
 ghost use Rattle.sheets.specs.Limits.{file_most};
 ghost use Rattle.sheets.specs.Text.{lines_of};
 
-use crate::check_found::{Found, Matter};
-use crate::check_lines::{FileLine, FileLines};
-use crate::check_mail::is_mail;
 use crate::check_names::likeness_of;
 use crate::check_said::names_of;
-use crate::check_sheets::{Beginning, Head, Heads, Sent, begun_by};
 use crate::plain_lines::pass_plain;
-use crate::sheet_like::is_like_sheet;
+use desk_trials::{
+    Beginning, FileLine, FileLines, Found, Head, Heads, Matter, Sent, begun_by, is_like_sheet,
+    is_mail,
+};
 use hints::{Faulty, line_meant};
 use order_grammar::Fault;
 use report::name;
@@ -56,7 +55,7 @@ struct Closing<'a> {
 
 /// Reads the lines of a file once, for its good SHEET lines and what there is to report of other
 /// lines.
-#[tactic(auto, using(crate::proofs::HeadLemmas::heads_end))]
+#[tactic(auto, using(desk_trials::proofs::HeadLemmas::heads_end))]
 pub(crate) fn pass_over<'a>(
     alloc: Global,
     sheets: &Sheets,

@@ -1,7 +1,6 @@
 //! A sheet line by line: faults, orders without a place, and what can be seen to be wrong before
 //! its round is played.
 ghost use Rattle.std.specs.Prelude.{◌≡◌, ◌≤◌, IfOk, OnOk, option_copied, option_map};
-ghost use Rattle.desk_check.specs.SheetFaults.{ends_sheet, is_out_of_place, said_of_fault};
 ghost use Rattle.desk_check.specs.SheetSaid.{Adds, TakesLines, begun_at, begun_by, begun_by_order, begun_then, begun_with};
 ghost use Rattle.desk_check.specs.SheetSaid.{fault_told, game_of, is_operating, is_purchase};
 ghost use Rattle.desk_check.specs.SheetSaid.{is_silent, nothing_read, presided, presided_by};
@@ -10,18 +9,15 @@ ghost use Rattle.desk_check.specs.SheetSaid.{said_of_company, said_of_head, said
 ghost use Rattle.desk_check.specs.SheetSaid.{said_of_wrong, shown_from, shown_of_sheet};
 ghost use Rattle.desk_check.specs.SheetSaid.{silent_in, silent_one, wrong_by_game, wrong_by_itself};
 ghost use Rattle.desk_check.specs.Unplayed.{has_place, look_of};
+ghost use Rattle.desk_trials.specs.SheetFaults.{ends_sheet, is_out_of_place, said_of_fault};
 ghost use Rattle.sheets.specs.Limits.{lines_most};
 ghost use Rattle.sheets.specs.Part.{line_read};
 ghost use Rattle.totals.specs.LookBack.{Game};
 
-use crate::check_found::{Found, Matter, Said};
-use crate::check_lines::{FileLine, FileLines};
-use crate::check_mail::is_mail;
 use crate::check_orders::Block;
 use crate::check_seat::has_to_order;
-use crate::check_sheets::{Head, Sent};
-use crate::sheet_like::closes;
 use desk_base::{Objection, objection_by_view, objection_to, other_president};
+use desk_trials::{FileLine, FileLines, Found, Head, Matter, Said, Sent, closes, is_mail};
 use history::{GameView, Refusal};
 use order_grammar::{Fault, Order, PlayOrder, Version};
 use sheets::{LINES_MOST, NumberedLine, UnreadLine, is_blank, is_head_of, is_of_file};

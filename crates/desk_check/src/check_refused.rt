@@ -1,7 +1,6 @@
 //! Why a file is refused: which line it is, and what is wrong with it.
 
-use crate::check_lines::{FileLine, FileLines};
-use crate::check_mail::is_mail;
+use desk_trials::{FileLine, FileLines, is_mail};
 use hints::words_of;
 use order_grammar::{Fault, NAME_MOST, Order, begins_with_word, read_line};
 use sheets::{FILE_MOST, FileFault, GAME, is_blank};

@@ -1,10 +1,9 @@
 //! What there is to say of a line of a sheet, as text.
 
-use crate::check_found::{Finding, Said};
-use crate::check_sheets::Sent;
 use crate::check_text::push_rule;
 use desk_base::Piece::{Bytes, Count, Words};
 use desk_base::{Objection, Piece, fill, push_objection, who};
+use desk_trials::{Finding, Said, Sent};
 use hints::{Faulty, push_hint, sentence_of};
 use order_grammar::Fault;
 use report::name;

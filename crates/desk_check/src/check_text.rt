@@ -1,11 +1,11 @@
 //! What `check` finds, as text: a line for each finding, with the number of the line in the file,
 //! its text, and what there is to say of it.
 
-use crate::check_found::{Change, Finding, Found, Lateness, Matter, Standing};
 use crate::check_refused::{Cause, Refusal};
 use crate::check_said::{LastFault, push_closing, push_fault, push_said};
 use desk_base::Piece::{Bytes, Count, Cut, Words};
 use desk_base::{Piece, explain, push};
+use desk_trials::{Change, Finding, Found, Lateness, Matter, Standing};
 use report::name;
 use rounds::End;
 use sheets::{FileFault, Sheets};

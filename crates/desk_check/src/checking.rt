@@ -1,21 +1,18 @@
 //! Lints an order file.
 ghost use Rattle.std.specs.Prelude.{◌≡◌, ◌≤◌, IfOk, None, OnOk, length};
-ghost use Rattle.desk_check.specs.Heads.{AreKept};
 ghost use Rattle.desk_check.specs.Refused.{refusal_in};
+ghost use Rattle.desk_trials.specs.Heads.{AreKept};
 ghost use Rattle.sheets.specs.File.{content_of};
 ghost use Rattle.sheets.specs.Limits.{file_most};
 
 use crate::check_early::look_at_lines;
-use crate::check_found::Found;
 use crate::check_late::{Rounds, find_replaced, standing_of};
 use crate::check_pass::{Pass, pass_over};
 use crate::check_refused::refusal_of;
-use crate::check_sheets::Heads;
 use crate::check_text::{push_found, push_heading, push_refusal};
 use crate::meant::look_at_meant;
-use crate::outcome::Outcome;
 use crate::owed::push_owed;
-use crate::trials::{Reached, try_sheets};
+use desk_trials::{Found, Heads, Outcome, Reached, try_sheets};
 use rounds::{End, Game, play};
 use sheets::{FileFault, Sheets, collect};
 use std::alloc::{AllocError, Global};

@@ -1,10 +1,9 @@
 //! Lints an order file, and tries its sheets: `check` takes the allocator and the bytes of the
-//! file, and returns text.
+//! file, and returns text. `desk_trials` has the lines of the file, what is found in it, and the
+//! trials.
 //!
-//! Contracts define the facts: the lines of a file and their numbers, the sheets that they begin,
-//! which sheet replaces which, which rounds were played by then, which can still come, the fault of
-//! a line, the file of a trial, and the lines that its game refuses. The games of `games/desk/`
-//! test the layout.
+//! Contracts define the facts: which sheet replaces which, which rounds were played by then, which
+//! can still come, and the fault of a line. The games of `games/desk/` test the layout.
 //!
 //! A file without a header is refused:
 //!
@@ -14,24 +13,16 @@
 //! assert!(rt; findings.refused.is_some());
 //! ```
 //!
-//! Reading order: `check_lines` (the lines of a file), `check_mail`, `check_names`, `check_found`
-//! (what is found), `check_sheets` (the SHEET lines), `sheet_like` (lines that were meant as SHEET
-//! lines), `plain_lines` (lines about which there is nothing to say), `check_pass` (one pass over a
-//! file), `meant` (lines below a SHEET line with a fault),
-//! `check_changed` and `check_late` (sheets that replace others), `check_early` (sheets for rounds
-//! to come), `check_refused` (refused files); then the trials: `refusals` (the lines that they
-//! refuse), `outcome` (what the last round refused), `numbered` (where those lines are in the
-//! file), `forced` (trains that companies must buy), `consent` and `taken` (what other players have
-//! to do with it), `told` (their findings), `trials`; `owed`, `check_text` (the text), `checking`
-//! (`check`).
+//! Reading order: `check_names` (names that mean something else), `plain_lines` (lines about which
+//! there is nothing to say), `check_pass` (one pass over a file); `check_orders` (the orders of a
+//! company's turn, one after another), `check_seat` (companies to order for), `check_reading` (a
+//! sheet line by line), `meant` (lines below a SHEET line with a fault), `check_late` (sheets that
+//! replace others), `check_early` (sheets for rounds to come), `check_refused` (refused files);
+//! `owed` (who owes a sheet), `check_said` and `check_text` (the text), `checking` (`check`).
 #![tactic(auto)]
 
-mod check_changed;
 mod check_early;
-mod check_found;
 mod check_late;
-mod check_lines;
-mod check_mail;
 mod check_names;
 mod check_orders;
 mod check_pass;
@@ -39,20 +30,10 @@ mod check_reading;
 mod check_refused;
 mod check_said;
 mod check_seat;
-mod check_sheets;
 mod check_text;
 mod checking;
-mod consent;
-mod forced;
 mod meant;
-mod numbered;
-mod outcome;
 mod owed;
 mod plain_lines;
-mod refusals;
-mod sheet_like;
-mod taken;
-mod told;
-mod trials;
 
 pub use checking::{Extent, Findings, check};

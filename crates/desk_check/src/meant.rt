@@ -1,8 +1,7 @@
 //! Lines below a SHEET line with a fault: they are checked as if it had none.
 
-use crate::check_found::Found;
 use crate::check_reading::look_at_sheet;
-use crate::check_sheets::Head;
+use desk_trials::{Found, Head};
 use rounds::{End, Game};
 use std::alloc::AllocError;
 

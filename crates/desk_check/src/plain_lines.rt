@@ -3,7 +3,7 @@ ghost use Rattle.std.specs.Prelude.{◌≡◌, IfSome};
 ghost use Rattle.desk_check.specs.PlainLines.{IsBehindPlain, IsPassed, is_plain_start};
 ghost use Rattle.sheets.specs.Text.{IsNewline};
 
-use crate::check_lines::FileLines;
+use desk_trials::FileLines;
 
 /// Passes over the next lines, as long as their first bytes show that they are no SHEET lines and
 /// do not look like mail. (Most lines of a sheet are such. They are not looked at any further.)

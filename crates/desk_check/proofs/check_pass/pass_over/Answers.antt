@@ -1,7 +1,7 @@
 use Rattle.std.proofs.Common.{◌∙◌}
-use Rattle.desk_check.specs.Heads.{came}
 use Rattle.desk_check.specs.PlainLines.{heads_left}
-use Rattle.desk_check.proofs.HeadLemmas.{heads_step}
+use Rattle.desk_trials.specs.Heads.{came}
+use Rattle.desk_trials.proofs.HeadLemmas.{heads_step}
 use Rattle.sheets.specs.File.{players_of}
 use Rattle.desk_check.proofs.check_pass.pass_over.Goals as goal
 

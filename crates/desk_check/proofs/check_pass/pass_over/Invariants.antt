@@ -1,7 +1,7 @@
 use Rattle.std.proofs.Common.{◌≡◌, ◌++◌, length}
-use Rattle.desk_check.specs.Heads.{AreKept, came}
 use Rattle.desk_check.specs.PlainLines.{heads_left}
-use Rattle.desk_check.specs.SheetLines.{heads_in}
+use Rattle.desk_trials.specs.Heads.{AreKept, came}
+use Rattle.desk_trials.specs.SheetLines.{heads_in}
 use Rattle.sheets.specs.File.{players_of}
 use Rattle.sheets.specs.Text.{lines_of}
 use Rattle.desk_check.proofs.check_pass.pass_over.Given as goal

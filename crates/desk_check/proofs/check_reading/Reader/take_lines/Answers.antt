@@ -1,10 +1,10 @@
 use Rattle.std.proofs.Common.{◌≡◌, ℕ, false, List, ◌∷◌, rules, refl, sym, ap, subst, ◌∙◌, arith}
 use Rattle.desk_check.proofs.SaidLemmas.{adds_none, behind_ended, behind_first, behind_further, behind_left, is_read}
 use Rattle.desk_check.proofs.SaidLemmas.{number_within, shown_ended, shown_first, shown_further, shown_left}
-use Rattle.desk_check.specs.SheetFaults.{ends_sheet}
 use Rattle.desk_check.specs.SheetSaid.{Adds, game_of}
-use Rattle.desk_check.specs.declared.check_lines.FileLines.{FileLines}
 use Rattle.desk_check.specs.declared.check_reading.Read.{Read}
+use Rattle.desk_trials.specs.SheetFaults.{ends_sheet}
+use Rattle.desk_trials.specs.declared.check_lines.FileLines.{FileLines}
 use Rattle.sheets.specs.Text.{lines_of}
 use Rattle.desk_check.proofs.check_reading.Reader.take_lines.Goals as goal
 

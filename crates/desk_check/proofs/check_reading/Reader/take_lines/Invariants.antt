@@ -1,6 +1,6 @@
 use Rattle.std.proofs.Common.{◌≡◌, ◌≤◌}
 use Rattle.desk_check.specs.SheetSaid.{Adds, game_of, read_behind, read_below, shown_below, shown_in}
-use Rattle.desk_check.specs.declared.check_found.Found.{Found}
+use Rattle.desk_trials.specs.declared.check_found.Found.{Found}
 use Rattle.sheets.specs.Text.{lines_of}
 use Rattle.desk_check.proofs.check_reading.Reader.take_lines.Given as goal
 
