@@ -4,7 +4,7 @@ use tables::{Company, Private};
 
 /// The words of at most eight letters that begin a report's lines, and those that a report prints
 /// in place of a name.
-static WORDS: [&str; 40] = [
+static WORDS: &[&str] = &[
     "AID", "AWAITING", "BANK", "BANKRUPT", "BIDS", "BOUGHT", "BROKEN", "CLOSED", "COMPANY",
     "DIVIDEND", "END", "FILE", "FLOATS", "FORCED", "GAME", "GIVEN", "HOME", "IPO", "LAID", "LEFT",
     "MOVES", "PAR", "PHASE", "PLAYER", "PLAYERS", "POOL", "PRICE", "PRIVATE", "REVENUE", "ROUND",
@@ -23,7 +23,7 @@ pub(crate) fn likeness_of(name: &[u8]) -> Option<&'static str> {
             return Some(" is the code of a private, too");
         }
     }
-    for word in &WORDS {
+    for word in WORDS {
         if word.as_bytes() == name {
             return Some(" is a word that a report has in other places, too");
         }
