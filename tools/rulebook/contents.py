@@ -38,7 +38,7 @@ NOTES: list[tuple[str, str]] = [
     ('tables: Ends', 'What repeats until it is over: some number of steps leads there, it is over then, and after fewer it was not. '
      '`after_turn` is one step of a round of turns: the seat takes its next written turn, or none. The next seat to the left follows, and '
      '`turns_over` asks whether all have passed in succession.'),
-    ('turns: line_ruling', 'A ruling is made by `judged`: the first rule that is broken refuses the line, otherwise it is obeyed. `obeyed_order` '
+    ('turns: line_ruling', 'A ruling is made by `judged`: the first rule that is broken refuses the line, otherwise it is obeyed. `order_obeyed` '
      'is the order that is then to be done, and `done` does it. Each round and each company ends its lines in this way.'),
     ('privates: with_limit', 'The second limit is the greatest of those who do not win. The winner is known by the bid, since no two bids on a '
      'private are equal.'),

@@ -21,7 +21,7 @@ use Rattle.best_run.specs.Moves.{Any, AreInMemo, Completes, IsBeginAt, IsGo, IsT
 use Rattle.best_run.specs.Moves.{along, begin, begun, between, can_take, go, marks_of, may_come, partial, pass, finish}
 use Rattle.best_run.specs.Moves.{total_after, turn, turned_back, using}
 use Rattle.search_task.specs.Spots.{LeadsFrom, ends_in, node_at, own_in, stop_in}
-use Rattle.search_task.specs.Legs.{AreFree, AreLegsOf, HasLeg, Hop, IsMadeOf, LeadsTo, borders_by, none_used, IsListed}
+use Rattle.search_task.specs.Legs.{AreFree, AreLegsOf, HasLeg, Hop, IsMadeOf, LeadsTo, borders_by, IsListed}
 use Rattle.best_run.proofs.Chunks.{Back, Chunk, arrived, chunk_back, chunk_of, fits_by, free_all, free_freer, free_used}
 use Rattle.best_run.proofs.Chunks.{over}
 use Rattle.search_task.proofs.Described.{among_place, place_among}
@@ -31,6 +31,7 @@ use Rattle.search_task.proofs.MarkedNumbers.{crossed_fit, crossed_marks, crossed
 use Rattle.search_task.proofs.Places.{below_next}
 use Rattle.best_run.proofs.Traced.{Leads, TakesFrom, traced_both, traced_none}
 use Rattle.search_task.proofs.Booleans.{both_first, both_second}
+use Rattle.legal_runs.specs.TwoTrain.{none_used}
 
 -- a segment that leads from a spot is fit
 fits_at : (task : Task) → IsFit task → (spot place : ℕ) (segment : Segment) (stop : Bool)

@@ -3,8 +3,10 @@
 use Rattle.std.proofs.Common.{◌≡◌, ℕ, zero, suc, ◌+◌, ◌<◌, ◌≤◌, Bool, true, false, not, ◌&&◌, nat_lt, ◌⊎◌, inl, inr}
 use Rattle.std.proofs.Common.{List, [], ◌∷◌, ◌++◌, length, get_or, set, refl, sym, ap, subst, ◌∙◌, arith, length-set}
 use Rattle.std.proofs.lemmas.Bool.{and_from}
+use Rattle.std.proofs.lemmas.List.{length-replicate}
 use Rattle.reach.proofs.Marking.{set_cases}
 use Rattle.legal_runs.proofs.Marks.{among_both}
+use Rattle.legal_runs.specs.TwoTrain.{none_used}
 use Rattle.search_task.specs.declared.task.Segment.{Segment}
 use Rattle.search_task.specs.declared.task.Task.{Task}
 use Rattle.best_run.specs.declared.state.Assigned.{Assigned}
@@ -17,9 +19,9 @@ use Rattle.best_run.specs.Moves.{Completes, Move, along, begin, can_take, go, le
 use Rattle.best_run.specs.Moves.{may_earn, partial, pass, finish, total_after, turn, using}
 use Rattle.search_task.specs.Spots.{LeadsFrom, ends_in, node_at, stop_in, value_in}
 use Rattle.search_task.specs.Crossed.{marked_all, misses}
-use Rattle.search_task.specs.Legs.{AreFree, Hop, LeadsTo, borders_by, none_used, steps_by}
+use Rattle.search_task.specs.Legs.{AreFree, Hop, LeadsTo, borders_by, steps_by}
 use Rattle.search_task.specs.Marks.{Freer, IsMarked}
-use Rattle.search_task.proofs.Marked.{free_misses, freer_marked, length_replicate, marked_append, marked_stays}
+use Rattle.search_task.proofs.Marked.{free_misses, freer_marked, marked_append, marked_stays}
 use Rattle.search_task.proofs.Marked.{misses_free, set_stays}
 use Rattle.best_run.proofs.Eased.{freer_all}
 use Rattle.search_task.proofs.Marks.{length_marked}
@@ -126,7 +128,7 @@ free_in segment (hop ∷ hops) used others first whole both fit free misses_it =
 pub free_used : (segment : Segment) (hops : List Hop) (used : List Bool) → BordersFit (borders_by segment hops)
     → AreFree none_used segment hops → misses used (borders_by segment hops) ≡ true → AreFree used segment hops
 free_used segment hops used fit free misses_it =
-    free_in segment hops used none_used used (length_replicate 279 false) (λ border marked. inr marked) fit free
+    free_in segment hops used none_used used (length-replicate 279 false) (λ border marked. inr marked) fit free
     misses_it
 
 -- the borders of some segments have numbers

@@ -1,6 +1,7 @@
 -- A walk that crosses no border twice visits at most 280 stops.
 use Rattle.std.proofs.Common.{◌≡◌, ℕ, ◌+◌, ◌<◌, ◌≤◌, Bool, true, false, inl, inr, Option, Some, None, List, [], ◌∷◌}
 use Rattle.std.proofs.Common.{length, get_or, set, replicate, refl, sym, subst, ◌∙◌, arith, length-set}
+use Rattle.std.proofs.lemmas.List.{length-replicate}
 use Rattle.reach.proofs.Collected.{none_marked}
 use Rattle.reach.specs.Lawful.{IsLawful}
 use Rattle.reach.specs.Position.{Position, IsAmong}
@@ -11,10 +12,11 @@ use Rattle.tables.specs.declared.rolling_stock.Kind.{Kind}
 use Rattle.legal_runs.specs.Legal.{AreAtMost, AreDistinct, crossed, visited}
 use Rattle.legal_runs.proofs.Earning.{few_visited, mark_used}
 use Rattle.legal_runs.proofs.TallyOfWalk.{crossed_low}
+use Rattle.legal_runs.specs.Law.{unused}
 use Rattle.search_task.specs.Described.{most_of}
-use Rattle.search_task.specs.Fit.{BordersFit, unused}
+use Rattle.search_task.specs.Fit.{BordersFit}
 use Rattle.search_task.specs.Marks.{IsMarked}
-use Rattle.search_task.proofs.Marked.{length_replicate, mark_more, unused_none}
+use Rattle.search_task.proofs.Marked.{mark_more, unused_none}
 
 -- distinct borders leave this many fewer
 marked_count : (used : List Bool) (borders : List ℕ) → length used ≡ 279 → BordersFit borders → AreDistinct borders
@@ -39,7 +41,7 @@ marked_count used (first ∷ borders) whole fit distinct free =
 few_crossed : (steps : List WalkStep) → AreDistinct (crossed steps) → length (crossed steps) ≤ 279
 few_crossed steps distinct =
     let count : length (crossed steps) ≤ unused (replicate 279 false) =
-    marked_count (replicate 279 false) (crossed steps) (length_replicate 279 false)
+    marked_count (replicate 279 false) (crossed steps) (length-replicate 279 false)
     (crossed_low 279 steps (omega arith)) distinct
     (λ border among marked. let wrong : true ≡ false = sym marked ∙ none_marked 279 border in cc) in
     omega (arith, unused_none 279)

@@ -8,7 +8,7 @@ use Rattle.search_task.specs.declared.task.Segment.{Segment}
 use Rattle.search_task.specs.declared.task.Task.{Task}
 use Rattle.best_run.specs.declared.state.Assigned.{Assigned}
 use Rattle.best_run.specs.declared.state.PartialRun.{PartialRun}
-use Rattle.search_task.specs.Fit.{IsFit, SegmentFits, unused}
+use Rattle.search_task.specs.Fit.{IsFit, SegmentFits}
 use Rattle.search_task.specs.Marks.{Freer}
 use Rattle.best_run.specs.Moves.{Completes, Move, along, begin, between, can_take, go, left_after, marked_if, may_come}
 use Rattle.best_run.specs.Moves.{may_earn, partial, pass, finish, total_after, turn, turned_back, using}
@@ -21,6 +21,7 @@ use Rattle.best_run.proofs.Hopeless.{take_back}
 use Rattle.search_task.proofs.Marks.{length_marked, marked_fewer, marked_most}
 use Rattle.search_task.proofs.Places.{leading_fits}
 use Rattle.search_task.proofs.Booleans.{both_first, both_second}
+use Rattle.legal_runs.specs.Law.{unused}
 
 -- another run at the same stop
 abbrev pub freed : PartialRun → ℕ → ℕ → ℕ → ℕ → List Bool → PartialRun

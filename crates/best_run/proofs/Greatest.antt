@@ -2,6 +2,7 @@
 use Rattle.std.specs.Prelude.{◌≤◌}
 use Rattle.std.proofs.Common.{◌≡◌, ℕ, ◌+◌, true, false, List, [], ◌∷◌, replicate, refl, sym, subst, ◌∙◌, arith}
 use Rattle.std.specs.List.{AllByRecursion}
+use Rattle.std.proofs.lemmas.List.{length-replicate}
 use Rattle.reach.proofs.Collected.{none_marked}
 use Rattle.reach.specs.Lawful.{IsLawful}
 use Rattle.reach.specs.Position.{Position}
@@ -21,7 +22,6 @@ use Rattle.best_run.specs.Moves.{Earns, marks_of, start, total_after}
 use Rattle.best_run.specs.Suffix.{IsTop}
 use Rattle.best_run.specs.MovePath.{CanBeClaimed, marks_in, runs_of_marks, written}
 use Rattle.best_run.proofs.Complete.{CanFinish}
-use Rattle.search_task.proofs.Marked.{length_replicate}
 use Rattle.best_run.proofs.Branches.{Used}
 use Rattle.best_run.proofs.RunsOfSet.{finish_set}
 use Rattle.best_run.proofs.Sets.{Avoids, IsWithin}
@@ -39,7 +39,7 @@ none_used =
             sym marked ∙ none_marked 279 border in cc,
         λ none. absurd none,
       );
-      whole = length_replicate 279 false;
+      whole = length-replicate 279 false;
     }
 
 -- all runs avoid no border

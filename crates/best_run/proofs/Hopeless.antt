@@ -4,7 +4,7 @@
 use Rattle.std.proofs.Common.{◌≡◌, ℕ, zero, suc, ◌+◌, ◌-◌, ◌*◌, ◌<◌, ◌≤◌, Bool, true, false, not, ◌&&◌, nat_lt, ◌⊎◌}
 use Rattle.std.proofs.Common.{Some, inl, inr, List, [], ◌∷◌, length, get_or, set, slice_get, refl, sym}
 use Rattle.std.proofs.Common.{ap, subst, ◌∙◌, arith, length-set, suc-mul}
-use Rattle.std.proofs.lemmas.Bool.{and_from, lt-ltb, not-true}
+use Rattle.std.proofs.lemmas.Bool.{and_from, lt-ltb, not-true, not_from_false, false_from_ne_true, not-false}
 use Rattle.std.proofs.Math.Bool.{and-false}
 use Rattle.reach.proofs.Marking.{set_keeps}
 use Rattle.search_task.specs.declared.task.Node.{Node}
@@ -96,14 +96,6 @@ spend true false value level here later passed after one first two second left l
 spend false true value level here later passed after one first two second left less ends both fewer all = omega arith
 spend false false value level here later passed after one first two second left less ends both fewer all = omega arith
 
-is_not : (b : Bool) → b ≡ false → not b ≡ true
-is_not true is = absurd cc
-is_not false is = refl
-
-false_or : (b : Bool) → (b ≡ true → ⊥) → b ≡ false
-false_or true none = absurd (none refl)
-false_or false none = refl
-
 -- a stop was left where one was left later
 left_before : (b : Bool) (left : ℕ) → nat_lt 0 (left_after b left) ≡ true → nat_lt 0 left ≡ true
 left_before true zero is = is
@@ -133,7 +125,7 @@ come_before task run segment low true spot is =
     (left_before (stop_in (node_at task segment.to)) run.left
     (both_first (nat_lt 0 (left_after (stop_in (node_at task segment.to)) run.left))
     (not (get_or (marked_if (stop_in (node_at task segment.to)) run.visited segment.to) spot false)) is))
-    (is_not (get_or run.visited spot false) (false_or (get_or run.visited spot false) (λ was.
+    (not_from_false (get_or run.visited spot false) (false_from_ne_true (get_or run.visited spot false) (λ was.
     not_both (get_or (marked_if (stop_in (node_at task segment.to)) run.visited segment.to) spot false)
     (mark_keeps (stop_in (node_at task segment.to)) run.visited segment.to spot low was)
     (not-true (get_or (marked_if (stop_in (node_at task segment.to)) run.visited segment.to) spot false)
@@ -229,10 +221,6 @@ module _ (task : Task) (fit : IsFit task) (ready : AreReady task) (first : Assig
   pub passes : ℕ → Bool
   passes spot = not (ends_in (slice_get nodes spot))
 
-  was_true : (b : Bool) → not b ≡ false → b ≡ true
-  was_true true is = refl
-  was_true false is = absurd cc
-
   -- a run has reached a stop at which it ends
   halts_go : (on : Bool) (assigned : Assigned) (run : PartialRun) → Follows on assigned run → (leg : Leg)
       → Leads assigned run leg → EndsThere task first begun leg.segment.to
@@ -257,7 +245,7 @@ module _ (task : Task) (fit : IsFit task) (ready : AreReady task) (first : Assig
   follows_go on assigned run follows leg leads =
       record {
         halts = λ off. halts_go on assigned run follows leg leads
-            (counts.ends leg.segment.to (was_true (ends_in (slice_get nodes leg.segment.to)) off));
+            (counts.ends leg.segment.to (not-false (ends_in (slice_get nodes leg.segment.to)) off));
         takes = λ other is. follows.takes other (take_before task assigned run false leg.segment leads.fits
             follows.whole follows.spots other is);
         home = follows.home;
@@ -562,7 +550,7 @@ module _ (task : Task) (fit : IsFit task) (ready : AreReady task) (first : Assig
       → length begun.visited ≡ 744 → Follows (goes_on task begun) first begun
   first_follows head_is_stop begins whole spots =
       record {
-        halts = λ off. inl (was_true (ends_in (node_at task begun.head)) off);
+        halts = λ off. inl (not-false (ends_in (node_at task begun.head)) off);
         takes =
             λ segment taken. taken;
         home = closed.home;

@@ -18,8 +18,8 @@ use Rattle.best_run.specs.MovePath.{marks_in}
 use Rattle.best_run.proofs.Eased.{Eased, ease, freer_length}
 use Rattle.best_run.proofs.Freed.{Freed, Frees, HasLeft, free, freed}
 use Rattle.search_task.proofs.Chained.{set_at}
-use Rattle.search_task.proofs.Marks.{unused_most}
 use Rattle.best_run.proofs.Traced.{traced_both, traced_none}
+use Rattle.legal_runs.proofs.Earning.{few_unused}
 
 -- what is covered earns no more
 low_between : (task : Task) (entry assigned : Assigned) (most : ℕ) → Dominates entry assigned
@@ -65,7 +65,7 @@ low_partial task fit entry assigned first second most whole dominates none run l
   where
     has_left : (second.left ≤ first.left) ⊎ (279 ≤ first.left) → HasLeft entry.used second.left first.left
     has_left (inl most) = inl most
-    has_left (inr most) = inr (omega (arith, most, unused_most entry.used, whole))
+    has_left (inr most) = inr (omega (arith, most, few_unused entry.used, whole))
 
     same_run : (r : PartialRun) (turned : Bool) (head many : ℕ) → r.turned ≡ turned → r.head ≡ head → r.most ≡ many
         → r ≡ record {

@@ -49,23 +49,20 @@ takes_free task used segment = ap (λ b. b && misses used segment.borders.items)
     by_stop true = ap not (none_marked 744 segment.to)
     by_stop false = refl
 
+-- among no legs there is none
+no_leg : (leg : Leg) (place : ℕ) → slice_get [] place ≡ Some leg → ⊥
+no_leg leg zero at = cc
+no_leg leg (suc place) at = cc
+
 -- no leg leads from a stop that has none
 pub none_lead : (task : Task) (used reach : List Bool) (spot : ℕ) → legs_at task spot ≡ [] → AllLead task used reach spot
 none_lead task used reach spot none place leg at free =
-    absurd (no_leg place (ap (λ (legs : List Leg). slice_get legs place) (sym none) ∙ at))
-  where
-    no_leg : (place : ℕ) → slice_get [] place ≡ Some leg → ⊥
-    no_leg zero at = cc
-    no_leg (suc place) at = cc
+    absurd (no_leg leg place (ap (λ (legs : List Leg). slice_get legs place) (sym none) ∙ at))
 
 none_open : (task : Task) (used : List Bool) (spot : ℕ) (shut : List Bool) → legs_at task spot ≡ []
     → AreOpen task used spot shut
 none_open task used spot shut none place leg at missed =
-    absurd (no_leg place (ap (λ (legs : List Leg). slice_get legs place) (sym none) ∙ at))
-  where
-    no_leg : (place : ℕ) → slice_get [] place ≡ Some leg → ⊥
-    no_leg zero at = cc
-    no_leg (suc place) at = cc
+    absurd (no_leg leg place (ap (λ (legs : List Leg). slice_get legs place) (sym none) ∙ at))
 
 -- a listed stop is the next one, or one before it
 same_stop : (stops : List ℕ) (place other : ℕ) (stop found : ℕ) → slice_get stops place ≡ Some stop

@@ -5,13 +5,14 @@ use Rattle.search_task.specs.declared.task.Task.{Task}
 use Rattle.best_run.specs.declared.state.Assigned.{Assigned}
 use Rattle.best_run.specs.declared.state.PartialRun.{PartialRun}
 use Rattle.best_run.specs.Room.{HasRoom, credit}
-use Rattle.search_task.specs.Fit.{IsFit, SegmentFits, unused}
+use Rattle.search_task.specs.Fit.{IsFit, SegmentFits}
 use Rattle.search_task.specs.Spots.{node_at, stop_in}
 use Rattle.best_run.specs.Moves.{along, can_take, may_come, using}
 use Rattle.search_task.specs.Crossed.{marked_all, misses}
 use Rattle.search_task.proofs.Marks.{marked_fewer, marked_most}
 use Rattle.search_task.proofs.Places.{side_value, value_low}
 use Rattle.search_task.proofs.Booleans.{both_second}
+use Rattle.legal_runs.specs.Law.{unused}
 
 credit_low : (b : Bool) → credit b ≤ 80
 credit_low true = omega arith

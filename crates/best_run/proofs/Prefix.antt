@@ -1,5 +1,5 @@
 -- The beginning of a walk: what holds of a walk holds of each of its beginnings.
-use Rattle.std.proofs.Common.{◌≡◌, ℕ, ◌≤◌, true, inl, inr, List, [], ◌∷◌, ◌++◌, length, refl, sym, subst}
+use Rattle.std.proofs.Common.{◌≡◌, ℕ, ◌≤◌, true, inl, inr, List, [], ◌∷◌, ◌++◌, length, sym, subst}
 use Rattle.std.proofs.Common.{arith, length-append}
 use Rattle.reach.specs.Position.{Position, IsAmong, IsFull, is_red}
 use Rattle.reach.specs.Walk.{BeginsAt, IsWalk, PassesOnly, entered_at, left_at, stop_of}
@@ -12,10 +12,6 @@ use Rattle.legal_runs.proofs.Marks.{among_both}
 abbrev pub onto : {A : Type 0} → List A → List A → List A
 onto [] before = before
 onto (step ∷ later) before = onto later (step ∷ before)
-
-onto_twice : {A : Type 0} (xs ys zs : List A) → onto (onto xs ys) zs ≡ onto ys (xs ++ zs)
-onto_twice [] ys zs = refl
-onto_twice (x ∷ xs) ys zs = onto_twice xs (x ∷ ys) zs
 
 -- what a list of distinct things has after some of them is distinct, and apart from them
 pub distinct_right : {A : Type 0} (first second : List A) → AreDistinct (first ++ second) → AreDistinct second

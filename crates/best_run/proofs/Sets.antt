@@ -2,14 +2,14 @@
 use Rattle.std.proofs.Common.{◌≡◌, ℕ, zero, suc, ◌+◌, ◌-◌, ◌≤◌, ◌==◌, Bool, true, false, not, ◌||◌, nat_le}
 use Rattle.std.proofs.Common.{if◌then◌else◌, ◌⊎◌, inl, inr, List, [], ◌∷◌, ◌++◌, refl, sym, ap, ◌∙◌, arith, le_trans}
 use Rattle.std.specs.List.{AllByRecursion}
-use Rattle.std.proofs.lemmas.Bool.{eqb-true, eq-eqb, le-leb}
+use Rattle.std.proofs.lemmas.Bool.{eqb-true, le-leb}
 use Rattle.best_run.proofs.Split.{either_way}
-use Rattle.legal_runs.proofs.Relabelled.{kind_is}
 use Rattle.reach.specs.Position.{Position, IsAmong}
-use Rattle.tables.specs.Train.{index_of_kind, same_kind, stops_of}
+use Rattle.tables.specs.Train.{same_kind, stops_of}
 use Rattle.tables.specs.declared.rolling_stock.Kind.{Kind}
 use Rattle.tables.specs.declared.rolling_stock.Kind.TheVariants.{Two, Three, Four, Five, Six, Diesel}
 use Rattle.tables.specs.declared.roster.Company.{Company}
+use Rattle.tables.proofs.TrainKinds.{kind_is, kind_itself}
 use Rattle.legal_runs.specs.Legal.{crossed, earned}
 use Rattle.best_run.specs.Moves.{may_earn}
 use Rattle.legal_runs.specs.Set.{AreApart, AreTakenFrom, RunsLegally, ShareNoBorder, TrainRun, in_number}
@@ -24,9 +24,6 @@ kind_at (suc (suc zero)) = Four
 kind_at (suc (suc (suc zero))) = Five
 kind_at (suc (suc (suc (suc zero)))) = Six
 kind_at (suc (suc (suc (suc (suc n))))) = Diesel
-
-pub same_itself : (kind : Kind) → same_kind kind kind ≡ true
-same_itself kind = eq-eqb (index_of_kind kind) (index_of_kind kind) refl
 
 -- a run crosses no border of some
 abbrev pub Avoids : List ℕ → TrainRun → Type 0
@@ -127,7 +124,7 @@ none_below position kind run [] none = tt
 none_below position kind run (first ∷ runs) none =
     let parts : (same_kind first.kind kind ≡ true → ⊥) × (in_number kind (trains_that_run runs) ≡ 0) =
     none_here (same_kind first.kind kind) (in_number kind (trains_that_run runs)) none in (
-      (λ is. absurd (parts.0 (ap (λ k. same_kind k kind) is ∙ same_itself kind))),
+      (λ is. absurd (parts.0 (ap (λ k. same_kind k kind) is ∙ kind_itself kind))),
       none_below position kind run runs
           parts.1,
     )
@@ -158,7 +155,7 @@ find_greatest position kind (first ∷ runs) = by_test (find_greatest position k
           kind_is = has.kind_is;
           greatest = (
             (λ is. absurd (let wrong : true ≡ false =
-                sym (same_itself kind) ∙ (sym (ap (λ k. same_kind k kind) is) ∙ fails) in cc)),
+                sym (kind_itself kind) ∙ (sym (ap (λ k. same_kind k kind) is) ∙ fails) in cc)),
             has.greatest,
           );
         })
@@ -221,7 +218,7 @@ pub none_left : (runs : List TrainRun) → AreTakenFrom [] (trains_that_run runs
 none_left [] taken = refl
 none_left (run ∷ runs) taken =
     absurd (too_many (if same_kind run.kind run.kind then 1 else 0) (in_number run.kind (trains_that_run runs))
-    (if_one (same_kind run.kind run.kind) (same_itself run.kind)) (taken run.kind))
+    (if_one (same_kind run.kind run.kind) (kind_itself run.kind)) (taken run.kind))
 
 if_low : (test : Bool) (n m : ℕ) → (test ≡ true → n ≡ 0) → n ≤ (if test then 1 else 0) + m → n ≤ m
 if_low true n m none low = let e : n ≡ 0 = none refl in omega arith

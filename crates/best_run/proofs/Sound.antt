@@ -25,7 +25,7 @@ use Rattle.legal_runs.specs.Legal.{AreAtMost, AreDistinct, EndsAtStop, HasSuch, 
 use Rattle.legal_runs.specs.Legal.{first_stop, listed, visited}
 use Rattle.legal_runs.specs.Set.{RunsLegally, ShareNoBorder, TrainRun, revenue_of_runs}
 use Rattle.legal_runs.proofs.Marks.{among_both}
-use Rattle.legal_runs.proofs.TwoTrain.{returning}
+use Rattle.legal_runs.proofs.TwoTrain.{returning, free_of_none}
 use Rattle.search_task.specs.declared.task.Segment.{Segment}
 use Rattle.search_task.specs.declared.task.Task.{Task}
 use Rattle.best_run.specs.declared.state.Assigned.{Assigned}
@@ -79,11 +79,6 @@ some_visited step (earlier ∷ before) begins =
 at_most : (most : Option ℕ) (count : ℕ) → count ≤ most_of most → AreAtMost most count
 at_most (Some most) count few = few
 at_most None count few = tt
-
--- no border is among none
-none_of : (borders : List ℕ) → AllByRecursion (λ border. ¬ IsAmong border []) borders
-none_of [] = tt
-none_of (border ∷ borders) = ((λ none. none), none_of borders)
 
 -- each train may visit at least two stops
 pub two_at_least : (kind : Kind) → 0 < most_of (stops_of kind)
@@ -350,7 +345,7 @@ module _ (position : Position) (company : Company) (lawful : IsLawful position) 
               no_stop_twice = holds.stops;
               own_token = own;
               no_border_twice = holds.borders;
-              no_used_border = none_of (crossed (step ∷ before));
+              no_used_border = free_of_none (crossed (step ∷ before));
               no_red_inside = holds.red;
               no_full_inside = holds.full;
             };

@@ -1,8 +1,8 @@
 -- Where a run is cut: at the first of the company's tokens that it comes by, in the order of their
 -- numbers. What holds of a walk holds of its part from there on.
 use Rattle.std.proofs.Common.{◌≡◌, ◌↔◌, ℕ, zero, suc, ◌+◌, ◌*◌, ◌<◌, ◌≤◌, Bool, true, false, ◌⊎◌, inl, inr, Some, List}
-use Rattle.std.proofs.Common.{[], ◌∷◌, ◌++◌, length, refl, sym, ap, subst, ◌∙◌, arith, length-append, length-set}
-use Rattle.std.proofs.lemmas.List.{append_assoc}
+use Rattle.std.proofs.Common.{[], ◌∷◌, ◌++◌, length, refl, sym, ap, subst, ◌∙◌, arith, length-append}
+use Rattle.std.proofs.lemmas.List.{append_assoc, length-replicate}
 use Rattle.map_tables.specs.Hex.{index_of}
 use Rattle.map_tables.specs.Place.{stop_index_of}
 use Rattle.map_tables.specs.declared.place.Stop.{Stop}
@@ -24,24 +24,20 @@ use Rattle.search_task.specs.declared.task.Task.{Task}
 use Rattle.search_task.specs.Described.{Describes, IsStopNode}
 use Rattle.search_task.specs.Spots.{node_at, own_in}
 use Rattle.search_task.specs.Marks.{IsMarked}
-use Rattle.search_task.proofs.Marked.{length_replicate, mark_more}
+use Rattle.search_task.proofs.Marked.{mark_more}
 use Rattle.search_task.proofs.Described.{spot_low}
 use Rattle.best_run.proofs.Backwards.{AreCanonical}
 use Rattle.best_run.proofs.Complete.{AreAhead}
 use Rattle.best_run.proofs.Prefix.{Holds, onto}
+use Rattle.best_run.proofs.Hopeless.{mark_length}
 
 -- the number of a stop, which is that of each of its spots
 abbrev pub number_of : Stop → ℕ
 number_of stop = 8 * index_of stop.hex + (6 + stop_index_of stop.number)
 
--- the marks of the tokens before a number
-length_if : (b : Bool) (marks : List Bool) (n : ℕ) → length (marked_if b marks n) ≡ length marks
-length_if true marks n = length-set marks n true
-length_if false marks n = refl
-
 pub own_length : (task : Task) (n : ℕ) → length (own_before task n) ≡ 744
-own_length task zero = length_replicate 744 false
-own_length task (suc n) = length_if (own_in (node_at task n)) (own_before task n) n ∙ own_length task n
+own_length task zero = length-replicate 744 false
+own_length task (suc n) = mark_length (own_in (node_at task n)) (own_before task n) n ∙ own_length task n
 
 -- one more number: marked if the company has a token there
 marks_by : (task : Task) (n m : ℕ) (own : Bool) → n < 744 → own_in (node_at task n) ≡ own

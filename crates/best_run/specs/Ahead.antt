@@ -13,10 +13,10 @@ use Rattle.search_task.specs.declared.task.Leg.{Leg}
 use Rattle.best_run.specs.declared.state.Assigned.{Assigned}
 use Rattle.best_run.specs.declared.state.PartialRun.{PartialRun}
 use Rattle.best_run.specs.declared.value_ahead.Worth.{Worth}
-use Rattle.search_task.specs.Fit.{unused}
 use Rattle.search_task.specs.Legs.{legs_at}
 use Rattle.best_run.specs.Moves.{LeadsToAtMost, can_take, partial}
 use Rattle.search_task.specs.Spots.{ends_in, node_at}
+use Rattle.legal_runs.specs.Law.{unused}
 
 -- a stop lies ahead, by its number
 abbrev pub LiesAhead : List Bool → ℕ → Type 0

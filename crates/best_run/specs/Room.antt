@@ -1,6 +1,6 @@
 -- What can be earned by the borders that are not used stays within a limit.
 use Rattle.std.specs.Prelude.{ℕ, ◌+◌, ◌*◌, ◌≤◌, Bool, true, false, List}
-use Rattle.search_task.specs.Fit.{unused}
+use Rattle.legal_runs.specs.Law.{unused}
 
 -- a run at a stop has room for one stop less
 abbrev pub credit : Bool → ℕ

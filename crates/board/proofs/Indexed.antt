@@ -21,10 +21,9 @@ use Rattle.map_tables.specs.declared.place.Stop.{Stop}
 use Rattle.map_tables.specs.declared.track.Link.{Link}
 use Rattle.reach.proofs.Spots.{order_low, same_order}
 use Rattle.reach.specs.Reached.{stop_order}
-use Rattle.tables.proofs.Companies.{company_is}
+use Rattle.tables.proofs.Companies.{company_is, company_low}
 use Rattle.tables.specs.Roster.{index_of_company, same_company}
 use Rattle.tables.specs.declared.roster.Company.{Company}
-use Rattle.tables.specs.declared.roster.Company.TheVariants.{Pennsylvania}
 use Rattle.reach.proofs.Listed.{stop_is}
 
 -- a table of one thing has it everywhere, and elsewhere too
@@ -121,11 +120,6 @@ count_by_stop : (counts : List ℕ) (named : Option Stop) (stop : Stop)
 count_by_stop counts None stop low = omega arith
 count_by_stop counts (Some part) stop low = count_next counts part stop (low part)
     (same_stop (joined_stop_of part) stop) refl
-
--- each company has its own place under 8
-company_low : (company : Company) → index_of_company company < 8
-company_low Pennsylvania = omega arith
-company_low company = omega arith
 
 -- a stop and a company have their own order
 holder_apart : (a b : Stop) (of other : Company) → (same_stop a b && same_company of other) ≡ false

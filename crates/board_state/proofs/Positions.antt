@@ -1,5 +1,5 @@
 -- What the position shows in a hex and at a stop.
-use Rattle.std.proofs.Common.{◌≡◌, ◌∙◌, ap, refl, ℕ, zero, suc, ◌<◌, true, false, cond, [], length, map, get_or, lit<}
+use Rattle.std.proofs.Common.{◌≡◌, ◌∙◌, ap, refl, ℕ, zero, suc, true, false, cond, [], map, get_or}
 use Rattle.std.proofs.Common.{arith}
 use Rattle.std.proofs.lemmas.Bool.{lt-ltb}
 use Rattle.std.proofs.lemmas.List.{get_or-map}
@@ -16,18 +16,13 @@ use Rattle.map_tables.specs.declared.place.StopNumber.{StopNumber}
 use Rattle.map_tables.specs.declared.place.StopNumber.TheVariants.{First, Second}
 use Rattle.map_tables.proofs.HexTables.{hex_at_index}
 use Rattle.reach.specs.Position.{AtStop, InHex, at_stop, empty_hex, in_hex, no_stop}
-
--- each number is under that of all hexes
-pub index_low : (hex : Hex) → index_of hex < length hexes
-unfolding hexes index_of site_of
-index_low A9 = lit< tt
-index_low hex = lit< tt
+use Rattle.reach.proofs.Hexes.{index_in}
 
 -- the position has in a hex what is there
 pub in_hex_is : (laid : MapState) (hex : Hex) → in_hex (position_of laid) hex ≡ on_map_in laid hex
 unfolding position_of
 in_hex_is laid hex =
-    get_or-map (on_map_in laid) hexes (index_of hex) A9 empty_hex (index_low hex) ∙ ap (on_map_in laid)
+    get_or-map (on_map_in laid) hexes (index_of hex) A9 empty_hex (index_in hex) ∙ ap (on_map_in laid)
     (hex_at_index hex)
 
 -- the stop of a number among this many

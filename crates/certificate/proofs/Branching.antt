@@ -1,7 +1,7 @@
 -- What the choices at a node are: steps that enter a link where the head is, and that pass a test.
 use Rattle.std.proofs.Common.{◌≡◌, ℕ, ◌==◌, Bool, true, false, not, inl, inr, Option, Some, None, is_some}
 use Rattle.std.proofs.Common.{option_map, if◌then◌else◌, List, [], ◌∷◌, refl, ap, sym, ◌∙◌, subst, arith}
-use Rattle.std.proofs.lemmas.Bool.{and_from, and_parts, eq-eqb, eqb-true, not-true}
+use Rattle.std.proofs.lemmas.Bool.{and_from, and_parts, eq-eqb, eqb-true, not-true, ne_eqb}
 use Rattle.map_tables.specs.Border.{neighbour_of}
 use Rattle.map_tables.specs.Place.{joined_hex, joined_stop_of, stop_at}
 use Rattle.map_tables.specs.Side.{facing_of}
@@ -24,7 +24,7 @@ use Rattle.legal_runs.specs.Legal.{border_at, border_of}
 use Rattle.certificate.specs.Tree.{Node, for_each, hexes_of, is_free_end, node_if, steps_at, steps_by, steps_from}
 use Rattle.certificate.specs.Tree.{with_step, with_steps}
 use Rattle.legal_runs.proofs.Borders.{faced}
-use Rattle.legal_runs.proofs.Marks.{among_both, among_is, eqb_not}
+use Rattle.legal_runs.proofs.Marks.{among_both, among_is}
 use Rattle.legal_runs.proofs.Named.{same_end}
 use Rattle.legal_runs.proofs.Written.{Ordered, ordered}
 use Rattle.legal_runs.proofs.Tests.{to_not}
@@ -110,7 +110,7 @@ way_itself link true facts =
     let step : WalkStep = record { link = link; turned = true } in
     let other : WalkStep = record { link = link; turned = false } in
     let differ : (end_order link.a == end_order link.b) ≡ false =
-    eqb_not (end_order link.a) (end_order link.b) (λ same. omega (arith, facts.rising, same)) in
+    ne_eqb (end_order link.a) (end_order link.b) (λ same. omega (arith, facts.rising, same)) in
     subst (λ (b : Bool). IsAmong step (if b then other
     ∷ [] else (if end_order link.b == end_order link.b then step ∷ [] else []))) (sym differ)
     (subst (λ (b : Bool). IsAmong step (if b then step ∷ [] else []))

@@ -211,15 +211,6 @@ printed_more text digit bits four later whole first rest is before =
     ∙ (ap (λ (d : List ℕ). text ++ (d ++ digits_of (drop 4 bits))) (sym now)
     ∙ (ap (λ (d : List ℕ). text ++ d) (sym split) ∙ before)))
 
-pub digit_read :
-    (first : Bool) (bits : List Bool) →
-    digits_of (take 4 (first ∷ bits)) ≡ digit_of first (get_or bits 0 false) (get_or (drop 1 bits) 0 false)
-    (get_or (drop 1 (drop 1 bits)) 0 false) ∷ []
-digit_read first [] = refl
-digit_read first (b ∷ []) = refl
-digit_read first (b ∷ c ∷ []) = refl
-digit_read first (b ∷ c ∷ d ∷ bits) = refl
-
 take_none : (count : ℕ) → take count (let none : List Bool = [] in none) ≡ []
 take_none zero = refl
 take_none (suc count) = refl
@@ -277,12 +268,3 @@ pub first_in_hand : (count number : ℕ) (rest old : List Bool) → 0 < count �
     → get_or (bits_of count number) 0 false ≡ get_or old 0 false
 first_in_hand zero number rest old some is = absurd (omega arith)
 first_in_hand (suc count) number rest old some is = ap (λ (b : List Bool). get_or b 0 false) is
-
--- the first of the bits after the bytes is the first of all, if none is in hand and there are no bytes
-pub first_behind : (left opened : ℕ) (bytes : List ℕ) (count last : ℕ) (old : List Bool) → left ≡ 0
-    → length bytes ≡ 0 → bits_of left opened ++ (bits_of_bytes bytes ++ bits_of count last) ≡ old
-    → get_or (bits_of count last) 0 false ≡ get_or old 0 false
-first_behind left opened [] count last old none is before =
-    ap (λ (b : List Bool). get_or b 0 false)
-    (ap (λ (n : ℕ). bits_of n opened ++ bits_of count last) (sym none) ∙ before)
-first_behind left opened (byte ∷ bytes) count last old none is before = absurd (omega arith)

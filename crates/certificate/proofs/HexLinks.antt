@@ -1,15 +1,12 @@
 -- A table of the links of all hexes, filled hex by hex.
-use Rattle.std.proofs.Common.{◌≡◌, ℕ, ◌+◌, ◌<◌, List, [], ◌∷◌, ◌++◌, length, get_or, map, take, refl, ap, sym, ◌∙◌, arith}
+use Rattle.std.proofs.Common.{◌≡◌, ℕ, ◌+◌, ◌<◌, List, [], ◌∷◌, ◌++◌, length, get_or, map, take, ap, sym, ◌∙◌, arith}
 use Rattle.std.proofs.lemmas.List.{get_or-map, map-append, take_more}
 use Rattle.map_tables.specs.Hex.{hexes, index_of}
 use Rattle.map_tables.specs.declared.hex.Hex.{Hex}
 use Rattle.map_tables.specs.declared.hex.Hex.TheVariants.{A9}
 use Rattle.reach.proofs.Hexes.{index_low}
 use Rattle.map_tables.proofs.HexTables.{hex_at_index}
-
-pub hexes_are_93 : length hexes ≡ 93
-unfolding hexes
-hexes_are_93 = refl
+use Rattle.map_tables.proofs.ListedOnce.{hexes_are_93}
 
 -- one more entry is that of one more key
 pub more_entries : {X Y Z : Type 0} (f : X → Z) (g : Y → Z) (xs : List X) (x : X) (ys : List Y) (n : ℕ) (d : Y)

@@ -7,15 +7,16 @@ use Rattle.map_tables.specs.declared.place.Stop.{Stop}
 use Rattle.reach.specs.Position.{Position}
 use Rattle.tables.specs.declared.rolling_stock.Kind.{Kind}
 use Rattle.tables.specs.declared.roster.Company.{Company}
-use Rattle.certificate.specs.Holding.{Hold, HoldInTurn, cut, is_leaf, left_over, more, none, split}
+use Rattle.certificate.specs.Holding.{Hold, HoldInTurn, cut, left_over, more, none, split}
 use Rattle.certificate.specs.HoldingLaws.{MarksHoldWhereRead}
 use Rattle.certificate.specs.Tree.{IsLeaf, Node, bound, children}
+use Rattle.certificate.specs.Walked.{has_no_train}
 
-no_leaf : (trains : List Kind) → ¬ (trains ≡ []) → is_leaf trains ≡ false
+no_leaf : (trains : List Kind) → ¬ (trains ≡ []) → has_no_train trains ≡ false
 no_leaf [] not = absurd (not refl)
 no_leaf (kind ∷ later) not = refl
 
-are_left : (trains : List Kind) → is_leaf trains ≡ false → ¬ (trains ≡ [])
+are_left : (trains : List Kind) → has_no_train trains ≡ false → ¬ (trains ≡ [])
 are_left [] is = absurd cc
 are_left (kind ∷ later) is = λ wrong. cc
 
@@ -142,11 +143,11 @@ module _ (position : Position) (company : Company) (reached : List Stop) (revenu
       by_test true within rest reads = cut_held node nodes marks left
           (leb-true (bound position reached node) revenue within) (rest reads)
       by_test false within rest reads = absurd cc
-  held (node ∷ nodes) (true ∷ marks) left is = by_trains (is_leaf node.trains) refl
+  held (node ∷ nodes) (true ∷ marks) left is = by_trains (has_no_train node.trains) refl
       (λ reads. held (children position company reached node ++ nodes) marks left reads) is
     where
       by_trains :
-          (b : Bool) → is_leaf node.trains ≡ b →
+          (b : Bool) → has_no_train node.trains ≡ b →
           (over (children position company reached node ++ nodes) marks ≡ Some left
           → AreHeld (children position company reached node ++ nodes) marks left) →
           (if b then None else over (children position company reached node ++ nodes) marks) ≡ Some left

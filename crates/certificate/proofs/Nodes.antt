@@ -36,7 +36,7 @@ use Rattle.certificate.proofs.Branching.{node_if_among, step_is, with_steps_amon
 use Rattle.legal_runs.proofs.Joined.{fails, has_stop_is, has_such}
 use Rattle.legal_runs.proofs.Marks.{among_both}
 use Rattle.legal_runs.proofs.Tests.{has_token_is, is_full_is}
-use Rattle.legal_runs.proofs.TwoTrain.{no_border}
+use Rattle.legal_runs.proofs.TwoTrain.{no_border, free_of_none}
 
 -- a train that has visited this many stops has room: for one more where its head is at a border
 abbrev pub HasRoom : Kind → ℕ → TrackEnd → Type 0
@@ -73,11 +73,6 @@ pub record IsGood (position : Position) (company : Company) (all : List Kind) (a
 
 abbrev pub IsGoodNode : Position → Company → List Kind → Node → Type 0
 IsGoodNode position company all node = IsGood position company all node.assigned node.begun node.trains
-
--- no border is among none
-none_used : (borders : List ℕ) → AllByRecursion (λ border. ¬ IsAmong border []) borders
-none_used [] = tt
-none_used (border ∷ borders) = (λ none. none, none_used borders)
 
 -- each train may visit two stops
 two_fit : (kind : Kind) → AreAtMost (stops_of kind) 2
@@ -482,7 +477,7 @@ module _ (position : Position) (lawful : IsLawful position) (company : Company) 
                   own_token = has_such (λ s. HasToken position s company) (has_token_at_stop position company)
                       (has_token_is position company) (visited run) parts.1;
                   no_border_twice = subst (λ (l : List ℕ). AreDistinct l) gone so_far.once;
-                  no_used_border = none_used (crossed run);
+                  no_used_border = free_of_none (crossed run);
                   no_red_inside = so_far.no_red;
                   no_full_inside = so_far.no_full;
                 },

@@ -14,7 +14,7 @@ use Rattle.legal_runs.specs.Set.{in_number}
 use Rattle.certificate.specs.Tree.{for_each, greatest_first, may_all_earn, may_earn}
 use Rattle.certificate.specs.Walking.{HaveEarnings, earned_from, kind_from, trains_in}
 use Rattle.certificate.specs.declared.tree.Group.{Group}
-use Rattle.legal_runs.proofs.Relabelled.{kind_is as same_kind_is}
+use Rattle.tables.proofs.TrainKinds.{kind_is as same_kind_is}
 
 -- after this many things
 drop_behind : {A : Type 0} (thing : A) (rest : List A) (count place : ℕ) → count ≤ place

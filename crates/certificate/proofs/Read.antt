@@ -9,7 +9,7 @@ use Rattle.reach.specs.Position.{Position}
 use Rattle.reach.specs.Stops.{AreReachedStops}
 use Rattle.tables.specs.declared.rolling_stock.Kind.{Kind}
 use Rattle.tables.specs.declared.roster.Company.{Company}
-use Rattle.certificate.specs.Holding.{AreReached, Writes, is_leaf, left_over}
+use Rattle.certificate.specs.Holding.{AreReached, Writes, left_over}
 use Rattle.certificate.specs.Read.{IsRead, IsWritten}
 use Rattle.certificate.specs.Tree.{Node, bound, children, greatest_first, node_of, root_of}
 use Rattle.certificate.specs.Walked.{Walks, at_end, capped, cuts, ends, has_no_train, splits}
@@ -22,10 +22,6 @@ use Rattle.certificate.specs.declared.decider.Decision.TheVariants.{Stop as End}
 abbrev pub if_whole : Bool → List Bool → Option (List Bool)
 if_whole true left = Some left
 if_whole false left = None
-
-same_leaf : (trains : List Kind) → is_leaf trains ≡ has_no_train trains
-same_leaf [] = refl
-same_leaf (kind ∷ later) = refl
 
 low_bound : (amount revenue : ℕ) → revenue ≤ 4294967295 → capped amount ≤ revenue → amount ≤ revenue
 low_bound amount revenue low is = omega arith
@@ -56,13 +52,13 @@ module _ {S : Type 0} (left : S → List Bool) (revenue_in : S → ℕ) (positio
       → over (node ∷ nodes) (true ∷ marks) ≡ over (children position company reached node ++ nodes) marks
   read_split node nodes marks inner =
       ap (λ (b : Bool). if b then None else over (children position company reached node ++ nodes) marks)
-      (same_leaf node.trains ∙ inner)
+      inner
 
   read_leaf : (node : Node) (nodes : List Node) (marks : List Bool) → has_no_train node.trains ≡ true
       → over (node ∷ nodes) (true ∷ marks) ≡ None
   read_leaf node nodes marks outer =
       ap (λ (b : Bool). if b then None else over (children position company reached node ++ nodes) marks)
-      (same_leaf node.trains ∙ outer)
+      outer
 
   -- a walk by marks reads them
   pub walk_reads : (s t : S) (nodes : List Node) (whole : Bool) → revenue_in s ≡ revenue

@@ -3,7 +3,7 @@
 use Rattle.std.proofs.Common.{◌≡◌, ℕ, suc, Bool, true, false, not, ltb, ◌||◌, ◌⊎◌, inl, inr, Option, Some, None, IfSome}
 use Rattle.std.proofs.Common.{if◌then◌else◌, List, [], ◌∷◌, ◌++◌, length, refl, ap, sym, ◌∙◌, subst, arith}
 use Rattle.std.specs.List.{list_any}
-use Rattle.std.proofs.lemmas.Bool.{and_from, false_from_ne_true, lt-ltb, or_left, or_right}
+use Rattle.std.proofs.lemmas.Bool.{and_from, false_from_ne_true, lt-ltb, or_left, or_right, le-ltb}
 use Rattle.map_tables.specs.Border.{neighbour_of}
 use Rattle.map_tables.specs.declared.hex.Hex.{Hex}
 use Rattle.map_tables.specs.declared.place.Stop.{Stop}
@@ -28,7 +28,7 @@ use Rattle.certificate.specs.Tree.{goes_over, gone_over, is_finished, is_last_st
 use Rattle.certificate.specs.Tree.{node_of, run_borders, steps_at, steps_from, taken_borders, with_steps}
 use Rattle.certificate.proofs.Branching.{LeadsOver, among_for_each, among_node_if, among_with_steps, border_both}
 use Rattle.certificate.proofs.Branching.{over_leads, step_there, stop_left}
-use Rattle.legal_runs.proofs.Joined.{fails, has_stop_is, not_less, such_has}
+use Rattle.legal_runs.proofs.Joined.{fails, has_stop_is, such_has}
 use Rattle.legal_runs.proofs.Marks.{among_both}
 use Rattle.certificate.proofs.Nodes.{HasRoom, IsRunBegun, fewer_fit}
 use Rattle.legal_runs.proofs.RunReached.{all_reached}
@@ -368,6 +368,6 @@ module _ (position : Position) (lawful : IsLawful position) (company : Company) 
         (inl (among_node_if (is_finished position company reached (visited (step ∷ before))) (done (step ∷ before))
         (and_from (not (ltb (length (visited (step ∷ before))) 2))
         (list_any (has_token_at_stop position company) (visited (step ∷ before)))
-        (ap not (not_less (length (visited (step ∷ before))) 2 legal.two))
+        (ap not (le-ltb (length (visited (step ∷ before))) 2 legal.two))
         (such_has (λ stop. HasToken position stop company) (has_token_at_stop position company)
         (has_token_is position company) (visited (step ∷ before)) legal.own_token))))))

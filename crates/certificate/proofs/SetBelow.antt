@@ -12,6 +12,7 @@ use Rattle.tables.specs.Train.{same_kind}
 use Rattle.tables.specs.declared.rolling_stock.Kind.{Kind}
 use Rattle.tables.specs.declared.rolling_stock.Kind.TheVariants.{Two, Three, Four, Five, Six, Diesel}
 use Rattle.tables.specs.declared.roster.Company.{Company}
+use Rattle.tables.proofs.TrainKinds.{kind_is}
 use Rattle.legal_runs.specs.Legal.{crossed, earned}
 use Rattle.legal_runs.specs.Set.{AreApart, IsLegalSet, RunsLegally, ShareNoBorder, TrainRun, in_number}
 use Rattle.legal_runs.specs.Set.{revenue_of_runs, trains_that_run}
@@ -19,7 +20,7 @@ use Rattle.certificate.specs.Tree.{IsBelow, IsLeaf, Node, greatest_first, node_o
 use Rattle.certificate.specs.TreeLaws.{AreItsRuns, LegalSetsAreLeaves}
 use Rattle.certificate.proofs.Leaves.{same_number}
 use Rattle.legal_runs.proofs.Marks.{among_both}
-use Rattle.legal_runs.proofs.Relabelled.{kind_is, of_kind}
+use Rattle.legal_runs.proofs.Relabelled.{of_kind}
 use Rattle.certificate.proofs.RunBelow.{one_below, run_below}
 
 -- a run is taken out of some, and these are left

@@ -16,17 +16,13 @@ use Rattle.tables.specs.declared.rolling_stock.Kind.{Kind}
 use Rattle.tables.specs.declared.roster.Company.{Company}
 use Rattle.legal_runs.specs.Claim.{ClaimHolds}
 use Rattle.certificate.specs.Tree.{IsLeaf, Node, bound, children, root_of}
+use Rattle.certificate.specs.Walked.{has_no_train}
 use Rattle.legal_runs.specs.declared.claim.Claim.{Claim}
 
 -- exactly the stops that a company reaches, in the order of the map
 pub record AreReached (position : Position) (company : Company) (stops : List Stop) : Type 0 where
   pub exact : (stop : Stop) → IsAmong stop stops ↔ ReachesStop position company stop
   pub in_order : AreSortedBy stop_order stops
-
--- no train is left
-abbrev pub is_leaf : List Kind → Bool
-is_leaf [] = true
-is_leaf (kind ∷ later) = false
 
 module _ (position : Position) (company : Company) (reached : List Stop) (revenue : ℕ) where
   mutual
@@ -55,7 +51,7 @@ module _ (position : Position) (company : Company) (reached : List Stop) (revenu
   left_over (node ∷ nodes) (false ∷ marks) =
       if nat_le (bound position reached node) revenue then left_over nodes marks else None
   left_over (node ∷ nodes) (true ∷ marks) =
-      if is_leaf node.trains then None else left_over (children position company reached node ++ nodes) marks
+      if has_no_train node.trains then None else left_over (children position company reached node ++ nodes) marks
 
   -- Some marks are what is written over the nodes ahead: a node is cut if its bound is at most the
   -- revenue, and split otherwise.

@@ -1,6 +1,6 @@
 -- What a company pays out is at most the revenue: a share of it is paid at most ten times.
 use Rattle.std.proofs.Common.{◌≡◌, ℕ, ◌+◌, ◌*◌, ◌≤◌, ◌==◌, Bool, true, false, if◌then◌else◌, List, [], ◌∷◌, ℤ, pos}
-use Rattle.std.proofs.Common.{negsuc, ◌≤ℤ◌, ◌-ℤ◌, refl, sym, ap, ◌∙◌, arith}
+use Rattle.std.proofs.Common.{◌-ℤ◌, refl, sym, ap, ◌∙◌, arith}
 use Rattle.std.proofs.Math.Nat.{add-mul, mul-div-le, mul-le-mul_right}
 use Rattle.std.proofs.lemmas.Bool.{eqb-true}
 use Rattle.std.proofs.lemmas.Int.{ints}
@@ -18,16 +18,12 @@ use Rattle.totals.specs.Shares.{held_by, shares_of}
 use Rattle.history.specs.Sound.{SharesAreHeld}
 use Rattle.history.specs.Record.{broken_recorded}
 use Rattle.totals.specs.Trains.{at_least_zero}
+use Rattle.totals.proofs.Choices.{at_least_zero_is}
 use Rattle.certs.specs.Dividend.{NoMoreIsPaid, all_paid, dividend_of, dividend_paid_to, paid_for, paid_to_seats}
 use Rattle.certs.specs.Dividend.{per_share}
 use Rattle.tables.specs.Seat.{all_seats}
 use Rattle.tables.specs.declared.roster.Company.{Company}
 use Rattle.tables.specs.declared.seat.Seat.{Seat}
-
--- a number of shares that is not under 0 is as many
-as_many : (shares : ℤ) → pos 0 ≤ℤ shares → pos (at_least_zero shares) ≡ shares
-as_many (pos n) least = refl
-as_many (negsuc n) least = absurd (omega (arith, ints))
 
 module _ (company : Company) where
   -- the bank has this much less after a dividend
@@ -75,7 +71,7 @@ module _ (company : Company) where
       omega (
         arith,
         ints,
-        as_many (shares_of events company (OfSeat seat)) (held company (OfSeat seat)),
+        at_least_zero_is (shares_of events company (OfSeat seat)) (held company (OfSeat seat)),
         count_is
             events others held,
       )
@@ -164,7 +160,7 @@ no_more_is_paid game company revenue sound =
     let seats = all_seats game.seats in
     let ten = sound.ten company in
     let offered = sound.held company InitialOffering in
-    let pool = as_many (shares_of game.events company BankPool) (sound.held company BankPool) in
+    let pool = at_least_zero_is (shares_of game.events company BankPool) (sound.held company BankPool) in
     let few : count company game.events seats + at_least_zero (shares_of game.events company BankPool) ≤ 10 =
     omega (arith, ints, count_is company game.events seats sound.held) in
     omega (

@@ -26,6 +26,7 @@ use Rattle.tables.specs.declared.rolling_stock.Kind.{Kind}
 use Rattle.tables.specs.declared.rolling_stock.Kind.TheVariants.{Two}
 use Rattle.tables.specs.declared.round.Round.{Round}
 use Rattle.tables.specs.declared.round.Round.TheVariants.{Opening, Stock, Operating}
+use Rattle.tables.proofs.Tests.{none_by_is_some}
 
 -- a round that begins leaves the phase
 phase_at_round : (set : SetSoFar) (begun : Option Round) → (at_round set begun).phase ≡ set.phase
@@ -60,11 +61,6 @@ phase_after (event ∷ events) set =
     ∙ phase_begun set (phase_set event))
     ∙ sym (choices (last_said phase_set events) (phase_set event) set.phase)
 
--- there is none
-none_there : (begun : Option Round) → is_some begun ≡ false → begun ≡ None
-none_there None none = refl
-none_there (Some round) none = absurd (cc)
-
 -- events none of which begins a round leave the number
 number_after : (events : List Event) (set : SetSoFar) → BeginsNoRound events
     → (fold set_then set events).rounds ≡ set.rounds
@@ -72,7 +68,7 @@ number_after [] set none = refl
 number_after (event ∷ events) set none =
     let parts = or_parts (is_some (round_begun_by event)) (list_any (λ its. is_some (round_begun_by its)) events) none in
     number_after events (set_then set event) parts.1
-    ∙ ap (λ begun. (at_round (in_phase set (phase_set event)) begun).rounds) (none_there (round_begun_by event) parts.0)
+    ∙ ap (λ begun. (at_round (in_phase set (phase_set event)) begun).rounds) (none_by_is_some (round_begun_by event) parts.0)
     ∙ number_in_phase set (phase_set event)
 
 -- a round that was played leaves the number with which it began

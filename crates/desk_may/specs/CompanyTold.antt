@@ -12,7 +12,6 @@ use Rattle.desk_may.specs.declared.told.Note.{Note}
 use Rattle.desk_may.specs.declared.told.Note.TheVariants.{Nothing, UpTo}
 use Rattle.desk_may.specs.declared.told.Told.{Told}
 use Rattle.desk_may.specs.declared.told.Told.TheVariants.{May, Not}
-use Rattle.events.specs.Event.{party_of_company}
 use Rattle.events.specs.declared.event.Event.{Event}
 use Rattle.events.specs.declared.event.Holder.{Holder}
 use Rattle.events.specs.declared.event.Holder.TheVariants as holder
@@ -23,6 +22,7 @@ use Rattle.forced_purchase.specs.declared.operator.Operator.{Operator}
 use Rattle.moves.specs.declared.row.Answer.{Answer}
 use Rattle.moves.specs.declared.row.Answer.TheVariants.{Obeyed, WithConsent, Refused}
 use Rattle.moves.specs.declared.row.Row.{Row}
+use Rattle.moves.specs.PriceLaws.{cash_of_company}
 use Rattle.order_grammar.specs.declared.order.TrainSource.{TrainSource}
 use Rattle.order_grammar.specs.declared.order.TrainSource.TheVariants as source
 use Rattle.order_grammar.specs.declared.play.PlayOrder.{PlayOrder}
@@ -37,12 +37,8 @@ use Rattle.tables.specs.declared.rolling_stock.Kind.{Kind}
 use Rattle.tables.specs.declared.roster.Company.{Company}
 use Rattle.tables.specs.declared.roster.Private.{Private}
 use Rattle.tables.specs.declared.seat.Seat.{Seat}
-use Rattle.totals.specs.LookBack.{Game, cash_of, owner_of}
+use Rattle.totals.specs.LookBack.{Game, owner_of}
 use Rattle.totals.specs.Shares.{president_of}
-
--- what a company has
-abbrev pub cash_of_company : Game → Company → ℤ
-cash_of_company game company = cash_of game.seats game.events (party_of_company company)
 
 -- who must offer something, if another player does
 abbrev pub other_giver : Option Seat → Seat → Option Seat

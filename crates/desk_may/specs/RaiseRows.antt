@@ -10,7 +10,7 @@ use Rattle.events.specs.declared.event.Shareholder.TheVariants.{Seat as OfSeat}
 use Rattle.events.specs.declared.ruling.StockRule.{StockRule}
 use Rattle.forced_purchase.specs.Raise.{raise_judgement, raised_sale_judgement}
 use Rattle.forced_purchase.specs.declared.operator.Operator.{Operator}
-use Rattle.moves.specs.Deals.{brought_by, sale_of, share_numbers}
+use Rattle.moves.specs.Deals.{brought_by, share_numbers}
 use Rattle.moves.specs.Rows.{answer_of, only_if}
 use Rattle.moves.specs.declared.row.Answer.{Answer}
 use Rattle.moves.specs.declared.row.Row.{Row}
@@ -20,6 +20,7 @@ use Rattle.tables.specs.declared.roster.Company.{Company}
 use Rattle.tables.specs.declared.seat.Seat.{Seat}
 use Rattle.totals.specs.LookBack.{Game}
 use Rattle.totals.specs.Shares.{shares_of}
+use Rattle.stock_round.specs.Sell.{sale_of}
 
 -- a president has as many shares of a company as this
 abbrev pub is_held : List Event → Seat → Company → ℕ → Bool

@@ -1,10 +1,11 @@
 //! What is said about the rows of a company's turn: the trains and privates that it may buy if
 //! everybody asked consents, and those of the bank and of players that it may not.
 ghost use Rattle.std.specs.Prelude.{◌≡◌};
-ghost use Rattle.desk_may.specs.CompanyTold.{cash_of_company, giver_of, not_of_private, not_of_train, not_told};
+ghost use Rattle.desk_may.specs.CompanyTold.{giver_of, not_of_private, not_of_train, not_told};
 ghost use Rattle.desk_may.specs.CompanyTold.{note_of_private, note_of_train, other_giver, rule_if_given};
 ghost use Rattle.desk_may.specs.CompanyTold.{told_of_bank, told_of_private, told_of_train, told_private};
 ghost use Rattle.desk_may.specs.CompanyTold.{told_private_at, told_train, up_to_twice};
+ghost use Rattle.moves.specs.PriceLaws.{cash_of_company};
 
 use crate::offerers::as_offered;
 use crate::teller::Teller;

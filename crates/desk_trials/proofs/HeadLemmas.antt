@@ -132,11 +132,6 @@ module _ (key sent : Sent) (line : ℕ) (heads : List HeadAt) where
       (same_post_is (sheet_key_of key) (sheet_key_of sent) same) none)
       ∙ sym (first_with_one (sheet_key_of sent) heads (record { line = line; sheet_key = sheet_key_of key }))
 
--- nothing is there
-pub not_there : (found : Option ℕ) → is_some found ≡ false → found ≡ None
-not_there None none = refl
-not_there (Some line) none = absurd (true≢false none)
-
 -- the line by which one player more had a sheet
 pub complete_next : (seats : ℕ) (round : Round) (heads : List HeadAt) →
     later_of (complete_by seats round heads) (first_line (sheet_key_at seats round) heads)

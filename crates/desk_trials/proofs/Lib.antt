@@ -2,4 +2,3 @@
 pub mod HeadLemmas
 pub mod NumberedLemmas
 pub mod SentLemmas
-pub mod StepLemmas

@@ -1,21 +1,11 @@
 -- The lines of the sheets for a round, one after another.
-use Rattle.std.proofs.Common.{◌≡◌, ℕ, zero, suc, ◌+◌, ◌-◌, ◌<◌, ◌≤◌, false, List, [], ◌∷◌, ◌++◌, map, take, ap, sym, ◌∙◌, append_assoc, refl, arith}
+use Rattle.std.proofs.Common.{◌≡◌, ℕ, zero, suc, ◌+◌, ◌-◌, ◌<◌, ◌≤◌, List, [], ◌∷◌, ◌++◌, map, take, ap, sym, ◌∙◌, append_assoc, refl, arith}
 use Rattle.std.specs.List.{flat_map, range_with_len}
 use Rattle.std.proofs.lemmas.Grind.{common_steps}
 use Rattle.std.proofs.lemmas.List.{append-nil, map-append}
-use Rattle.report.proofs.Seats.{more_numbers}
-use Rattle.sheets.specs.Part.{Numbered, SheetParts}
-use Rattle.desk_why.specs.SheetLines.{PlacedLine, lines_left, lines_of_part, placed, placed_at}
-use Rattle.desk_why.specs.declared.sheet_line.LinePlace.{LinePlace}
+use Rattle.tables.proofs.OneMore.{more_numbers}
+use Rattle.desk_why.specs.SheetLines.{PlacedLine, placed}
 use Rattle.desk_why.specs.declared.sheet_line.SheetLine.{SheetLine}
-use Rattle.tables.specs.declared.seat.Seat.{Seat}
-
--- where no line is before the next head, and there is none, no line is left
-pub none_left : (seat : Seat) (place : LinePlace) (old mid : SheetParts) → old.before ≡ [] → mid ≡ old → mid.opened ≡ []
-    → lines_left seat place old ≡ []
-none_left seat place old mid none same no_head =
-    ap (λ (lines : List Numbered). map (placed_at seat place false) lines ++ flat_map (lines_of_part seat) old.opened) none
-    ∙ ap (flat_map (lines_of_part seat)) (ap (λ (parts : SheetParts). parts.opened) (sym same) ∙ no_head)
 
 -- the next line is kept, where fewer are kept so far
 pub keeps : (was now : List SheetLine) (line : SheetLine) (left more all : List PlacedLine) (most count : ℕ)

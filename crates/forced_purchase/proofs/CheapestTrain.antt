@@ -1,29 +1,28 @@
 -- The train that a company must buy is for sale, and once its president has paid what it lacks no
 -- rule of a purchase is broken.
-use Rattle.std.proofs.Common.{◌≡◌, ◌⊎◌, ℕ, ◌≤◌, Bool, true, false, not, ◌&&◌, ◌||◌, nat_lt, cond, if◌then◌else◌, List}
-use Rattle.std.proofs.Common.{[], ◌∷◌, ◌++◌, Option, Some, None, ℤ, pos, negsuc, ◌≤ℤ◌, ◌<ℤ◌, ◌+ℤ◌, ◌-ℤ◌, inl, inr, refl}
+use Rattle.std.proofs.Common.{◌≡◌, ◌⊎◌, ℕ, ◌≤◌, Bool, true, false, not, ◌&&◌, nat_lt, if◌then◌else◌, List}
+use Rattle.std.proofs.Common.{[], ◌∷◌, Option, Some, None, ℤ, pos, negsuc, ◌≤ℤ◌, ◌<ℤ◌, ◌+ℤ◌, ◌-ℤ◌, inl, inr, refl}
 use Rattle.std.proofs.Common.{sym, ap, subst, ◌∙◌, arith}
-use Rattle.std.proofs.lemmas.Bool.{lt-ltb, ltb-false, or_left, or_right}
+use Rattle.std.proofs.lemmas.Bool.{lt-ltb, ltb-false, or_left, or_right, not_from_true}
 use Rattle.std.proofs.lemmas.Int.{ints}
 use Rattle.std.specs.Int.Signed.{lt_z}
 use Rattle.std.specs.List.{AllByRecursion}
-use Rattle.events.specs.Event.{party_of_company, train_owner_place, train_moved}
+use Rattle.events.specs.Event.{party_of_company}
 use Rattle.events.specs.declared.event.Event.{Event}
 use Rattle.events.specs.declared.event.Event.TheVariants as event
-use Rattle.events.specs.declared.event.TrainPlace.TheVariants as place
 use Rattle.events.specs.declared.event.TrainSeller.{TrainSeller}
 use Rattle.events.specs.declared.event.TrainSeller.TheVariants as seller
-use Rattle.totals.proofs.EventAtEnd.{cash_of_at_end, trains_at_before}
-use Rattle.history.proofs.Rolling.{sold_at_end}
+use Rattle.totals.proofs.EventAtEnd.{cash_of_at_end}
 use Rattle.totals.specs.LookBack.{Game, cash_of, with_event}
-use Rattle.totals.specs.Trains.{one_if, phase_of, at_least_zero, train_count, train_goes, trains_held, trains_sold}
+use Rattle.totals.specs.Trains.{phase_of, at_least_zero, train_count, trains_held, trains_sold}
 use Rattle.forced_purchase.specs.Forced.{with_aid}
 use Rattle.forced_purchase.specs.Shortfall.{cheapest, first_on_sale, lack_of, purchase_without_trade_in}
-use Rattle.purchases.specs.Train.{are_left, first_left, first_left_of, has_trains, is_at_train_limit, is_kind, is_left}
+use Rattle.purchases.specs.Train.{first_left, first_left_of, has_trains, is_at_train_limit, is_kind, is_left}
 use Rattle.purchases.specs.Train.{is_not_sellers, is_on_sale, lacks_consent, numbered_kinds, sells, sells_diesels}
 use Rattle.purchases.specs.Train.{train_costs_too_much, train_judgement, train_purchase_cost, train_purchase_rules}
 use Rattle.forced_purchase.specs.declared.operator.Operator.{Operator}
 use Rattle.purchases.specs.declared.train.TrainPurchase.{TrainPurchase}
+use Rattle.purchases.proofs.TrainsAlike.{alike_at_end, same_sale}
 use Rattle.forced_purchase.proofs.TrainCounts.{size_before}
 use Rattle.tables.specs.Roster.{same_company}
 use Rattle.tables.specs.Rules.{AreKept, Rule, first_broken}
@@ -32,11 +31,7 @@ use Rattle.tables.specs.declared.rolling_stock.Kind.{Kind}
 use Rattle.tables.specs.declared.rolling_stock.Kind.TheVariants.{Two, Three, Four, Five, Six, Diesel}
 use Rattle.tables.specs.declared.roster.Company.{Company}
 use Rattle.tables.proofs.Companies.{company_itself}
-
--- a kind is itself
-kind_itself : (kind : Kind) → same_kind kind kind ≡ true
-kind_itself Two = refl
-kind_itself kind = refl
+use Rattle.tables.proofs.TrainKinds.{kind_itself}
 
 -- a kind is one of some
 abbrev IsOneOf : Kind → List Kind → Type 0
@@ -161,34 +156,6 @@ module _ (events : List Event) where
   unfolding cheapest
   cheapest_plain = first_plain numbered_kinds
 
--- an event by which no train moves leaves what is for sale
-module _ (events : List Event) (its : Event) (none : train_moved its ≡ None) where
-  abbrev after : List Event
-  after = events ++ its ∷ []
-
-  same_sold : (kind : Kind) → trains_sold after kind ≡ trains_sold events kind
-  same_sold kind =
-      let goes : one_if (train_goes place.Bank kind (train_moved its)) ≡ 0 =
-      ap (λ move. one_if (train_goes place.Bank kind move)) none in
-      omega (arith, sold_at_end events its kind, goes)
-
-  same_left : (kind : Kind) → is_left after kind ≡ is_left events kind
-  same_left kind = ap (are_left (trains_of kind).number) (same_sold kind)
-
-  same_first : (some : List Kind) → first_left_of after some ≡ first_left_of events some
-  same_first [] = refl
-  same_first (kind ∷ others) =
-      ap (λ (b : Bool). cond b (Some kind) (first_left_of after others)) (same_left kind)
-      ∙ ap (λ (found : Option Kind). cond (is_left events kind) (Some kind) found) (same_first others)
-
-  pub same_sale : (from : TrainSeller) (kind : Kind) → is_on_sale after from kind ≡ is_on_sale events from kind
-  same_sale seller.Bank kind =
-      ap (λ (found : Option Kind). is_kind found kind || (same_kind kind Diesel && sells_diesels after))
-      (same_first numbered_kinds)
-      ∙ ap (λ (sold : ℕ). is_kind (first_left events) kind || (same_kind kind Diesel && nat_lt 0 sold)) (same_sold Six)
-  same_sale seller.BankPool kind = ap (lt_z (pos 0)) (trains_at_before events its (train_owner_place None) kind none)
-  same_sale (seller.Company company) kind = refl
-
 -- a phase allows a train
 pub limit_low : (phase : Kind) → 1 ≤ limit_of phase
 limit_low Two = omega arith
@@ -215,14 +182,10 @@ not_less_is a b least = by_test (lt_z a b) refl
     by_test true is = let so : a <ℤ b = grind (arith, ints, is) in let wrong : 1 ≤ 0 =
         omega (arith, ints, so, least) in absurd (omega arith)
 
-not_so : (b : Bool) → b ≡ true → not b ≡ false
-not_so true is = refl
-not_so false is = absurd cc
-
 room : (size : ℤ) (limit : ℕ) → lt_z (pos 0) size ≡ false → 1 ≤ limit → not (lt_z (size -ℤ pos 0) (pos limit)) ≡ false
 room size limit none low =
     let few : size ≤ℤ pos 0 = grind (arith, ints, none) in
-    not_so (lt_z (size -ℤ pos 0) (pos limit)) (less_is (size -ℤ pos 0) (pos limit) (omega (arith, ints, few, low)))
+    not_from_true (lt_z (size -ℤ pos 0) (pos limit)) (less_is (size -ℤ pos 0) (pos limit) (omega (arith, ints, few, low)))
 
 -- a table of which each rule is kept
 all_kept : {Code : Type 0} (rules : List (Rule Code)) → AreKept rules → first_broken rules ≡ None
@@ -241,7 +204,7 @@ module _ (game : Game) (company : Company) (none : has_trains game.events compan
       room (train_count game.events (Some company)) (limit_of (phase_of game.events)) none
       (limit_low (phase_of game.events)) in
       all_kept (train_purchase_rules game company (purchase_without_trade_in kind from))
-      (not_so (is_on_sale game.events from kind) sale, (has_room, (enough, (given, (theirs, (refl, tt))))))
+      (not_from_true (is_on_sale game.events from kind) sale, (has_room, (enough, (given, (theirs, (refl, tt))))))
 
   abbrev Allows : TrainPurchase → Type 0
   Allows purchase = is_on_sale game.events purchase.from purchase.kind ≡ true
@@ -302,7 +265,7 @@ aid_keeps by game none =
     (cheapest game.events).kind ≡ true)) [
       | true ↦ (
         ap (lt_z (pos 0)) (size_before game.events its (Some by.company) refl) ∙ none,
-        same_sale game.events its refl (cheapest game.events).from (cheapest game.events).kind
+        same_sale (alike_at_end game.events its refl) (cheapest game.events).from (cheapest game.events).kind
             ∙ cheapest_on_sale game.events,
       )
       | false ↦ (none, cheapest_on_sale game.events)

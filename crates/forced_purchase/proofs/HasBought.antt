@@ -6,15 +6,15 @@ use Rattle.std.proofs.Common.{◌∙◌, arith}
 use Rattle.std.proofs.lemmas.Bool.Decides.{nat_tests}
 use Rattle.std.proofs.lemmas.Int.{ints}
 use Rattle.std.specs.Int.Signed.{lt_z}
-use Rattle.std.proofs.Math.Bool.{and-false}
+use Rattle.std.proofs.Math.Bool.{and-false, and-true}
+use Rattle.std.proofs.lemmas.Bool.{cases_Bool}
 use Rattle.events.specs.Event.{place_of_seller, train_owner_place, train_moved}
 use Rattle.events.specs.declared.event.Event.{Event}
 use Rattle.events.specs.declared.event.Event.TheVariants as event
 use Rattle.events.specs.declared.event.TrainSeller.{TrainSeller}
 use Rattle.events.specs.declared.event.TrainSeller.TheVariants as seller
-use Rattle.totals.proofs.Choices.{truth}
 use Rattle.totals.proofs.EventAtEnd.{trains_at_before, trains_at_end}
-use Rattle.history.proofs.Rolling.{same_kind_is, same_train_place_is}
+use Rattle.history.proofs.Rolling.{same_train_place_is}
 use Rattle.totals.specs.LookBack.{Game, with_event}
 use Rattle.totals.specs.Trains.{TrainsAreHeld, one_if, phase_of, same_train_place, at_least_zero, train_count}
 use Rattle.totals.specs.Trains.{trains_at, trains_held}
@@ -37,6 +37,7 @@ use Rattle.tables.specs.declared.rolling_stock.Kind.{Kind}
 use Rattle.tables.specs.declared.rolling_stock.Kind.TheVariants.{Two, Three, Four, Five, Six, Diesel}
 use Rattle.tables.specs.declared.roster.Company.{Company}
 use Rattle.tables.proofs.Companies.{company_is, company_itself}
+use Rattle.tables.proofs.TrainKinds.{kind_is}
 
 -- what rusts is of another kind than the train by which it does
 rusts_another : (kind new : Kind) → rusts_at (rusting_of kind) new ≡ true → same_kind new kind ≡ false
@@ -46,10 +47,6 @@ rusts_another Four new rusts = grind (arith, nat_tests, rusts)
 rusts_another Five new rusts = absurd cc
 rusts_another Six new rusts = absurd cc
 rusts_another Diesel new rusts = absurd cc
-
-and_true : (b : Bool) → (b && true) ≡ b
-and_true true = refl
-and_true false = refl
 
 -- this many of a count that is not over 0
 few_are_none : (count : ℤ) → count ≤ℤ pos 0 → at_least_zero count ≡ 0
@@ -108,9 +105,9 @@ module _ (company : Company) (own : Kind) where
   by_rust : (rusting : Kind) → same_kind own rusting ≡ false → (owner : Option Company) (game : Game)
       → Stays game (with_trains_rusted owner rusting game)
   by_rust rusting another owner game one kind =
-      elim (truth (same_kind rusting kind)) [
+      elim (cases_Bool (same_kind rusting kind)) [
         | inl same ↦
-            let is : rusting ≡ kind = same_kind_is rusting kind same in
+            let is : rusting ≡ kind = kind_is rusting kind same in
             let zero_of : (its : Kind) → same_kind own its ≡ false → has its (Some company) game ≡ pos 0 =
             λ its apart. one its ∙ ap (λ (b : Bool). pos (one_if b)) apart in
             subst (λ (its : Kind). has its (Some company) (with_trains_rusted owner rusting game)
@@ -163,7 +160,7 @@ module _ (company : Company) (own : Kind) where
 
   by_limit : (game : Game) (other : Company) → Stays game (with_limit_kept game other)
   by_limit game other one =
-      elim (truth (same_company other company)) [
+      elim (cases_Bool (same_company other company)) [
         | inl same ↦
             let is : other ≡ company = company_is other company same in
             let none : excess_of game other ≡ 0 = none_over (train_count game.events (Some other))
@@ -202,7 +199,7 @@ module _ (company : Company) (own : Kind) where
       let place = train_owner_place (Some company) in
       let comes : one_if (same_kind own kind && same_company company company) ≡ one_if (same_kind own kind) =
       ap (λ (b : Bool). one_if (same_kind own kind && b)) (company_itself company)
-      ∙ ap one_if (and_true (same_kind own kind)) in
+      ∙ ap one_if (and-true (same_kind own kind)) in
       let goes : one_if (same_kind own kind && same_train_place (place_of_seller from) place) ≡ 0 =
       ap (λ (b : Bool). one_if (same_kind own kind && b)) apart ∙ ap one_if (and-false (same_kind own kind)) in
       omega (

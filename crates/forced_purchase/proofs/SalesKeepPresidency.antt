@@ -31,6 +31,7 @@ use Rattle.tables.specs.declared.roster.Company.{Company}
 use Rattle.tables.specs.declared.seat.Seat.{Seat}
 use Rattle.tables.specs.declared.squares.Square.{Square}
 use Rattle.tables.proofs.Companies.{company_is, company_itself}
+use Rattle.tables.proofs.Tests.{second_fails}
 
 -- a seat stays first with most where none of the others has more than it
 most_stays : (events : List Event) (company : Company) (shares : Seat → ℤ) (first : Seat) (others : List Seat) →
@@ -162,10 +163,6 @@ no_move true true moves none presides = absurd cc
 no_move true false moves none presides = none
 no_move false leaves moves none presides = absurd cc
 
-not_another : (same another : Bool) → (same && another) ≡ false → same ≡ true → another ≡ false
-not_another true another none same = none
-not_another false another none same = absurd cc
-
 -- what the rules of such a sale leave
 stays_where_allowed : (by : Operator) (game : Game) (sale : Sale) → raised_sale_judgement by game sale ≡ None
     → must_stay game.seats game.events by.president sale (Some by.company) ≡ false
@@ -190,7 +187,7 @@ none_over by game sale none same leads =
     (moves_operating game.seats game.events by.president sale (Some by.company))
     (stays_where_allowed by game sale none) he
     in
-    not_another (same_company by.company sale.company) _ moves
+    second_fails (same_company by.company sale.company) _ moves
     (ap (λ (its : Company). same_company by.company its) (sym same) ∙ company_itself by.company)
 
 -- a token that moves leaves it too

@@ -1,5 +1,5 @@
 -- The steps of a forced purchase, from what each part of them does.
-use Rattle.std.proofs.Common.{◌≡◌, ℕ, zero, suc, Bool, true, false, ◌&&◌, if◌then◌else◌, List, [], ◌∷◌, ◌++◌, Option}
+use Rattle.std.proofs.Common.{◌≡◌, Bool, true, false, ◌&&◌, if◌then◌else◌, List, [], ◌∷◌, ◌++◌, Option}
 use Rattle.std.proofs.Common.{Some, None, find, option_map, is_none, refl, sym, ap, subst, ◌∙◌}
 use Rattle.certs.proofs.SaleAllowed.{sale_allowed, same_judgement}
 use Rattle.certs.specs.Sale.{sale_judgement}
@@ -30,8 +30,8 @@ use Rattle.order_grammar.specs.declared.order.Order.TheVariants as order
 use Rattle.order_grammar.specs.declared.play.PlayOrder.TheVariants as play
 use Rattle.sheets.specs.Part.{Numbered}
 use Rattle.tables.specs.Roster.{companies}
-use Rattle.tables.specs.Steps.{iterate}
 use Rattle.tables.specs.declared.roster.Company.{Company}
+use Rattle.tables.proofs.Tests.{none_by_is_none}
 use Rattle.turns.specs.Ruling.{judged}
 
 -- where no rule of stock refuses, none is broken
@@ -82,11 +82,6 @@ raise_refused due by old new line sale None is none recorded = absurd cc
 raise_refused due by old new line sale (Some rule) is none recorded =
     recorded ∙ ap (raise_ruled by old line sale) (sym is)
 
--- a test of nothing
-pub nothing : {A : Type 0} (found : Option A) → is_none found ≡ true → found ≡ None
-nothing None is = refl
-nothing (Some thing) is = absurd cc
-
 -- the company that is found passes the test
 found_passes : (test : Company → Bool) (among : List Company) (company : Company) → find test among ≡ Some company
     → test company ≡ true
@@ -111,7 +106,7 @@ may_sell_share by game company sale is found =
     (Some by.company))) companies company found in
     subst (λ (its : Sale). MaySell game by.president its) (sym is)
     (sale_allowed game by.president (one_share company) (Some by.company)
-    (nothing (sale_judgement game.seats game.events by.president (one_share company) (Some by.company)) passes))
+    (none_by_is_none (sale_judgement game.seats game.events by.president (one_share company) (Some by.company)) passes))
 
 -- a sale that breaks no rule breaks none after a ruling
 pub still_allowed : (by : Operator) (game : Game) (line : Numbered) (ruling : Ruling) (sale : Sale) →
@@ -145,7 +140,7 @@ pub next_allowed : (by : Operator) (game : Game) (company : Company) → next_to
     → raised_sale_judgement by game (one_share company) ≡ None
 unfolding next_to_sell
 next_allowed by game company found =
-    nothing (raised_sale_judgement by game (one_share company))
+    none_by_is_none (raised_sale_judgement by game (one_share company))
     (found_passes (λ its. is_none (raised_sale_judgement by game (one_share its))) companies company found)
 
 -- one is sold
@@ -171,12 +166,6 @@ pub not_sold : (by : Operator) (game : Game) → falls_short by game ≡ false �
 unfolding sold_further
 not_sold by game enough = ap (λ (b : Bool). if b then with_one_sold by game (next_to_sell by game) else game)
     (sym enough)
-
--- who does not fall short sells nothing
-times_none : (by : Operator) (times : ℕ) (game : Game) → falls_short by game ≡ false
-    → game ≡ iterate (sold_further by) times game
-times_none by zero game enough = refl
-times_none by (suc times) game enough = not_sold by game enough ∙ ap (sold_further by) (times_none by times game enough)
 
 -- the president is bankrupt
 pub bankrupt_then : (by : Operator) (old new : Game) → falls_short by old ≡ true

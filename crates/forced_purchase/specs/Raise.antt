@@ -13,6 +13,7 @@ use Rattle.events.specs.declared.ruling.Refusal.TheVariants as refusal
 use Rattle.events.specs.declared.ruling.Ruling.{Ruling}
 use Rattle.events.specs.declared.ruling.StockRule.{StockRule}
 use Rattle.events.specs.declared.ruling.StockRule.TheVariants.{NotOfStock}
+use Rattle.events.specs.Event.{order_obeyed}
 use Rattle.history.specs.Conditions.{is_met}
 use Rattle.totals.specs.LookBack.{Game, with_event}
 use Rattle.forced_purchase.specs.Shortfall.{falls_short}
@@ -23,7 +24,7 @@ use Rattle.order_grammar.specs.declared.order.Order.{Order}
 use Rattle.order_grammar.specs.declared.order.Order.TheVariants as order
 use Rattle.order_grammar.specs.declared.play.PlayOrder.TheVariants as play
 use Rattle.sheets.specs.Part.{Numbered}
-use Rattle.turns.specs.Ruling.{done, judged, obeyed_order}
+use Rattle.turns.specs.Ruling.{done, judged}
 
 -- the first rule that a sale to raise money for the company breaks
 unfoldable pub raised_sale_judgement : Operator → Game → Sale → Option StockRule
@@ -53,7 +54,7 @@ abbrev pub raise_ruled : Operator → Game → Numbered → Sale → Option Refu
 raise_ruled by game line sale broken =
     let ruling = judged line.condition (order.Play (play.Raise sale.company sale.shares)) broken in
     done (λ (after : Game) (its : Order). after_presidents_sale by after sale) (with_ruling by game line ruling)
-    (obeyed_order ruling)
+    (order_obeyed ruling)
 
 -- after a sale of a RAISE in this line
 abbrev pub after_raise : Bool → Operator → Game → Numbered → Sale → Game

@@ -3,12 +3,12 @@ use Rattle.std.proofs.Common.{◌==◌, ◌≤◌, ◌≡◌, ℕ, ◌<◌, inl,
 use Rattle.std.proofs.Common.{Some, None, is_some, is_none, ◌&&◌, pos, ◌≤ℤ◌, List, refl, sym, subst, ap, ◌∙◌, arith}
 use Rattle.std.proofs.lemmas.Int.{ints}
 use Rattle.std.specs.Option.{option_flatten}
+use Rattle.std.proofs.lemmas.Bool.{cases_Bool}
 use Rattle.events.specs.Event.{ownership_of, party_at}
 use Rattle.events.specs.declared.event.Event.{Event}
 use Rattle.events.specs.declared.event.Event.TheVariants.{Bids, Sold, Price, Revenue}
 use Rattle.events.specs.declared.event.Holder.{Holder}
 use Rattle.events.specs.declared.event.Holder.TheVariants as holder
-use Rattle.totals.proofs.Choices.{truth}
 use Rattle.totals.proofs.Privates.{same_private_is}
 use Rattle.history.proofs.BidWords.{bid_silent, bids_after_sale, differ_after_bid, elsewhere_kept, sale_silent}
 use Rattle.history.proofs.BidWords.{same_seat_is}
@@ -34,7 +34,7 @@ free_by : (game : Game) (private : Private) (seat by : Seat) (sum rest : ℕ)
     → pos sum ≤ℤ free_for game.seats game.events seat private → SeatsAreSolvent game → rest ≤ tied_on game.events by private
     → pos (if seat.0 == by.0 then sum else rest) ≤ℤ free_for game.seats game.events by private
 free_by game private seat by sum rest affordable solvent low =
-    elim (truth (seat.0 == by.0)) [
+    elim (cases_Bool (seat.0 == by.0)) [
       | inl same ↦ rw same (rw (← (same_seat_is seat by same)) affordable)
       | inr apart ↦
           let before = solvent by in
@@ -86,7 +86,7 @@ pub stays_closed : (events : List Event) (event : Event) (owned private : Privat
     → is_closed events owned ≡ false → is_closed events private ≡ true
     → is_closed (events ++ event ∷ []) private ≡ true
 stays_closed events event owned private owner says standing closed =
-    elim (truth (same_private owned private)) [
+    elim (cases_Bool (same_private owned private)) [
       | inl same ↦
           let still : is_closed events private ≡ false =
           ap (is_closed events) (sym (same_private_is owned private same)) ∙ standing in

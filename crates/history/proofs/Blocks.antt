@@ -3,12 +3,13 @@
 use Rattle.std.proofs.Common.{◌≡◌, ℕ, ◌<◌, ◌==◌, inl, inr, Bool, false, if◌then◌else◌, List, [], ◌∷◌, ◌++◌, Option}
 use Rattle.std.proofs.Common.{Some, None, is_some, unwrap_or, pos, ◌≤ℤ◌, refl, sym, subst, ap, ◌∙◌, arith}
 use Rattle.std.proofs.lemmas.Int.{ints}
+use Rattle.std.proofs.lemmas.Bool.{cases_Bool}
 use Rattle.events.specs.Event.{floated_by, square_set}
 use Rattle.events.specs.declared.event.Event.{Event}
 use Rattle.events.specs.declared.event.Event.TheVariants.{Floats, Moves, President, Sells}
 use Rattle.events.specs.declared.event.Shareholder.TheVariants.{InitialOffering, BankPool, Seat as OfSeat}
 use Rattle.events.specs.declared.event.Transfer.{Transfer}
-use Rattle.totals.proofs.Choices.{nothing_there, old_word, truth}
+use Rattle.totals.proofs.Choices.{nothing_there, old_word}
 use Rattle.totals.proofs.EventAtEnd.{is_floated_before, last_said_at_end, par_of_before}
 use Rattle.totals.proofs.EventAtEnd.{president_of_before, square_of_before}
 use Rattle.history.proofs.NearlySound.{nearly_sound_recorded, recorded_same}
@@ -100,7 +101,7 @@ module _ (game : Game) (company : Company) (seat : Seat) (shares price : ℕ) wh
       → pos 2 ≤ℤ shares_of sold.events company (OfSeat president)) → StayLed game.events sold.events
   is_led_then stays other =
       still_led game.events sold.events other (pars_then other) (presidents_then other)
-      (λ president presides two. elim (truth (same_company company other)) [
+      (λ president presides two. elim (cases_Bool (same_company company other)) [
         | inl same ↦
             let here = company_is company other same in
             rw (← here) (stays president (ap (president_of game.events) here ∙ presides))
@@ -180,7 +181,7 @@ pub float_sound : FloatKeepsSound
 float_sound game company amount few sound =
     let floats = Floats company amount in
     sound_after game floats (paying game floats refl sound.solvent sound.companies (tt, tt) tt) (
-      λ other floated. stay_led game floats refl other (elim (truth (same_company company other)) [
+      λ other floated. stay_led game floats refl other (elim (cases_Bool (same_company company other)) [
         | inl same ↦ subst (IsLed game.events) (company_is company other same)
             (is_led_few game company (square_of game.events company) refl few sound)
         | inr apart ↦ sound.floated other (sym (ap is_some
@@ -196,7 +197,7 @@ had_square : (events : List Event) (company other : Company) (from to square : S
     → square_of events company ≡ Some from → square_of (events ++ Moves company to ∷ []) other ≡ Some square
     → (before : Square) × (square_of events other ≡ Some before)
 had_square events company other from to square started placed =
-    elim (truth (same_company company other)) [
+    elim (cases_Bool (same_company company other)) [
       | inl same ↦ (from, sym (ap (square_of events) (company_is company other same)) ∙ started)
       | inr apart ↦ (
         square,

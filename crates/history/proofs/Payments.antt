@@ -1,8 +1,8 @@
 -- What a seat or a company can pay for keeps a list sound.
 use Rattle.std.proofs.Common.{ℕ, ◌==◌, inl, inr, if◌then◌else◌, pos, ◌≤ℤ◌, refl}
+use Rattle.std.proofs.lemmas.Bool.{cases_Bool}
 use Rattle.events.specs.Event.{party_of_company}
 use Rattle.events.specs.declared.event.Event.TheVariants.{Home, Laid, Token, Withheld}
-use Rattle.totals.proofs.Choices.{truth}
 use Rattle.history.proofs.BidWords.{same_seat_is}
 use Rattle.history.proofs.Soundness.{paying, sound_after}
 use Rattle.history.specs.Laws.{HomeKeepsSound, LayKeepsSound, TokenKeepsSound, WithholdingKeepsSound}
@@ -19,7 +19,7 @@ pub can_pay : (game : Game) (company other : Company) (cost : ℕ)
     → pos cost ≤ℤ cash_of game.seats game.events (party_of_company company) → CompaniesAreSolvent game
     → pos (if same_company company other then cost else 0) ≤ℤ cash_of game.seats game.events (party_of_company other)
 can_pay game company other cost enough solvent =
-    elim (truth (same_company company other)) [
+    elim (cases_Bool (same_company company other)) [
       | inl same ↦ rw same (rw (← (company_is company other same)) enough)
       | inr apart ↦ rw apart (solvent other)
     ]
@@ -28,7 +28,7 @@ can_pay game company other cost enough solvent =
 pub can_afford : (game : Game) (seat by : Seat) (cost : ℕ) → pos cost ≤ℤ free_cash_of game.seats game.events seat
     → SeatsAreSolvent game → pos (if seat.0 == by.0 then cost else 0) ≤ℤ free_cash_of game.seats game.events by
 can_afford game seat by cost enough solvent =
-    elim (truth (seat.0 == by.0)) [
+    elim (cases_Bool (seat.0 == by.0)) [
       | inl same ↦ rw same (rw (← (same_seat_is seat by same)) enough)
       | inr apart ↦ rw apart (solvent by)
     ]

@@ -1,41 +1,23 @@
 -- An event that moves no train leaves all trains where they lie. One that moves a train that is
 -- there leaves nobody with a negative number, and the bank has sold no more than there are.
-use Rattle.std.proofs.Common.{◌≡◌, ℕ, ◌+◌, ◌<◌, inl, inr, Bool, true, false, ◌&&◌, ◌==◌, if◌then◌else◌, List, [], ◌∷◌}
-use Rattle.std.proofs.Common.{◌++◌, Option, Some, None, pos, ◌≤ℤ◌, refl, sym, subst, ap, ◌∙◌, arith}
-use Rattle.std.proofs.lemmas.Bool.Decides.{Decides-eqb}
+use Rattle.std.proofs.Common.{◌≡◌, ℕ, ◌+◌, ◌<◌, inl, inr, Bool, true, false, ◌&&◌, List, [], ◌∷◌}
+use Rattle.std.proofs.Common.{◌++◌, Option, Some, None, pos, ◌≤ℤ◌, refl, subst, ap, ◌∙◌, arith}
 use Rattle.std.proofs.lemmas.Int.{ints}
 use Rattle.std.proofs.lemmas.List.Sums.{sum_by_push}
-use Rattle.std.proofs.lemmas.Bool.{and_parts}
+use Rattle.std.proofs.lemmas.Bool.{and_parts, cases_Bool}
 use Rattle.events.specs.Event.{train_owner_place, train_moved}
 use Rattle.events.specs.declared.event.Event.{Event}
 use Rattle.events.specs.declared.event.TrainMove.{TrainMove}
 use Rattle.events.specs.declared.event.TrainPlace.{TrainPlace}
 use Rattle.events.specs.declared.event.TrainPlace.TheVariants as place
-use Rattle.totals.proofs.Choices.{truth}
 use Rattle.totals.proofs.EventAtEnd.{trains_at_before, trains_at_end}
 use Rattle.totals.specs.Trains.{TrainsAreHeld, one_if, same_train_place, train_goes, trains_at, trains_held}
 use Rattle.totals.specs.Trains.{trains_sold}
-use Rattle.tables.specs.Train.{index_of_kind, same_kind, trains_of}
+use Rattle.tables.specs.Train.{same_kind, trains_of}
 use Rattle.tables.specs.declared.rolling_stock.Kind.{Kind}
-use Rattle.tables.specs.declared.rolling_stock.Kind.TheVariants.{Two, Three, Four, Five, Six, Diesel}
 use Rattle.tables.specs.declared.roster.Company.{Company}
 use Rattle.tables.proofs.Companies.{company_is}
-
--- the kind at a place among the kinds
-abbrev kind_at : ℕ → Kind
-kind_at place =
-    if place == 0 then Two else if place == 1 then Three else if place == 2 then Four else if place ==
-    3 then Five else if place == 4 then Six else Diesel
-
--- is the kind
-kind_at_place : (kind : Kind) → kind_at (index_of_kind kind) ≡ kind
-kind_at_place Two = refl
-kind_at_place other = refl
-
--- kinds of one place are the same
-pub same_kind_is : (a b : Kind) → same_kind a b ≡ true → a ≡ b
-same_kind_is a b same =
-    sym (kind_at_place a) ∙ ap kind_at ((Decides-eqb (index_of_kind a) (index_of_kind b)).0 same) ∙ kind_at_place b
+use Rattle.tables.proofs.TrainKinds.{kind_is}
 
 -- places that are the same
 pub same_train_place_is : (a b : TrainPlace) → same_train_place a b ≡ true → a ≡ b
@@ -66,11 +48,11 @@ still_held : (events : List Event) (event : Event) (move : TrainMove) (place : T
     → train_moved event ≡ Some move → pos 1 ≤ℤ trains_at events move.from move.kind
     → pos 0 ≤ℤ trains_at events place kind → pos 0 ≤ℤ trains_at (events ++ event ∷ []) place kind
 still_held events event move place kind is there before =
-    elim (truth (train_goes place kind (Some move))) [
+    elim (cases_Bool (train_goes place kind (Some move))) [
       | inl goes ↦
           let same = and_parts (same_kind move.kind kind) (same_train_place move.from place) goes in
           let here : pos 1 ≤ℤ trains_at events place kind =
-          rw (← (same_train_place_is move.from place same.1), ← (same_kind_is move.kind kind same.0)) there in
+          rw (← (same_train_place_is move.from place same.1), ← (kind_is move.kind kind same.0)) there in
           let fact = trains_at_end events event place kind in
           let other_fact = ap (λ m. one_if (train_goes place kind m)) is in
           omega (arith, ints, ap one_if goes)
@@ -118,10 +100,10 @@ trains_after_sale events event kind to is left before =
           let fact = trains_at_end events event (train_owner_place other) of in
           let other_fact = ap (λ m. one_if (train_goes (train_owner_place other) of m)) is in
           omega (arith, ints, ap one_if (none_from_train_owner other of kind to));
-      sold = λ of number has. elim (truth (same_kind kind of)) [
+      sold = λ of number has. elim (cases_Bool (same_kind kind of)) [
         | inl same ↦
-            let fewer = left number (ap (λ k. (trains_of k).number) (same_kind_is kind of same) ∙ has) in
-            let sold = subst (λ k. trains_sold events k < number) (same_kind_is kind of same) fewer in
+            let fewer = left number (ap (λ k. (trains_of k).number) (kind_is kind of same) ∙ has) in
+            let sold = subst (λ k. trains_sold events k < number) (kind_is kind of same) fewer in
             let fact = sold_at_end events event of in
             let other_fact = ap (λ m. one_if (train_goes place.Bank of m)) is in
             omega (arith, ap (λ (test : Bool). one_if (test && true)) same)

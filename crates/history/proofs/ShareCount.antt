@@ -3,7 +3,7 @@
 -- they come from the bank, each president has at least as many as before.
 use Rattle.std.proofs.Common.{◌≡◌, ◌≢◌, ℕ, zero, suc, ◌+◌, ◌≤◌, ◌<◌, inl, inr, true, if◌then◌else◌, List, [], ◌∷◌}
 use Rattle.std.proofs.Common.{◌++◌, Some, map, pos, ◌≤ℤ◌, ◌-ℤ◌, ◌+ℤ◌, refl, ap, arith, Bool, None, subst}
-use Rattle.std.proofs.lemmas.Bool.{cases_eq}
+use Rattle.std.proofs.lemmas.Bool.{cases_eq, cases_Bool}
 use Rattle.std.proofs.lemmas.Bool.Decides.{Decides-eqb}
 use Rattle.std.proofs.lemmas.Int.{ints}
 use Rattle.std.specs.List.{range_with_len}
@@ -12,7 +12,7 @@ use Rattle.events.specs.declared.event.Event.{Event}
 use Rattle.events.specs.declared.event.Shareholder.{Shareholder}
 use Rattle.events.specs.declared.event.Shareholder.TheVariants.{InitialOffering, BankPool, Seat as OfSeat}
 use Rattle.events.specs.declared.event.Transfer.{Transfer}
-use Rattle.totals.proofs.Choices.{chosen, either_order, nothing_there, passed_over, truth}
+use Rattle.totals.proofs.Choices.{chosen, either_order, nothing_there, passed_over}
 use Rattle.totals.proofs.EventAtEnd.{shares_of_at_end, par_of_before, president_of_before}
 use Rattle.totals.specs.LookBack.{Game, with_event}
 use Rattle.totals.specs.Shares.{brought_to, held_by, same_shareholder, shares_of, taken_from, square_of}
@@ -133,9 +133,9 @@ taken_low : (events : List Event) (transfer : Transfer) (company : Company) (pla
     → pos transfer.shares ≤ℤ shares_of events transfer.company transfer.from → pos 0 ≤ℤ shares_of events company place
     → pos (part transfer.from place (moved company transfer)) ≤ℤ shares_of events company place
 taken_low events transfer company place enough held =
-    elim (truth (same_company transfer.company company)) [
+    elim (cases_Bool (same_company transfer.company company)) [
       | inl same ↦
-          elim (truth (same_shareholder transfer.from place)) [
+          elim (cases_Bool (same_shareholder transfer.from place)) [
             | inl here ↦ rw (same, here) (rw (
               ← (company_is transfer.company company same),
               ← (same_shareholder_is transfer.from place here),
@@ -189,7 +189,7 @@ pub left_after : (events : List Event) (transfer : Transfer)
     InitialOffering transfer.shares) ≤ℤ shares_of events transfer.company InitialOffering) → AreOffered events
     → EnoughAreLeft events transfer
 left_after events transfer many offered company unplaced =
-    elim (truth (same_company transfer.company company)) [
+    elim (cases_Bool (same_company transfer.company company)) [
       | inl same ↦
           let its : moved company transfer ≡ transfer.shares =
           ap (λ (is : Bool). if is then transfer.shares else 0) same in

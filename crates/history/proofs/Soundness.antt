@@ -30,6 +30,7 @@ use Rattle.tables.specs.declared.roster.Company.TheVariants.{Pennsylvania, NewYo
 use Rattle.tables.specs.declared.roster.Private.{Private}
 use Rattle.tables.specs.declared.roster.Private.TheVariants.{SchuylkillValley, MohawkHudson, CamdenAmboy}
 use Rattle.tables.specs.declared.seat.Seat.{Seat}
+use Rattle.tables.proofs.Tests.{none_by_is_none}
 
 -- a later word on a private leaves it sold
 stays_said : {A : Type 0} (later earlier : Option A) → is_some earlier ≡ true → is_some (option_or later earlier) ≡ true
@@ -271,15 +272,10 @@ shown : {Fact Others : Type 0} (kept : Bool) → (kept ≡ true → Fact) → Un
 shown true keep others = (keep refl, others)
 shown false keep both = both
 
--- a word that is not there
-none : {A : Type 0} (word : Option A) → is_none word ≡ true → word ≡ None
-none None silent = refl
-none (Some word) silent = absurd cc
-
 -- and another
 nones : {A B : Type 0} (word : Option A) (other : Option B) → (is_none word && is_none other) ≡ true
     → (word ≡ None) × (other ≡ None)
-nones None other silent = (refl, none other silent)
+nones None other silent = (refl, none_by_is_none other silent)
 nones (Some word) other silent = absurd cc
 
 -- what an event has to show to keep a list nearly sound
@@ -303,17 +299,17 @@ pub nearly_sound_after : (game : Game) (event : Event) → Shows game event → 
 nearly_sound_after game event shows before =
     let solvent = shown _ (λ silent. let words = nones (payment_of event) (bidding_of event) silent in
     seats_after game event words.1 (rw words.0 before.solvent)) shows in
-    let companies = shown _ (λ silent. companies_after game event (rw (none (payment_of event) silent) before.companies))
+    let companies = shown _ (λ silent. companies_after game event (rw (none_by_is_none (payment_of event) silent) before.companies))
     solvent.1 in
-    let within = shown _ (λ silent. subst (IsWithin game.seats) (sym (none (payment_of event) silent)) tt) companies.1 in
-    let bids = shown _ (λ silent. bids_kept game event (none (bidding_of event) silent) before.bids) within.1 in
-    let price = shown _ (λ silent. price_kept game event (none (sv_price_set event) silent) before.price) bids.1 in
-    let trains = shown _ (λ silent. trains_kept game.events event (none (train_moved event) silent) before.trains)
+    let within = shown _ (λ silent. subst (IsWithin game.seats) (sym (none_by_is_none (payment_of event) silent)) tt) companies.1 in
+    let bids = shown _ (λ silent. bids_kept game event (none_by_is_none (bidding_of event) silent) before.bids) within.1 in
+    let price = shown _ (λ silent. price_kept game event (none_by_is_none (sv_price_set event) silent) before.price) bids.1 in
+    let trains = shown _ (λ silent. trains_kept game.events event (none_by_is_none (train_moved event) silent) before.trains)
     price.1 in
     let fit = shown _ (λ silent. let words = nones (tile_laid event) (token_placed event) silent in
     fit_kept game event words.0 words.1 before.fit) trains.1 in
-    let held = shown _ (λ silent. held_kept game event (none (transfer_of event) silent) before.held) fit.1 in
-    let ten = shown _ (λ silent. ten_kept game event (none (transfer_of event) silent) before.ten) held.1 in
+    let held = shown _ (λ silent. held_kept game event (none_by_is_none (transfer_of event) silent) before.held) fit.1 in
+    let ten = shown _ (λ silent. ten_kept game event (none_by_is_none (transfer_of event) silent) before.ten) held.1 in
     let offered = shown _ (λ silent. let words = nones (transfer_of event) (ownership_of event) silent in
     offered_after game event words.0 (closed_kept game event words.1) before.offered) ten.1 in
     record {
@@ -339,7 +335,7 @@ pub stay_led : (game : Game) (event : Event) → leaves_leaders event ≡ true
 stay_led game event silent =
     let par = and_parts (is_none (par_set event)) _ silent in
     let words = nones (office_of event) (transfer_of event) par.1 in
-    is_led_kept game event (none (par_set event) par.0) words.0 words.1
+    is_led_kept game event (none_by_is_none (par_set event) par.0) words.0 words.1
 
 -- what an event has to show besides
 abbrev pub ShowsMore : Game → Event → Type 0
@@ -353,11 +349,11 @@ ShowsMore game event =
 pub sound_after : (game : Game) (event : Event) → Shows game event → ShowsMore game event → IsSound game
     → IsSound (with_event game event)
 sound_after game event shows more sound =
-    let given = shown _ (λ silent. given_kept game event (none (sv_price_set event) silent) sound.given) more in
+    let given = shown _ (λ silent. given_kept game event (none_by_is_none (sv_price_set event) silent) sound.given) more in
     let led = shown _ (λ silent. let words = and_parts (leaves_leaders event) _ silent in
-    led_kept game event (stay_led game event words.0) (none (square_set event) words.1) sound.led) given.1 in
+    led_kept game event (stay_led game event words.0) (none_by_is_none (square_set event) words.1) sound.led) given.1 in
     let floated = shown _ (λ silent. let words = and_parts (leaves_leaders event) _ silent in
-    floated_kept game event (stay_led game event words.0) (none (floated_by event) words.1) sound.floated) led.1 in
+    floated_kept game event (stay_led game event words.0) (none_by_is_none (floated_by event) words.1) sound.floated) led.1 in
     sound_of (with_event game event) (nearly_sound_after game event shows (nearly_sound_of game sound)) given.0 led.0
     floated.0
 

@@ -5,12 +5,13 @@ use Rattle.std.proofs.Common.{None, pos, ◌≤ℤ◌, refl, sym, ap, ◌∙◌,
 use Rattle.std.proofs.lemmas.Bool.Decides.{nat_tests}
 use Rattle.std.proofs.lemmas.Int.{ints}
 use Rattle.std.specs.Option.{option_or}
+use Rattle.std.proofs.lemmas.Bool.{cases_Bool}
 use Rattle.events.specs.Event.{floated_by, is_par_value, office_of, par_set, placement_on}
 use Rattle.events.specs.Event.{square_set, sv_price_set, transfer_of}
 use Rattle.events.specs.declared.event.Event.{Event}
 use Rattle.events.specs.declared.event.Event.TheVariants.{Given, Par, President}
 use Rattle.events.specs.declared.event.Shareholder.TheVariants.{InitialOffering, Seat as OfSeat}
-use Rattle.totals.proofs.Choices.{new_word, old_word, something, truth}
+use Rattle.totals.proofs.Choices.{new_word, old_word, something}
 use Rattle.totals.proofs.EventAtEnd.{is_floated_before, last_said_at_end, par_of_before, president_of_before}
 use Rattle.totals.proofs.EventAtEnd.{shares_of_before, square_of_before}
 use Rattle.history.proofs.ShareCount.{EnoughAreLeft, left_after, move_shows, stay_led_gaining}
@@ -70,7 +71,7 @@ is_led_passed events company new other here led =
     → pos 2 ≤ℤ shares_of (events ++ President company new ∷ []) other (OfSeat seat) =
     λ seat two. rw (shares_of_before events (President company new) other (OfSeat seat) refl) two in
     let par = par_of_before events (President company new) other refl in
-    elim (truth (same_company company other)) [
+    elim (cases_Bool (same_company company other)) [
       | inl same ↦
           record {
             par = (here same).0;

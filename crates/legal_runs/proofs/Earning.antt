@@ -63,6 +63,12 @@ few_visited position lawful [] walk = omega arith
 few_visited position lawful (step ∷ []) walk = grind (arith, first_step, ordered, stop_to_stop)
 few_visited position lawful (step ∷ earlier ∷ before) walk = grind (arith, later_step, ordered, stop_to_stop, few_visited position lawful (earlier ∷ before) walk.2)
 
+-- no more are unused than there are
+pub few_unused : (marks : List Bool) → unused marks ≤ length marks
+few_unused [] = omega arith
+few_unused (true ∷ marks) = omega (arith, few_unused marks)
+few_unused (false ∷ marks) = omega (arith, few_unused marks)
+
 -- a new mark leaves one border fewer
 pub mark_used : (marks : List Bool) (border : ℕ) → border < length marks → get_or marks border false ≡ false
     → unused (set marks border true) + 1 ≡ unused marks

@@ -9,7 +9,7 @@ use Rattle.tables.specs.declared.rolling_stock.Kind.{Kind}
 use Rattle.tables.specs.declared.roster.Company.{Company}
 use Rattle.legal_runs.specs.Greatest.{AGreatestExists, MoreTrainsEarnNoLess, OneGreatest, OrderOfTrainsChangesNothing}
 use Rattle.legal_runs.specs.Legal.{AreDistinct, crossed, earned}
-use Rattle.legal_runs.specs.Set.{AreApart, IsGreatest, IsLegalSet, RunsLegally, ShareNoBorder, TrainRun}
+use Rattle.legal_runs.specs.Set.{AreApart, IsLegalSet, RunsLegally, ShareNoBorder, TrainRun}
 use Rattle.legal_runs.specs.Set.{revenue_of_runs}
 use Rattle.legal_runs.proofs.Choosing.{choices, set_decided, set_there}
 use Rattle.legal_runs.proofs.Counting.{no_more}
@@ -96,13 +96,6 @@ a_greatest_exists position company trains lawful =
       },
       omega (arith, set_earns position company lawful trains best.top best.such),
     )
-
--- what some legal set earns is no more than the greatest
-pub no_more_earned :
-    (position : Position) (company : Company) (trains more : List Kind) (revenue greater : ℕ) →
-    ((runs : List TrainRun) → IsLegalSet position company trains runs → IsLegalSet position company more runs) →
-    IsGreatest position company trains revenue → IsGreatest position company more greater → revenue ≤ greater
-no_more_earned position company trains more revenue greater also first second = grind arith
 
 pub one_greatest : OneGreatest
 one_greatest position company trains revenue other first second = grind arith

@@ -28,6 +28,7 @@ use Rattle.legal_runs.specs.declared.claim.ClaimedRun.{ClaimedRun}
 use Rattle.legal_runs.proofs.TallyOfWalk.{crossed_used}
 use Rattle.legal_runs.proofs.Marks.{among_both}
 use Rattle.legal_runs.proofs.Sharing.{legal_by_marks, legal_over}
+use Rattle.legal_runs.proofs.Relabelled.{run_of}
 
 among_all : (P : ℕ → Type 0) (things : List ℕ) → ((thing : ℕ) → IsAmong thing things → P thing)
     → AllByRecursion P things
@@ -53,9 +54,6 @@ both_each P Q R (run ∷ runs) makes one two = (makes run one.0 two.0, both_each
 -- a run crosses none of these borders
 abbrev IsFreeOf : List ℕ → TrainRun → Type 0
 IsFreeOf used run = (border : ℕ) → IsAmong border (crossed run.steps) → ¬ IsAmong border used
-
-abbrev run_of : Kind → List WalkStep → TrainRun
-run_of kind steps = record { kind = kind; steps = steps }
 
 module _ (position : Position) (company : Company) where
   -- legal over used borders, and free of them

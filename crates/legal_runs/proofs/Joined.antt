@@ -1,8 +1,8 @@
 -- Each rule of a walk is kept exactly if its fact of a legal run holds.
-use Rattle.std.proofs.Common.{◌≡◌, ◌↔◌, ℕ, ◌+◌, ◌*◌, ◌<◌, ◌≤◌, ◌==◌, Bool, true, false, ◌||◌, ltb, ◌⊎◌, inl, inr}
+use Rattle.std.proofs.Common.{◌≡◌, ◌↔◌, ℕ, ◌+◌, ◌*◌, ◌<◌, ◌≤◌, ◌==◌, Bool, true, false, ◌||◌, inl, inr}
 use Rattle.std.proofs.Common.{List, [], ◌∷◌, refl, ap, ◌∙◌, arith}
 use Rattle.std.specs.List.{AllByRecursion, list_any}
-use Rattle.std.proofs.lemmas.Bool.{eq-eqb, eqb-true, ltb-true, or_parts, or_from}
+use Rattle.std.proofs.lemmas.Bool.{eq-eqb, eqb-true, or_parts, or_from, or_cases}
 use Rattle.map_tables.specs.Hex.{index_of}
 use Rattle.map_tables.specs.Place.{stop_index_of}
 use Rattle.map_tables.specs.declared.hex.Hex.{Hex}
@@ -109,28 +109,17 @@ module _ (P : Stop → Type 0) (test : Stop → Bool) (exact : (stop : Stop) →
       or_from (passes test before) (goes_through test before step)
       (none_passes before h.1) ((by_none before step).1 h.0)
 
-  first_of_or : (a b : Bool) → (a || b) ≡ true → (a ≡ true) ⊎ (b ≡ true)
-  first_of_or true b h = inl refl
-  first_of_or false b h = inr h
-
   -- one of the stops is such
   pub has_such : (stops : List Stop) → list_any test stops ≡ true → HasSuch P stops
   has_such [] h = cc
   has_such (stop ∷ stops) h =
-      elim (first_of_or (test stop) (list_any test stops) h)
+      elim (or_cases (test stop) (list_any test stops) h)
       [ inl here ↦ inl ((exact stop).0 here) | inr later ↦ inr (has_such stops later) ]
 
   pub such_has : (stops : List Stop) → HasSuch P stops → list_any test stops ≡ true
   such_has [] h = absurd h
   such_has (stop ∷ stops) (inl here) = ap (λ b. b || list_any test stops) ((exact stop).1 here)
   such_has (stop ∷ stops) (inr later) = grind (arith, such_has stops later)
-
-pub not_less : (m n : ℕ) → n ≤ m → ltb m n ≡ false
-not_less m n le = by_test (ltb m n) refl
-  where
-    by_test : (b : Bool) → ltb m n ≡ b → b ≡ false
-    by_test true is = absurd (let less : m < n = ltb-true m n is in omega arith)
-    by_test false is = refl
 
 pub number_is : (kind : Kind) (count : ℕ) → is_wrong_number kind count ≡ false
     → (2 ≤ count) × AreAtMost (stops_of kind) count

@@ -1,6 +1,6 @@
 -- What places name is a legal run exactly if they break no rule.
 use Rattle.std.specs.Prelude.{unwrap_or}
-use Rattle.std.proofs.Common.{◌≡◌, ◌↔◌, ℕ, Bool, true, false, not, cond, Option, Some, None, is_none, List, [], ◌∷◌}
+use Rattle.std.proofs.Common.{◌≡◌, ◌↔◌, ℕ, true, false, not, cond, Option, Some, None, is_none, List, [], ◌∷◌}
 use Rattle.std.proofs.Common.{length, refl, ap, ◌∙◌}
 use Rattle.std.proofs.lemmas.Bool.{not-false}
 use Rattle.std.specs.List.{list_any}
@@ -12,7 +12,7 @@ use Rattle.tables.proofs.Rules.{not_broken}
 use Rattle.tables.specs.Rules.{AreKept, Rule, first_broken}
 use Rattle.tables.specs.declared.rolling_stock.Kind.{Kind}
 use Rattle.tables.specs.declared.roster.Company.{Company}
-use Rattle.legal_runs.specs.Fault.{has_token_at_stop, is_full, rules_of_walk, run_fault}
+use Rattle.legal_runs.specs.Fault.{has_token_at_stop, is_full, rules_of_walk, run_fault, tested_run_rule}
 use Rattle.legal_runs.specs.Law.{LegalWhereNoRuleIsBroken, NameLegalRun}
 use Rattle.legal_runs.specs.Legal.{IsLegalRun, crossed, visited}
 use Rattle.legal_runs.specs.Named.{walk_named}
@@ -24,9 +24,6 @@ use Rattle.legal_runs.proofs.Joined.{stops_distinct, distinct_stops, borders_dis
 use Rattle.legal_runs.proofs.Joined.{none_passes, has_such, such_has, number_is, is_number}
 use Rattle.legal_runs.proofs.Named.{IsWhole, named_is_whole}
 use Rattle.legal_runs.proofs.Tests.{has_token_is, is_full_is}
-
-abbrev ruling : RunRule → Bool → Rule RunRule
-ruling code broken = record { code = code; broken = broken }
 
 -- where each rule is kept, none is broken
 none_found : (rules : List (Rule RunRule)) → AreKept rules → first_broken rules ≡ None
@@ -94,16 +91,16 @@ module _ (position : Position) (company : Company) (kind : Kind) (used : List �
       )
 
   by_walk : (places : List Place) (walk : Option (List WalkStep)) → walk_named position places ≡ walk
-      → first_broken (ruling NoTrack (is_none walk) ∷ rules_of_walk position company kind used (unwrap_or walk [])) ≡ None
+      → first_broken (tested_run_rule NoTrack (is_none walk) ∷ rules_of_walk position company kind used (unwrap_or walk [])) ≡ None
       → NameLegalRun position company kind used places
   by_walk places None is h = cc
   by_walk places (Some steps) is h = (steps, is, legal steps (named_is_whole position places steps is) h)
 
   by_run : (walk : Option (List WalkStep)) (steps : List WalkStep) → walk ≡ Some steps
       → IsLegalRun position company kind used steps → first_broken
-      (ruling NoTrack (is_none walk) ∷ rules_of_walk position company kind used (unwrap_or walk [])) ≡ None
+      (tested_run_rule NoTrack (is_none walk) ∷ rules_of_walk position company kind used (unwrap_or walk [])) ≡ None
   by_run walk steps is run =
-      ap (λ w. first_broken (ruling NoTrack (is_none w) ∷ rules_of_walk position company kind used (unwrap_or w []))) is
+      ap (λ w. first_broken (tested_run_rule NoTrack (is_none w) ∷ rules_of_walk position company kind used (unwrap_or w []))) is
       ∙ unbroken steps run
 
 -- what places name is a legal run exactly if they break no rule

@@ -1,18 +1,11 @@
 -- The borders that are marked, and the marks of used borders once a walk has crossed more.
-use Rattle.std.proofs.Common.{◌≡◌, ◌↔◌, ℕ, zero, suc, ◌+◌, ◌<◌, ◌==◌, Bool, true, false, eqb, ◌⊎◌, inl, inr, List}
+use Rattle.std.proofs.Common.{◌≡◌, ◌↔◌, ℕ, zero, suc, ◌+◌, ◌<◌, ◌==◌, Bool, true, false, ◌⊎◌, inl, inr, List}
 use Rattle.std.proofs.Common.{[], ◌∷◌, ◌++◌, get_or, refl, sym, ◌∙◌, subst, arith}
 use Rattle.std.proofs.lemmas.Bool.{eq-eqb, eqb-true}
 use Rattle.reach.specs.Position.{IsAmong}
 use Rattle.reach.proofs.Lists.{among_found, found_among}
 use Rattle.legal_runs.specs.Fault.{has_border}
 use Rattle.legal_runs.specs.Marks.{IsUsed, borders_from, borders_used}
-
-pub eqb_not : (m n : ℕ) → (m ≡ n → ⊥) → eqb m n ≡ false
-eqb_not m n differ = by_test (eqb m n) refl
-  where
-    by_test : (b : Bool) → eqb m n ≡ b → b ≡ false
-    by_test true is = absurd (differ (eqb-true m n is))
-    by_test false is = refl
 
 -- no border is marked whose mark is before the first
 none_before : (number border : ℕ) (marks : List Bool) → border < number

@@ -17,7 +17,7 @@ use Rattle.legal_runs.specs.Set.{revenue_of_runs, trains_that_run}
 abbrev pub of_kind : Kind → Kind → ℕ
 of_kind kind train = if same_kind train kind then 1 else 0
 
-abbrev run_of : Kind → List WalkStep → TrainRun
+abbrev pub run_of : Kind → List WalkStep → TrainRun
 run_of kind steps = record { kind = kind; steps = steps }
 
 -- a run is that of another train where a test says so; otherwise one of the later ones
@@ -67,9 +67,6 @@ still_apart kind other (run ∷ runs) apart =
         AreApart (relabelled kind other runs) → AreApart (replaced b other run runs (relabelled kind other runs))
     by_test true first later = (apart.0, apart.1)
     by_test false first later = (first, later)
-
-pub kind_is : (a b : Kind) → same_kind a b ≡ true → a ≡ b
-kind_is a b same = grind arith
 
 module _ (position : Position) (company : Company) (kind other : Kind) (as_many : VisitsAsMany kind other) where
   run_still : (run : TrainRun) → same_kind run.kind kind ≡ true → RunsLegally position company run

@@ -5,10 +5,10 @@ use Rattle.std.proofs.Common.{refl, ap, sym, ◌∙◌}
 use Rattle.map_tables.specs.declared.place.Place.{Place}
 use Rattle.reach.specs.Position.{Position}
 use Rattle.reach.specs.declared.walk.WalkStep.{WalkStep}
-use Rattle.tables.specs.Rules.{Rule, first_broken}
+use Rattle.tables.specs.Rules.{first_broken}
 use Rattle.tables.specs.declared.rolling_stock.Kind.{Kind}
 use Rattle.tables.specs.declared.roster.Company.{Company}
-use Rattle.legal_runs.specs.Fault.{is_wrong_number, named_steps, rules_of_walk, run_fault}
+use Rattle.legal_runs.specs.Fault.{is_wrong_number, named_steps, rules_of_walk, run_fault, tested_run_rule}
 use Rattle.legal_runs.specs.Legal.{crossed, earned}
 use Rattle.legal_runs.specs.Marks.{borders_used, marked}
 use Rattle.legal_runs.specs.Named.{made_along, taken, walk_named}
@@ -20,13 +20,10 @@ use Rattle.legal_runs.specs.declared.tally.Tally.{Tally}
 use Rattle.legal_runs.proofs.Along.{made_alike}
 use Rattle.legal_runs.proofs.TallyOfWalk.{tally_keeps}
 
-abbrev ruling : RunRule → Bool → Rule RunRule
-ruling code broken = record { code = code; broken = broken }
-
 abbrev table : Kind → ℕ → Bool → Bool → Bool → Bool → Bool → Option RunRule
 table kind stops twice border full own red =
-    first_broken (ruling WrongNumber (is_wrong_number kind stops) ∷ ruling StopTwice twice ∷ ruling BorderTwice border
-    ∷ ruling PassesFull full ∷ ruling NoToken (not own) ∷ ruling RedInside red ∷ [])
+    first_broken (tested_run_rule WrongNumber (is_wrong_number kind stops) ∷ tested_run_rule StopTwice twice ∷ tested_run_rule BorderTwice border
+    ∷ tested_run_rule PassesFull full ∷ tested_run_rule NoToken (not own) ∷ tested_run_rule RedInside red ∷ [])
 
 -- tables of the same tests find the same rule
 same_table : (kind : Kind) (m n : ℕ) (a b c d e f g h i j : Bool) → m ≡ n → a ≡ b → c ≡ d → e ≡ f → g ≡ h → i ≡ j
@@ -47,7 +44,7 @@ module _ (position : Position) (company : Company) (used : List Bool) where
 
   -- no walk
   no_walk : (kind : Kind) (walk : Option (List WalkStep)) → option_map (tally_of position company used) walk ≡ None
-      → first_broken (ruling NoTrack (is_none walk) ∷ rules_of_walk position company kind (borders_used used)
+      → first_broken (tested_run_rule NoTrack (is_none walk) ∷ rules_of_walk position company kind (borders_used used)
       (unwrap_or walk [])) ≡ Some NoTrack
   no_walk kind None is = refl
   no_walk kind (Some steps) is = cc
@@ -71,7 +68,7 @@ module _ (position : Position) (company : Company) (used : List Bool) where
 
   ruled_by : (kind : Kind) → 279 ≤ length used → (walk : Option (List WalkStep)) (tally : Tally)
       → option_map (tally_of position company used) walk ≡ Some tally
-      → first_broken (ruling NoTrack (is_none walk) ∷ rules_of_walk position company kind (borders_used used)
+      → first_broken (tested_run_rule NoTrack (is_none walk) ∷ rules_of_walk position company kind (borders_used used)
       (unwrap_or walk [])) ≡ tally_fault kind tally
   ruled_by kind whole None tally is = cc
   ruled_by kind whole (Some steps) tally is =

@@ -5,7 +5,8 @@ use Rattle.std.proofs.Common.{◌≡◌, ◌↔◌, ℕ, ◌+◌, ◌-◌, ◌*�
 use Rattle.std.proofs.Common.{if◌then◌else◌, Option, Some, None, List, [], ◌∷◌, ◌++◌, length, get_or, set, replicate}
 use Rattle.std.proofs.Common.{refl, ◌∙◌, arith, get_or-set_same, get_or-set_other, length-set}
 use Rattle.std.specs.List.{AllByRecursion, list_any}
-use Rattle.std.proofs.lemmas.Bool.{cases_eq, eq-eqb, ltb-false, ltb-true, or_cases}
+use Rattle.std.proofs.lemmas.Bool.{cases_eq, eq-eqb, ltb-false, ltb-true, or_cases, ne_eqb}
+use Rattle.std.proofs.Math.Bool.{or_comm}
 use Rattle.map_tables.specs.Border.{neighbour_of}
 use Rattle.map_tables.specs.Hex.{index_of}
 use Rattle.map_tables.specs.Side.{number_of}
@@ -30,7 +31,7 @@ use Rattle.legal_runs.specs.Marks.{AreAdded, IsUsed, MarksAre, borders_used, mar
 use Rattle.legal_runs.specs.Tally.{counted, crossing, entering, entering_side, entering_stop, leaving_stop, no_steps}
 use Rattle.legal_runs.specs.Tally.{passing, tally_of, visiting}
 use Rattle.legal_runs.specs.declared.tally.Tally.{Tally}
-use Rattle.legal_runs.proofs.Marks.{among_both, among_is, eqb_not, mark_listed, used_is}
+use Rattle.legal_runs.proofs.Marks.{among_both, among_is, mark_listed, used_is}
 
 -- each border has a number below 279
 beyond_low : (number : ℕ) (hex : Option Hex) → number < 3 → border_beyond number hex < 279
@@ -51,12 +52,6 @@ border_low hex side =
     (λ far. beyond_low (number_of side - 3) (neighbour_of hex side)
     (omega (arith, side_low side, ltb-false (number_of side) 3 far)))
 
-or_swapped : (a b : Bool) → (a || b) ≡ (b || a)
-or_swapped true true = refl
-or_swapped true false = refl
-or_swapped false true = refl
-or_swapped false false = refl
-
 or_inside : (a b c : Bool) → (a || (b || c)) ≡ (b || (a || c))
 or_inside true true c = refl
 or_inside true false c = refl
@@ -69,7 +64,7 @@ or_not_here false b c is same = same
 -- one more mark
 pub mark_more : (marks : List Bool) (n m : ℕ) → n < length marks
     → get_or (set marks n true) m false ≡ (eqb n m || get_or marks m false)
-mark_more marks n m low = grind (arith, or_not_here, low, get_or-set_same, get_or-set_other, cases_eq, eq-eqb, eqb_not)
+mark_more marks n m low = grind (arith, or_not_here, low, get_or-set_same, get_or-set_other, cases_eq, eq-eqb, ne_eqb)
 
 pub length_marked : (used : List Bool) (borders : List ℕ) → length (marked used borders) ≡ length used
 length_marked used [] = refl
@@ -78,7 +73,7 @@ length_marked used (border ∷ borders) = length-set (marked used borders) borde
 -- a border is marked where it was used or crossed
 pub marked_is : (used : List Bool) (borders : List ℕ) (border : ℕ) → AllByRecursion (λ b. b < length used) borders
     → get_or (marked used borders) border false ≡ (has_border border (borders_used used) || has_border border borders)
-marked_is used [] border low = grind (arith, or_swapped, mark_listed)
+marked_is used [] border low = grind (arith, or_comm, mark_listed)
 marked_is used (other ∷ borders) border low = grind (arith, or_inside, mark_more, length_marked, low, marked_is used borders border low.1)
 
 -- whether a walk has a step
@@ -111,7 +106,7 @@ module _ (position : Position) (company : Company) (used : List Bool) where
       (full red : Bool) → Keeps tally begun stops borders full red
       → Keeps (visiting position company tally stop) begun (stop ∷ stops) borders full red
   unfolding visiting
-  visiting_keeps tally stop begun stops borders full red kept = grind (arith, or_swapped, mark_more, length-set, order_low)
+  visiting_keeps tally stop begun stops borders full red kept = grind (arith, or_comm, mark_more, length-set, order_low)
 
   -- a stop is passed
   passing_keeps : (tally : Tally) (stop : Stop) (begun : Bool) (stops : List Stop) (borders : List ℕ)

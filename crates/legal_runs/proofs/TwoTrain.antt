@@ -95,9 +95,9 @@ none_crossed : (step : WalkStep) (stop : Stop) → stop_of (entered_at step) ≡
 none_crossed step stop is = grind arith
 
 -- nothing is used before
-unused : (borders : List ℕ) → AllByRecursion (λ border. ¬ IsAmong border []) borders
-unused [] = tt
-unused (border ∷ borders) = (λ none. none, unused borders)
+pub free_of_none : (borders : List ℕ) → AllByRecursion (λ border. ¬ IsAmong border []) borders
+free_of_none [] = tt
+free_of_none (border ∷ borders) = (λ none. none, free_of_none borders)
 
 module _ (position : Position) (company : Company) (start : Stop) where
   -- a walk that began at the stop and has passed no other
@@ -129,7 +129,7 @@ module _ (position : Position) (company : Company) (start : Stop) where
         own_token = subst (λ (stops : List Stop). HasSuch (λ s. HasToken position s company) stops) (sym all)
             (inr (inl token));
         no_border_twice = way.distinct;
-        no_used_border = unused (crossed (step ∷ before));
+        no_used_border = free_of_none (crossed (step ∷ before));
         no_red_inside = way.red;
         no_full_inside = way.full;
       }

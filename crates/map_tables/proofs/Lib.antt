@@ -6,7 +6,7 @@ pub mod HexTables
 mod LinksInOrder
 mod Ordering
 mod SamePrint
-mod ListedOnce
+pub mod ListedOnce
 mod TileTables
 mod Turning
 mod Turns

@@ -1,18 +1,11 @@
 -- Texts that are written byte by byte, and what a reader reads of them.
-use Rattle.std.proofs.Common.{◌≡◌, ℕ, ◌+◌, ◌<◌, Bool, true, false, List, [], ◌∷◌, ◌++◌, length, take, get_or, refl, ap, ◌∙◌, sym, append_assoc, subst, eqb, ⊎_elim}
-use Rattle.std.specs.List.{flat_map, fold}
+use Rattle.std.proofs.Common.{◌≡◌, ℕ, ◌+◌, Bool, true, false, List, [], ◌∷◌, ◌++◌, refl, ap, ◌∙◌, sym, append_assoc, subst, eqb, ⊎_elim}
+use Rattle.std.specs.List.{fold}
 use Rattle.std.proofs.lemmas.Bool.{cases_Bool, eqb-true}
-use Rattle.std.proofs.lemmas.List.{append-nil, flat_map_more, take_more}
+use Rattle.std.proofs.lemmas.List.{append-nil}
 use Rattle.std.proofs.lemmas.List.Concat.{flat_map-cons}
 use Rattle.std.proofs.lemmas.List.Sums.{fold-append}
 use Rattle.markup.specs.Escaped.{ReadsAs, escape_of, escaped, outside, text_at, text_step}
-
--- what is written of one more element is added to what is written of the first n
-pub pieces_step : {X Y : Type 0} (f : X → List Y) (xs : List X) (n : ℕ) (d : X) (old was now : List Y)
-    → n < length xs → was ≡ old ++ flat_map f (take n xs) → now ≡ was ++ f (get_or xs n d)
-    → now ≡ old ++ flat_map f (take (n + 1) xs)
-pieces_step f xs n d old was now below before after =
-    rw (take_more xs n d below) (rw (after, before) (flat_map_more f old (take n xs) (get_or xs n d)))
 
 -- what is written of a byte reads as that byte
 abbrev ByteReads : List ℕ → ℕ → Type 0

@@ -57,7 +57,7 @@ pub(crate) fn put_piece(out: &mut Writer, piece: PagePiece) {
 }
 
 /// Adds bytes of constant words or of digits, except those that have a meaning in tags.
-#[tactic(auto, using(crate::proofs::TextLemmas::pieces_step))]
+#[tactic(auto, using(tables::proofs::OneMore::elements_step))]
 pub(crate) fn put_bytes(out: &mut Writer, bytes: &[u8])
     ensures spot { is_apart out.old.spot ≡ true → out.new.spot ≡ out.old.spot }
     ensures before { out.new.fault ≡ None → out.old.fault ≡ None }
@@ -70,7 +70,7 @@ pub(crate) fn put_bytes(out: &mut Writer, bytes: &[u8])
 }
 
 /// Adds a text of any bytes where a writer is outside tags.
-#[tactic(auto, using(crate::proofs::TextLemmas::pieces_step))]
+#[tactic(auto, using(tables::proofs::OneMore::elements_step))]
 pub(crate) fn put_text(out: &mut Writer, text: &[u8])
     requires { is_apart out.old.spot ≡ true }
     ensures spot { out.new.spot ≡ out.old.spot }

@@ -4,7 +4,8 @@ use Rattle.std.proofs.Common.{nat_lt, Option, Some, None, ℤ, pos, is_some, unw
 use Rattle.std.proofs.lemmas.Bool.Decides.{nat_tests}
 use Rattle.std.specs.Int.Signed.{lt_z}
 use Rattle.std.specs.Option.{option_flatten, option_or}
-use Rattle.std.proofs.lemmas.Bool.{eq-eqb, or_parts}
+use Rattle.std.proofs.lemmas.Bool.{eq-eqb, or_parts, not-false}
+use Rattle.std.proofs.lemmas.Option.{none-some}
 use Rattle.events.specs.Event.{obeyed_of, party_of_company}
 use Rattle.events.specs.Offers.{offered_in, same_offer}
 use Rattle.events.specs.Orders.{said_by}
@@ -12,7 +13,6 @@ use Rattle.events.specs.RuleCodes.{code_of_private_rule, code_of_train_rule}
 use Rattle.events.specs.declared.event.Event.{Event}
 use Rattle.events.specs.declared.event.Holder.{Holder}
 use Rattle.events.specs.declared.event.Holder.TheVariants as holder
-use Rattle.events.specs.declared.event.TrainSeller.TheVariants as seller
 use Rattle.events.specs.declared.ruling.PrivateRule.{PrivateRule}
 use Rattle.events.specs.declared.ruling.PrivateRule.TheVariants as private_rule
 use Rattle.events.specs.declared.ruling.Refusal.{Refusal}
@@ -21,9 +21,8 @@ use Rattle.events.specs.declared.ruling.Ruling.{Ruling}
 use Rattle.events.specs.declared.ruling.Ruling.TheVariants as ruling
 use Rattle.events.specs.declared.ruling.TrainRule.{TrainRule}
 use Rattle.events.specs.declared.ruling.TrainRule.TheVariants as train_rule
-use Rattle.moves.proofs.OneMoreRuling.{same_cash, same_full, same_owner, same_phase, same_president}
-use Rattle.moves.proofs.OneMoreRuling.{same_seller}
-use Rattle.moves.proofs.RowRulings.{none_is_not, told_private, told_train}
+use Rattle.moves.proofs.OneMoreRuling.{same_cash, same_owner, same_phase, same_president, trains_alike}
+use Rattle.moves.proofs.RowRulings.{told_private, told_train}
 use Rattle.moves.specs.CompanyRows.{asked_for_private, asked_for_train, asked_of_owner, private_answer}
 use Rattle.moves.specs.CompanyRows.{private_refusal_by, train_answer, train_cost, train_refusal_by}
 use Rattle.moves.specs.ConsentLaws.{NoRoundBegins, OfferedPrivatesAreObeyed, OfferedPrivatesAreTold}
@@ -42,7 +41,6 @@ use Rattle.order_grammar.specs.declared.order.Order.TheVariants as order
 use Rattle.order_grammar.specs.declared.order.TrainSource.{TrainSource}
 use Rattle.order_grammar.specs.declared.order.TrainSource.TheVariants as source
 use Rattle.order_grammar.specs.declared.play.PlayOrder.TheVariants as play
-use Rattle.purchases.proofs.TrainLemmas.{so}
 use Rattle.purchases.specs.Private.{is_given_by, is_too_early, is_wrong_price, owner_agrees_by, private_bought}
 use Rattle.purchases.specs.Private.{private_judgement_by, private_rules_by}
 use Rattle.purchases.specs.Private.{private_costs_too_much}
@@ -51,6 +49,7 @@ use Rattle.purchases.specs.Train.{presidents_agree_by, purchase_of, train_costs_
 use Rattle.purchases.specs.Train.{train_purchase_rules_by}
 use Rattle.purchases.specs.declared.consents.Consents.TheVariants.{All, OfGame}
 use Rattle.purchases.specs.declared.train.TrainPurchase.{TrainPurchase}
+use Rattle.purchases.proofs.TrainsAlike.{same_full, same_seller}
 use Rattle.tables.proofs.Rules.{not_broken}
 use Rattle.tables.specs.Roster.{same_private}
 use Rattle.tables.specs.Rules.{first_broken}
@@ -155,14 +154,14 @@ offer_in other (Some pair) = pair.1
 asked_by : (president : Option Seat) (sale : Offer) (giver : Seat) (named : Offer)
     → option_map {U = Seat × Offer} (λ (p : Seat). (p, sale)) president ≡ Some (giver, named)
     → (president ≡ Some giver) × (sale ≡ named)
-asked_by None sale giver named asked = absurd (none_is_not (giver, named) asked)
+asked_by None sale giver named asked = absurd (none-some (giver, named) asked)
 asked_by (Some president) sale giver named asked = (ap giver_in asked, ap (offer_in sale) asked)
 
 -- and for a private
 asked_owner : (owner : Option Holder) (sale : Offer) (giver : Seat) (named : Offer)
     → asked_of_owner owner sale ≡ Some (giver, named) → (owner ≡ Some (holder.Seat giver)) × (sale ≡ named)
-asked_owner None sale giver named asked = absurd (none_is_not (giver, named) asked)
-asked_owner (Some (holder.Company company)) sale giver named asked = absurd (none_is_not (giver, named) asked)
+asked_owner None sale giver named asked = absurd (none-some (giver, named) asked)
+asked_owner (Some (holder.Company company)) sale giver named asked = absurd (none-some (giver, named) asked)
 asked_owner (Some (holder.Seat owner)) sale giver named asked = (ap owner_in asked, ap (offer_in sale) asked)
 
 -- what an answer says of a consent
@@ -186,10 +185,10 @@ record NamesConsent (cost : ℤ) (given : Option Refusal) (asked : Option (Seat 
 consent_named : (cost : ℤ) (broken given : Option Refusal) (asked : Option (Seat × Offer)) (price : ℤ) (giver : Seat)
     (sale : Offer) → answer_if_given cost broken given asked ≡ WithConsent price giver sale
     → NamesConsent cost given asked price giver sale
-consent_named cost None given asked price giver sale is = absurd (none_is_not (giver, sale) (ap consent_in is))
+consent_named cost None given asked price giver sale is = absurd (none-some (giver, sale) (ap consent_in is))
 consent_named cost (Some rule) (Some other) asked price giver sale is =
-    absurd (none_is_not (giver, sale) (ap consent_in is))
-consent_named cost (Some rule) None None price giver sale is = absurd (none_is_not (giver, sale) (ap consent_in is))
+    absurd (none-some (giver, sale) (ap consent_in is))
+consent_named cost (Some rule) None None price giver sale is = absurd (none-some (giver, sale) (ap consent_in is))
 consent_named cost (Some rule) None (Some (p, named)) price giver sale is =
     record { costs = ap price_in is; free = refl; asks = ap consent_in is }
 
@@ -244,7 +243,7 @@ train_kept seats before after giver number condition buyer seller kind price non
     let parts = or_parts (price == 0) (not agree) row in
     let all : presidents_agree_by All old (Some giver) (president_of old buyer) sale ≡ true =
     subst (λ (p : Option Seat). presidents_agree_by All old p (president_of old buyer) sale ≡ true) leads
-    (so agree parts.1) in
+    (not-false agree parts.1) in
     let agreed : presidents_agree_by OfGame new (president_of new seller) (president_of new buyer) sale ≡ true =
     ap (λ (p : Option Seat). presidents_agree_by OfGame new p (president_of new buyer) sale)
     (same_president before after giver number done seller ∙ leads)
@@ -261,12 +260,13 @@ train_kept seats before after giver number condition buyer seller kind price non
     let lacks_then : Bool = lacks_consent_by OfGame new buyer purchase in
     let lacks_now : Bool = lacks_consent_by All old buyer purchase in
     ap (λ (full : Bool). train_broken full dear_then lacks_then others_then)
-    (same_full before after giver number done buyer None)
+    (same_full (trains_alike before after giver number done) buyer None
+    (same_phase before after giver number done))
     ∙ ap (λ (cash : ℤ). train_broken full_now (lt_z cash (pos price)) lacks_then others_then)
     (same_cash before after giver number done seats (party_of_company buyer))
     ∙ ap (λ (lack : Bool). train_broken full_now dear_now lack others_then) lacks
     ∙ ap (λ (others : Bool). train_broken full_now dear_now lacks_now others)
-    (same_seller before after giver number done buyer kind purchase.from)
+    (same_seller (trains_alike before after giver number done) buyer kind purchase.from)
     ∙ kept
 
 -- so is a private
@@ -290,7 +290,7 @@ private_kept seats before after giver number condition buyer private price none 
     let given : Bool = is_given_by All old buyer private price in
     let all : owner_agrees_by All old (Some (holder.Seat giver)) (president_of old buyer) sale ≡ true =
     subst (λ (owner : Option Holder). owner_agrees_by All old owner (president_of old buyer) sale ≡ true) owns
-    (so given row) in
+    (not-false given row) in
     let agreed : is_given_by OfGame new buyer private price ≡ true =
     ap (λ (owner : Option Holder). owner_agrees_by OfGame new owner (president_of new buyer) sale)
     (same_owner before after giver number done private ∙ owns)
@@ -324,11 +324,11 @@ train_told_from : (seats : ℕ) (before after : List Event) (number : ℕ) (cond
     }) company kind from ≡ Obeyed price
 unfolding train_refusal_by
 train_told_from seats before after number condition company kind source.Bank price giver sale none costs free asks =
-    absurd (none_is_not (giver, sale) asks)
+    absurd (none-some (giver, sale) asks)
 train_told_from seats before after number condition company kind (source.Trade other) price giver sale none costs free asks =
-    absurd (none_is_not (giver, sale) asks)
+    absurd (none-some (giver, sale) asks)
 train_told_from seats before after number condition company kind source.BankPool price giver sale none costs free asks =
-    absurd (none_is_not (giver, sale) asks)
+    absurd (none-some (giver, sale) asks)
 train_told_from seats before after number condition company kind (source.Company seller cost) price giver sale none costs
     free asks =
     let game : Game = record { seats = seats; events = before ++ after } in

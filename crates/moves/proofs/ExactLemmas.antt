@@ -3,9 +3,9 @@
 use Rattle.std.proofs.Common.{◌≡◌, ℕ, zero, suc, Bool, true, false, inl, inr, List, [], ◌∷◌, ◌++◌}
 use Rattle.std.proofs.Common.{Option, Some, None, Result, Ok, Err, ℤ, refl, sym, ap, subst, ◌∙◌, flat_map}
 use Rattle.std.specs.Prelude.{slice_get}
+use Rattle.std.proofs.lemmas.Option.{none-some}
 use Rattle.operating.proofs.Outcome.{same_break, same_tests}
 use Rattle.board.proofs.KeptHomes.{among_first}
-use Rattle.moves.proofs.RowRulings.{none_is_not}
 use Rattle.board.specs.LayRules.{IsConnected, IsLayAnswer, cost_or, lay_cost_of, lay_reach_rules}
 use Rattle.board.specs.LayRules.{map_rules}
 use Rattle.board.specs.TokenRules.{IsReachedPlace, IsTokenAnswer, slot_rules, token_cost_of, token_reach_rules}
@@ -33,7 +33,7 @@ use Rattle.reach.specs.Position.{IsAmong}
 
 -- what is found at a place is among a list
 among_got : {A : Type 0} (xs : List A) (i : ℕ) (x : A) → slice_get xs i ≡ Some x → IsAmong x xs
-among_got [] i x got = absurd (none_is_not x got)
+among_got [] i x got = absurd (none-some x got)
 among_got (y ∷ ys) zero x got = inl (let same : Some y ≡ Some x = got in cc)
 among_got (y ∷ ys) (suc i) x got = inr (among_got ys i x got)
 

@@ -1,10 +1,9 @@
 -- Lists of what is allowed grow by their candidates.
 use Rattle.std.proofs.Common.{◌≡◌, ℕ, ◌<◌, ◌+◌, List, [], ◌∷◌, ◌++◌, Result, Ok, Err, ℤ, length, take, get_or, refl}
-use Rattle.std.proofs.Common.{ap, ◌∙◌, pos, Option, Some, None}
+use Rattle.std.proofs.Common.{ap, ◌∙◌}
 use Rattle.std.proofs.Common.{sym, subst, flat_map, ◌≤◌}
 use Rattle.std.proofs.lemmas.List.{append_assoc, append-nil, take_more, take_all}
 use Rattle.std.proofs.lemmas.Grind.{flat_map-append}
-use Rattle.board.specs.LayRules.{cost_or}
 use Rattle.moves.specs.Listed.{AreListed, Lists, priced_if}
 use Rattle.moves.specs.declared.priced.Priced.{Priced}
 
@@ -74,22 +73,3 @@ lists_refused rules one rule a refused = record {
   listed = (Err rule, [], refused, refl, refl);
   after = sym (append-nil a);
 }
-
--- a candidate that no rule refuses, by a verdict that goes by a judgement
-pub lists_kept :
-    {A Fault : Type 0} (cost : A → ℕ) (judged : A → Option Fault) (one : A) (price : ℤ) (a b : List (Priced A)) →
-    judged one ≡ None → price ≡ pos (cost one) → b ≡ a ++ record { what = one; price = price } ∷ [] →
-    Lists (λ (x : A) (answer : Result ℤ Fault). answer ≡ cost_or (cost x) (judged x)) (one ∷ []) a b
-lists_kept {A = A} {Fault = Fault} cost judged one price a b kept costs after =
-    let ok : ℤ → Result ℤ Fault = λ z. Ok z in
-    lists_priced (λ (x : A) (answer : Result ℤ Fault). answer ≡ cost_or (cost x) (judged x)) one price a b
-    (ap ok costs ∙ sym (ap (cost_or (cost one)) kept)) after
-
--- and one that a rule refuses
-pub lists_broken :
-    {A Fault : Type 0} (cost : A → ℕ) (judged : A → Option Fault) (one : A) (rule : Fault) (a : List (Priced A)) →
-    judged one ≡ Some rule →
-    Lists (λ (x : A) (answer : Result ℤ Fault). answer ≡ cost_or (cost x) (judged x)) (one ∷ []) a a
-lists_broken {A = A} {Fault = Fault} cost judged one rule a broken =
-    lists_refused (λ (x : A) (answer : Result ℤ Fault). answer ≡ cost_or (cost x) (judged x)) one rule a
-    (sym (ap (cost_or (cost one)) broken))

@@ -1,32 +1,24 @@
 -- A ruling among the events of a game says nothing of what anybody has, wherever it stands.
-use Rattle.std.proofs.Common.{◌≡◌, ℕ, ◌+◌, Bool, not, nat_lt, if◌then◌else◌, ◌||◌, ◌&&◌, cond, List, [], ◌∷◌, ◌++◌}
-use Rattle.std.proofs.Common.{Option, Some, None, ℤ, pos, ◌-ℤ◌, ◌+ℤ◌, unwrap_or, sum_by, refl, ap, ◌∙◌, arith}
+use Rattle.std.proofs.Common.{◌≡◌, ℕ, ◌+◌, cond, List, [], ◌∷◌, ◌++◌}
+use Rattle.std.proofs.Common.{Option, None, pos, ◌-ℤ◌, unwrap_or, sum_by, refl, ap, ◌∙◌, arith}
 use Rattle.std.proofs.lemmas.List.Sums.{sum_by-append, sum_by-cons}
-use Rattle.std.specs.Int.Signed.{lt_z}
 use Rattle.std.specs.Option.{option_flatten, option_or}
 use Rattle.events.specs.Event.{office_of, ownership_of, payment_of, phase_set, train_moved, train_owner_place}
 use Rattle.events.specs.declared.event.Event.{Event}
 use Rattle.events.specs.declared.event.Event.TheVariants.{Ruled}
 use Rattle.events.specs.declared.event.Party.{Party}
 use Rattle.events.specs.declared.event.TrainPlace.TheVariants as train_place
-use Rattle.events.specs.declared.event.TrainSeller.{TrainSeller}
-use Rattle.events.specs.declared.event.TrainSeller.TheVariants as seller
 use Rattle.events.specs.declared.ruling.Ruling.{Ruling}
-use Rattle.purchases.specs.Train.{are_left, first_left, first_left_of, is_at_train_limit, is_kind, is_left}
-use Rattle.purchases.specs.Train.{is_no_trade_in, is_not_sellers, is_on_sale, may_be_traded, numbered_kinds}
-use Rattle.purchases.specs.Train.{sells_diesels, traded_count}
-use Rattle.tables.specs.Roster.{same_company}
-use Rattle.tables.specs.Train.{kinds, limit_of, same_kind, trains_of}
+use Rattle.purchases.proofs.TrainsAlike.{AreTrainsAlike}
 use Rattle.tables.specs.declared.rolling_stock.Kind.{Kind}
-use Rattle.tables.specs.declared.rolling_stock.Kind.TheVariants.{Two, Six, Diesel}
+use Rattle.tables.specs.declared.rolling_stock.Kind.TheVariants.{Two}
 use Rattle.tables.specs.declared.roster.Company.{Company}
 use Rattle.tables.specs.declared.roster.Private.{Private}
 use Rattle.tables.specs.declared.seat.Seat.{Seat}
 use Rattle.totals.proofs.EventAtEnd.{option_or_none}
 use Rattle.totals.specs.LookBack.{balance, cash_of, last_said, owner_of, owner_said, paid_by, paid_to, start_of}
 use Rattle.totals.specs.Shares.{president_of, president_said}
-use Rattle.totals.specs.Trains.{one_if, phase_of, train_comes, train_count, train_goes, trains_held, trains_of_kinds}
-use Rattle.totals.specs.Trains.{trains_sold}
+use Rattle.totals.specs.Trains.{one_if, phase_of, train_comes, train_goes}
 
 -- an event that says nothing of a thing leaves what was said last
 said_between : {A : Type 0} (says : Event → Option A) (event : Event) → says event ≡ None
@@ -82,66 +74,16 @@ module _ (before after : List Event) (seat : Seat) (number : ℕ) (ruling : Ruli
   pub same_president : (company : Company) → president_of new company ≡ president_of old company
   same_president company = same_said (λ event. president_said company (office_of event)) refl
 
-  -- as many trains of a kind are sold, and lie with a company or the pool
-  same_sold : (kind : Kind) → trains_sold new kind ≡ trains_sold old kind
-  same_sold kind = same_sum (λ event. cond (train_goes train_place.Bank kind (train_moved event)) 1 0) refl
-
-  same_held : (owner : Option Company) (kind : Kind) → trains_held new owner kind ≡ trains_held old owner kind
-  same_held owner kind =
-      same_balance 0 (λ event. one_if (train_comes (train_owner_place owner) kind (train_moved event)))
-      (λ event. one_if (train_goes (train_owner_place owner) kind (train_moved event))) refl refl
-
-  same_kinds : (owner : Option Company) (some : List Kind)
-      → trains_of_kinds new owner some ≡ trains_of_kinds old owner some
-  same_kinds owner [] = refl
-  same_kinds owner (kind ∷ others) =
-      ap (λ (n : ℤ). n +ℤ trains_of_kinds new owner others) (same_held owner kind)
-      ∙ ap (λ (n : ℤ). trains_held old owner kind +ℤ n) (same_kinds owner others)
+  -- as many trains are sold, and lie with each company and in the pool
+  pub trains_alike : AreTrainsAlike old new
+  trains_alike =
+      record {
+        sold = λ kind. same_sum (λ event. cond (train_goes train_place.Bank kind (train_moved event)) 1 0) refl;
+        held = λ owner kind.
+            same_balance 0 (λ event. one_if (train_comes (train_owner_place owner) kind (train_moved event)))
+            (λ event. one_if (train_goes (train_owner_place owner) kind (train_moved event))) refl refl;
+      }
 
   -- the phase is the same
   pub same_phase : phase_of new ≡ phase_of old
   same_phase = ap (λ (said : Option Kind). unwrap_or said Two) (same_said phase_set refl)
-
-  -- the same kinds are left
-  same_left : (kind : Kind) → is_left new kind ≡ is_left old kind
-  same_left kind = ap (are_left (trains_of kind).number) (same_sold kind)
-
-  same_first : (some : List Kind) → first_left_of new some ≡ first_left_of old some
-  same_first [] = refl
-  same_first (kind ∷ others) =
-      ap (λ (b : Bool). cond b (Some kind) (first_left_of new others)) (same_left kind)
-      ∙ ap (λ (found : Option Kind). cond (is_left old kind) (Some kind) found) (same_first others)
-
-  -- the same is on sale
-  pub same_sale : (from : TrainSeller) (kind : Kind) → is_on_sale new from kind ≡ is_on_sale old from kind
-  same_sale seller.Bank kind =
-      ap (λ (found : Option Kind). is_kind found kind || (same_kind kind Diesel && sells_diesels new))
-      (same_first numbered_kinds)
-      ∙ ap (λ (sold : ℕ). is_kind (first_left old) kind || (same_kind kind Diesel && nat_lt 0 sold)) (same_sold Six)
-  same_sale seller.BankPool kind = ap (lt_z (pos 0)) (same_held None kind)
-  same_sale (seller.Company company) kind = refl
-
-  -- the same is full
-  pub same_full : (company : Company) (trade_in : Option Kind)
-      → is_at_train_limit new company trade_in ≡ is_at_train_limit old company trade_in
-  same_full company trade_in =
-      ap (λ (size : ℤ). not (lt_z (size -ℤ pos (traded_count trade_in)) (pos (limit_of (phase_of new)))))
-      (same_kinds (Some company) kinds)
-      ∙ ap (λ (phase : Kind). not (lt_z (train_count old (Some company) -ℤ pos (traded_count trade_in))
-      (pos (limit_of phase)))) same_phase
-
-  -- the same is the seller's
-  pub same_seller : (buyer : Company) (kind : Kind) (from : TrainSeller)
-      → is_not_sellers new buyer kind from ≡ is_not_sellers old buyer kind from
-  same_seller buyer kind seller.Bank = refl
-  same_seller buyer kind seller.BankPool = refl
-  same_seller buyer kind (seller.Company company) =
-      ap (λ (held : ℤ). not (lt_z (pos 0) held) || same_company buyer company) (same_held (Some company) kind)
-
-  -- the same may be traded in
-  pub same_trade : (company : Company) (kind : Kind) (trade_in : Option Kind)
-      → is_no_trade_in new company kind trade_in ≡ is_no_trade_in old company kind trade_in
-  same_trade company kind None = refl
-  same_trade company kind (Some trade_in) =
-      ap (λ (held : ℤ). not (same_kind kind Diesel && (may_be_traded trade_in && lt_z (pos 0) held)))
-      (same_held (Some company) trade_in)

@@ -16,7 +16,6 @@ use Rattle.events.specs.declared.event.Event.TheVariants as event
 use Rattle.events.specs.declared.event.Holder.{Holder}
 use Rattle.events.specs.declared.event.Holder.TheVariants as holder
 use Rattle.events.specs.declared.event.Party.{Party}
-use Rattle.events.specs.declared.ruling.PrivateRule.TheVariants as private_rule
 use Rattle.events.specs.declared.ruling.Refusal.{Refusal}
 use Rattle.events.specs.declared.ruling.Refusal.TheVariants as refusal
 use Rattle.events.specs.declared.ruling.Ruling.{Ruling}
@@ -29,7 +28,7 @@ use Rattle.moves.specs.CompanyRows.{asked_for_private, asked_for_train, private_
 use Rattle.moves.specs.CompanyRows.{train_cost, train_refusal_by}
 use Rattle.moves.specs.OpeningRows.{opening_cost}
 use Rattle.moves.specs.PriceLaws.{MovesInOpening, OpeningPricesMove, PrivatePricesMove}
-use Rattle.moves.specs.PriceLaws.{StockPricesMove, TrainPricesMove, cash_in, left_after}
+use Rattle.moves.specs.PriceLaws.{StockPricesMove, TrainPricesMove, cash_of_company, left_after}
 use Rattle.moves.specs.RowLaws.{rule_told}
 use Rattle.moves.specs.Rows.{answer_if_given, answer_of}
 use Rattle.moves.specs.StockRows.{stock_cost}
@@ -369,7 +368,7 @@ all_keep measure step keeps game (suc count) =
 module _ (buyer : Company) where
   -- what a company has
   abbrev has : Game → ℤ
-  has game = cash_in game buyer
+  has game = cash_of_company game buyer
 
   -- an event that pays nothing
   silent : (game : Game) (its : Event) → payment_of its ≡ None → has (with_event game its) ≡ has game
@@ -473,18 +472,18 @@ train_prices_move by turn line kind from price new past told leads =
     if b then turn_state (withheld turn.game by.company turn.progress.runs.revenue) (pay_done turn.progress) else turn in
     ruled_by paid (option_map refusal.Train (train_judgement paid.game by.company purchase))) past
     ∙ ap (λ (rule : Option Refusal). ruled_by turn rule) parts.0 in
-    ap (λ (t : TurnState). cash_in t.game by.company) is
+    ap (λ (t : TurnState). cash_of_company t.game by.company) is
     ∙ train_paid by.company recorded purchase (pays_others by.company turn.game kind from kept)
     ∙ ap (λ (cash : ℤ). cash -ℤ pos (train_purchase_cost purchase))
     (cash_of_before turn.game.seats turn.game.events its (party_of_company by.company) refl)
-    ∙ ap (λ (sum : ℤ). cash_in turn.game by.company -ℤ sum) parts.1
+    ∙ ap (λ (sum : ℤ). cash_of_company turn.game by.company -ℤ sum) parts.1
 
 -- a private is paid for, if a player owns it
 owned_paid : (game : Game) (buyer : Company) (its : Private) (cost : ℕ) (owner : Option Holder) (seller : Seat)
     → owner ≡ Some (holder.Seat seller)
-    → cash_in (sold_by game buyer its cost owner) buyer ≡ cash_in game buyer -ℤ pos cost
+    → cash_of_company (sold_by game buyer its cost owner) buyer ≡ cash_of_company game buyer -ℤ pos cost
 owned_paid game buyer its cost owner seller owns =
-    ap (λ (o : Option Holder). cash_in (sold_by game buyer its cost o) buyer) owns
+    ap (λ (o : Option Holder). cash_of_company (sold_by game buyer its cost o) buyer) owns
     ∙ pays game.seats game.events (event.PrivateBought its buyer seller cost) (party_of_company buyer) cost refl
     (ap (λ (b : Bool). if b then cost else 0) (company_itself buyer))
 
@@ -503,9 +502,9 @@ private_prices_move by turn line its cost price new told leads =
     leads
     ∙ ap (λ (rule : Option Refusal). ruled by turn line (order.Play (play.BuyOwnedPrivate its cost)) rule
     (λ (then_is : TurnState). turn_state (private_bought then_is.game by.company its cost) then_is.progress)) parts.0 in
-    ap (λ (t : TurnState). cash_in t.game by.company) is
+    ap (λ (t : TurnState). cash_of_company t.game by.company) is
     ∙ owned_paid after by.company its cost (owner_of after.events its) agreed.giver
     (owner_of_before turn.game.events recorded its refl ∙ agreed.owns)
     ∙ ap (λ (cash : ℤ). cash -ℤ pos cost)
     (cash_of_before turn.game.seats turn.game.events recorded (party_of_company by.company) refl)
-    ∙ ap (λ (sum : ℤ). cash_in turn.game by.company -ℤ sum) parts.1
+    ∙ ap (λ (sum : ℤ). cash_of_company turn.game by.company -ℤ sum) parts.1

@@ -1,6 +1,7 @@
 -- What a row tells is what becomes of its line.
 use Rattle.std.proofs.Common.{◌≡◌, ℕ, Bool, true, false, not, if◌then◌else◌, List, [], ◌∷◌, ◌++◌, Option, Some, None}
 use Rattle.std.proofs.Common.{Result, Ok, Err, ℤ, pos, refl, sym, ap, ◌∙◌, option_map}
+use Rattle.std.proofs.lemmas.Option.{none-some}
 use Rattle.events.specs.declared.event.Event.{Event}
 use Rattle.events.specs.declared.event.Holder.{Holder}
 use Rattle.events.specs.declared.event.Holder.TheVariants as holder
@@ -97,10 +98,6 @@ pub standing_ruled : StandingRowsAreRuled
 standing_ruled events seat line order has its =
     ruled_as_told has_place_before_companies (operating_standing_judgement events seat) events line order (pos 0) has its
 
--- nothing is not something
-pub none_is_not : {A : Type 0} (x : A) → None ≡ Some x → ⊥
-none_is_not x wrong = cc
-
 some_is_not : {A : Type 0} (x : A) → Some x ≡ None → ⊥
 some_is_not x wrong = cc
 
@@ -111,7 +108,7 @@ only_row : {Code : Type 0} (before after : List (Rule Code)) (code : Code) (a b 
     first_broken (before ++ record { code = code; broken = b } ∷ after) ≡ Some rule → rule ≡ code
 only_row [] after code true b rule none broken = absurd (some_is_not code none)
 only_row [] after code false true rule none broken = cc
-only_row [] after code false false rule none broken = absurd (none_is_not rule (sym none ∙ broken))
+only_row [] after code false false rule none broken = absurd (none-some rule (sym none ∙ broken))
 only_row {Code} (row ∷ rows) after code a b rule none broken =
     elim row.broken as (λ (test : Bool).
     (if test then Some row.code else first_broken (rows ++ record { code = code; broken = a } ∷ after)) ≡ None →
@@ -148,14 +145,14 @@ same_asked p giver first second is = ap (rule_asked (consent_rule first)) is
 asked_of_train : (events : List Event) (buyer : Company) (kind : Kind) (from : TrainSource) (giver : Seat)
     (sale : Offer) → asked_for_train events buyer kind from ≡ Some (giver, sale)
     → consent_rule sale ≡ refusal.Train train_rule.NoConsent
-asked_of_train events buyer kind source.Bank giver sale is = absurd (none_is_not (giver, sale) is)
-asked_of_train events buyer kind (source.Trade other) giver sale is = absurd (none_is_not (giver, sale) is)
-asked_of_train events buyer kind source.BankPool giver sale is = absurd (none_is_not (giver, sale) is)
+asked_of_train events buyer kind source.Bank giver sale is = absurd (none-some (giver, sale) is)
+asked_of_train events buyer kind (source.Trade other) giver sale is = absurd (none-some (giver, sale) is)
+asked_of_train events buyer kind source.BankPool giver sale is = absurd (none-some (giver, sale) is)
 asked_of_train events buyer kind (source.Company seller price) giver sale is =
     (elim (president_of events seller) as (λ (president : Option Seat).
     option_map {U = Seat × Offer} (λ (p : Seat). (p, offer.Train kind seller buyer price)) president ≡ Some (giver, sale)
     → consent_rule sale ≡ refusal.Train train_rule.NoConsent) [
-      | None ↦ λ none. absurd (none_is_not (giver, sale) none)
+      | None ↦ λ none. absurd (none-some (giver, sale) none)
       | Some p ↦ λ some. sym (same_asked p giver (offer.Train kind seller buyer price) sale some)
     ])
     is
@@ -163,8 +160,8 @@ asked_of_train events buyer kind (source.Company seller price) giver sale is =
 asked_of_private : (owner : Option Holder) (private : Private) (buyer : Company) (price : ℕ) (giver : Seat)
     (sale : Offer) → asked_of_owner owner (offer.Private private buyer price) ≡ Some (giver, sale)
     → consent_rule sale ≡ refusal.Private private_rule.NoConsent
-asked_of_private None private buyer price giver sale is = absurd (none_is_not (giver, sale) is)
-asked_of_private (Some (holder.Company owner)) private buyer price giver sale is = absurd (none_is_not (giver, sale) is)
+asked_of_private None private buyer price giver sale is = absurd (none-some (giver, sale) is)
+asked_of_private (Some (holder.Company owner)) private buyer price giver sale is = absurd (none-some (giver, sale) is)
 asked_of_private (Some (holder.Seat owner)) private buyer price giver sale is =
     sym (same_asked owner giver (offer.Private private buyer price) sale is)
 

@@ -6,7 +6,6 @@ use Rattle.certs.specs.declared.share_deal.Sale.{Sale}
 use Rattle.events.specs.declared.event.Event.{Event}
 use Rattle.order_grammar.specs.declared.order.ShareSource.{ShareSource}
 use Rattle.order_grammar.specs.declared.order.ShareSource.TheVariants.{InitialOffering, BankPool}
-use Rattle.tables.specs.declared.roster.Company.{Company}
 
 -- where a share may be bought
 abbrev pub sources : List ShareSource
@@ -15,10 +14,6 @@ sources = InitialOffering ∷ BankPool ∷ []
 -- how many shares may be named
 abbrev pub share_numbers : List ℕ
 share_numbers = 1 ∷ 2 ∷ 3 ∷ 4 ∷ 5 ∷ 6 ∷ 7 ∷ 8 ∷ 9 ∷ 10 ∷ []
-
--- a sale of shares of a company
-abbrev pub sale_of : Company → ℕ → Sale
-sale_of company shares = record { company = company; shares = shares }
 
 -- what a sale brings: the market price for each share
 abbrev pub brought_by : List Event → Sale → ℕ

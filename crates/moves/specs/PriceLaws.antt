@@ -74,8 +74,8 @@ OpeningPricesMove =
     (after_opening_line game.seats seat (in_turn game.events used) line).events
 
 -- the cash of a company
-abbrev pub cash_in : Game → Company → ℤ
-cash_in game company = cash_of game.seats game.events (party_of_company company)
+abbrev pub cash_of_company : Game → Company → ℤ
+cash_of_company game company = cash_of game.seats game.events (party_of_company company)
 
 -- the price of a row of a train moves as its line is obeyed, in a turn that is past its pay
 abbrev pub TrainPricesMove : Type 0
@@ -83,7 +83,7 @@ TrainPricesMove =
     (by : Operator) (turn : TurnState) (line : Numbered) (kind : Kind) (from : TrainSource) (price : ℤ)
     (new : TurnState) → is_unpaid turn.progress ≡ false → train_answer turn.game by.company kind from ≡ Obeyed price
     → OrderLeads by turn line (Play (BuyTrain kind from)) new
-    → cash_in new.game by.company ≡ cash_in turn.game by.company -ℤ price
+    → cash_of_company new.game by.company ≡ cash_of_company turn.game by.company -ℤ price
 
 -- so does that of a private
 abbrev pub PrivatePricesMove : Type 0
@@ -91,4 +91,4 @@ PrivatePricesMove =
     (by : Operator) (turn : TurnState) (line : Numbered) (private : Private) (cost : ℕ) (price : ℤ) (new : TurnState)
     → private_answer turn.game by.company private cost ≡ Obeyed price
     → OrderLeads by turn line (Play (BuyOwnedPrivate private cost)) new
-    → cash_in new.game by.company ≡ cash_in turn.game by.company -ℤ price
+    → cash_of_company new.game by.company ≡ cash_of_company turn.game by.company -ℤ price

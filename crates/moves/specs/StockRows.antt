@@ -10,7 +10,7 @@ use Rattle.certs.specs.Purchase.{cost_of}
 use Rattle.certs.specs.declared.share_deal.Purchase.TheVariants as purchase
 use Rattle.events.specs.declared.event.Event.{Event}
 use Rattle.events.specs.declared.event.Shareholder.TheVariants.{Seat as OfSeat}
-use Rattle.moves.specs.Deals.{brought_by, sale_of, sources}
+use Rattle.moves.specs.Deals.{brought_by, sources}
 use Rattle.moves.specs.Rows.{answer_of, only_if}
 use Rattle.moves.specs.declared.row.Answer.{Answer}
 use Rattle.moves.specs.declared.row.Row.{Row}
@@ -19,6 +19,7 @@ use Rattle.order_grammar.specs.declared.order.Order.TheVariants.{Play}
 use Rattle.order_grammar.specs.declared.play.PlayOrder.{PlayOrder}
 use Rattle.order_grammar.specs.declared.play.PlayOrder.TheVariants.{Par, BuyShare, Sell, ExchangeMohawk}
 use Rattle.stock_round.specs.Orders.{stock_refusal}
+use Rattle.stock_round.specs.Sell.{sale_of}
 use Rattle.tables.specs.Chart.{par_values}
 use Rattle.tables.specs.Roster.{companies}
 use Rattle.tables.specs.declared.roster.Company.{Company}

@@ -3,7 +3,7 @@
 use Rattle.std.proofs.Common.{◌≡◌, ℕ, zero, suc, ◌+◌, ◌<◌, ◌≤◌, Bool, true, false, if◌then◌else◌, ◌==◌, inl, inr, List}
 use Rattle.std.proofs.Common.{[], ◌∷◌, ◌++◌, Option, None, Some, Result, Ok, Err, ℤ, pos, negsuc, ◌+ℤ◌, length}
 use Rattle.std.proofs.Common.{replicate, get_or, set, refl, sym, subst, ap, ◌∙◌, arith, get_or-set_other, length-set}
-use Rattle.std.proofs.lemmas.Bool.{cases_eq, eq-eqb, leb-false}
+use Rattle.std.proofs.lemmas.Bool.{cases_eq, eq-eqb, leb-false, ne_eqb}
 use Rattle.std.proofs.lemmas.Grind.{get_or-set_at}
 use Rattle.std.proofs.lemmas.Int.{ints}
 use Rattle.std.specs.Int.Signed.{le_z}
@@ -11,8 +11,7 @@ use Rattle.std.specs.List.{AllByRecursion, fold}
 use Rattle.board_state.specs.MapState.{position_of}
 use Rattle.legal_runs.proofs.InTurn.{all_among}
 use Rattle.legal_runs.proofs.TallyOfWalk.{crossed_used}
-use Rattle.legal_runs.proofs.Marks.{among_both, eqb_not}
-use Rattle.legal_runs.proofs.Relabelled.{kind_is}
+use Rattle.legal_runs.proofs.Marks.{among_both}
 use Rattle.legal_runs.proofs.Sharing.{legal_by_marks, legal_over}
 use Rattle.legal_runs.specs.Legal.{IsLegalRun, all_crossed, crossed, earned}
 use Rattle.legal_runs.specs.Marks.{MarksAre}
@@ -52,6 +51,7 @@ use Rattle.tables.specs.Train.{index_of_kind, same_kind}
 use Rattle.tables.specs.declared.rolling_stock.Kind.{Kind}
 use Rattle.tables.specs.declared.rolling_stock.Kind.TheVariants.{Two, Three, Four, Five, Six, Diesel}
 use Rattle.tables.specs.declared.roster.Company.{Company}
+use Rattle.tables.proofs.TrainKinds.{kind_is}
 
 -- of this many trains of one kind all are counted, or none
 number_of_all : (kind counted : Kind) (n : ℕ) → in_number counted (replicate n kind)
@@ -146,7 +146,7 @@ counted_more counts at other n m low is rest =
           ∙ rw (eq-eqb at other (sym same)) (omega (arith, ints, is, here))
       | inr differs ↦
           get_or-set_other counts at other (get_or counts at (pos 0) +ℤ pos 1) (pos 0) differs
-          ∙ rw (eqb_not at other (λ same. differs (sym same))) (omega (arith, ints, rest))
+          ∙ rw (ne_eqb at other (λ same. differs (sym same))) (omega (arith, ints, rest))
     ]
 
 -- where one more may run, fewer have run than are there

@@ -3,12 +3,12 @@ use Rattle.std.proofs.Common.{◌≡◌, inl, inr, ◌⊎◌, ℕ, Bool, true, f
 use Rattle.std.proofs.Common.{◌∷◌, Option, Some, None, Result, Ok, pos, refl, sym, ap, subst}
 use Rattle.std.proofs.Common.{◌∙◌}
 use Rattle.std.specs.Int.Signed.{lt_z}
+use Rattle.std.proofs.lemmas.Bool.{cases_Bool}
 use Rattle.board_state.specs.MapState.{position_of}
 use Rattle.legal_runs.specs.TwoTrain.{CanRun}
 use Rattle.events.specs.declared.event.Event.{Event}
 use Rattle.events.specs.declared.event.Event.TheVariants as event
 use Rattle.events.specs.declared.ruling.Ruling.{Ruling}
-use Rattle.totals.proofs.Choices.{truth}
 use Rattle.totals.specs.LookBack.{Game, bankrupt_in, with_event}
 use Rattle.totals.specs.Shares.{president_of}
 use Rattle.totals.specs.Trains.{TrainsAreHeld, train_count}
@@ -108,7 +108,7 @@ served_free by lines game new is free =
     let alike : Alike game new = subst (Alike game) (sym is) (alike_raises by lines game) in
     let size : has_trains new.events by.company ≡ has_trains game.events by.company =
     ap (lt_z (pos 0)) (alike.size by.company) in
-    elim (truth (has_trains game.events by.company)) [
+    elim (cases_Bool (has_trains game.events by.company)) [
       | inl owns ↦ inl (size ∙ owns)
       | inr none ↦ inr (inr (λ can. free (
         none,

@@ -8,7 +8,7 @@ use Rattle.events.specs.declared.ruling.Ruling.TheVariants.{Faulty}
 use Rattle.totals.specs.Shares.{president_of}
 use Rattle.map_tables.specs.declared.rules.RunRule.{RunRule}
 use Rattle.operating.proofs.OneCourse.{Agree, none_first, then_agree, unasked_agrees}
-use Rattle.operating.proofs.Outcome.{AllLawful, order_once, orders_end_once}
+use Rattle.operating.proofs.Outcome.{order_once, orders_end_once}
 use Rattle.operating.specs.Calls.{Call, Course, Unasked}
 use Rattle.operating.specs.CompanyOrders.{AskedLeads, OrderLeads, is_held}
 use Rattle.operating.specs.MapState.{position_now}
@@ -27,6 +27,7 @@ use Rattle.sheets.specs.Part.{Numbered}
 use Rattle.tables.specs.declared.roster.Company.{Company}
 use Rattle.tables.specs.declared.round.Round.{Round}
 use Rattle.tables.specs.declared.seat.Seat.{Seat}
+use Rattle.board_state.specs.MapState.{MapStatesAreLawful}
 
 -- a fault in the turn of a company says why a call for it failed
 abbrev TellsOf : Round → Company → RunnerFault → RunnerFault → Call → Type 0
@@ -66,7 +67,7 @@ asks_once round company =
           ];
     }
 
-module _ (all : AllLawful) (by : Operator) (round : Round) where
+module _ (all : MapStatesAreLawful) (by : Operator) (round : Round) where
   -- an order to run the best
   best_once : (line : Numbered) (turn : TurnState) (rule : Option RunRule) →
       IsOne round by.company (λ (from : TurnState). BestCalls by round line rule turn)
@@ -151,7 +152,7 @@ module _ (all : AllLawful) (by : Operator) (round : Round) where
       (LinesCall by round lines) (LinesCall by round lines) (reading_called_once line line.reading)
       (lines_called_once lines)
 
-module _ (all : AllLawful) (file : List ℕ) (round : Round) (company : Company) where
+module _ (all : MapStatesAreLawful) (file : List ℕ) (round : Round) (company : Company) where
   -- a company's orders
   orders_called_once : (president : Option Seat) → IsOne round company (CompanyOrdersCall file round company president)
   orders_called_once None = unasked_agrees Memory (TellsOf round company) (λ turn new. new ≡ turn)
@@ -195,11 +196,11 @@ module _ (all : AllLawful) (file : List ℕ) (round : Round) (company : Company)
       }
 
 -- so a turn makes one list of calls
-pub one_list : AllLawful → OneListOfTurnCalls
+pub one_list : MapStatesAreLawful → OneListOfTurnCalls
 one_list all file round company old a b some others first second =
     let one = turn_called_once all file round company in one.once old a b some others first second
 
 -- and a prefix of them where it is broken off
-pub a_prefix : AllLawful → RefusedTurnCallsAreAPrefix
+pub a_prefix : MapStatesAreLawful → RefusedTurnCallsAreAPrefix
 a_prefix all file round company old new fault refused whole broken led =
     let one = turn_called_once all file round company in one.prefix old fault new refused whole broken led

@@ -3,7 +3,7 @@
 use Rattle.std.proofs.Common.{◌≡◌, ℕ, Bool, true, false, ◌↔◌, IsTrue, List, [], ◌∷◌, ◌++◌, Option, Some, None, Result}
 use Rattle.std.proofs.Common.{Ok, Err, inl, inr, refl, sym, ap, subst, ◌∙◌}
 use Rattle.board.proofs.RuleTables.{earlier}
-use Rattle.board_state.specs.MapState.{MapState, position_of, with_lay}
+use Rattle.board_state.specs.MapState.{MapState, position_of, with_lay, MapStatesAreLawful}
 use Rattle.board.specs.LayRules.{IsConnected, IsLayAnswer, cost_or, map_rules, lay_cost_of, lay_rules}
 use Rattle.board.specs.LayRules.{lay_reach_rules}
 use Rattle.board.specs.TokenRules.{IsReachedPlace, IsTokenAnswer, slot_rules, token_cost_of, token_reach_rules}
@@ -36,7 +36,6 @@ use Rattle.order_grammar.specs.declared.fault.Fault.{Fault}
 use Rattle.order_grammar.specs.declared.order.Order.{Order}
 use Rattle.order_grammar.specs.declared.order.Order.TheVariants as order
 use Rattle.order_grammar.specs.declared.play.PlayOrder.TheVariants as play
-use Rattle.reach.specs.Lawful.{IsLawful}
 use Rattle.reach.specs.Position.{Position}
 use Rattle.reach.proofs.Decided.{Decided}
 use Rattle.sheets.specs.CompanyOrders.{company_orders_for}
@@ -73,10 +72,7 @@ same_break {Code} first later a b same =
     refl
 
 -- the position of each map state is lawful
-abbrev pub AllLawful : Type 0
-AllLawful = (laid : MapState) → IsLawful (position_of laid)
-
-module _ (all : AllLawful) where
+module _ (all : MapStatesAreLawful) where
   -- a lay has one outcome
   one_lay_answer : (laid : MapState) (asker : Asker) (lay : Lay) → IsOne (IsLayAnswer laid asker lay)
   one_lay_answer laid asker lay =

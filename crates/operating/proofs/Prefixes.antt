@@ -1,7 +1,6 @@
 -- A board that has the first of what was laid has them still when events are added, and has all
 -- once it was brought the rest.
-use Rattle.std.proofs.Common.{◌≡◌, ◌-◌, ◌<◌, List, [], ◌∷◌, ◌++◌, length, Some, None, refl, ap, sym, subst, ◌∙◌, arith}
-use Rattle.std.proofs.Common.{length-append}
+use Rattle.std.proofs.Common.{◌≡◌, ◌-◌, List, [], ◌∷◌, ◌++◌, length, Some, None, refl, ap, sym, subst, ◌∙◌}
 use Rattle.std.proofs.lemmas.List.{append_assoc, append-nil}
 use Rattle.std.proofs.lemmas.List.Elements.{filter_map-append}
 use Rattle.board_state.specs.MapState.{MapState}
@@ -55,16 +54,6 @@ prefix_is_all prefix all begins is =
     let none : begins.rest ≡ [] = none_in begins.rest
     (sym (behind prefix begins.rest) ∙ ap (λ xs. slice_get xs (length prefix)) (sym begins.is) ∙ is) in
     sym (begins.is ∙ ap (λ xs. prefix ++ xs) none ∙ append-nil prefix)
-
--- with each that is brought fewer are left
-pub fewer_left : {A : Type 0} (prefix recorded all : List A) (x : A) → recorded ≡ prefix ++ x ∷ []
-    → BeginsWith recorded all → length all - length recorded < length all - length prefix
-fewer_left prefix recorded all x is begins =
-    omega (arith, ap length is, ap length begins.is, length-append prefix (x ∷ []), length-append recorded begins.rest)
-
--- all are a prefix
-pub whole_prefix : {A : Type 0} (prefix all : List A) → prefix ≡ all → BeginsWith prefix all
-whole_prefix prefix all is = record { rest = []; is = sym is ∙ sym (append-nil prefix) }
 
 longer : {A : Type 0} (prefix all more : List A) → BeginsWith prefix all → BeginsWith prefix (all ++ more)
 longer prefix all more begins =

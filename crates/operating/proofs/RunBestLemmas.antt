@@ -1,13 +1,12 @@
 -- The trains of a company, one for one, and what its best runs earn.
-use Rattle.std.proofs.Common.{◌≡◌, ◌≤◌, ◌||◌, Bool, true, false, not, [], ◌∷◌, refl, List, length, arith, ℕ}
-use Rattle.std.proofs.Common.{zero, suc, ◌++◌, replicate, ap, ◌∙◌, ◌<◌, ℤ, pos, ◌≤ℤ◌, sym, subst}
+use Rattle.std.proofs.Common.{◌≡◌, ◌≤◌, ◌||◌, Bool, true, false, not, refl, List, arith, ℕ}
+use Rattle.std.proofs.Common.{◌++◌, replicate, ap, ◌∙◌, ◌<◌, ℤ, pos, ◌≤ℤ◌, sym, subst}
 use Rattle.std.proofs.lemmas.Int.{ints}
 use Rattle.std.specs.Int.RustNames.{unsigned_abs}
 use mir.Syntax.{w128}
 use mir.Val.{of_z, to_z}
 use Rattle.board_state.specs.MapState.{MapState, position_of}
 use Rattle.legal_runs.specs.Greatest.{AGreatestExists, OneGreatest}
-use Rattle.legal_runs.specs.Law.{unused}
 use Rattle.legal_runs.specs.Set.{IsGreatest, IsGreatestMoney}
 use Rattle.reach.specs.Lawful.{IsLawful}
 use Rattle.reach.specs.Position.{Position}
@@ -26,17 +25,6 @@ pub with_train : (seen held ran : Bool) → seen ≡ held → seen ≡ true → 
 with_train true true ran same one = refl
 with_train true false ran same one = cc
 with_train false held ran same one = cc
-
--- no more borders are unused than there are
-pub few_unused : (marks : List Bool) → unused marks ≤ length marks
-few_unused [] = omega arith
-few_unused (true ∷ marks) = omega (arith, few_unused marks)
-few_unused (false ∷ marks) = omega (arith, few_unused marks)
-
--- one more at the end of this many
-one_behind : {A : Type 0} (thing : A) (n : ℕ) → replicate n thing ++ thing ∷ [] ≡ replicate (suc n) thing
-one_behind thing zero = refl
-one_behind thing (suc n) = ap (λ (things : List _). thing ∷ things) (one_behind thing n)
 
 -- a greatest revenue is small
 pub small_greatest :

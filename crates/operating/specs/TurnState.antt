@@ -3,12 +3,13 @@ use Rattle.std.specs.Prelude.{Option}
 use Rattle.events.specs.declared.event.Event.TheVariants as event
 use Rattle.events.specs.declared.ruling.Refusal.{Refusal}
 use Rattle.events.specs.declared.ruling.Ruling.{Ruling}
+use Rattle.events.specs.Event.{order_obeyed}
 use Rattle.forced_purchase.specs.declared.operator.Operator.{Operator}
 use Rattle.operating.specs.declared.progress.Progress.{Progress}
 use Rattle.order_grammar.specs.declared.order.Order.{Order}
 use Rattle.sheets.specs.Part.{Numbered}
 use Rattle.totals.specs.LookBack.{Game, with_event}
-use Rattle.turns.specs.Ruling.{done, judged, obeyed_order}
+use Rattle.turns.specs.Ruling.{done, judged}
 
 -- the game so far, and how far the turn has come
 pub record TurnState : Type 0 where
@@ -29,4 +30,4 @@ abbrev pub ruled : Operator → TurnState → Numbered → Order → Option Refu
 ruled by turn line order broken act =
     done (λ (after : TurnState) (its : Order). act after)
     (line_recorded by turn line (judged line.condition order broken))
-    (obeyed_order (judged line.condition order broken))
+    (order_obeyed (judged line.condition order broken))

@@ -5,8 +5,8 @@ use Rattle.std.proofs.Common.{◌++◌, Option, Some, None, append-nil, unwrap_o
 use Rattle.std.proofs.lemmas.List.{append_assoc}
 use Rattle.std.proofs.lemmas.List.Folds.{list_any-append}
 use Rattle.std.specs.List.{list_all, list_any}
-use Rattle.std.proofs.lemmas.Bool.{and_parts, or_parts}
-use Rattle.events.specs.Event.{bidding_of}
+use Rattle.std.proofs.lemmas.Bool.{and_parts, or_parts, ltb-true}
+use Rattle.events.specs.Event.{bidding_of, order_obeyed}
 use Rattle.events.specs.declared.event.Bid.{Bid}
 use Rattle.events.specs.declared.event.Bidding.{Bidding}
 use Rattle.events.specs.declared.event.Bidding.TheVariants.{Made, Ended}
@@ -27,7 +27,7 @@ use Rattle.order_grammar.specs.declared.condition.Condition.{Condition}
 use Rattle.order_grammar.specs.declared.order.Order.{Order}
 use Rattle.order_grammar.specs.declared.order.Order.TheVariants as order
 use Rattle.order_grammar.specs.declared.play.PlayOrder.TheVariants as play
-use Rattle.privates.proofs.RulesAtTable.{by_rules, is_under, rules_at}
+use Rattle.privates.proofs.RulesAtTable.{by_rules, rules_at}
 use Rattle.privates.proofs.TurnLemmas.{may_act_after}
 use Rattle.privates.specs.Bid.{MayBid, is_near_some}
 use Rattle.privates.specs.BidsRise.{BidsRise, OpeningBidsRise, is_near_earlier}
@@ -45,7 +45,7 @@ use Rattle.tables.specs.declared.roster.Private.TheVariants as private
 use Rattle.tables.specs.declared.seat.Seat.{Seat}
 use Rattle.turns.proofs.RoundLeads.{round_leads}
 use Rattle.turns.proofs.Ruled.{none_as_refusal, of_ruled}
-use Rattle.turns.specs.Ruling.{has_place_in_turn, obeyed_order}
+use Rattle.turns.specs.Ruling.{has_place_in_turn}
 
 -- bids rise, and those that stand are of seats at the table
 record RiseAt (seats : ℕ) (events : List Event) : Type 0 where
@@ -246,7 +246,7 @@ line_rise : (seats : ℕ) (seat : Seat) (turn : InOpeningTurn) (line : Numbered)
 line_rise seats seat turn line under before =
     of_ruled (turn_after_opening_order seats seat) (opening_refusal seats turn.events seat turn.actions) seat turn line.number
     (λ (after : InOpeningTurn). RiseAt seats after.events)
-    (λ (ruling : Ruling) (none : obeyed_order ruling ≡ None). with_other seats turn.events
+    (λ (ruling : Ruling) (none : order_obeyed ruling ≡ None). with_other seats turn.events
     (event.Ruled seat line.number ruling) refl before)
     (order_rise seats seat turn line.number under before) has_place_in_turn turn.events line
 
@@ -273,7 +273,7 @@ opening_bids_rise file round old new played some seated rise =
       standing = λ seat events line before. with_other seats events
           (event.Ruled seat line.number (opening_standing_ruling events line)) refl before;
       line = λ any seat turn line before. tested_rise seats seat turn line (nat_lt seat.0 seats)
-          (λ under. is_under seat.0 seats under) before;
+          (λ under. ltb-true seat.0 seats under) before;
       passes = λ events seat before. with_other seats events (event.Passes seat) refl before;
       closed = λ any events before. closed_rise seats events before;
       leaves = λ events seat lines before. with_other seats events (event.Left seat lines) refl before;

@@ -1,8 +1,7 @@
 -- The rules of an opening round at its table: each turn is of a seat at the table, so a line of a
 -- seat elsewhere never comes.
-use Rattle.std.proofs.Common.{◌≡◌, ℕ, zero, suc, ◌<◌, Bool, true, false, nat_lt, if◌then◌else◌, List, Some, refl, sym, ap, ◌∙◌}
-use Rattle.std.proofs.Common.{arith}
-use Rattle.std.proofs.lemmas.Bool.Decides.{nat_tests}
+use Rattle.std.proofs.Common.{◌≡◌, ℕ, zero, suc, ◌<◌, Bool, false, nat_lt, if◌then◌else◌, List, Some, refl, sym, ap, ◌∙◌}
+use Rattle.std.proofs.lemmas.Bool.{lt-ltb}
 use Rattle.events.specs.declared.event.Event.{Event}
 use Rattle.totals.specs.LookBack.{Game}
 use Rattle.privates.specs.Closing.{all_sold, opening_round_closed}
@@ -32,14 +31,6 @@ rules_at seats =
       closed = λ any events. opening_round_closed seats events;
     }
 
--- a number is under another where a test says so
-pub is_under : (a b : ℕ) → nat_lt a b ≡ true → a < b
-is_under a b under = grind (arith, nat_tests)
-
--- a test says so where a number is under another
-says_under : (a b : ℕ) → a < b → nat_lt a b ≡ true
-says_under a b under = grind (arith, nat_tests)
-
 module _ (seats : ℕ) (some : 0 < seats) (start : InPlay (List Event) Numbered) (first : start.seat < seats) where
   -- each turn is of a seat at the table
   turn_at_table : (n : ℕ) → (iterate (after_turn (turns_of opening_rules seats)) n start).seat < seats
@@ -57,7 +48,7 @@ module _ (seats : ℕ) (some : 0 < seats) (start : InPlay (List Event) Numbered)
       turn_over (turns_of opening_rules seats) at
       (turned opening_rules (after_each (λ (turn : InOpeningTurn) (line : Numbered). if b then after_opening_line seats seat
       turn line else turn) (in_turn at.now false) written)))
-      (sym (says_under at.seat seats under))
+      (sym (lt-ltb at.seat seats under))
 
   -- and so are all of them
   turns_by_rules : (n : ℕ) → iterate (after_turn (turns_of opening_rules seats)) n start

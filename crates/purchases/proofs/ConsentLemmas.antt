@@ -1,7 +1,7 @@
 -- Who sells has agreed, by the rules that are kept.
 use Rattle.std.proofs.Common.{◌≡◌, ℕ, ◌<◌, ◌==◌, Bool, true, false, not, Option, Some, None, refl, arith}
 use Rattle.std.proofs.lemmas.Bool.Decides.{nat_tests}
-use Rattle.std.proofs.lemmas.Bool.{or_parts}
+use Rattle.std.proofs.lemmas.Bool.{or_parts, not-false}
 use Rattle.events.specs.RuleCodes.{code_of_private_rule, code_of_train_rule}
 use Rattle.events.specs.declared.event.Holder.{Holder}
 use Rattle.events.specs.declared.event.Holder.TheVariants as holder
@@ -9,7 +9,6 @@ use Rattle.events.specs.declared.ruling.PrivateRule.TheVariants as private_rule
 use Rattle.events.specs.declared.ruling.TrainRule.TheVariants as train_rule
 use Rattle.totals.specs.LookBack.{Game, owner_of}
 use Rattle.totals.specs.Shares.{president_of}
-use Rattle.purchases.proofs.TrainLemmas.{so}
 use Rattle.purchases.specs.ConsentLaws.{CompaniesAgree, CompanyAgrees, OwnerAgrees, OwnersAgree}
 use Rattle.purchases.specs.Discard.{has_train}
 use Rattle.purchases.specs.Private.{is_given, owner_agrees, private_rules}
@@ -60,7 +59,7 @@ companies_agree game buyer seller kind price none =
     let other = or_parts (not (has_train game.events seller kind)) (same_company buyer seller)
     (kept train_rule.NotSellers) in
     agree_by game seller buyer kind price (president_of game.events seller) (president_of game.events buyer) refl refl
-    (so agree given.1) (priced price given.0) (so (has_train game.events seller kind) other.0) other.1
+    (not-false agree given.1) (priced price given.0) (not-false (has_train game.events seller kind) other.0) other.1
 
 -- by who owns the private, and who presides over the buyer
 given_by : (game : Game) (buyer : Company) (private : Private) (price : ℕ) (owner : Option Holder)
@@ -78,4 +77,4 @@ pub owners_agree : OwnersAgree
 owners_agree game buyer private price none =
     let kept = not_broken code_of_private_rule (private_rules game buyer private price) none in
     given_by game buyer private price (owner_of game.events private) (president_of game.events buyer) refl refl
-    (so (is_given game.events buyer private price) (kept private_rule.NoConsent))
+    (not-false (is_given game.events buyer private price) (kept private_rule.NoConsent))

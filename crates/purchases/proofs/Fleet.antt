@@ -3,6 +3,7 @@ use Rattle.std.proofs.Common.{◌≡◌, ◌⊎◌, ℕ, zero, suc, ◌<◌, ◌
 use Rattle.std.proofs.Common.{if◌then◌else◌, List, Option, Some, None, pos, refl, sym, ap, subst, ◌∙◌, arith}
 use Rattle.std.proofs.lemmas.Bool.Decides.{nat_tests}
 use Rattle.std.proofs.lemmas.Int.{ints}
+use Rattle.std.proofs.lemmas.Bool.{cases_Bool, not-false}
 use Rattle.events.specs.Event.{place_of_seller, train_moved}
 use Rattle.events.specs.RuleCodes.{code_of_train_rule}
 use Rattle.events.specs.declared.event.Event.{Event}
@@ -12,12 +13,11 @@ use Rattle.events.specs.declared.event.TrainSeller.{TrainSeller}
 use Rattle.events.specs.declared.event.TrainSeller.TheVariants as seller
 use Rattle.events.specs.declared.ruling.TrainRule.TheVariants.{NotOnSale}
 use Rattle.totals.proofs.AllTrains.{trains_stay}
-use Rattle.totals.proofs.Choices.{truth}
-use Rattle.history.proofs.Rolling.{same_kind_is, sold_at_end, trains_kept}
+use Rattle.history.proofs.Rolling.{sold_at_end, trains_kept}
 use Rattle.totals.specs.LookBack.{Game, with_event}
 use Rattle.totals.specs.Trains.{IsThere, TrainsAreHeld, one_if, phase_of, train_goes, trains_at, trains_in_play}
 use Rattle.totals.specs.Trains.{trains_sold}
-use Rattle.purchases.proofs.TrainLemmas.{may_buy, so}
+use Rattle.purchases.proofs.TrainLemmas.{may_buy}
 use Rattle.purchases.proofs.Complete.{Alike, alike_closed, alike_discarded, alike_on, alike_phase, alike_rusted}
 use Rattle.purchases.proofs.Complete.{as_many, there_is}
 use Rattle.purchases.proofs.Held.{bought_held, purchase_held}
@@ -35,14 +35,15 @@ use Rattle.tables.specs.Train.{kinds, index_of_kind, rusting_of, same_kind, trai
 use Rattle.tables.specs.declared.rolling_stock.Kind.{Kind}
 use Rattle.tables.specs.declared.rolling_stock.Kind.TheVariants.{Two, Three, Four, Five, Six, Diesel}
 use Rattle.tables.specs.declared.roster.Company.{Company}
+use Rattle.tables.proofs.TrainKinds.{kind_is}
 
 one_alike : (new kind other : Kind) → rusts_at (rusting_of kind) new ≡ false → (game : Game)
     → Alike kind game (with_kind_rusted_at new game other)
 one_alike new kind other stays game =
-    elim (truth (same_kind other kind)) [
+    elim (cases_Bool (same_kind other kind)) [
       | inl same ↦
           let none : rusts_at (rusting_of other) new ≡ false =
-          ap (λ (k : Kind). rusts_at (rusting_of k) new) (same_kind_is other kind same) ∙ stays in
+          ap (λ (k : Kind). rusts_at (rusting_of k) new) (kind_is other kind same) ∙ stays in
           subst (λ (b : Bool). Alike kind game (if b then with_kind_rusted game other else game)) (sym none)
           ((alike_on kind).same game)
       | inr apart ↦ of_choice (Alike kind) (rusts_at (rusting_of other) new) game (with_kind_rusted game other) game
@@ -74,13 +75,13 @@ phase_alike game phase kind stays =
 rusts_now : (game : Game) (phase kind : Kind) → rusts_at (rusting_of kind) phase ≡ true → TrainsAreHeld game.events
     → trains_in_play (with_rusted phase game).events kind ≡ pos 0
 rusts_now game phase Two rusts held =
-    subst (λ (p : Kind). trains_in_play (with_rusted p game).events Two ≡ pos 0) (same_kind_is Four phase rusts)
+    subst (λ (p : Kind). trains_in_play (with_rusted p game).events Two ≡ pos 0) (kind_is Four phase rusts)
     (none_in_play Two game (λ owner. held.held owner Two))
 rusts_now game phase Three rusts held =
-    subst (λ (p : Kind). trains_in_play (with_rusted p game).events Three ≡ pos 0) (same_kind_is Six phase rusts)
+    subst (λ (p : Kind). trains_in_play (with_rusted p game).events Three ≡ pos 0) (kind_is Six phase rusts)
     (none_in_play Three game (λ owner. held.held owner Three))
 rusts_now game phase Four rusts held =
-    subst (λ (p : Kind). trains_in_play (with_rusted p game).events Four ≡ pos 0) (same_kind_is Diesel phase rusts)
+    subst (λ (p : Kind). trains_in_play (with_rusted p game).events Four ≡ pos 0) (kind_is Diesel phase rusts)
     (none_in_play Four game (λ owner. held.held owner Four))
 rusts_now game phase Five rusts held = absurd (cc)
 rusts_now game phase Six rusts held = absurd (cc)
@@ -144,7 +145,7 @@ record IsFair (game : Game) (buyer : Company) (purchase : TrainPurchase) : Type 
 -- it is on sale
 on_sale : (game : Game) (buyer : Company) (purchase : TrainPurchase) → IsFair game buyer purchase
     → is_on_sale game.events purchase.from purchase.kind ≡ true
-on_sale game buyer purchase fair = so (is_on_sale game.events purchase.from purchase.kind)
+on_sale game buyer purchase fair = not-false (is_on_sale game.events purchase.from purchase.kind)
     (not_broken code_of_train_rule (train_purchase_rules game buyer purchase) fair.none NotOnSale)
 
 -- at the bank, where the bank sells it
@@ -202,8 +203,8 @@ in_order_then game buyer purchase fair earlier later number there numbered befor
 not_now : (phase : Kind) (rusting : Option Kind) → has_come phase rusting ≡ false → rusts_at rusting phase ≡ false
 not_now phase None stays = refl
 not_now phase (Some kind) stays =
-    elim (truth (same_kind kind phase)) [
-      | inl same ↦ absurd (let is = ap index_of_kind (same_kind_is kind phase same) in let later : index_of_kind phase
+    elim (cases_Bool (same_kind kind phase)) [
+      | inl same ↦ absurd (let is = ap index_of_kind (kind_is kind phase same) in let later : index_of_kind phase
           < index_of_kind kind = grind (arith, nat_tests, stays) in omega arith)
       | inr apart ↦ apart
     ]
@@ -305,9 +306,9 @@ one_more game buyer purchase bank = one_by (purchase.from) purchase.kind buyer b
 -- a kind that rusts is early, and earlier than the one that rusts it
 rusts_early : (phase kind : Kind) → rusts_at (rusting_of kind) phase ≡ true
     → (index_of_kind kind < 4) × (index_of_kind kind < index_of_kind phase)
-rusts_early phase Two rusts = (omega arith, omega (arith, ap index_of_kind (same_kind_is Four phase rusts)))
-rusts_early phase Three rusts = (omega arith, omega (arith, ap index_of_kind (same_kind_is Six phase rusts)))
-rusts_early phase Four rusts = (omega arith, omega (arith, ap index_of_kind (same_kind_is Diesel phase rusts)))
+rusts_early phase Two rusts = (omega arith, omega (arith, ap index_of_kind (kind_is Four phase rusts)))
+rusts_early phase Three rusts = (omega arith, omega (arith, ap index_of_kind (kind_is Six phase rusts)))
+rusts_early phase Four rusts = (omega arith, omega (arith, ap index_of_kind (kind_is Diesel phase rusts)))
 rusts_early phase Five rusts = absurd (cc)
 rusts_early phase Six rusts = absurd (cc)
 rusts_early phase Diesel rusts = absurd (cc)
@@ -335,7 +336,7 @@ new_phase game buyer purchase begins fair =
       after = λ one number has gone.
           let gone_now : has_come kind (rusting_of one) ≡ true =
           ap (λ (p : Kind). has_come p (rusting_of one)) (sym phase) ∙ gone in
-          elim (truth (rusts_at (rusting_of one) kind)) [
+          elim (cases_Bool (rusts_at (rusting_of one) kind)) [
             | inl rusts ↦
                 let early = rusts_early kind one rusts in
                 let whole = in_order_then game buyer purchase fair one kind number has early.0 early.1

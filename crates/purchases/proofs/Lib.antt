@@ -9,6 +9,7 @@ pub mod Complete
 pub mod Held
 pub mod Sales
 pub mod Fleet
+pub mod TrainsAlike
 pub mod Still
 pub mod PrivateLemmas
 pub mod ClosedPrivates

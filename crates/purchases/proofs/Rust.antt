@@ -1,16 +1,17 @@
 -- Once the trains of a kind have rusted none is in play.
 use Rattle.std.proofs.Common.{◌≡◌, ℕ, zero, suc, inl, inr, Bool, true, false, ◌&&◌, List, [], ◌∷◌, Option, Some, None}
-use Rattle.std.proofs.Common.{ℤ, pos, negsuc, ◌≤ℤ◌, ◌-ℤ◌, refl, sym, ap, subst, ◌∙◌, arith}
+use Rattle.std.proofs.Common.{ℤ, pos, ◌≤ℤ◌, ◌-ℤ◌, refl, sym, ap, subst, ◌∙◌, arith}
 use Rattle.std.proofs.lemmas.Int.{ints}
 use Rattle.std.specs.List.{fold}
+use Rattle.std.proofs.lemmas.Bool.{cases_Bool}
 use Rattle.events.specs.Event.{train_owner_place, train_moved}
 use Rattle.events.specs.declared.event.Event.TheVariants as event
-use Rattle.totals.proofs.Choices.{truth}
 use Rattle.totals.proofs.EventAtEnd.{trains_at_end}
 use Rattle.history.proofs.Rolling.{same_train_place_is}
 use Rattle.totals.specs.LookBack.{Game}
 use Rattle.totals.specs.Trains.{one_if, same_train_place, at_least_zero, train_comes, train_goes, trains_at}
 use Rattle.totals.specs.Trains.{trains_held, trains_in_play}
+use Rattle.totals.proofs.Choices.{at_least_zero_is}
 use Rattle.purchases.proofs.PhaseLemmas.{one_less}
 use Rattle.purchases.specs.Phases.{with_company_rusted, with_kind_rusted, with_one_rusted, with_trains_rusted}
 use Rattle.tables.specs.Roster.{companies}
@@ -71,11 +72,6 @@ so_many_less kind owner (suc n) game =
           owner n game,
     )
 
--- a count that is not under 0
-so_many_back : (count : ℤ) → pos 0 ≤ℤ count → pos (at_least_zero count) ≡ count
-so_many_back (pos n) low = refl
-so_many_back (negsuc n) low = absurd (omega (arith, ints, low))
-
 -- all of a stable rust
 pub all_go : (kind : Kind) (owner : Option Company) (game : Game) → pos 0 ≤ℤ has kind owner game
     → has kind owner (with_trains_rusted owner kind game) ≡ pos 0
@@ -84,7 +80,7 @@ all_go kind owner game low =
       arith,
       ints,
       so_many_less kind owner (at_least_zero (has kind owner game)) game,
-      so_many_back
+      at_least_zero_is
           (has kind owner game) low,
     )
 
@@ -94,7 +90,7 @@ pub by_train_owner : (P : ℤ → Type 0) (kind : Kind) (owner other : Option Co
     → P (has kind owner (with_trains_rusted owner kind game))) → P (has kind other game)
     → P (has kind other (with_trains_rusted owner kind game))
 by_train_owner P kind owner other game here kept =
-    elim (truth (same_train_place (train_owner_place owner) (train_owner_place other))) [
+    elim (cases_Bool (same_train_place (train_owner_place owner) (train_owner_place other))) [
       | inl same ↦
           subst (λ place. P (trains_at (with_trains_rusted owner kind game).events place kind))
           (same_train_place_is (train_owner_place owner) (train_owner_place other) same) (here same)

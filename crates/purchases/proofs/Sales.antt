@@ -4,7 +4,7 @@ use Rattle.std.proofs.Common.{◌≡◌, ◌⊎◌, ℕ, ◌+◌, ◌<◌, ◌�
 use Rattle.std.proofs.Common.{if◌then◌else◌, List, Option, Some, None, refl, sym, ap, subst, ◌∙◌, arith}
 use Rattle.std.proofs.lemmas.Bool.Decides.{Decides-eqb, nat_tests}
 use Rattle.std.proofs.lemmas.Int.{ints}
-use Rattle.std.proofs.lemmas.Bool.{and_parts, or_cases}
+use Rattle.std.proofs.lemmas.Bool.{and_parts, or_cases, cases_Bool}
 use Rattle.std.proofs.Math.Bool.{and-false}
 use Rattle.events.specs.Event.{place_of_seller}
 use Rattle.events.specs.declared.event.Event.{Event}
@@ -13,9 +13,8 @@ use Rattle.events.specs.declared.event.TrainMove.{TrainMove}
 use Rattle.events.specs.declared.event.TrainPlace.TheVariants as place
 use Rattle.events.specs.declared.event.TrainSeller.{TrainSeller}
 use Rattle.events.specs.declared.event.TrainSeller.TheVariants as seller
-use Rattle.totals.proofs.Choices.{truth}
 use Rattle.totals.proofs.EventAtEnd.{trains_at_end}
-use Rattle.history.proofs.Rolling.{same_kind_is, sold_at_end}
+use Rattle.history.proofs.Rolling.{sold_at_end}
 use Rattle.totals.specs.LookBack.{Game, with_event}
 use Rattle.totals.specs.Trains.{TrainsAreHeld, one_if, train_goes, trains_at, trains_sold}
 use Rattle.purchases.proofs.Complete.{Alike, alike_closed, alike_on, alike_traded}
@@ -28,6 +27,7 @@ use Rattle.tables.specs.Train.{index_of_kind, same_kind, trains_of}
 use Rattle.tables.specs.declared.rolling_stock.Kind.{Kind}
 use Rattle.tables.specs.declared.rolling_stock.Kind.TheVariants.{Two, Three, Four, Five, Six, Diesel}
 use Rattle.tables.specs.declared.roster.Company.{Company}
+use Rattle.tables.proofs.TrainKinds.{kind_is}
 
 -- the train that is bought, as it moves
 abbrev pub sale_of : Company → TrainPurchase → TrainMove
@@ -84,8 +84,8 @@ by_seller : (from : TrainSeller) (of kind : Kind) (buyer : Company)
     (train_goes place.Bank kind (Some (record { kind = of; from = place_of_seller from; to = place.Company buyer })))
     ≡ 1)))
 by_seller seller.Bank of kind buyer =
-    elim (truth (same_kind of kind)) [
-      | inl same ↦ inr (refl, (same_kind_is of kind same, ap (λ (b : Bool). one_if (b && true)) same))
+    elim (cases_Bool (same_kind of kind)) [
+      | inl same ↦ inr (refl, (kind_is of kind same, ap (λ (b : Bool). one_if (b && true)) same))
       | inr apart ↦ inl (ap (λ (b : Bool). one_if (b && true)) apart)
     ]
 by_seller seller.BankPool of kind buyer = inl (ap one_if (and-false (same_kind of kind)))

@@ -2,7 +2,7 @@
 -- pay for it, and it has what it trades in. So the game can be played on once it is made.
 use Rattle.std.proofs.Common.{◌≡◌, ℕ, ◌<◌, inl, inr, Bool, true, false, not, ◌&&◌, nat_lt, if◌then◌else◌}
 use Rattle.std.proofs.Common.{List, [], ◌∷◌, ◌++◌, Option, Some, None, ℤ, pos, ◌≤ℤ◌, refl, sym, ap, subst, ◌∙◌, arith}
-use Rattle.std.proofs.lemmas.Bool.{and_parts, or_cases, or_parts}
+use Rattle.std.proofs.lemmas.Bool.{and_parts, or_cases, or_parts, not-false}
 use Rattle.std.proofs.lemmas.Bool.Decides.{nat_tests}
 use Rattle.std.proofs.lemmas.Int.{ints}
 use Rattle.std.specs.Int.Signed.{lt_z}
@@ -16,7 +16,7 @@ use Rattle.events.specs.declared.event.TrainSeller.{TrainSeller}
 use Rattle.events.specs.declared.event.TrainSeller.TheVariants as seller
 use Rattle.events.specs.declared.ruling.TrainRule.TheVariants as rule
 use Rattle.totals.proofs.EventAtEnd.{cash_of_before, trains_at_end}
-use Rattle.history.proofs.Rolling.{same_kind_is, sold_at_end}
+use Rattle.history.proofs.Rolling.{sold_at_end}
 use Rattle.history.proofs.TrainActs.{trade_sound, train_purchase_sound}
 use Rattle.totals.specs.LookBack.{Game, cash_of, with_event}
 use Rattle.history.specs.Sound.{IsSound}
@@ -32,11 +32,7 @@ use Rattle.tables.specs.Train.{same_kind, trains_of}
 use Rattle.tables.specs.declared.rolling_stock.Kind.{Kind}
 use Rattle.tables.specs.declared.rolling_stock.Kind.TheVariants.{Six, Diesel}
 use Rattle.tables.specs.declared.roster.Company.{Company}
-
--- what is not so is so where its contrary is not
-pub so : (test : Bool) → not test ≡ false → test ≡ true
-so true kept = refl
-so false kept = absurd (cc)
+use Rattle.tables.proofs.TrainKinds.{kind_is}
 
 -- the first kind that is left is left
 first_is_left : (events : List Event) (some : List Kind) (kind : Kind)
@@ -45,7 +41,7 @@ first_is_left events [] kind named = absurd (cc)
 first_is_left events (first ∷ others) kind named =
     elim (is_left events first) as (λ (b : Bool). is_left events first ≡ b
     → is_kind (if b then Some first else first_left_of events others) kind ≡ true → is_left events kind ≡ true) [
-      | true ↦ λ left is. subst (λ (k : Kind). is_left events k ≡ true) (same_kind_is first kind is) left
+      | true ↦ λ left is. subst (λ (k : Kind). is_left events k ≡ true) (kind_is first kind is) left
       | false ↦ λ none is. first_is_left events others kind is
     ]
     refl named
@@ -60,7 +56,7 @@ fewer_sold (Some m) sold n left is =
 -- a D has no number
 no_number : (kind : Kind) (n : ℕ) → same_kind kind Diesel ≡ true → (trains_of kind).number ≡ Some n → ⊥
 no_number kind n same is =
-    let none : None ≡ Some n = sym (ap (λ (k : Kind). (trains_of k).number) (same_kind_is kind Diesel same))
+    let none : None ≡ Some n = sym (ap (λ (k : Kind). (trains_of k).number) (kind_is kind Diesel same))
     ∙ is in absurd (cc)
 
 -- what is on sale is there
@@ -77,7 +73,7 @@ on_sale_there events buyer seller.Bank kind on has = λ n number.
     ]
 on_sale_there events buyer seller.BankPool kind on has = grind (arith, ints, on)
 on_sale_there events buyer (seller.Company company) kind on has =
-    let held = so (has_train events company kind) (or_parts (not (has_train events company kind))
+    let held = not-false (has_train events company kind) (or_parts (not (has_train events company kind))
     (same_company buyer company) has).0 in
     grind (arith, ints, held)
 
@@ -89,7 +85,7 @@ traded_is_held events company kind None old kept is = absurd (cc)
 traded_is_held events company kind (Some one) old kept is =
     let same : one ≡ old = cc in
     let held : Bool = lt_z (pos 0) (trains_held events (Some company) one) in
-    let may = and_parts (same_kind kind Diesel) (may_be_traded one && held) (so (may_trade events company kind one) kept) in
+    let may = and_parts (same_kind kind Diesel) (may_be_traded one && held) (not-false (may_trade events company kind one) kept) in
     let has = (and_parts (may_be_traded one) held may.1).1 in
     subst (λ (k : Kind). pos 1 ≤ℤ trains_held events (Some company) k) same (grind (arith, ints, has))
 
@@ -124,7 +120,7 @@ may_buy game company purchase none =
     let kept = not_broken code_of_train_rule (train_purchase_rules game company purchase) none in
     record {
       there = on_sale_there game.events company purchase.from purchase.kind
-          (so (is_on_sale game.events purchase.from purchase.kind) (kept rule.NotOnSale)) (kept rule.NotSellers);
+          (not-false (is_on_sale game.events purchase.from purchase.kind) (kept rule.NotOnSale)) (kept rule.NotSellers);
       another = is_another game.events company purchase.from purchase.kind (kept rule.NotSellers);
       pays = not_less (cash_of game.seats game.events (party_of_company company)) (pos (train_purchase_cost purchase))
           (kept rule.CashTooSmall);

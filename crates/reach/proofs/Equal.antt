@@ -1,6 +1,6 @@
 -- The comparisons of stops and links are exact.
-use Rattle.std.proofs.Common.{◌≡◌, Bool, true, false, ◌&&◌, refl, ap, sym, ◌∙◌}
-use Rattle.std.proofs.lemmas.Bool.{and_from}
+use Rattle.std.proofs.Common.{◌≡◌, Bool, true, ◌&&◌, refl, ap, sym, ◌∙◌}
+use Rattle.std.proofs.lemmas.Bool.{and_from, and_parts}
 use denote.Enum.Bare.{sameb, same_true, true_same}
 use Rattle.map_tables.specs.contracts.hex.Hex.{the_type as hex_type}
 use Rattle.map_tables.specs.contracts.place.StopNumber.{the_type as number_type}
@@ -14,16 +14,11 @@ use Rattle.map_tables.specs.declared.track.TrackEnd.{TrackEnd}
 use Rattle.map_tables.specs.declared.track.TrackEnd.TheVariants.{Side as AtSide, Stop as AtStop}
 use Rattle.map_tables.specs.declared.track.Link.{Link}
 
--- two tests
-both : (x y : Bool) → (x && y) ≡ true → (x ≡ true) × (y ≡ true)
-both true y h = (refl, h)
-both false y h = cc
-
 -- stops that compare alike are one
 pub same_stop : (a b : Stop) → (sameb hex_type a.hex b.hex && sameb number_type a.number b.number) ≡ true → a ≡ b
 same_stop a b alike =
     let parts : (sameb hex_type a.hex b.hex ≡ true) × (sameb number_type a.number b.number ≡ true) =
-    both (sameb hex_type a.hex b.hex) (sameb number_type a.number b.number) alike
+    and_parts (sameb hex_type a.hex b.hex) (sameb number_type a.number b.number) alike
     in ap (λ (h : Hex). let s : Stop = record { hex = h; number = a.number } in s)
     (same_true hex_type tt a.hex b.hex parts.0)
     ∙ ap (λ (n : StopNumber). let s : Stop = record { hex = b.hex; number = n } in s)
@@ -57,8 +52,8 @@ same_link a b alike =
     let hex : Bool = sameb hex_type a.hex b.hex in
     let first : Bool = end_ghosts.eq a.a b.a in
     let second : Bool = end_ghosts.eq a.b b.b in
-    let ends : (hex ≡ true) × ((first && second) ≡ true) = both hex (first && second) alike in
-    let each : (first ≡ true) × (second ≡ true) = both first second ends.1 in
+    let ends : (hex ≡ true) × ((first && second) ≡ true) = and_parts hex (first && second) alike in
+    let each : (first ≡ true) × (second ≡ true) = and_parts first second ends.1 in
     ap (λ (h : Hex). let l : Link = record { hex = h; a = a.a; b = a.b } in l)
     (same_true hex_type tt a.hex b.hex ends.0)
     ∙ (ap (λ (e : TrackEnd). let l : Link = record { hex = b.hex; a = e; b = a.b } in l) (same_end a.a b.a each.0)

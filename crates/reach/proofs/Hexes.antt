@@ -1,5 +1,5 @@
 -- The numbers of hexes: each hex has its own, under 93.
-use Rattle.std.proofs.Common.{◌≡◌, ◌<◌, get_or, refl, ap, sym, ◌∙◌, lit<}
+use Rattle.std.proofs.Common.{◌≡◌, ◌<◌, get_or, refl, ap, sym, ◌∙◌, lit<, length}
 use Rattle.map_tables.proofs.HexTables.{hex_at_index}
 use Rattle.map_tables.specs.Hex.{hexes, index_of, site_of}
 use Rattle.map_tables.specs.Place.{joined_hex, joined_stop_of, stop_index_of}
@@ -15,6 +15,12 @@ use Rattle.map_tables.specs.declared.side.Side.TheVariants.{SouthWest}
 -- hexes with one number are one
 pub same_index : (a b : Hex) → index_of a ≡ index_of b → a ≡ b
 same_index a b same = sym (hex_at_index a) ∙ ap (λ n. get_or hexes n A9) same ∙ hex_at_index b
+
+-- each number is that of a hex
+pub index_in : (hex : Hex) → index_of hex < length hexes
+unfolding hexes index_of site_of
+index_in A9 = lit< tt
+index_in hex = lit< tt
 
 -- each number is under 93
 pub index_low : (hex : Hex) → index_of hex < 93

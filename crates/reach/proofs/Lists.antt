@@ -1,9 +1,10 @@
 -- What is among a list, and lists in order, with one more element at the end.
-use Rattle.std.proofs.Common.{◌≡◌, ℕ, zero, suc, ◌+◌, ◌<◌, List, [], ◌∷◌, ◌++◌, ◌⊎◌, inl, inr, Bool, true, false, ◌||◌}
+use Rattle.std.proofs.Common.{◌≡◌, ℕ, zero, suc, ◌+◌, ◌<◌, List, [], ◌∷◌, ◌++◌, ◌⊎◌, inl, inr, Bool, true, ◌||◌}
 use Rattle.std.proofs.Common.{length, get_or, take, refl, ap, sym, ◌∙◌, subst, arith}
 use Rattle.std.specs.List.{AllByRecursion, list_any}
 use Rattle.std.proofs.lemmas.List.{take_more}
 use Rattle.std.proofs.Math.Bool.{or-true}
+use Rattle.std.proofs.lemmas.Bool.{or_cases}
 use Rattle.reach.specs.Position.{IsAmong}
 use Rattle.reach.specs.Reached.{AreSortedBy}
 
@@ -53,17 +54,12 @@ order_push order [] x in_order below = (tt, tt)
 order_push order (y ∷ ys) x in_order below =
     (all_push (λ z. order y < order z) ys x in_order.0 below.0, order_push order ys x in_order.1 below.1)
 
--- what a test and a rest give
-first_or_later : (first later : Bool) → (first || later) ≡ true → (first ≡ true) ⊎ (later ≡ true)
-first_or_later true later found = inl refl
-first_or_later false later found = inr found
-
 -- what a search by an exact test finds is among the list
 pub among_found : {A : Type 0} (same : A → A → Bool) → ((a b : A) → same a b ≡ true → a ≡ b) → (xs : List A) (x : A)
     → list_any (λ y. same y x) xs ≡ true → IsAmong x xs
 among_found same exact [] x found = cc
 among_found same exact (y ∷ ys) x found =
-    elim (first_or_later (same y x) (list_any (λ z. same z x) ys) found) [
+    elim (or_cases (same y x) (list_any (λ z. same z x) ys) found) [
       | inl here ↦ inl (exact y x here)
       | inr later ↦ inr (among_found same exact ys x later)
     ]

@@ -1,11 +1,11 @@
 -- Stops as marks, and lists of stops in order.
-use Rattle.std.proofs.Common.{◌≡◌, ℕ, zero, suc, ◌<◌, Bool, true, false, ◌⊎◌, inl, inr, List, [], ◌∷◌, ◌++◌, length}
-use Rattle.std.proofs.Common.{get_or, set, replicate, refl, ap, sym, ◌∙◌, subst, arith, get_or-set_same, length-set}
+use Rattle.std.proofs.Common.{◌≡◌, ℕ, zero, suc, Bool, true, false, inl, inr, List, [], ◌∷◌, ◌++◌, length}
+use Rattle.std.proofs.Common.{get_or, set, replicate, refl, ap, ◌∙◌, subst, arith, get_or-set_same, length-set}
 use Rattle.std.proofs.lemmas.List.{length-replicate}
 use Rattle.std.specs.List.{AllByRecursion}
 use Rattle.map_tables.specs.declared.place.Stop.{Stop}
 use Rattle.reach.specs.Position.{IsAmong}
-use Rattle.reach.specs.Reached.{AreSortedBy, stop_order}
+use Rattle.reach.specs.Reached.{stop_order}
 use Rattle.reach.specs.Stops.{marks_of}
 use Rattle.reach.proofs.Collected.{none_marked}
 use Rattle.reach.proofs.Marking.{set_cases, set_keeps}
@@ -31,12 +31,6 @@ marks_push [] stop = refl
 marks_push (first ∷ stops) stop =
     ap (λ marks. set marks (stop_order first) true) (marks_push stops stop)
     ∙ set_either (marks_of stops) (stop_order stop) (stop_order first)
-
--- a mark that is made and taken away
-set_back : (marks : List Bool) (n : ℕ) → set (set marks n true) n false ≡ set marks n false
-set_back [] n = refl
-set_back (mark ∷ marks) zero = refl
-set_back (mark ∷ marks) (suc n) = ap (λ rest. mark ∷ rest) (set_back marks n)
 
 -- a stop is marked if it is one of them
 pub among_mark : (stops : List Stop) (stop : Stop) → get_or (marks_of stops) (stop_order stop) false ≡ true
@@ -66,45 +60,3 @@ pub all_each : {A : Type 0} (P : A → Type 0) (things : List A) (thing : A) →
 all_each P [] thing all among = absurd among
 all_each P (first ∷ things) thing all (inl same) = subst P same all.0
 all_each P (first ∷ things) thing all (inr later) = all_each P things thing all.1 later
-
--- two stops, each of which is the other, or comes after it
-first_same : (stop other : Stop) → (other ≡ stop) ⊎ (stop_order other < stop_order stop)
-    → (stop ≡ other) ⊎ (stop_order stop < stop_order other) → stop ≡ other
-first_same stop other (inl same) back = sym same
-first_same stop other (inr before) (inl same) = same
-first_same stop other (inr before) (inr after) = absurd (omega arith)
-
--- a stop among some in order is the first, or comes after it
-place_in : (first : Stop) (stops : List Stop) (stop : Stop) → AreSortedBy stop_order (first ∷ stops)
-    → IsAmong stop (first ∷ stops) → (first ≡ stop) ⊎ (stop_order first < stop_order stop)
-place_in first stops stop in_order (inl same) = inl same
-place_in first stops stop in_order (inr later) =
-    inr (all_each (λ other. stop_order first < stop_order other) stops stop in_order.0 later)
-
--- a stop that comes after the first is one of the others
-is_later : (first : Stop) (stops : List Stop) (stop : Stop) → stop_order first < stop_order stop
-    → IsAmong stop (first ∷ stops) → IsAmong stop stops
-is_later first stops stop after (inl same) = absurd (omega (arith, ap stop_order same))
-is_later first stops stop after (inr later) = later
-
--- in order there is one list of the same stops
-pub same_list : (stops others : List Stop) → AreSortedBy stop_order stops → AreSortedBy stop_order others
-    → ((stop : Stop) → IsAmong stop stops → IsAmong stop others)
-    → ((stop : Stop) → IsAmong stop others → IsAmong stop stops) → stops ≡ others
-same_list [] [] in_order also there back = refl
-same_list [] (other ∷ others) in_order also there back = absurd (back other (inl refl))
-same_list (stop ∷ stops) [] in_order also there back = absurd (there stop (inl refl))
-same_list (stop ∷ stops) (other ∷ others) in_order also there back =
-    let same : stop ≡ other =
-    first_same stop other (place_in other others stop also (there stop (inl refl)))
-    (place_in stop stops other in_order (back other (inl refl))) in
-    let order : stop_order stop ≡ stop_order other = ap stop_order same in
-    let rest : stops ≡ others =
-    same_list stops others in_order.1 also.1
-    (λ one among. is_later other others one
-    (subst (λ n. n < stop_order one) order (all_each (λ s. stop_order stop < stop_order s) stops one in_order.0
-    among)) (there one (inr among)))
-    (λ one among. is_later stop stops one
-    (subst (λ n. n < stop_order one) (sym order) (all_each (λ s. stop_order other < stop_order s) others one also.0
-    among)) (back one (inr among)))
-    in ap (λ s. s ∷ stops) same ∙ ap (λ ls. other ∷ ls) rest

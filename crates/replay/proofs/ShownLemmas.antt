@@ -25,13 +25,6 @@ alive page part from to above below =
     let last : nat_le page to ≡ true = grind (arith, nat_tests) in
     rw (first, last) refl
 
--- and not before
-not_yet : (page : ℕ) (part : Part) (from to : ℕ) → page < from
-    → text_in page (record { part = part; from = from; to = to }) ≡ []
-not_yet page part from to before =
-    let first : nat_le from page ≡ false = grind (arith, nat_tests) in
-    rw first refl
-
 -- a choice by a test that fails
 neither : (b c : Bool) (x : List (List ℕ)) → c ≡ false → (if b && c then x else []) ≡ []
 neither true c x h = rw h refl

@@ -16,6 +16,7 @@ use Rattle.sheets.specs.File.{unread_of}
 use Rattle.tables.specs.Round.{is_before, same_round}
 use Rattle.tables.specs.declared.round.Round.{Round}
 use Rattle.tables.specs.declared.round.Round.TheVariants.{Opening, Stock, Operating}
+use Rattle.tables.proofs.Tests.{none_by_is_some}
 
 -- the rounds that these begin, in order
 abbrev rounds_of : List (List Event) → List Round
@@ -128,15 +129,10 @@ first_begins : (events : List Event) → FirstBegins (round_begun events) (round
 first_begins [] = tt
 first_begins (event ∷ events) = first_of_rounds_begins event (ends_round events) (rounds_in events)
 
--- nothing is there where nothing is found
-none_found : (one : Option Round) → is_some one ≡ false → one ≡ None
-none_found None goes = refl
-none_found (Some round) goes = absurd cc
-
 -- where no later round begins, these begin none
 none_begun : (events : List Event) → ends_round events ≡ false → round_begun events ≡ None
 none_begun [] goes = refl
-none_begun (event ∷ events) goes = none_found (round_begun_by event) goes
+none_begun (event ∷ events) goes = none_by_is_some (round_begun_by event) goes
 
 -- an event before rounds begins its round before them
 one_begun : (event : Event) (ended : Bool) (rounds : List (List Event)) (first : Option Round)

@@ -1,9 +1,9 @@
 -- What holds after each round of each game: those who bid sit at the table and bids rise, a private
 -- that is closed has no owner, sellers have agreed, and trains and tiles are all there.
 use Rattle.std.proofs.Common.{◌≡◌, ℕ, ◌<◌, Bool, true, false, nat_lt, List, [], ◌∷◌, ◌++◌, Option}
-use Rattle.std.proofs.Common.{Some, None, refl, sym, ◌∙◌, if◌then◌else◌, ◌||◌, is_none}
+use Rattle.std.proofs.Common.{None, refl, sym, ◌∙◌, if◌then◌else◌, ◌||◌, is_none}
 use Rattle.std.proofs.Common.{length, ap, subst, arith, ◌≤◌}
-use Rattle.std.proofs.lemmas.Bool.{and_parts}
+use Rattle.std.proofs.lemmas.Bool.{and_parts, ltb-true}
 use Rattle.events.specs.Event.{bidding_of}
 use Rattle.events.specs.declared.event.Event.{Event}
 use Rattle.events.specs.declared.event.Event.TheVariants as event
@@ -12,7 +12,7 @@ use Rattle.history.proofs.BidWords.{seated_after_bid, sale_cases}
 use Rattle.totals.specs.Bids.{bid_of}
 use Rattle.totals.specs.LookBack.{Game, is_closed, is_sold}
 use Rattle.history.specs.Sound.{BiddersAreSeated}
-use Rattle.privates.proofs.RulesAtTable.{by_rules, is_under, rules_at}
+use Rattle.privates.proofs.RulesAtTable.{by_rules, rules_at}
 use Rattle.privates.specs.Opening.{IsOpeningRound}
 use Rattle.privates.specs.Standing.{opening_standing_ruling}
 use Rattle.privates.specs.Turn.{InOpeningTurn, after_opening_line}
@@ -49,6 +49,7 @@ use Rattle.purchases.specs.TrainLaws.{OthersKeepStanding}
 use Rattle.operating.specs.TrainLaws.{PhasesGoOnInTurns, TurnsKeepAll}
 use Rattle.rounds.specs.Trains.{PhasesGoOnInRounds, AllTrainsAreThereInEachGame}
 use Rattle.tables.specs.Train.{index_of_kind}
+use Rattle.tables.proofs.Tests.{none_by_is_none}
 use Rattle.operating.specs.TileLaws.{OthersKeepTiles, TilesAreAll, TilesAreAllAtFirst}
 use Rattle.operating.specs.TileLaws.{TurnsKeepTiles}
 use Rattle.rounds.specs.Tiles.{AllTilesAreThereInEachGame}
@@ -109,7 +110,7 @@ opening_seated file round old new played some seated =
       standing = λ seat events line. others_seated seats events
           (event.Ruled seat line.number (opening_standing_ruling events line)) refl;
       line = λ any seat turn line. tested_line seats seat turn line (nat_lt seat.0 seats)
-          (λ under. is_under seat.0 seats under);
+          (λ under. ltb-true seat.0 seats under);
       passes = λ events seat. others_seated seats events (event.Passes seat) refl;
       closed = λ any events. of_close (AtTable seats) AnyPrivate (StillSeated seats) (opening_parts
           seats) seats events;
@@ -179,10 +180,6 @@ sellers_agree others turns =
 abbrev no_bid : Event → Bool
 no_bid its = is_none (bidding_of its)
 
-nothing_found : {X : Type 0} (found : Option X) → is_none found ≡ true → found ≡ None
-nothing_found None none = refl
-nothing_found (Some x) none = absurd (cc)
-
 -- so bids still rise with it
 still_rise : (events : List Event) (its : Event) → bidding_of its ≡ None → BidsRise events →
     BidsRise (events ++ its ∷ [])
@@ -222,7 +219,7 @@ rises_on turns seats =
           let says = turns file round company old new turn in
           over_growth no_bid (Keeps (RiseAt seats)) (λ events before. before)
           (λ a b c one two before. two (one before))
-          (λ events its none. still_so seats events its (nothing_found (bidding_of its) none))
+          (λ events its none. still_so seats events its (none_by_is_none (bidding_of its) none))
           old.events new.events
           (record {
             more = says.more;

@@ -3,7 +3,7 @@
 -- list says the same of the map, of trains, and of who has operated as before. Those of stock
 -- rounds, and of operating rounds before and after the turns of companies, also say nothing of
 -- bids, and name no owner of a private.
-use Rattle.std.proofs.Common.{◌≡◌, ℕ, zero, suc, Bool, true, false, ◌&&◌, not, if◌then◌else◌, List}
+use Rattle.std.proofs.Common.{◌≡◌, ℕ, Bool, true, false, ◌&&◌, not, if◌then◌else◌, List}
 use Rattle.std.proofs.Common.{[], ◌∷◌, ◌++◌, Option, Some, None, is_none, refl, sym, subst, ap, ◌∙◌}
 use Rattle.std.proofs.Common.{arith}
 use Rattle.std.proofs.lemmas.Bool.{and_parts}
@@ -21,7 +21,6 @@ use Rattle.purchases.specs.PrivateLaws.{names_owner}
 use Rattle.purchases.specs.SaleLaws.{sells_to_company}
 use Rattle.rounds.specs.PlainLines.{is_plain}
 use Rattle.tables.specs.Roster.{revenue_of}
-use Rattle.tables.specs.Steps.{iterate}
 use Rattle.tables.specs.declared.roster.Private.{Private}
 use Rattle.tables.specs.declared.seat.Seat.{Seat}
 
@@ -117,13 +116,6 @@ pub in_either : {test : Event → Bool} {old one other : List Event} (b : Bool) 
     GrowsBy test old other → GrowsBy test old (if b then one else other)
 in_either true first second = first
 in_either false first second = second
-
--- by each step
-pub by_steps : {test : Event → Bool} (step : List Event → List Event) →
-    ((events : List Event) → GrowsBy test events (step events)) →
-    (n : ℕ) (events : List Event) → GrowsBy test events (iterate step n events)
-by_steps step each zero events = stays
-by_steps step each (suc n) events = by_steps step each n events ⨾ each (iterate step n events)
 
 -- by one event that passes the test
 pub by_one_event : {test : Event → Bool} (events : List Event) (event : Event) → test event ≡ true →

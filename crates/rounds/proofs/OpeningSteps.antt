@@ -6,7 +6,7 @@ use Rattle.std.proofs.Common.{[], ◌∷◌, ◌++◌, Option, Some, None, rules
 use Rattle.std.proofs.Common.{arith}
 use Rattle.std.proofs.lemmas.List.{append_assoc}
 use Rattle.std.specs.List.{list_all}
-use Rattle.events.specs.Event.{IsQuiet}
+use Rattle.events.specs.Event.{IsQuiet, order_obeyed}
 use Rattle.events.specs.declared.event.Bid.{Bid}
 use Rattle.events.specs.declared.event.Event.{Event}
 use Rattle.events.specs.declared.event.Event.TheVariants as event
@@ -41,7 +41,7 @@ use Rattle.tables.specs.declared.seat.Seat.{Seat}
 use Rattle.tables.specs.declared.round.Round.{Round}
 use Rattle.turns.proofs.RoundLeads.{round_leads}
 use Rattle.turns.proofs.Ruled.{none_as_refusal, of_ruled}
-use Rattle.turns.specs.Ruling.{has_place_in_turn, obeyed_order}
+use Rattle.turns.specs.Ruling.{has_place_in_turn}
 
 -- what is to be shown so that it holds of the parts of an opening round in which these seats take
 -- turns, and these privates are sold
@@ -161,7 +161,7 @@ module _ (Sits : Seat → Type 0) (Sells : List Event → Private → Type 0) (R
   of_line rulings seats seat turn line sits =
       of_ruled (turn_after_opening_order seats seat) (opening_refusal seats turn.events seat turn.actions) seat turn line.number
       (λ (after : InOpeningTurn). R turn.events after.events)
-      (λ (ruling : Ruling) (none : obeyed_order ruling ≡ None). rulings turn.events seat line.number
+      (λ (ruling : Ruling) (none : order_obeyed ruling ≡ None). rulings turn.events seat line.number
       ruling)
       (λ (condition : Option Condition) (done : Order)
       (kept : opening_refusal seats turn.events seat turn.actions done ≡ None).

@@ -11,6 +11,7 @@ use Rattle.events.specs.declared.ruling.Refusal.{Refusal}
 use Rattle.events.specs.declared.ruling.Refusal.TheVariants as refusal
 use Rattle.events.specs.declared.ruling.Ruling.{Ruling}
 use Rattle.events.specs.declared.ruling.Ruling.TheVariants.{Refused}
+use Rattle.events.specs.Event.{order_obeyed}
 use Rattle.order_grammar.specs.declared.condition.Condition.{Condition}
 use Rattle.order_grammar.specs.declared.condition.Version.TheVariants.{One}
 use Rattle.order_grammar.specs.declared.fault.Fault.{Fault}
@@ -32,7 +33,7 @@ use Rattle.tables.specs.declared.seat.Seat.{Seat}
 use Rattle.turns.specs.RoundOfTurns.{InTurn, in_turn, IsRoundOfTurns, RoundRules}
 use Rattle.turns.specs.RoundOfTurns.{after_written_turn, after_lines, finished, left_from, opened}
 use Rattle.turns.specs.RoundOfTurns.{turns_of}
-use Rattle.turns.specs.Ruling.{after_ruling, done, judged, line_ruling, obeyed_order, placed_ruling}
+use Rattle.turns.specs.Ruling.{after_ruling, done, judged, line_ruling, placed_ruling}
 use Rattle.turns.specs.Ruling.{recorded, refusal_under, ruling_of}
 use Rattle.totals.specs.LookBack.{Game}
 use Rattle.tables.specs.Steps.{iterate}
@@ -179,7 +180,7 @@ module _ {TurnActions : Type 0} (act : InTurn TurnActions → Order → InTurn T
   ruled_plain seat turn number ruling is =
       let ruled : List Event = recorded seat number ruling turn.events in
       recorded_plain seat number ruling turn.events is ⨾ done_plain (in_turn ruled turn.actions)
-      (obeyed_order ruling)
+      (order_obeyed ruling)
 
 module _ (step : Seat → List Event → Numbered → List Event)
     (adds : (seat : Seat) (events : List Event) (line : Numbered) → IsPlain line →

@@ -2,10 +2,10 @@
 -- after the other, of each event that stands aside and of each company's turn. What is shown of
 -- opening rounds by themselves has to hold only of each event that is still. What these and a ROUND
 -- event keep, each round of a game keeps.
-use Rattle.std.proofs.Common.{rules, ◌≡◌, ℕ, Bool, true, false, ◌&&◌, not, List, [], ◌∷◌, ◌++◌}
+use Rattle.std.proofs.Common.{rules, ◌≡◌, ℕ, Bool, true, false, ◌&&◌, List, [], ◌∷◌, ◌++◌}
 use Rattle.std.proofs.Common.{Option}
 use Rattle.std.proofs.Common.{None, is_none, sym, subst, arith}
-use Rattle.std.proofs.lemmas.Bool.{and_parts}
+use Rattle.std.proofs.lemmas.Bool.{and_parts, not-true}
 use Rattle.events.specs.Event.{bidding_of, operated_by, ownership_of, phase_set, round_begun_by, tile_laid}
 use Rattle.events.specs.Event.{token_placed, train_moved}
 use Rattle.events.specs.declared.event.Event.{Event}
@@ -48,13 +48,9 @@ nothing_and : {X : Type 0} (found : Option X) (more : Bool) → (is_none found &
     (found ≡ None) × (more ≡ true)
 nothing_and found more both = grind arith
 
--- it is not so
-not_so : (test : Bool) → not test ≡ true → test ≡ false
-not_so test so = grind arith
-
 -- an event that stands aside says nothing of these
 says_nothing : (event : Event) → is_aside event ≡ true → SaysNothing event
-says_nothing event aside = search (rules, nothing_and, not_so)
+says_nothing event aside = search (rules, nothing_and, not-true)
 
 -- nor does one that is still
 pub says_still : (event : Event) → is_still event ≡ true → SaysStill event
@@ -64,7 +60,7 @@ says_still event still =
     record {
       aside = says_nothing event parts.0;
       bids = bids.0;
-      names = not_so (names_owner (ownership_of event)) bids.1;
+      names = not-true (names_owner (ownership_of event)) bids.1;
     }
 
 -- it holds between a list and itself, of one after the other, and of each event that stands aside

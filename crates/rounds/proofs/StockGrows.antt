@@ -9,6 +9,7 @@ use Rattle.events.specs.declared.event.Event.TheVariants as event
 use Rattle.events.specs.declared.ruling.Refusal.TheVariants as refusal
 use Rattle.events.specs.declared.ruling.Ruling.{Ruling}
 use Rattle.events.specs.declared.ruling.Ruling.TheVariants as ruling
+use Rattle.events.specs.Event.{order_obeyed}
 use Rattle.totals.specs.LookBack.{Game, with_event}
 use Rattle.totals.specs.Shares.{par_of, president_of, square_of}
 use Rattle.market.specs.Moves.{fallen, up_of}
@@ -41,7 +42,7 @@ use Rattle.tables.specs.declared.seat.Seat.{Seat}
 use Rattle.tables.specs.declared.squares.Square.{Square}
 use Rattle.turns.proofs.RoundLeads.{round_leads}
 use Rattle.turns.proofs.Ruled.{of_ruled}
-use Rattle.turns.specs.Ruling.{has_place_in_turn, obeyed_order}
+use Rattle.turns.specs.Ruling.{has_place_in_turn}
 
 -- by the presidency of a company, where it moves from this seat, if any has it
 successor_grows : (game : Game) (company : Company) (old : Option Seat) →
@@ -117,7 +118,7 @@ line_grows : (seats : ℕ) (seat : Seat) (turn : InStockTurn) (line : Numbered) 
 line_grows seats seat turn line =
     of_ruled (turn_after_stock_order seats seat) (stock_refusal (game_in seats turn) seat turn.actions.bought) seat turn line.number
     (λ (after : InStockTurn). GrowsStill turn.events after.events)
-    (λ (ruled : Ruling) (none : obeyed_order ruled ≡ None).
+    (λ (ruled : Ruling) (none : order_obeyed ruled ≡ None).
     by_one_event turn.events (event.Ruled seat line.number ruled) refl)
     (λ (condition : Option Condition) (done : Order)
     (kept : stock_refusal (game_in seats turn) seat turn.actions.bought done ≡ None).

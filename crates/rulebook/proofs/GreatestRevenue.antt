@@ -7,7 +7,6 @@
 use Rattle.std.proofs.Common.{◌≡◌, ◌∙◌, ap, sym, subst, refl, ◌<◌, ◌≤◌, lit<, lit≤, get_or, Bool, true, false}
 use Rattle.std.proofs.Common.{List, [], ◌∷◌, Some, None, ◌⊎◌, inl, inr, map, codes}
 use Rattle.std.proofs.lemmas.List.{get_or-map}
-use Rattle.board_state.proofs.Positions.{index_low}
 use Rattle.certificate.proofs.Accepted.{accepted_is_greatest, marks_are_read}
 use Rattle.certificate.specs.Digits.{bits_of_digits}
 use Rattle.certificate.specs.Holding.{AreReached}
@@ -40,6 +39,7 @@ use Rattle.reach.specs.Position.{no_stop}
 use Rattle.reach.specs.Reached.{ReachesStop}
 use Rattle.reach.specs.Walk.{EndsAt, IsWalk, TouchesStop, stop_at_end}
 use Rattle.reach.specs.declared.walk.WalkStep.{WalkStep}
+use Rattle.reach.proofs.Hexes.{index_in}
 use Rattle.tables.specs.declared.rolling_stock.Kind.TheVariants.{Two}
 use Rattle.tables.specs.declared.roster.Company.TheVariants.{Pennsylvania}
 
@@ -74,7 +74,7 @@ both = stop_at H10 First ∷ stop_at H12 First ∷ []
 -- the position has in a hex what is there
 in_hex_is : (hex : Hex) → in_hex small_map hex ≡ on_map hex
 unfolding small_map
-in_hex_is hex = get_or-map on_map hexes (index_of hex) A9 empty_hex (index_low hex) ∙ ap on_map (hex_at_index hex)
+in_hex_is hex = get_or-map on_map hexes (index_of hex) A9 empty_hex (index_in hex) ∙ ap on_map (hex_at_index hex)
 
 -- and at a stop
 abbrev standing_in : Hex → StopNumber → Lies

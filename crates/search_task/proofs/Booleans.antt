@@ -1,10 +1,5 @@
 -- What a test of two tests says of each.
-use Rattle.std.proofs.Common.{◌≡◌, Bool, true, false, ◌&&◌, not, refl, sym}
-
-pub same_bool : (a b : Bool) → (a ≡ true → b ≡ true) → (b ≡ true → a ≡ true) → a ≡ b
-same_bool true b there back = sym (there refl)
-same_bool false true there back = back refl
-same_bool false false there back = refl
+use Rattle.std.proofs.Common.{◌≡◌, Bool, true, false, ◌&&◌, not, refl}
 
 pub not_both : (b : Bool) → b ≡ true → b ≡ false → ⊥
 not_both true is none = let wrong : true ≡ false = none in cc

@@ -1,6 +1,7 @@
 -- What is done with the set of some borders is done with each of them.
 use Rattle.std.proofs.Common.{◌≡◌, ◌↔◌, ℕ, zero, suc, Bool, true, false, ◌⊎◌, inl, inr, Option, None, Some, List, []}
 use Rattle.std.proofs.Common.{◌∷◌, length, get_or, set, refl, sym, ap, ◌∙◌, length-set}
+use Rattle.std.proofs.lemmas.Bool.{true_from_ne_false}
 use Rattle.reach.specs.Position.{IsAmong}
 use Rattle.search_task.specs.Crossed.{IsShared, cleared_all, marked_all, misses, numbers_in}
 use Rattle.search_task.specs.Marks.{AreApart, AreBoth, AreOnly, Freer, IsMarked, IsOneOf}
@@ -8,11 +9,8 @@ use Rattle.search_task.proofs.Marked.{cleared_fewer, cleared_here, free_misses, 
 use Rattle.search_task.proofs.Marks.{length_marked}
 use Rattle.search_task.proofs.MarkedNumbers.{in_set, numbers_fit}
 use Rattle.search_task.proofs.Words.{same_marks}
-use Rattle.search_task.proofs.Booleans.{not_both, same_bool}
-
-true_or : (b : Bool) → (b ≡ false → ⊥) → b ≡ true
-true_or true none = refl
-true_or false none = absurd (none refl)
+use Rattle.search_task.proofs.Booleans.{not_both}
+use Rattle.tables.proofs.Tests.{same_bool}
 
 -- none of them is used
 pub set_misses : (used marks : List Bool) (apart : Bool) → (apart ≡ true → AreApart used marks)
@@ -21,7 +19,7 @@ set_misses used marks apart are meet =
     same_bool apart (misses used (numbers_in marks))
     (λ holds. free_misses used (numbers_in marks) (λ border among marked. are holds border marked
     ((in_set marks border).1 among)))
-    (λ free. true_or apart (λ none. meet none (λ border first second. misses_free used (numbers_in marks) free border
+    (λ free. true_from_ne_false apart (λ none. meet none (λ border first second. misses_free used (numbers_in marks) free border
     ((in_set marks border).0 second) first)))
 
 -- they are used as well
@@ -91,6 +89,6 @@ set_shared marks others rest shared None one two none =
     ((in_set marks border).1 first, λ left. ((one.each border).0 left).1 ((in_set others border).1 second)))
 set_shared marks others rest shared (Some border) one two marked =
     let left = (two.each border).0 marked in
-    let met : IsMarked others border = true_or (get_or others border false)
+    let met : IsMarked others border = true_from_ne_false (get_or others border false)
     (λ not. left.1 ((one.each border).1 (left.0, λ is. not_both (get_or others border false) is not))) in
     ((in_set marks border).0 left.0, (in_set others border).0 met)

@@ -20,15 +20,17 @@ use Rattle.search_task.specs.declared.task.Task.{Task}
 use Rattle.search_task.specs.declared.task.Leg.{Leg}
 use Rattle.search_task.specs.declared.legs.Path.{Path}
 use Rattle.search_task.specs.Crossed.{marked_all, misses, numbers_in}
-use Rattle.search_task.specs.Fit.{BordersFit, IsFit, unused}
+use Rattle.search_task.specs.Fit.{BordersFit, IsFit}
 use Rattle.search_task.specs.Spots.{LeadsFrom, ends_in, node_at, segments_at, stop_in}
 use Rattle.search_task.specs.Segments.{segments_from}
 use Rattle.search_task.specs.Legs.{AddsBelow, AddsLegs, AddsLegsBy, AreDepartures, AreFree, AreLegsFrom, AreLegsOf}
-use Rattle.search_task.specs.Legs.{AreReady, AreSides, AreStops, HasLeg, Hop, IsMadeOf, IsSamePath, IsStop, LeadsTo}
-use Rattle.search_task.specs.Legs.{borders_by, legs_at, legs_in, none_used, steps_by}
+use Rattle.search_task.specs.Legs.{AreReady, AreStops, HasLeg, Hop, IsMadeOf, IsSamePath, IsStop, LeadsTo}
+use Rattle.search_task.specs.Legs.{borders_by, legs_at, legs_in, steps_by}
 use Rattle.search_task.proofs.Marked.{marked_append}
 use Rattle.search_task.proofs.Marks.{marked_fewer}
 use Rattle.search_task.proofs.Places.{below_next, place_low}
+use Rattle.legal_runs.specs.Law.{unused}
+use Rattle.legal_runs.specs.TwoTrain.{none_used}
 
 -- a segment over no border counts one
 abbrev pub one_if_none : List ℕ → ℕ
@@ -451,10 +453,6 @@ listed_same task count stops why before =
       ];
       only = before.only;
     }
-
--- at the sides of a hex there is none
-pub no_stop : (task : Task) → IsFit task → (hex : ℕ) → AreSides task (8 * hex) (8 * hex + 6)
-no_stop task fit hex spot least low = (fit.sides spot (omega (arith, least, low))).0
 
 -- a stop from which no leg leads
 pub no_legs : (task : Task) (stop : ℕ) (from : Departures) → slice_get task.departures.items stop ≡ Some from

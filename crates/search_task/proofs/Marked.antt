@@ -5,10 +5,11 @@ use Rattle.std.proofs.Common.{length-set, replicate, zero, suc}
 use Rattle.std.specs.List.{list_any}
 use Rattle.std.proofs.lemmas.Bool.{cases_eq, or_left, or_right}
 use Rattle.reach.specs.Position.{IsAmong}
-use Rattle.search_task.specs.Fit.{BordersFit, unused}
+use Rattle.search_task.specs.Fit.{BordersFit}
 use Rattle.search_task.specs.Marks.{Freer, IsMarked}
 use Rattle.search_task.specs.Crossed.{cleared_all, marked_all, misses}
 use Rattle.search_task.proofs.Booleans.{not_both}
+use Rattle.legal_runs.specs.Law.{unused}
 
 -- one more mark
 pub mark_more : (marks : List Bool) (n m : ℕ) → n < length marks
@@ -117,10 +118,6 @@ freer_marked (mark ∷ used) (other ∷ others) (suc n) freer marked = freer_mar
 pub unused_none : (n : ℕ) → unused (replicate n false) ≡ n
 unused_none zero = refl
 unused_none (suc n) = let rest = unused_none n in omega arith
-
-pub length_replicate : (n : ℕ) (b : Bool) → length (replicate n b) ≡ n
-length_replicate zero b = refl
-length_replicate (suc n) b = ap suc (length_replicate n b)
 
 -- a mark that is taken away
 unset_here : (marks : List Bool) (n : ℕ) → get_or (set marks n false) n false ≡ false

@@ -2,17 +2,19 @@
 -- again, each once.
 use Rattle.std.proofs.Common.{◌≡◌, ◌↔◌, ℕ, zero, suc, ◌+◌, ◌<◌, Bool, true, false, ◌⊎◌, inl, inr, List, [], ◌∷◌, length}
 use Rattle.std.proofs.Common.{get_or, set, refl, sym, subst, ◌∙◌, arith, length-set}
+use Rattle.std.proofs.lemmas.List.{length-replicate}
 use Rattle.reach.proofs.Collected.{none_marked}
 use Rattle.reach.proofs.Marking.{set_cases}
 use Rattle.reach.specs.Position.{IsAmong}
 use Rattle.search_task.specs.Crossed.{before_if, marked_all, misses, numbers_from, numbers_in}
 use Rattle.search_task.specs.Fit.{BordersFit}
 use Rattle.search_task.specs.Marks.{IsMarked}
-use Rattle.search_task.specs.Legs.{none_used}
-use Rattle.search_task.proofs.Marked.{free_misses, length_replicate, marked_stays, marks_more, misses_free}
+use Rattle.search_task.proofs.Marked.{free_misses, marked_stays, marks_more, misses_free}
 use Rattle.search_task.proofs.Marks.{length_marked}
 use Rattle.search_task.proofs.Words.{marked_low, same_marks}
-use Rattle.search_task.proofs.Booleans.{not_both, same_bool}
+use Rattle.search_task.proofs.Booleans.{not_both}
+use Rattle.tables.proofs.Tests.{same_bool}
+use Rattle.legal_runs.specs.TwoTrain.{none_used}
 
 -- what is marked is among them
 later_among : (mark : Bool) (first n : ℕ) (numbers : List ℕ) → IsAmong n numbers
@@ -68,7 +70,7 @@ numbers_fit marks whole =
 pub crossed_are : (borders : List ℕ) → BordersFit borders → (border : ℕ)
     → IsAmong border (numbers_in (marked_all none_used borders)) ↔ IsAmong border borders
 crossed_are borders fit border =
-    let of = marks_more none_used borders fit (length_replicate 279 false) border in
+    let of = marks_more none_used borders fit (length-replicate 279 false) border in
     let in_it = in_set (marked_all none_used borders) border in (
       λ among. elim (of.0 (in_it.1 among)) [
         | inl one ↦ one
@@ -79,7 +81,7 @@ crossed_are borders fit border =
 
 pub crossed_fit : (borders : List ℕ) → BordersFit (numbers_in (marked_all none_used borders))
 crossed_fit borders =
-    numbers_fit (marked_all none_used borders) (length_marked none_used borders ∙ length_replicate 279 false)
+    numbers_fit (marked_all none_used borders) (length_marked none_used borders ∙ length-replicate 279 false)
 
 among_some : (borders : List ℕ) (border : ℕ) → IsAmong border borders → 0 < length borders
 among_some [] border among = absurd among

@@ -3,7 +3,8 @@ use Rattle.std.proofs.Common.{◌≡◌, ℕ, zero, suc, ◌+◌, ◌<◌, ◌�
 use Rattle.std.proofs.Common.{get_or, set, refl, ◌∙◌, arith, length-set}
 use Rattle.std.specs.List.{list_any}
 use Rattle.legal_runs.proofs.Earning.{mark_used}
-use Rattle.search_task.specs.Fit.{BordersFit, unused}
+use Rattle.legal_runs.specs.Law.{unused}
+use Rattle.search_task.specs.Fit.{BordersFit}
 use Rattle.search_task.specs.Crossed.{marked_all, misses}
 
 -- a mark leaves no more unset
@@ -34,9 +35,3 @@ marked_fewer used (border ∷ borders) whole fit some free =
     mark_used used border (omega (arith, fit.0)) (first_free (get_or used border false)
     (list_any (λ b. get_or used b false) borders) free) in
     omega (arith, marked_most (set used border true) borders)
-
--- no more are unmarked than there are
-pub unused_most : (marks : List Bool) → unused marks ≤ length marks
-unused_most [] = omega arith
-unused_most (true ∷ marks) = omega (arith, unused_most marks)
-unused_most (false ∷ marks) = omega (arith, unused_most marks)

@@ -6,7 +6,7 @@ use Rattle.std.proofs.Common.{arith, eq-eqb, eqb, eqb-true, get_or-set_same, get
 use Rattle.std.specs.Prelude.{bit_and, bit_or, not}
 use Rattle.std.specs.Int.{bit_at, trailing_zeros}
 use Rattle.std.proofs.lemmas.Bool.{cases_eq, cases_lt, or_cases, or_left, or_right}
-use Rattle.std.proofs.lemmas.List.{get_or_past}
+use Rattle.std.proofs.lemmas.List.{get_or_past, get_or-replicate, length-replicate}
 use Rattle.std.proofs.lemmas.List.FromFn.{get_or-map-range_with_len, length-map-range_with_len}
 use Rattle.std.proofs.lemmas.Nat.{and_le_l, bit_set_by_shift, pow_below, shr-shr}
 use Rattle.std.proofs.lemmas.Nat.Bits.{bit_at-lt, bit_at-trailing_zeros, bit_at-zero, bit_at_and, bit_at_ones}
@@ -16,7 +16,8 @@ use Rattle.search_task.specs.Marks.{AreApart, AreBarred, AreBoth, AreOnly, Freer
 use Rattle.search_task.specs.Marks.{IsBitOf, bit_of, mark_at, marks_in}
 use Rattle.search_task.proofs.Marked.{mark_more}
 use Rattle.search_task.proofs.Places.{below_next}
-use Rattle.search_task.proofs.Booleans.{not_both, not_self, same_bool}
+use Rattle.search_task.proofs.Booleans.{not_both, not_self}
+use Rattle.tables.proofs.Tests.{same_bool}
 
 -- there are as many marks as numbers
 pub length_marks : (count : ℕ) (words : List ℕ) → length (marks_in count words) ≡ count
@@ -197,12 +198,8 @@ bit_none width n = ap (λ word. bit_at word (n % 64)) (all_zero width (n / 64)) 
 pub none_marks : (count width : ℕ) → marks_in count (replicate {A = ℕ} width 0) ≡ replicate count false
 none_marks count width =
     same_marks (marks_in count (replicate {A = ℕ} width 0)) (replicate count false)
-    (length_marks count (replicate {A = ℕ} width 0) ∙ sym (length_replicate count)) each
+    (length_marks count (replicate {A = ℕ} width 0) ∙ sym (length-replicate count false)) each
   where
-    length_replicate : (n : ℕ) → length (replicate n false) ≡ n
-    length_replicate zero = refl
-    length_replicate (suc n) = ap suc (length_replicate n)
-
     never : (n m : ℕ) → IsMarked (replicate n false) m → ⊥
     never zero m is = let wrong : false ≡ true = is in cc
     never (suc n) zero is = let wrong : false ≡ true = is in cc
@@ -456,15 +453,6 @@ all_words count words =
     set (replicate words 18446744073709551615) (words - 1) (18446744073709551615 / 2 ^
     (64 - (count - 64 * (words - 1))))
 
-get_same : (n word j : ℕ) → j < n → get_or (replicate n word) j 0 ≡ word
-get_same zero word j low = absurd (omega arith)
-get_same (suc n) word zero low = refl
-get_same (suc n) word (suc j) low = get_same n word j (omega arith)
-
-length_same : {A : Type 0} (n : ℕ) (x : A) → length (replicate n x) ≡ n
-length_same zero x = refl
-length_same (suc n) x = ap suc (length_same n x)
-
 -- a word without its lowest bits
 shifted : (word by bit : ℕ) → bit_at (word / 2 ^ by) bit ≡ bit_at word (by + bit)
 shifted word by bit = ap (λ x. x % 2) (shr-shr word by bit)
@@ -476,7 +464,7 @@ bit_before count words fill n low =
     let last = 18446744073709551615 / 2 ^ (64 - (count - 64 * (words - 1))) in
     ap (λ word. bit_at word (n % 64))
     (get_or-set_other (replicate words 18446744073709551615) (words - 1) (n / 64) last 0 (λ same. absurd (omega arith))
-    ∙ get_same words 18446744073709551615 (n / 64) (omega arith))
+    ∙ get_or-replicate words (n / 64) 18446744073709551615 0 (omega arith))
     ∙ bit_at_ones 64 (n % 64) (omega arith)
 
 bit_last : (count words : ℕ) → FillWords count words → (n : ℕ) → n / 64 ≡ words - 1
@@ -488,7 +476,7 @@ bit_last count words fill n at =
     k 0) (n % 64)) at
     ∙ (ap (λ word. bit_at word (n % 64))
     (get_or-set_same (replicate words 18446744073709551615) (words - 1) (18446744073709551615 / 2 ^ spare) 0
-    (omega (arith, fill.0, fill.1, length_same {A = ℕ} words 18446744073709551615)))
+    (omega (arith, fill.0, fill.1, length-replicate {A = ℕ} words 18446744073709551615)))
     ∙ shifted 18446744073709551615 spare (n % 64))
 
 bit_after : (count words : ℕ) (n : ℕ) → words ≤ n / 64 → bit_of (all_words count words) n ≡ 0
@@ -500,7 +488,7 @@ bit_after count words n past =
     (omega (
       arith,
       length-set (replicate words 18446744073709551615) (words - 1) last,
-      length_same {A = ℕ} words
+      length-replicate {A = ℕ} words
           18446744073709551615,
       past,
     )))
@@ -536,10 +524,10 @@ pub all_marks : (count words : ℕ) → FillWords count words
     → marks_in count (all_words count words) ≡ replicate count true
 all_marks count words fill =
     same_marks (marks_in count (all_words count words)) (replicate count true)
-    (length_marks count (all_words count words) ∙ sym (length_same count true))
+    (length_marks count (all_words count words) ∙ sym (length-replicate count true))
     (λ n. (
       λ is. marked_true count n (marked_bit count (all_words count words) n is).0,
-      λ is. let low : n < count = omega (arith, marked_low (replicate count true) n is, length_same count true) in
+      λ is. let low : n < count = omega (arith, marked_low (replicate count true) n is, length-replicate count true) in
           bit_marked count (all_words count words) n low (full_bit count words fill n low),
     ))
 
@@ -548,7 +536,7 @@ pub barred_out : (count : ℕ) (marks reach fresh barred : List Bool) → length
     → AreOnly (replicate count true) fresh barred → AreBarred marks reach barred
 barred_out count marks reach fresh barred whole opens bars =
     record {
-      whole = bars.whole ∙ (length_same count true ∙ sym whole);
+      whole = bars.whole ∙ (length-replicate count true ∙ sym whole);
       kept = λ n is. (bars.each n).1 (
         marked_true count n (omega (arith, marked_low marks n is, whole)),
         λ opened.

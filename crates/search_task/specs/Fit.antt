@@ -1,6 +1,6 @@
 -- What keeps a search within its bounds: the numbers of spots and borders, and what a stop is
 -- worth.
-use Rattle.std.specs.Prelude.{◌≡◌, ℕ, ◌+◌, ◌%◌, ◌<◌, ◌≤◌, Bool, true, false, Some, List, [], ◌∷◌, length, slice_get}
+use Rattle.std.specs.Prelude.{◌≡◌, ℕ, ◌%◌, ◌<◌, ◌≤◌, Bool, true, false, Some, List, length, slice_get}
 use Rattle.std.specs.List.{AllByRecursion}
 use Rattle.legal_runs.specs.Legal.{map_borders}
 use Rattle.reach.specs.Search.{map_spots}
@@ -36,12 +36,3 @@ pub record IsFit (task : Task) : Type 0 where
   pub segments : (spot index : ℕ) (segment : Segment) → LeadsFrom task spot index segment
       → SegmentFits task (stop_in (node_at task spot)) segment
   pub sides : (spot : ℕ) → spot % 8 < 6 → IsSide task spot
-
--- how many of some marks are not set
-abbrev pub if_unset : Bool → ℕ
-if_unset true = 0
-if_unset false = 1
-
-abbrev pub unused : List Bool → ℕ
-unused [] = 0
-unused (mark ∷ marks) = if_unset mark + unused marks

@@ -1,8 +1,8 @@
 -- Legs of plain track: from a stop by a segment, and over sides by others, to the next stop, over
 -- no border twice. A run goes over a leg at once.
 use Rattle.std.specs.Prelude.{◌≡◌, ℕ, ◌+◌, ◌<◌, ◌≤◌, Bool, true, false, ◌⊎◌, Option, Some, None, List, [], ◌∷◌, ◌++◌}
-use Rattle.std.specs.Prelude.{length, replicate, slice_get}
-use Rattle.legal_runs.specs.Legal.{map_borders}
+use Rattle.std.specs.Prelude.{length, slice_get}
+use Rattle.legal_runs.specs.TwoTrain.{none_used}
 use Rattle.reach.specs.Position.{IsAmong}
 use Rattle.reach.specs.Search.{map_spots}
 use Rattle.reach.specs.declared.walk.WalkStep.{WalkStep}
@@ -110,10 +110,6 @@ pub record AddsBelow (task : Task) (used : List Bool) (walked : List WalkStep) (
   pub complete : (hop : Hop) (hops : List Hop) (to : ℕ) → hop.place < most → LeadsFrom task spot hop.place hop.segment
       → LeadsTo task hop.segment hops to → AreFree used hop.segment hops
       → HasLeg task used walked place hop.segment hops to new
-
--- no border is used
-abbrev pub none_used : List Bool
-none_used = replicate map_borders false
 
 -- the legs from a stop by its segments before one of them
 pub record AreLegsFrom (task : Task) (stop most : ℕ) (legs : List Leg) : Type 0 where

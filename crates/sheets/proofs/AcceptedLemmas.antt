@@ -1,9 +1,9 @@
--- A file that is not refused names 3 to 6 players.
-use Rattle.sheets.specs.File.{header_version}
+-- A file that is not refused names 3 to 6 players, and is not too long.
+use Rattle.sheets.specs.File.{header_version, IsAccepted}
 use Rattle.std.specs.Prelude.{is_some}
-use Rattle.std.proofs.Common.{◌≡◌, ℕ, ◌&&◌, Bool, true, false, nat_le, nat_lt, cond, List, [], ◌∷◌, length, Option}
-use Rattle.std.proofs.Common.{Some, None, Result, Ok, Err, IsOk, refl, subst, arith, rules}
-use Rattle.std.proofs.lemmas.Bool.{and_parts}
+use Rattle.std.proofs.Common.{◌≡◌, ℕ, ◌&&◌, Bool, true, false, nat_le, nat_lt, cond, List, [], ◌∷◌, length, Option, ◌≤◌}
+use Rattle.std.proofs.Common.{Some, None, Result, Ok, Err, IsOk, refl, subst, arith, rules, inl, inr}
+use Rattle.std.proofs.lemmas.Bool.{and_parts, cases_Bool, ltb-false}
 use Rattle.std.proofs.lemmas.Bool.Decides.{nat_tests}
 use Rattle.order_grammar.specs.Line.{reading_of}
 use Rattle.order_grammar.specs.declared.fault.Fault.{Fault}
@@ -76,3 +76,16 @@ unfolding content_of players_of
 three_to_six_play_law file accepted =
     chosen (nat_lt file_most (length file)) (Err TooLong) (lines_content (written_lines file)) (refused TooLong)
     (from_lines (written_lines file)) accepted
+
+-- and it is not too long
+short_enough : (bytes : ℕ) (content : Result Content FileFault)
+    → IsOk (cond (nat_lt file_most bytes) (Err TooLong) content) → bytes ≤ file_most
+short_enough bytes content accepted =
+    elim (cases_Bool (nat_lt file_most bytes)) [
+      | inl long ↦ absurd (let wrong = rw long at accepted in cc)
+      | inr short ↦ ltb-false file_most bytes short
+    ]
+
+pub accepted_short : (file : List ℕ) → IsAccepted file → length file ≤ file_most
+unfolding content_of
+accepted_short file accepted = short_enough (length file) (lines_content (written_lines file)) accepted

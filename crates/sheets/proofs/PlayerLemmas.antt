@@ -201,8 +201,3 @@ pub all_play : (names keys : List (List ℕ)) → 3 ≤ length names → length 
 all_play names keys least most differ same =
     rw (le-leb 3 (length names) least, le-leb (length names) 6 most, differ)
     (ap (λ (all : List (List ℕ)). Some all) same)
-
--- there is none where there is not some
-pub none_from : (found : Option Seat) → is_some found ≡ false → found ≡ None
-none_from (Some seat) no_seat = absurd (true≢false no_seat)
-none_from None no_seat = refl

@@ -17,7 +17,6 @@ use Rattle.totals.specs.LookBack.{Game, with_event}
 use Rattle.totals.specs.Shares.{is_floated, par_of, president_of, shares_of, square_of}
 use Rattle.stock_round.specs.Float.{float_most, floated_at, is_to_float, with_float}
 use Rattle.tables.specs.declared.roster.Company.{Company}
-use Rattle.tables.specs.declared.roster.Company.TheVariants as company
 use Rattle.tables.specs.declared.seat.Seat.{Seat}
 use Rattle.tables.specs.declared.squares.Square.{Square}
 use Rattle.turns.proofs.Acted.{in_both, in_either, nobody, one_more}

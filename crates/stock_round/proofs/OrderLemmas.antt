@@ -1,6 +1,6 @@
 -- An order that breaks no rule can be done, and still can after an event that changes nothing of
 -- what parties have and own.
-use Rattle.std.proofs.Common.{◌≡◌, List, [], ◌∷◌, ◌++◌, Option, None, refl, sym, subst, ◌∙◌}
+use Rattle.std.proofs.Common.{◌≡◌, List, [], ◌∷◌, ◌++◌, Option, None, sym, subst, ◌∙◌}
 use Rattle.certs.proofs.SaleAllowed.{sale_allowed, still_may_sell}
 use Rattle.events.specs.Event.{IsQuiet}
 use Rattle.events.specs.declared.event.Event.{Event}
@@ -13,7 +13,7 @@ use Rattle.order_grammar.specs.declared.play.PlayOrder.TheVariants.{Par, BuyShar
 use Rattle.stock_round.proofs.BuyLemmas.{purchase_allowed, still_may_buy}
 use Rattle.stock_round.proofs.ExchangeLemmas.{exchange_allowed, same_exchange}
 use Rattle.stock_round.proofs.ParLemmas.{start_allowed, still_may_start}
-use Rattle.stock_round.specs.Orders.{MayAct, after_stock_order, stock_judgement}
+use Rattle.stock_round.specs.Orders.{MayAct, stock_judgement}
 use Rattle.stock_round.specs.Sell.{sale_of}
 use Rattle.tables.specs.declared.roster.Company.{Company}
 use Rattle.tables.specs.declared.seat.Seat.{Seat}
@@ -45,11 +45,3 @@ may_act_after old new event seat bought order recorded quiet none =
     subst (λ (game : Game). MayAct game seat order) (sym recorded)
     (still_may old (old.events ++ event ∷ []) seat order (quiet_same old.events event quiet)
     (may_act old seat bought order none))
-
--- whatever is done, the table stays
-pub same_table : (game : Game) (seat : Seat) (order : Order) → (after_stock_order game seat order).seats ≡ game.seats
-same_table game seat (Play (Par company price)) = refl
-same_table game seat (Play (BuyShare company from)) = refl
-same_table game seat (Play (Sell company shares)) = refl
-same_table game seat (Play ExchangeMohawk) = refl
-same_table game seat other = refl

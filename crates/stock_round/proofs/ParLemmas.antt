@@ -1,5 +1,5 @@
 -- A company that is started.
-use Rattle.std.proofs.Common.{◌≡◌, ℕ, ◌*◌, ◌<◌, true, false, List, Option, Some, None, is_some, pos, ◌≤ℤ◌, refl, sym, subst}
+use Rattle.std.proofs.Common.{◌≡◌, ℕ, ◌*◌, ◌<◌, true, false, List, Option, None, pos, ◌≤ℤ◌, refl, sym, subst}
 use Rattle.std.proofs.Common.{◌∙◌}
 use Rattle.std.proofs.lemmas.Bool.{not-false}
 use Rattle.certs.proofs.SaleAllowed.{same_start}
@@ -21,6 +21,7 @@ use Rattle.stock_round.specs.Par.{MayStart, after_start, par_judgement, presiden
 use Rattle.tables.proofs.Rules.{not_broken}
 use Rattle.tables.specs.declared.roster.Company.{Company}
 use Rattle.tables.specs.declared.seat.Seat.{Seat}
+use Rattle.tables.proofs.Tests.{none_by_is_some}
 use Rattle.turns.proofs.Acted.{in_both, one_more}
 use Rattle.history.specs.Games.{IsGame}
 use Rattle.turns.specs.Acted.{SaysWhoActed}
@@ -46,11 +47,6 @@ still_may_start game after seat company price same may =
           ∙ may.pays;
     }
 
--- nothing is there where a test says so
-is_nothing : {A : Type 0} (found : Option A) → is_some found ≡ false → found ≡ None
-is_nothing None none = refl
-is_nothing (Some other) none = cc
-
 -- the start of a company
 pub start_game : (game new : Game) (seat : Seat) (company : Company) (price cost : ℕ)
     → MayStart game seat company price → seat.0 < game.seats → cost ≡ president_shares * price
@@ -63,7 +59,7 @@ start_game game new seat company price cost may within is_cost recorded before =
     subst IsGame (sym recorded) (record {
       few = before.few;
       sound = start_by_purchase_sound game company seat price cost (not-false (is_par_value price) may.par)
-          (is_nothing (square_of game.events company) may.fresh) within pays before.sound;
+          (none_by_is_some (square_of game.events company) may.fresh) within pays before.sound;
     })
 
 -- the seat acts by a start, since it buys

@@ -1,5 +1,5 @@
 -- Companies differ by their places in the roster.
-use Rattle.std.proofs.Common.{◌≡◌, ◌∙◌, ap, sym, refl, true, get_or}
+use Rattle.std.proofs.Common.{◌≡◌, ◌∙◌, ◌<◌, ap, sym, refl, true, get_or, arith}
 use Rattle.std.proofs.lemmas.Bool.{eq-eqb, eqb-true}
 use Rattle.tables.specs.Roster.{companies, index_of_company, same_company}
 use Rattle.tables.specs.declared.roster.Company.{Company}
@@ -22,3 +22,8 @@ company_is_same a b is = eq-eqb (index_of_company a) (index_of_company b) (ap in
 
 pub company_itself : (company : Company) → same_company company company ≡ true
 company_itself company = company_is_same company company refl
+
+-- each place is under 8
+pub company_low : (company : Company) → index_of_company company < 8
+company_low Pennsylvania = omega arith
+company_low _ = omega arith

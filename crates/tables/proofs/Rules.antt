@@ -1,8 +1,9 @@
 -- What the first broken rule of a table says of its rules.
 use Rattle.std.proofs.Common.{◌≡◌, ℕ, ◌==◌, Bool, true, false, ◌&&◌, ◌||◌, if◌then◌else◌, Some, None, List}
 use Rattle.std.proofs.Common.{[], ◌∷◌, inl, inr}
-use Rattle.std.proofs.Common.{refl, arith}
-use Rattle.std.proofs.lemmas.Bool.Decides.{nat_tests}
+use Rattle.std.proofs.Common.{refl}
+use Rattle.std.proofs.lemmas.Bool.{eq-eqb}
+use Rattle.std.proofs.Math.Bool.{and-false}
 use Rattle.tables.specs.Rules.{Rule, first_broken, AreKept, BreaksFirst}
 
 -- where no rule is broken, each is kept
@@ -62,29 +63,21 @@ is_some_broken printed [] code = false
 is_some_broken printed (rule ∷ rules) code =
     (are_alike (printed rule.code) (printed code) && rule.broken) || is_some_broken printed rules code
 
-and_false : (a : Bool) → (a && false) ≡ false
-and_false true = refl
-and_false false = refl
-
 kept_with_code : {Code : Type 0} (printed : Code → List ℕ) (rules : List (Rule Code)) → AreKept rules → (code : Code)
     → is_some_broken printed rules code ≡ false
 kept_with_code printed [] kept code = refl
 kept_with_code printed (rule ∷ rules) kept code =
     rw (kept.0)
-    (rw (and_false (are_alike (printed rule.code) (printed code))) (kept_with_code printed rules kept.1 code))
+    (rw (and-false (are_alike (printed rule.code) (printed code))) (kept_with_code printed rules kept.1 code))
 
 -- where no rule of a table is broken, none with a code is
 pub none_with_code : {Code : Type 0} (printed : Code → List ℕ) (rules : List (Rule Code)) → first_broken rules ≡ None
     → (code : Code) → is_some_broken printed rules code ≡ false
 none_with_code printed rules none = kept_with_code printed rules (none_broken rules none)
 
--- a code is printed as itself
-byte_itself : (byte : ℕ) → (byte == byte) ≡ true
-byte_itself byte = grind (arith, nat_tests)
-
 printed_alike : (code : List ℕ) → are_alike code code ≡ true
 printed_alike [] = refl
-printed_alike (byte ∷ bytes) = rw (byte_itself byte) (printed_alike bytes)
+printed_alike (byte ∷ bytes) = rw (eq-eqb byte byte refl) (printed_alike bytes)
 
 kept_here : (alike broken later : Bool) → alike ≡ true → ((alike && broken) || later) ≡ false → broken ≡ false
 kept_here true true later same none = absurd cc

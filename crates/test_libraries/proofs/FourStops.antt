@@ -1,9 +1,9 @@
 -- The network of four stops has what its definition says, and keeps the laws of networks.
-use Rattle.std.proofs.Common.{◌≡◌, ◌∙◌, ap, sym, subst, refl, ◌<◌, ◌≤◌, lit<, lit≤, length, get_or}
+use Rattle.std.proofs.Common.{◌≡◌, ◌∙◌, ap, sym, subst, refl, ◌≤◌, lit≤, get_or}
 use Rattle.std.proofs.lemmas.List.{get_or-map}
 use Rattle.map_tables.proofs.HexTables.{hex_at_index}
 use Rattle.test_libraries.specs.FourStops.{four_stops, on_map_in, standing_in}
-use Rattle.map_tables.specs.Hex.{hexes, index_of, site_of}
+use Rattle.map_tables.specs.Hex.{hexes, index_of}
 use Rattle.map_tables.specs.Laws.{AreLinksOf, NeighboursPair}
 use Rattle.map_tables.specs.Place.{joined_hex, stop_at, stop_index_of}
 use Rattle.map_tables.specs.declared.hex.Hex.{Hex}
@@ -15,18 +15,13 @@ use Rattle.map_tables.specs.declared.track.TrackEnd.TheVariants.{Stop as AtStop}
 use Rattle.map_tables.specs.declared.track.Link.{Link}
 use Rattle.reach.specs.Lawful.{IsLawful}
 use Rattle.reach.specs.Position.{InHex, IsAmong, at_stop, empty_hex, in_hex, no_stop}
-
--- each number is under that of all hexes
-index_low : (hex : Hex) → index_of hex < length hexes
-unfolding hexes index_of site_of
-index_low A9 = lit< tt
-index_low hex = lit< tt
+use Rattle.reach.proofs.Hexes.{index_in}
 
 -- the position has in a hex what is there
 pub in_hex_is : (hex : Hex) → in_hex four_stops hex ≡ on_map_in hex
 unfolding four_stops
 in_hex_is hex =
-    get_or-map on_map_in hexes (index_of hex) A9 empty_hex (index_low hex) ∙ ap on_map_in (hex_at_index hex)
+    get_or-map on_map_in hexes (index_of hex) A9 empty_hex (index_in hex) ∙ ap on_map_in (hex_at_index hex)
 
 -- and at a stop what is there
 pub at_stop_is : (stop : Stop) → at_stop four_stops stop ≡ standing_in (joined_hex stop.hex) stop.number

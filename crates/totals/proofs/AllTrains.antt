@@ -4,13 +4,13 @@ use Rattle.std.proofs.Common.{◌≡◌, ℕ, ◌+◌, inl, inr, Bool, true, fal
 use Rattle.std.proofs.Common.{neg_ℤ, ◌-ℤ◌, ◌+ℤ◌, refl, ap, ◌∙◌, arith}
 use Rattle.std.proofs.lemmas.Int.{ints}
 use Rattle.std.proofs.lemmas.List.Sums.{sum_by-cons}
+use Rattle.std.proofs.lemmas.Bool.{cases_Bool}
 use Rattle.events.specs.Event.{train_moved}
 use Rattle.events.specs.declared.event.Event.{Event}
 use Rattle.events.specs.declared.event.Event.TheVariants as event
 use Rattle.events.specs.declared.event.TrainMove.{TrainMove}
 use Rattle.events.specs.declared.event.TrainPlace.{TrainPlace}
 use Rattle.events.specs.declared.event.TrainPlace.TheVariants as place
-use Rattle.totals.proofs.Choices.{truth}
 use Rattle.totals.specs.Trains.{AllTrainsStay, one_if, same_train_place, train_owners, train_comes, train_goes}
 use Rattle.totals.specs.Trains.{trains_at, trains_sold, trains_together}
 use Rattle.tables.specs.Train.{same_kind}
@@ -133,7 +133,7 @@ balanced : (kind : Kind) (move : Option TrainMove) → ComesFromBankAlone move
     + one_if (train_goes place.Bank kind move)
 balanced kind None apart = refl
 balanced kind (Some move) apart =
-    elim (truth (same_kind move.kind kind)) [
+    elim (cases_Bool (same_kind move.kind kind)) [
       | inl same ↦
           omega (
             arith,

@@ -28,6 +28,7 @@ use Rattle.tables.specs.Roster.{index_of_company, same_company}
 use Rattle.tables.specs.Train.{index_of_kind, same_kind}
 use Rattle.tables.specs.declared.rolling_stock.Kind.{Kind}
 use Rattle.tables.specs.declared.roster.Company.{Company}
+use Rattle.tables.proofs.Companies.{company_low}
 
 -- nothing is added
 plus_none : (n : ℤ) → n ≡ n +ℤ pos 0
@@ -63,10 +64,6 @@ entry_changed balances at entry change value low is safe =
 -- two numbers are the same where the same is added to them
 plus_same : (k a b : ℕ) → (a == b) ≡ (k + a == k + b)
 plus_same k a b = grind (arith, cases_eq a b, eq-eqb a b, eq-eqb (k + a) (k + b))
-
--- a company has a place under 8
-pub company_low : (company : Company) → index_of_company company < 8
-company_low company = grind arith
 
 -- parties have different entries
 same_entry : (a b : Party) → same_party a b ≡ (party_entry a == party_entry b)

@@ -1,11 +1,13 @@
 -- Choices by tests, and what they are where the test is known.
-use Rattle.std.proofs.Common.{◌≡◌, ◌≢◌, ℕ, ◌==◌, ◌⊎◌, inl, inr, Bool, true, false, if◌then◌else◌, Option, Some}
-use Rattle.std.proofs.Common.{None, is_some, refl, arith}
+use Rattle.std.proofs.Common.{◌≡◌, ◌≢◌, ℕ, ◌==◌, Bool, true, false, if◌then◌else◌, Option, Some, ℤ, pos}
+use Rattle.std.proofs.Common.{None, is_some, refl, arith, negsuc, ◌≤ℤ◌}
 use Rattle.std.proofs.lemmas.Bool.Decides.{nat_tests}
 use Rattle.std.specs.Option.{option_or}
+use Rattle.std.proofs.lemmas.Int.{ints}
 use Rattle.tables.specs.declared.roster.Company.{Company}
 use Rattle.tables.specs.declared.roster.Company.TheVariants.{Pennsylvania, NewYorkCentral, CanadianPacific}
 use Rattle.tables.specs.declared.roster.Company.TheVariants.{BaltimoreOhio, ChesapeakeOhio, Erie, NewHaven, BostonMaine}
+use Rattle.totals.specs.Trains.{at_least_zero}
 
 -- a choice by two numbers that are the same
 pub chosen : (i k a b : ℕ) → i ≡ k → (if i == k then a else b) ≡ a
@@ -15,10 +17,10 @@ chosen i k a b same = grind (arith, nat_tests)
 pub passed_over : (i k a b : ℕ) → i ≢ k → (if i == k then a else b) ≡ b
 passed_over i k a b apart = grind (arith, nat_tests)
 
--- true or false
-pub truth : (test : Bool) → (test ≡ true) ⊎ (test ≡ false)
-truth true = inl refl
-truth false = inr refl
+-- a number that is not under 0 is itself
+pub at_least_zero_is : (number : ℤ) → pos 0 ≤ℤ number → pos (at_least_zero number) ≡ number
+at_least_zero_is (pos n) low = refl
+at_least_zero_is (negsuc n) low = absurd (omega (arith, ints, low))
 
 -- an option that has something has it
 pub something : {A : Type 0} (option : Option A) → is_some option ≡ true → (value : A) × (option ≡ Some value)

@@ -1,5 +1,5 @@
 -- The totals that a reader is lent, if there are any.
-use Rattle.std.proofs.Common.{◌≡◌, List, [], ◌∷◌, Bor, Option, Some, None, length, refl, subst, arith}
+use Rattle.std.proofs.Common.{◌≡◌, List, [], ◌∷◌, Bor, Option, Some, None, length, refl, arith}
 use Rattle.std.specs.Prelude.{MatchOption}
 use Rattle.events.specs.declared.event.Event.{Event}
 use Rattle.totals.specs.Totals.{AreTotalsOf}
@@ -20,8 +20,3 @@ pub are_lent :
     ((all : Bor Totals) → totals ≡ Some all → AreTotalsOf all.now events) → AreLent totals events
 are_lent None events empty kept = none_in events (empty refl)
 are_lent (Some all) events empty kept = kept all refl
-
-pub lent_kept :
-    (totals : Option (Bor Totals)) (events : List Event) → AreLent totals events → (all : Bor Totals)
-    → totals ≡ Some all → AreTotalsOf all.now events
-lent_kept totals events lent all is = subst (λ some. AreLent some events) is lent

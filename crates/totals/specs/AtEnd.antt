@@ -5,7 +5,6 @@ use Rattle.std.specs.Option.{option_or}
 use Rattle.events.specs.Event.{IsQuiet, payment_of}
 use Rattle.events.specs.declared.event.Event.{Event}
 use Rattle.events.specs.declared.event.Party.{Party}
-use Rattle.events.specs.declared.event.Party.TheVariants as party
 use Rattle.events.specs.declared.event.Shareholder.{Shareholder}
 use Rattle.events.specs.declared.event.TrainPlace.{TrainPlace}
 use Rattle.totals.specs.LookBack.{cash_of, cheapest_of, is_sold, last_said, owner_of, paid_by, paid_to, sv_price_of}

@@ -4,7 +4,7 @@ use Rattle.std.proofs.Common.{Some, None, append-nil, refl, sym, subst, ap, ◌�
 use Rattle.std.specs.Option.{option_or}
 use Rattle.std.proofs.lemmas.List.{append_assoc}
 use Rattle.std.proofs.Math.Bool.{or_assoc, or-false}
-use Rattle.events.specs.Event.{actor_of}
+use Rattle.events.specs.Event.{actor_of, order_obeyed}
 use Rattle.events.specs.declared.event.Event.{Event}
 use Rattle.events.specs.declared.event.Event.TheVariants as event
 use Rattle.events.specs.declared.ruling.Ruling.{Ruling}
@@ -15,7 +15,7 @@ use Rattle.tables.specs.Steps.{iterate}
 use Rattle.tables.specs.declared.seat.Seat.{Seat}
 use Rattle.turns.specs.Acted.{SaysWhoActed, TurnsSayWhoActed}
 use Rattle.turns.specs.RoundOfTurns.{InTurn, RoundRules, after_lines, in_turn}
-use Rattle.turns.specs.Ruling.{obeyed_order, recorded}
+use Rattle.turns.specs.Ruling.{recorded}
 use Rattle.totals.proofs.EventAtEnd.{option_or_assoc, option_or_none}
 
 -- what two lists say last, one after the other
@@ -124,7 +124,7 @@ module _ {TurnActions : Type 0} (rules : RoundRules TurnActions) (seats : ℕ) (
 -- a ruling by which no order is done names nobody
 pub nobody_ruled : {TurnActions : Type 0} (rules : RoundRules TurnActions) (seat : Seat) (turn : InTurn TurnActions)
     (number : ℕ) (ruling : Ruling) →
-    obeyed_order ruling ≡ None → LineSaysWhoActed rules seat turn (in_turn (recorded seat number ruling turn.events) turn.actions)
+    order_obeyed ruling ≡ None → LineSaysWhoActed rules seat turn (in_turn (recorded seat number ruling turn.events) turn.actions)
 nobody_ruled rules seat turn number (Obeyed condition order) none = absurd (cc)
 nobody_ruled rules seat turn number other none =
     record {

@@ -6,6 +6,7 @@ use Rattle.events.specs.declared.ruling.Refusal.{Refusal}
 use Rattle.events.specs.declared.ruling.Refusal.TheVariants as refusal
 use Rattle.events.specs.declared.ruling.Ruling.{Ruling}
 use Rattle.events.specs.declared.ruling.Ruling.TheVariants.{Obeyed, Refused, Faulty}
+use Rattle.events.specs.Event.{order_obeyed}
 use Rattle.history.specs.Conditions.{is_met}
 use Rattle.order_grammar.specs.declared.condition.Condition.{Condition}
 use Rattle.order_grammar.specs.declared.fault.Fault.{Fault}
@@ -14,7 +15,7 @@ use Rattle.order_grammar.specs.declared.order.Order.{Order}
 use Rattle.sheets.specs.Part.{Numbered}
 use Rattle.tables.specs.declared.seat.Seat.{Seat}
 use Rattle.turns.specs.RoundOfTurns.{InTurn, in_turn}
-use Rattle.turns.specs.Ruling.{after_ruling, judged, line_ruling, obeyed_order, placed_ruling, recorded}
+use Rattle.turns.specs.Ruling.{after_ruling, judged, line_ruling, placed_ruling, recorded}
 use Rattle.turns.specs.Ruling.{refusal_under, ruling_of}
 use Rattle.turns.specs.Small.{IsSmallOrder, IsSmallReading, IsSmallRuling}
 
@@ -62,7 +63,7 @@ kept_under false broken none = absurd (cc)
 module _ {TurnActions : Type 0} (act : InTurn TurnActions → Order → InTurn TurnActions)
     (judgement : Order → Option Refusal) (seat : Seat) (turn : InTurn TurnActions) (number : ℕ)
     (P : InTurn TurnActions → Type 0)
-    (left : (ruling : Ruling) → obeyed_order ruling ≡ None
+    (left : (ruling : Ruling) → order_obeyed ruling ≡ None
     → P (in_turn (recorded seat number ruling turn.events) turn.actions))
     (each : (condition : Option Condition) (order : Order) → judgement order ≡ None
     → P (after_ruling act seat turn number (Obeyed condition order))) where

@@ -16,6 +16,7 @@ use Rattle.events.specs.declared.ruling.Refusal.{Refusal}
 use Rattle.events.specs.declared.ruling.Refusal.TheVariants as refusal
 use Rattle.events.specs.declared.ruling.Ruling.{Ruling}
 use Rattle.events.specs.declared.ruling.Ruling.TheVariants.{Obeyed, Refused, Faulty}
+use Rattle.events.specs.Event.{order_obeyed}
 use Rattle.history.specs.Conditions.{is_met}
 use Rattle.order_grammar.specs.declared.condition.Condition.{Condition}
 use Rattle.order_grammar.specs.declared.fault.Fault.{Fault}
@@ -56,11 +57,6 @@ line_ruling has_place judgement events line =
 abbrev pub recorded : Seat → ℕ → Ruling → List Event → List Event
 recorded seat number ruling events = events ++ event.Ruled seat number ruling ∷ []
 
--- the order that is obeyed, and is to be done
-abbrev pub obeyed_order : Ruling → Option Order
-obeyed_order (Obeyed condition order) = Some order
-obeyed_order other = None
-
 -- after an order that is to be done, if there is one
 abbrev pub done : {State : Type 0} → (State → Order → State) → State → Option Order → State
 done act state None = state
@@ -72,13 +68,13 @@ pub record IsToDo (has_place : Order → Bool) (judgement : Order → Option Ref
   pub read : line.reading ≡ Ok order
   pub met : IsTrue (is_met events line.condition)
   pub kept : judgement order ≡ None
-  pub obeyed : obeyed_order (line_ruling has_place judgement events line) ≡ Some order
+  pub obeyed : order_obeyed (line_ruling has_place judgement events line) ≡ Some order
 
 -- whether this order of a line is obeyed, as the list is, and is to be done: otherwise none is
 abbrev pub IsOrderToDo : (Order → Bool) → (Order → Option Refusal) → List Event → Numbered → Order → Bool → Type 0
 IsOrderToDo has_place judgement events line order true = IsToDo has_place judgement events line order
 IsOrderToDo has_place judgement events line order false =
-    obeyed_order (line_ruling has_place judgement events line) ≡ None
+    order_obeyed (line_ruling has_place judgement events line) ≡ None
 
 -- an order of a written turn is one of play
 abbrev pub has_place_in_turn : Order → Bool
@@ -89,4 +85,4 @@ has_place_in_turn order = not (is_of_file order)
 abbrev pub after_ruling : {TurnActions : Type 0} → (InTurn TurnActions → Order → InTurn TurnActions) → Seat
     → InTurn TurnActions → ℕ → Ruling → InTurn TurnActions
 after_ruling act seat turn number ruling =
-    done act (in_turn (recorded seat number ruling turn.events) turn.actions) (obeyed_order ruling)
+    done act (in_turn (recorded seat number ruling turn.events) turn.actions) (order_obeyed ruling)

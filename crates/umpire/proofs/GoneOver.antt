@@ -1,20 +1,19 @@
 -- The laws of going over to version 2.
-use Rattle.std.proofs.Common.{◌≡◌, ℕ, ◌≤◌, cond, List, ◌++◌, Option, Some, None, Result, Ok, Err, length, refl, sym}
-use Rattle.std.proofs.Common.{subst, arith, inl, inr}
-use Rattle.std.specs.Prelude.{◌↔◌, nat_lt, is_some, IsOk}
-use Rattle.std.proofs.lemmas.Bool.{cases_Bool, ltb-false}
+use Rattle.std.proofs.Common.{◌≡◌, ℕ, ◌≤◌, List, ◌++◌, Option, Some, None, Result, Ok, Err, length, refl, sym}
+use Rattle.std.proofs.Common.{subst, arith}
+use Rattle.std.specs.Prelude.{◌↔◌, is_some, IsOk}
 use Rattle.order_grammar.specs.declared.condition.Version.{Version}
 use Rattle.order_grammar.specs.declared.condition.Version.TheVariants.{One, Two}
 use Rattle.report.specs.Laws.{DiffersInVersion, SamePartsSameReport}
 use Rattle.report.specs.Report.{IsReport, game_line}
 use Rattle.rounds.specs.ReadAlike.{AreReadAlike}
-use Rattle.sheets.specs.File.{Content, IsAccepted, content_of, lines_content, players_of, sheet_of, unread_of}
+use Rattle.sheets.specs.File.{Content, IsAccepted, content_of, players_of, sheet_of, unread_of}
 use Rattle.sheets.specs.File.{version_of}
 use Rattle.sheets.specs.Laws.{SameParts}
 use Rattle.sheets.specs.Limits.{file_most}
 use Rattle.sheets.specs.Text.{written_lines}
 use Rattle.sheets.specs.declared.fault.FileFault.{FileFault}
-use Rattle.sheets.specs.declared.fault.FileFault.TheVariants.{TooLong}
+use Rattle.sheets.proofs.AcceptedLemmas.{accepted_short}
 use Rattle.umpire.specs.Migrated.{file_in_two, migrated, migrated_from, named_version}
 use Rattle.tables.specs.declared.round.Round.{Round}
 use Rattle.umpire.specs.MigrationLaws.{AcceptedSaysTheSame, GoesOverOnce, GrowsNoLonger, MigrationChangesNoReport}
@@ -70,19 +69,6 @@ refused_alike file fault short =
     let named : Option Version = named_version (written_lines file) in
     subst (λ (new : List ℕ). (content_of new ≡ Err fault) ↔ (content_of file ≡ Err fault))
     (sym (goes file named refl)) (refused_from file fault named refl short)
-
--- an accepted file has no more bytes than a file may have
-within : (bytes : ℕ) (content : Result Content FileFault) → IsOk (cond (nat_lt file_most bytes) (Err TooLong) content)
-    → bytes ≤ file_most
-within bytes content accepted =
-    elim (cases_Bool (nat_lt file_most bytes)) [
-      | inl long ↦ absurd (let wrong = rw long at accepted in cc)
-      | inr short ↦ ltb-false file_most bytes short
-    ]
-
-accepted_short : (file : List ℕ) → IsAccepted file → length file ≤ file_most
-unfolding content_of
-accepted_short file accepted = within (length file) (lines_content (written_lines file)) accepted
 
 still_ok : (content : Result Content FileFault) → IsOk content → IsOk (with_body content)
 still_ok (Ok content) accepted = refl

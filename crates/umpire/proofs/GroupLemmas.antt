@@ -18,11 +18,6 @@ pub next_line : (lines rest : List (List ℕ)) (line : List ℕ) (group : Group)
     with_lines lines (Some group) ≡ with_lines rest next
 next_line lines rest line group next e b w = rw (e, b, w) refl
 
--- the next line begins another group
-pub next_written_turn : (lines rest : List (List ℕ)) (line : List ℕ) (group : Option Group) → lines ≡ line ∷ rest
-    → begins_group line ≡ true → with_lines lines group ≡ group
-next_written_turn lines rest line group e b = rw (e, b) refl
-
 -- a malformed group stays one
 pub malformed : (lines : List (List ℕ)) → with_lines lines None ≡ None
 malformed [] = refl

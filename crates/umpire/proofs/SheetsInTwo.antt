@@ -1,7 +1,7 @@
 -- A file that has gone over to version 2 has the same players, unread lines and parts of sheets.
 use Rattle.std.proofs.Common.{◌≡◌, ℕ, ◌+◌, ◌≤◌, inl, inr, Bool, true, false, cond, List, [], ◌∷◌, Option, Some, None}
 use Rattle.std.proofs.Common.{Result, Ok, Err, codes, length, take, refl, sym, ap, ◌∙◌, arith, map}
-use Rattle.std.specs.Prelude.{not, ◌&&◌, nat_lt, is_some, option_map, unwrap_or}
+use Rattle.std.specs.Prelude.{not, nat_lt, is_some, option_map, unwrap_or}
 use Rattle.std.specs.List.{list_all, prefix_len}
 use Rattle.std.specs.Option.{option_or}
 use Rattle.std.proofs.lemmas.Bool.{cases_Bool}
@@ -32,6 +32,7 @@ use Rattle.sheets.specs.declared.fault.FileFault.TheVariants.{TooManySheets}
 use Rattle.sheets.specs.declared.sheet_key.SheetKey.{SheetKey}
 use Rattle.sheets.proofs.ContentLemmas.{short_enough}
 use Rattle.tables.specs.declared.round.Round.{Round}
+use Rattle.tables.proofs.Tests.{second_fails}
 use Rattle.umpire.specs.Migrated.{file_in_two, header_of_two, is_if_line, is_unknown, line_in_two, named_version}
 use Rattle.umpire.proofs.HeaderLemmas.{file_fits}
 use Rattle.umpire.proofs.LinesInTwo.{headed, if_parts, read_alike, written_lines_go}
@@ -125,15 +126,11 @@ no_words line first known =
           ]
     ]
 
-both_false : (first second : Bool) → (first && second) ≡ false → first ≡ true → second ≡ false
-both_false true second e f = e
-both_false false second e f = cc
-
 stays_alike : (line : List ℕ) → is_if_line line ≡ false → reading_in Two line ≡ reading_in One line
 unfolding is_if_line
 stays_alike line e =
     elim (cases_Bool (same_word (first_of_words (words_of line)) (codes "IF"))) [
-      | inl first ↦ no_words line first (both_false (same_word (first_of_words (words_of line)) (codes "IF"))
+      | inl first ↦ no_words line first (second_fails (same_word (first_of_words (words_of line)) (codes "IF"))
           (is_unknown (reading_of line)) e first)
       | inr other ↦ same_without_if line (λ is. let wrong = rw is at other in cc)
     ]

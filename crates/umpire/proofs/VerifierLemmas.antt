@@ -84,11 +84,6 @@ too_many lines group whole most many is =
 pub none_of : (whole : Option Group) (most : ℕ) → whole ≡ None → IsReadFor most whole None
 none_of whole most is = subst (λ (made : Option Group). IsReadFor most made None) (sym is) tt
 
--- it is the group
-pub some_of : (whole : Option Group) (group : Group) (most : ℕ) → whole ≡ Some group
-    → IsReadFor most whole (Some group)
-some_of whole group most is = subst (λ (made : Option Group). IsReadFor most made (Some group)) (sym is) refl
-
 module _ (position : Position) (round : Round) (company : Company) (trains : List Kind) where
   -- a group with more runs than trains shows nothing
   not_shown : (group : Group) → length trains < length group.claim.runs → Shows position round company trains group → ⊥
@@ -116,13 +111,6 @@ module _ (position : Position) (round : Round) (company : Company) (trains : Lis
       subst (λ (its : Result ℤ RunnerFault). AnswersBy position round company trains whole its) (sym by)
       (refused_by_none whole is)
   by_what_is_read whole (Some read) answer is by = by_read whole read answer is by
-
-  -- no group is left
-  pub none_left : (groups : List (Option Group)) → groups ≡ []
-      → AnswersByText groups position round company trains (Err Refused) groups
-  none_left groups is =
-      inr (subst (λ (some : List (Option Group)). AnswersByNext some position round company trains (Err Refused) groups)
-      (sym is) (refl, is))
 
   -- the next one is read, and used
   pub next_used : (groups left : List (Option Group)) (whole read : Option Group) (answer : Result ℤ RunnerFault)

@@ -4,9 +4,9 @@ use Rattle.std.proofs.Common.{arith}
 use Rattle.std.proofs.lemmas.Option.{slice_get_read}
 use Rattle.best_run.specs.declared.lookahead.Outlook.{Outlook}
 use Rattle.legal_runs.proofs.Earning.{mark_used}
+use Rattle.legal_runs.specs.Law.{unused}
 use Rattle.search_task.specs.declared.task.Leg.{Leg}
 use Rattle.best_run.specs.Ahead.{WidensAt, WidensBelow, WidensFrom}
-use Rattle.search_task.specs.Fit.{unused}
 use Rattle.best_run.specs.EndStops.{CountsAsPassed, HasWorth}
 use Rattle.search_task.specs.Spots.{ends_in, node_at, stop_in}
 use Rattle.search_task.specs.Legs.{AreLegsOf, legs_at, legs_in}

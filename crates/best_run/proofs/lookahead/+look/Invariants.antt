@@ -1,9 +1,9 @@
 -- With each call that goes on from a spot, one more spot lies ahead.
 use Rattle.std.proofs.Common.{◌≡◌, ◌+◌, ◌*◌, false}
 use Rattle.best_run.specs.Ahead.{WidensBelow}
-use Rattle.search_task.specs.Fit.{unused}
 use Rattle.best_run.specs.EndStops.{HasWorth}
 use Rattle.best_run.proofs.lookahead.+look.Given as goal
+use Rattle.legal_runs.specs.Law.{unused}
 
 abbrev pub decreases-look_at : goal.decreases-look_at
 decreases-look_at l = 2 * unused l.outlook.now.ahead

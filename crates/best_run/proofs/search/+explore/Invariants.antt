@@ -6,10 +6,10 @@ use Rattle.best_run.specs.Moves.{begun, between, partial, turned_back}
 use Rattle.search_task.specs.Spots.{node_at, stop_in}
 use Rattle.best_run.specs.Moves.{TriesLegs}
 use Rattle.best_run.proofs.Along.{AnyLeg, IsLater}
-use Rattle.search_task.specs.Fit.{unused}
 use Rattle.best_run.proofs.Homes.{TriesHomes}
 use Rattle.best_run.proofs.Places.{one_if}
 use Rattle.best_run.proofs.search.+explore.Given as goal
+use Rattle.legal_runs.specs.Law.{unused}
 
 abbrev pub decreases-assign_next : goal.decreases-assign_next
 decreases-assign_next l = 6000 * (length l.bounded.now.task.now.trains.items - l.assigned.now.next)

@@ -1,6 +1,6 @@
-use Rattle.report.proofs.Seats.{elements_step}
 use Rattle.desk_moves.specs.Lines.{lay_line}
 use Rattle.desk_moves.proofs.line_text.push_lay_lines.Goals as goal
+use Rattle.tables.proofs.OneMore.{elements_step}
 
 pub loop-lay-preserved : goal.loop-lay-preserved
 loop-lay-preserved c =

@@ -1,6 +1,6 @@
-use Rattle.report.proofs.Seats.{elements_step}
 use Rattle.desk_moves.specs.Lines.{token_line}
 use Rattle.desk_moves.proofs.line_text.push_token_lines.Goals as goal
+use Rattle.tables.proofs.OneMore.{elements_step}
 
 pub loop-token-preserved : goal.loop-token-preserved
 loop-token-preserved c =

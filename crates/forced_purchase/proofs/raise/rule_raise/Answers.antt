@@ -6,11 +6,12 @@ use Rattle.totals.specs.LookBack.{Game}
 use Rattle.order_grammar.specs.declared.condition.Condition.{Condition}
 use Rattle.order_grammar.specs.declared.order.Order.TheVariants.{Play}
 use Rattle.order_grammar.specs.declared.play.PlayOrder.TheVariants.{Raise}
-use Rattle.forced_purchase.proofs.Steps.{nothing, raise_obeyed, raise_refused, raised}
+use Rattle.forced_purchase.proofs.Steps.{raise_obeyed, raise_refused, raised}
 use Rattle.purchases.proofs.Recorded.{recorded_obeyed}
 use Rattle.forced_purchase.specs.Raise.{after_raise_line, raise_judgement}
 use Rattle.sheets.specs.Part.{Numbered, line_with}
 use Rattle.forced_purchase.proofs.raise.rule_raise.Goals as goal
+use Rattle.tables.proofs.Tests.{none_by_is_none}
 
 pub sell_block-requires-clause-at_table : goal.sell_block-requires-clause-at_table
 sell_block-requires-clause-at_table c = subst (λ (game : Game). c.args.by.president.0 < game.seats)
@@ -40,7 +41,7 @@ sell_block-requires-clause-may c =
     })
     (raise_obeyed c.args.due c.args.by c.args.history.now its.line.condition its.sale
     (ap (λ (under : Option Condition). raise_judgement c.args.due c.args.by c.args.history.now under its.sale)
-    (sym c.as_ref.ensures.value) ∙ sym c.judge_raise-broken.ensures ∙ nothing c.judge_raise-broken.result none))
+    (sym c.as_ref.ensures.value) ∙ sym c.judge_raise-broken.ensures ∙ none_by_is_none c.judge_raise-broken.result none))
 
 pub returns-in_ok-sell_block-clause-seats : goal.returns-in_ok-sell_block-clause-seats
 returns-in_ok-sell_block-clause-seats c = ap (λ (game : Game). game.seats) c.in_ok-sell_block.ensures.after
@@ -55,7 +56,7 @@ returns-in_ok-sell_block-clause-after c =
     ≡ after_raise_line c.args.due c.args.by c.args.history.now held held.reading) c.held.view_is
     (raised c.args.due c.args.by c.args.history.now c.record_packed.new.history c.sell_block.new.history line its.sale
     (ap (λ (under : Option Condition). raise_judgement c.args.due c.args.by c.args.history.now under its.sale)
-    (sym c.as_ref.ensures.value) ∙ sym c.judge_raise-broken.ensures ∙ nothing c.judge_raise-broken.result none)
+    (sym c.as_ref.ensures.value) ∙ sym c.judge_raise-broken.ensures ∙ none_by_is_none c.judge_raise-broken.result none)
     (recorded_obeyed c.args.history.now c.record_packed.new.history c.args.by.president line
     (Play (Raise its.sale.company its.sale.shares)) c.judge_raise-broken.result
     (rw c.held.invariant at c.in_ok-record_packed.ensures.ruling) none)

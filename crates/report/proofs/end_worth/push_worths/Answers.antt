@@ -1,8 +1,8 @@
 use Rattle.std.proofs.Common.{◌≡◌, ◌++◌, ap, ◌∙◌, arith}
 use Rattle.std.specs.List.{flat_map, range_with_len}
 use Rattle.report.specs.EndWorth.{worth_line, worth_lines}
-use Rattle.report.proofs.Seats.{seats_step}
 use Rattle.report.proofs.end_worth.push_worths.Goals as goal
+use Rattle.tables.proofs.OneMore.{seats_step}
 
 pub loop-seat-preserved : goal.loop-seat-preserved
 loop-seat-preserved c =

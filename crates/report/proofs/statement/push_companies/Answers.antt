@@ -1,7 +1,7 @@
 use Rattle.report.specs.Statement.{started_line}
-use Rattle.report.proofs.Seats.{elements_step}
 use Rattle.report.proofs.statement.push_companies.Goals as goal
 use Rattle.tables.specs.Roster.{companies}
+use Rattle.tables.proofs.OneMore.{elements_step}
 
 pub loop-company-preserved : goal.loop-company-preserved
 loop-company-preserved c =

@@ -1,6 +1,6 @@
 use Rattle.report.specs.Statement.{player_line}
-use Rattle.report.proofs.Seats.{seats_step}
 use Rattle.report.proofs.statement.push_players.Goals as goal
+use Rattle.tables.proofs.OneMore.{seats_step}
 
 pub loop-seat-preserved : goal.loop-seat-preserved
 loop-seat-preserved c =

@@ -1,7 +1,7 @@
 use Rattle.report.specs.Statement.{code_owned}
-use Rattle.report.proofs.Seats.{elements_step}
 use Rattle.report.proofs.statement.push_privates.Goals as goal
 use Rattle.tables.specs.Roster.{privates}
+use Rattle.tables.proofs.OneMore.{elements_step}
 
 pub loop-private-preserved : goal.loop-private-preserved
 loop-private-preserved c =

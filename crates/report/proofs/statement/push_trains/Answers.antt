@@ -1,7 +1,7 @@
 use Rattle.report.specs.Statement.{codes_of_trains}
-use Rattle.report.proofs.Seats.{elements_step}
 use Rattle.report.proofs.statement.push_trains.Goals as goal
 use Rattle.tables.specs.Train.{kinds}
+use Rattle.tables.proofs.OneMore.{elements_step}
 
 pub loop-kind-preserved : goal.loop-kind-preserved
 loop-kind-preserved c =

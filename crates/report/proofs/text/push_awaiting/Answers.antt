@@ -1,6 +1,6 @@
 use Rattle.report.specs.Report.{name_owing}
-use Rattle.report.proofs.Seats.{seats_step}
 use Rattle.report.proofs.text.push_awaiting.Goals as goal
+use Rattle.tables.proofs.OneMore.{seats_step}
 
 pub loop-seat-preserved : goal.loop-seat-preserved
 loop-seat-preserved c =

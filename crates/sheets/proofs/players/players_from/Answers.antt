@@ -5,8 +5,9 @@ use Rattle.std.specs.Map.{keys_of}
 use Rattle.indexmap.proofs.CallerLemmas.{insert_entry-new}
 use Rattle.sheets.specs.File.{all_differ, with_seats}
 use Rattle.sheets.proofs.PlayerLemmas.{is_equal, seat_there, repeated, now_seated, now_differ, no_players, all_play}
-use Rattle.sheets.proofs.PlayerLemmas.{keys_of-seats, none_from}
+use Rattle.sheets.proofs.PlayerLemmas.{keys_of-seats}
 use Rattle.sheets.proofs.players.players_from.Goals as goal
+use Rattle.tables.proofs.Tests.{none_by_is_some}
 
 pub returns-then-is_some : goal.returns-then-is_some
 returns-then-is_some c =
@@ -27,7 +28,7 @@ loop-index-preserved c =
     let name = c.index-names-index.result in
     let earlier = c.in_ok-earlier.earlier in
     let none : is_some earlier ≡ false = sym c.is_some.ensures ∙ c.if-is_some.false in
-    let absent : earlier ≡ None = none_from earlier none in
+    let absent : earlier ≡ None = none_by_is_some earlier none in
     let new : list_any (is_equal name) (take i names) ≡ false =
     seat_there c.loop-index.seats.entries (take i names) name earlier c.loop-index.invariant.kept
     c.in_ok-earlier.ensures.old ∙ none in

@@ -1,7 +1,8 @@
 use Rattle.std.proofs.Common.{arith}
-use Rattle.totals.proofs.BalanceTables.{company_low, transfer_moved}
+use Rattle.totals.proofs.BalanceTables.{transfer_moved}
 use Rattle.totals.specs.Totals.{shares_entry}
 use Rattle.totals.proofs.balances.apply_transfer.Goals as goal
+use Rattle.tables.proofs.Companies.{company_low}
 
 pub returns-in-Some-clause-moved : goal.returns-in-Some-clause-moved
 returns-in-Some-clause-moved c = λ company place has moderate.

@@ -2,9 +2,10 @@ use Rattle.std.proofs.Common.{◌+◌, ◌≤◌, [], ◌∷◌, length, map, ap
 use Rattle.std.proofs.lemmas.List.{length-append, take_all}
 use Rattle.map_tables.specs.Hex.{hexes}
 use Rattle.map_tables.specs.declared.hex.Hex.{Hex}
+use Rattle.map_tables.proofs.ListedOnce.{hexes_are_93}
 use Rattle.reach.specs.Position.{links_of}
 use Rattle.certificate.specs.LinkEnds.{ends_of, held}
-use Rattle.certificate.proofs.HexLinks.{hexes_are_93, more_entries}
+use Rattle.certificate.proofs.HexLinks.{more_entries}
 use Rattle.certificate.proofs.hex_links.HexLinks.of.Goals as goal
 
 pub push-requires : goal.push-requires

@@ -3,7 +3,7 @@ use Rattle.std.proofs.Common.{sym, ap, ◌∙◌}
 use Rattle.std.specs.HashMap.{get}
 use Rattle.std.specs.Map.{lookup}
 use Rattle.desk_trials.proofs.HeadLemmas.{came_with_one, first_comes, first_stays, last_after_insert, last_as_first}
-use Rattle.desk_trials.proofs.HeadLemmas.{not_there, replaces_with_one}
+use Rattle.desk_trials.proofs.HeadLemmas.{replaces_with_one}
 use Rattle.desk_trials.proofs.SentLemmas.{found_after_insert, found_by_sent}
 use Rattle.desk_trials.specs.Heads.{AreKept, came}
 use Rattle.desk_trials.specs.SheetLines.{first_line, head_at, last_line, sheet_key_of, same_sent}
@@ -12,6 +12,7 @@ use Rattle.desk_trials.specs.declared.check_sheets.Head.{Head}
 use Rattle.desk_trials.specs.declared.check_sheets.Heads.{Heads}
 use Rattle.desk_trials.specs.declared.check_sheets.Sent.{Sent}
 use Rattle.desk_trials.proofs.check_sheets.Heads.take.Goals as goal
+use Rattle.tables.proofs.Tests.{none_by_is_some}
 
 -- what is kept, once one more head has come
 kept_with_one : (old new : Heads) (head : Head) → AreKept old → new.seats ≡ old.seats
@@ -72,5 +73,5 @@ returns-clause-kept c =
     (found_after_insert c.args.sent sent c.args.line.number old.first.entries c.insert-2.new.self.entries
     (c.in_ok-insert.ensures.updates.0 sent))
     (c.requires.firsts sent)
-    (not_there _ (has_first old c.args.sent c.in_ok-replaces.replaces false c.requires c.in_ok-replaces.ensures.old
+    (none_by_is_some _ (has_first old c.args.sent c.in_ok-replaces.replaces false c.requires c.in_ok-replaces.ensures.old
     (sym c.is_some.ensures ∙ c.if-is_some.false))))

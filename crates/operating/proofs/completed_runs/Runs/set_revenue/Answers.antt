@@ -1,6 +1,6 @@
 use Rattle.std.proofs.Common.{arith}
-use Rattle.operating.proofs.RunBestLemmas.{few_unused}
 use Rattle.operating.proofs.completed_runs.Runs.set_revenue.Goals as goal
+use Rattle.legal_runs.proofs.Earning.{few_unused}
 
 pub invariant_of-self : goal.invariant_of-self
 invariant_of-self c =

@@ -1,11 +1,12 @@
 use Rattle.std.proofs.Common.{ℕ, arith, ap, ◌∙◌, ◌<◌, ◌≡◌, List, rules}
 use Rattle.events.specs.Event.{transfer_of}
-use Rattle.totals.proofs.BalanceTables.{account_kept, account_moderate, balance_there, company_low}
+use Rattle.totals.proofs.BalanceTables.{account_kept, account_moderate, balance_there}
 use Rattle.totals.specs.Totals.{AreTotalsOf, shares_row}
 use Rattle.totals.specs.LookBack.{balance}
 use Rattle.totals.specs.Shares.{brought_to, taken_from, shares_of}
 use Rattle.events.specs.declared.event.Event.{Event}
 use Rattle.totals.proofs.look_back.GameView.shares.Goals as goal
+use Rattle.tables.proofs.Companies.{company_low}
 
 pub returns-in-Some-clause-sum : goal.returns-in-Some-clause-sum
 returns-in-Some-clause-sum c =
