@@ -14,7 +14,7 @@ use Rattle.desk_check.specs.declared.check_reading.Read.{Read}
 use Rattle.desk_trials.specs.SheetFaults.{ends_sheet}
 use Rattle.desk_trials.specs.declared.check_found.Found.{Found}
 use Rattle.desk_trials.specs.declared.check_found.Said.{Said}
-use Rattle.desk_trials.specs.declared.check_sheets.Sent.{Sent}
+use Rattle.sheets.specs.declared.sheet_key.SheetKey.{SheetKey}
 use Rattle.events.specs.declared.event.Event.{Event}
 use Rattle.order_grammar.specs.declared.condition.Version.{Version}
 use Rattle.desk_trials.specs.SheetLike.{closes}
@@ -52,31 +52,31 @@ adds_step f xs n d old mid new below so_far more =
     subst (Adds old new) step (adds_more old mid new _ _ so_far more)
 
 -- where a sheet ends nothing is shown, and it is read so far
-pub shown_ended : (version : Version) (game : Option (List Event)) (sent : Sent) (from : ℕ) (read : Read) (passed : ℕ)
+pub shown_ended : (version : Version) (game : Option (List Event)) (sent : SheetKey) (from : ℕ) (read : Read) (passed : ℕ)
     (text : List ℕ) (lines texts : List (List ℕ)) → lines ≡ text ∷ texts → ends_sheet read.number text ≡ true
     → shown_in version game sent from read passed lines ≡ []
 unfolding shown_in
 shown_ended version game sent from read passed text lines texts next ended = rw (next, ended) refl
 
-pub behind_ended : (version : Version) (sent : Sent) (read : Read) (passed : ℕ) (text : List ℕ)
+pub behind_ended : (version : Version) (sent : SheetKey) (read : Read) (passed : ℕ) (text : List ℕ)
     (lines texts : List (List ℕ)) → lines ≡ text ∷ texts → ends_sheet read.number text ≡ true
     → read_behind version sent read passed lines ≡ read
 unfolding read_behind
 behind_ended version sent read passed text lines texts next ended = rw (next, ended) refl
 
 -- where no line is left either
-pub shown_left : (version : Version) (game : Option (List Event)) (sent : Sent) (from : ℕ) (read : Read) (passed : ℕ)
+pub shown_left : (version : Version) (game : Option (List Event)) (sent : SheetKey) (from : ℕ) (read : Read) (passed : ℕ)
     (lines : List (List ℕ)) → lines ≡ [] → shown_in version game sent from read passed lines ≡ []
 unfolding shown_in
 shown_left version game sent from read passed lines none = rw none refl
 
-pub behind_left : (version : Version) (sent : Sent) (read : Read) (passed : ℕ) (lines : List (List ℕ)) → lines ≡ []
+pub behind_left : (version : Version) (sent : SheetKey) (read : Read) (passed : ℕ) (lines : List (List ℕ)) → lines ≡ []
     → read_behind version sent read passed lines ≡ read
 unfolding read_behind
 behind_left version sent read passed lines none = rw none refl
 
 -- one more line
-shown_next : (version : Version) (game : Option (List Event)) (sent : Sent) (from : ℕ) (read : Read) (passed : ℕ)
+shown_next : (version : Version) (game : Option (List Event)) (sent : SheetKey) (from : ℕ) (read : Read) (passed : ℕ)
     (text : List ℕ) (lines texts : List (List ℕ)) → lines ≡ text ∷ texts → ends_sheet read.number text ≡ false
     → shown_in version game sent from read passed lines
     ≡ shown_from from sent (passed + 1) (said_of_line version game sent read text)
@@ -84,7 +84,7 @@ shown_next : (version : Version) (game : Option (List Event)) (sent : Sent) (fro
 unfolding shown_in
 shown_next version game sent from read passed text lines texts next goes_on = rw (next, goes_on) refl
 
-behind_next : (version : Version) (sent : Sent) (read : Read) (passed : ℕ) (text : List ℕ)
+behind_next : (version : Version) (sent : SheetKey) (read : Read) (passed : ℕ) (text : List ℕ)
     (lines texts : List (List ℕ)) → lines ≡ text ∷ texts → ends_sheet read.number text ≡ false
     → read_behind version sent read passed lines
     ≡ read_behind version sent (read_then version sent read (passed + 1) text) (passed + 1) texts
@@ -97,13 +97,13 @@ is_read number text goes_on =
     ltb-false lines_most number (or_parts (closes text) (nat_lt lines_most number) goes_on).1
 
 -- and numbered, or blank
-number_by : (sent : Sent) (read : Read) (line : ℕ) (its : Numbered) (seen : Look)
+number_by : (sent : SheetKey) (read : Read) (line : ℕ) (its : Numbered) (seen : Look)
     → (read_by sent read line its seen).number ≡ read.number + 1
 number_by sent read line its Head = refl
 number_by sent read line its Good = refl
 number_by sent read line its (Bad fault) = refl
 
-pub number_within : (version : Version) (sent : Sent) (read : Read) (line : ℕ) (text : List ℕ) → read.number ≤ lines_most
+pub number_within : (version : Version) (sent : SheetKey) (read : Read) (line : ℕ) (text : List ℕ) → read.number ≤ lines_most
     → (read_then version sent read line text).number ≤ 513
 number_within version sent read line text within =
     let its : Numbered = next_read version read text in
@@ -114,7 +114,7 @@ number_within version sent read line text within =
     ]
 
 -- a sheet begins with nothing read
-pub shown_first : (old new : Found) (version : Version) (game : Option (List Event)) (sent : Sent) (from : ℕ)
+pub shown_first : (old new : Found) (version : Version) (game : Option (List Event)) (sent : SheetKey) (from : ℕ)
     (read : Read) (passed line : ℕ) (lines texts : List (List ℕ)) → read ≡ nothing_read → passed ≡ line → lines ≡ texts
     → Adds old new (shown_in version game sent from read passed lines)
     → Adds old new (shown_in version game sent from nothing_read line texts)
@@ -123,7 +123,7 @@ shown_first old new version game sent from read passed line lines texts none is_
     (subst (λ (it : ℕ). Adds old new (shown_in version game sent from read it texts)) is_line
     (subst (λ (it : List (List ℕ)). Adds old new (shown_in version game sent from read passed it)) is_texts adds))
 
-pub behind_first : (version : Version) (sent : Sent) (read : Read) (passed line : ℕ) (lines texts : List (List ℕ))
+pub behind_first : (version : Version) (sent : SheetKey) (read : Read) (passed line : ℕ) (lines texts : List (List ℕ))
     → read ≡ nothing_read → passed ≡ line → lines ≡ texts
     → read_behind version sent read passed lines ≡ read_behind version sent nothing_read line texts
 behind_first version sent read passed line lines texts none is_line is_texts =
@@ -134,7 +134,7 @@ behind_first version sent read passed line lines texts none is_line is_texts =
 -- where what is shown of the lines that are left would complete what is shown, and one line more is read, what is shown of
 -- the lines behind it does
 pub shown_further : (first old mid : Found) (whole : List Shown) (version : Version) (game : Option (List Event))
-    (sent : Sent) (from : ℕ) (read : Read) (passed : ℕ) (text : List ℕ) (lines texts : List (List ℕ)) (line : ℕ)
+    (sent : SheetKey) (from : ℕ) (read : Read) (passed : ℕ) (text : List ℕ) (lines texts : List (List ℕ)) (line : ℕ)
     (next : Read) (next_passed : ℕ) (said : Option Said) →
     ((new : Found) → Adds old new (shown_in version game sent from read passed lines) → Adds first new whole)
     → lines ≡ text ∷ texts → ends_sheet read.number text ≡ false → old.from ≡ from → line ≡ passed + 1
@@ -150,7 +150,7 @@ shown_further first old mid whole version game sent from read passed text lines 
     rest new (subst (Adds old new) (sym step) (adds_more old mid new _ _ one told))
 
 -- and so it is with how far the sheet is read
-pub behind_further : (whole : Read) (version : Version) (sent : Sent) (read : Read) (passed : ℕ) (text : List ℕ)
+pub behind_further : (whole : Read) (version : Version) (sent : SheetKey) (read : Read) (passed : ℕ) (text : List ℕ)
     (lines texts : List (List ℕ)) (line : ℕ) (next : Read) (next_passed : ℕ)
     → read_behind version sent read passed lines ≡ whole → lines ≡ text ∷ texts → ends_sheet read.number text ≡ false
     → line ≡ passed + 1 → next_passed ≡ line → next ≡ read_then version sent read line text
@@ -162,7 +162,7 @@ behind_further whole version sent read passed text lines texts line next next_pa
     sym step ∙ rest
 
 -- a whole sheet: its lines, and the companies that it leaves without orders
-pub adds_sheet : (version : Version) (game : Option (List Event)) (sent : Sent) (from line : ℕ)
+pub adds_sheet : (version : Version) (game : Option (List Event)) (sent : SheetKey) (from line : ℕ)
     (texts : List (List ℕ)) (old mid new : Found) (read : Read)
     → Adds old mid (shown_in version game sent from nothing_read line texts)
     → read ≡ read_behind version sent nothing_read line texts → Adds mid new (silent_in game sent line read.begun)

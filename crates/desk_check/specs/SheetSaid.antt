@@ -25,7 +25,7 @@ use Rattle.desk_trials.specs.declared.check_found.Matter.TheVariants as matter
 use Rattle.desk_trials.specs.declared.check_found.Said.{Said}
 use Rattle.desk_trials.specs.declared.check_found.Said.TheVariants.{Again, Breaks, Presided}
 use Rattle.desk_trials.specs.declared.check_sheets.Head as its
-use Rattle.desk_trials.specs.declared.check_sheets.Sent.{Sent}
+use Rattle.sheets.specs.declared.sheet_key.SheetKey.{SheetKey}
 use Rattle.events.specs.declared.event.Event.{Event}
 use Rattle.events.specs.declared.ruling.Refusal.{Refusal}
 use Rattle.order_grammar.specs.Version.{reading_in}
@@ -64,12 +64,12 @@ presided_by company None = None
 presided_by company (Some president) = Some (Presided company president)
 
 -- what is said of the orders of a company, by the game as the round begins, where that is known
-abbrev pub presided : Option (List Event) → Sent → Company → Option Said
+abbrev pub presided : Option (List Event) → SheetKey → Company → Option Said
 presided None sent company = None
 presided (Some events) sent company = presided_by company (other_president events company sent.seat)
 
 -- what is said of the head of a company's orders: they begin on a line before it, or are for another to give
-abbrev pub said_of_company : Option (List Event) → Sent → Company → Option ℕ → Option Said
+abbrev pub said_of_company : Option (List Event) → SheetKey → Company → Option ℕ → Option Said
 said_of_company game sent company (Some first) = Some (Again company first)
 said_of_company game sent company None = presided game sent company
 
@@ -89,13 +89,13 @@ begun_by begun line (Err fault) = begun
 begun_by begun line (Ok its) = begun_by_order begun line its
 
 -- what is said of a head with this order
-abbrev pub said_of_head_order : Option (List Event) → Sent → List (Option ℕ) → Order → Option Said
+abbrev pub said_of_head_order : Option (List Event) → SheetKey → List (Option ℕ) → Order → Option Said
 said_of_head_order game sent begun (order.Company company) =
     said_of_company game sent company (begun_at begun company)
 said_of_head_order game sent begun other = None
 
 -- what is said of it
-abbrev pub said_of_head : Option (List Event) → Sent → List (Option ℕ) → Result Order Fault → Option Said
+abbrev pub said_of_head : Option (List Event) → SheetKey → List (Option ℕ) → Result Order Fault → Option Said
 said_of_head game sent begun (Err fault) = None
 said_of_head game sent begun (Ok its) = said_of_head_order game sent begun its
 
@@ -105,7 +105,7 @@ said_of_wrong None = None
 said_of_wrong (Some wrong) = Some (Breaks wrong.0 wrong.1)
 
 -- why an order is wrong by the orders before it, by the map and the tables
-abbrev pub wrong_by_itself : Sent → Bool → Block → Order → Option (Refusal × Objection)
+abbrev pub wrong_by_itself : SheetKey → Bool → Block → Order → Option (Refusal × Objection)
 wrong_by_itself sent is_open block its = option_or (objection_behind block its) (objection_to sent.round is_open its)
 
 -- the order buys a train
@@ -114,12 +114,12 @@ is_purchase (order.Play (play.BuyTrain kind from)) = true
 is_purchase other = false
 
 -- why it is by the game as the round begins, where that is known; of a train that is bought nothing is
-abbrev pub wrong_by_game : Option (List Event) → Sent → Order → Option (Refusal × Objection)
+abbrev pub wrong_by_game : Option (List Event) → SheetKey → Order → Option (Refusal × Objection)
 wrong_by_game None sent its = None
 wrong_by_game (Some events) sent its = if is_purchase its then None else objection_by_view events sent.seat its
 
 -- why it is by any of these
-abbrev pub wrong_with : Option (List Event) → Sent → Bool → Block → Order → Option (Refusal × Objection)
+abbrev pub wrong_with : Option (List Event) → SheetKey → Bool → Block → Order → Option (Refusal × Objection)
 wrong_with game sent is_open block its =
     option_or (wrong_by_itself sent is_open block its) (wrong_by_game game sent its)
 
@@ -128,13 +128,13 @@ abbrev pub block_with : Block → Order → Bool → Option (Refusal × Objectio
 block_with block its is_conditional wrong = if is_some wrong then block else block_then block its is_conditional
 
 -- behind an order that has a place
-abbrev pub block_by : Sent → Bool → Block → Bool → Result Order Fault → Block
+abbrev pub block_by : SheetKey → Bool → Block → Bool → Result Order Fault → Block
 block_by sent is_open block is_conditional (Err fault) = block
 block_by sent is_open block is_conditional (Ok its) =
     block_with block its is_conditional (wrong_by_itself sent is_open block its)
 
 -- what is said of it
-abbrev pub said_of_order : Option (List Event) → Sent → Bool → Block → Result Order Fault → Option Said
+abbrev pub said_of_order : Option (List Event) → SheetKey → Bool → Block → Result Order Fault → Option Said
 said_of_order game sent is_open block (Err fault) = None
 said_of_order game sent is_open block (Ok its) = said_of_wrong (wrong_with game sent is_open block its)
 
@@ -144,7 +144,7 @@ read_by_head read line reading =
     record { number = read.number + 1; is_open = true; block = no_orders; begun = begun_by read.begun line reading }
 
 -- behind an order that has a place
-abbrev pub read_by_order : Sent → Read → Numbered → Read
+abbrev pub read_by_order : SheetKey → Read → Numbered → Read
 read_by_order sent read its = record {
   number = read.number + 1;
   is_open = read.is_open;
@@ -158,7 +158,7 @@ read_by_fault read =
     record { number = read.number + 1; is_open = read.is_open; block = read.block; begun = read.begun }
 
 -- behind a line that looks so
-abbrev pub read_by : Sent → Read → ℕ → Numbered → Look → Read
+abbrev pub read_by : SheetKey → Read → ℕ → Numbered → Look → Read
 read_by sent read line its look.Head = read_by_head read line its.reading
 read_by sent read line its look.Good = read_by_order sent read its
 read_by sent read line its (look.Bad fault) = read_by_fault read
@@ -168,7 +168,7 @@ abbrev pub fault_told : Bool → Fault → List ℕ → Option Said
 fault_told is_open fault text = if is_mail text then None else Some (said_of_fault is_open fault)
 
 -- what is said of a line that looks so
-abbrev pub said_by_look : Option (List Event) → Sent → Read → List ℕ → Numbered → Look → Option Said
+abbrev pub said_by_look : Option (List Event) → SheetKey → Read → List ℕ → Numbered → Look → Option Said
 said_by_look game sent read text its look.Head = said_of_head game sent read.begun its.reading
 said_by_look game sent read text its look.Good = said_of_order game sent read.is_open read.block its.reading
 said_by_look game sent read text its (look.Bad fault) = fault_told read.is_open fault text
@@ -178,7 +178,7 @@ abbrev pub next_read : Version → Read → List ℕ → Numbered
 next_read version read text = numbered (read.number + 1) (reading_in version text)
 
 -- behind one more line; blank ones do not count
-abbrev pub read_then : Version → Sent → Read → ℕ → List ℕ → Read
+abbrev pub read_then : Version → SheetKey → Read → ℕ → List ℕ → Read
 read_then version sent read line text =
     if is_blank text
     then read
@@ -186,7 +186,7 @@ read_then version sent read line text =
     (look_of sent.round read.is_open (next_read version read text).reading)
 
 -- what is said of it
-abbrev pub said_of_line : Version → Option (List Event) → Sent → Read → List ℕ → Option Said
+abbrev pub said_of_line : Version → Option (List Event) → SheetKey → Read → List ℕ → Option Said
 said_of_line version game sent read text =
     if is_blank text
     then None
@@ -207,16 +207,16 @@ abbrev pub shown : List Finding → List Shown
 shown findings = flat_map shown_by findings
 
 -- what is shown of a line of a sheet, if something is said of it
-abbrev pub shown_of : Sent → ℕ → Option Said → List Shown
+abbrev pub shown_of : SheetKey → ℕ → Option Said → List Shown
 shown_of sent line None = []
 shown_of sent line (Some said) = record { line = line; matter = matter.Line sent said } ∷ []
 
 -- unless the line comes before the first that is reported
-abbrev pub shown_from : ℕ → Sent → ℕ → Option Said → List Shown
+abbrev pub shown_from : ℕ → SheetKey → ℕ → Option Said → List Shown
 shown_from from sent line said = if nat_lt line from then [] else shown_of sent line said
 
 -- behind this many of the lines that are left, where of the file this many came before them
-unfoldable pub read_behind : Version → Sent → Read → ℕ → List (List ℕ) → Read
+unfoldable pub read_behind : Version → SheetKey → Read → ℕ → List (List ℕ) → Read
 read_behind version sent read passed [] = read
 read_behind version sent read passed (text ∷ texts) =
     if ends_sheet read.number text
@@ -224,7 +224,7 @@ read_behind version sent read passed (text ∷ texts) =
     else read_behind version sent (read_then version sent read (passed + 1) text) (passed + 1) texts
 
 -- what is shown of the lines that are left, where of the file this many came before them
-unfoldable pub shown_in : Version → Option (List Event) → Sent → ℕ → Read → ℕ → List (List ℕ) → List Shown
+unfoldable pub shown_in : Version → Option (List Event) → SheetKey → ℕ → Read → ℕ → List (List ℕ) → List Shown
 shown_in version game sent from read passed [] = []
 shown_in version game sent from read passed (text ∷ texts) =
     if ends_sheet read.number text
@@ -239,18 +239,18 @@ is_operating (Opening number) = false
 is_operating (Stock set) = false
 
 -- a sheet leaves a company without orders that operates, over which its player presides
-abbrev pub is_silent : Option (List Event) → Sent → List (Option ℕ) → Company → Bool
+abbrev pub is_silent : Option (List Event) → SheetKey → List (Option ℕ) → Company → Bool
 is_silent None sent begun company = false
 is_silent (Some events) sent begun company =
     is_operating sent.round && (is_none (begun_at begun company) && has_to_order events company sent.seat)
 
 -- what is shown of a company, on the line that begins the sheet
-abbrev pub silent_one : Option (List Event) → Sent → ℕ → List (Option ℕ) → Company → List Shown
+abbrev pub silent_one : Option (List Event) → SheetKey → ℕ → List (Option ℕ) → Company → List Shown
 silent_one game sent line begun company =
     if is_silent game sent begun company then record { line = line; matter = matter.Silent company } ∷ [] else []
 
 -- of all companies
-abbrev pub silent_in : Option (List Event) → Sent → ℕ → List (Option ℕ) → List Shown
+abbrev pub silent_in : Option (List Event) → SheetKey → ℕ → List (Option ℕ) → List Shown
 silent_in game sent line begun = flat_map (silent_one game sent line begun) companies
 
 -- the texts of the lines below a head

@@ -12,13 +12,12 @@ use crate::check_names::likeness_of;
 use crate::check_said::names_of;
 use crate::plain_lines::pass_plain;
 use desk_trials::{
-    Beginning, FileLine, FileLines, Found, Head, Heads, Matter, Sent, begun_by, is_like_sheet,
-    is_mail,
+    Beginning, FileLine, FileLines, Found, Head, Heads, Matter, begun_by, is_like_sheet, is_mail,
 };
 use hints::{Faulty, line_meant};
 use order_grammar::Fault;
 use report::name;
-use sheets::{Sheets, is_blank, unread_fault};
+use sheets::{SheetKey, Sheets, is_blank, unread_fault};
 use std::alloc::{AllocError, Global};
 use tables::Seat;
 
@@ -48,7 +47,7 @@ struct Closing<'a> {
     line: FileLine<'a>,
     fault: Fault,
     /// The sheet that was meant, if that is known.
-    sent: Option<Sent>,
+    sent: Option<SheetKey>,
     /// The first line below it and the last.
     below: Option<(usize, usize)>,
 }
@@ -212,7 +211,7 @@ fn sheet_meant(
     sheets: &Sheets,
     line: &FileLine,
     fault: Fault,
-) -> Result<Option<Sent>, AllocError> {
+) -> Result<Option<SheetKey>, AllocError> {
     let names = names_of(sheets);
     let faulty = Faulty {
         version: sheets.version(),

@@ -17,10 +17,10 @@ ghost use Rattle.totals.specs.LookBack.{Game};
 use crate::check_orders::Block;
 use crate::check_seat::has_to_order;
 use desk_base::{Objection, objection_by_view, objection_to, other_president};
-use desk_trials::{FileLine, FileLines, Found, Head, Matter, Said, Sent, closes, is_mail};
+use desk_trials::{FileLine, FileLines, Found, Head, Matter, Said, closes, is_mail};
 use history::{GameView, Refusal};
 use order_grammar::{Fault, Order, PlayOrder, Version};
-use sheets::{LINES_MOST, NumberedLine, UnreadLine, is_blank, is_head_of, is_of_file};
+use sheets::{LINES_MOST, NumberedLine, SheetKey, UnreadLine, is_blank, is_head_of, is_of_file};
 use std::alloc::AllocError;
 use tables::{COMPANIES, Company, PerCompany, Round, Seat};
 
@@ -45,7 +45,7 @@ struct Reader<'v, 'g> {
     /// The game as the sheet's round begins; `None` if that is not known.
     view: Option<&'v GameView<'g>>,
     /// Whose sheet it is, and for which round.
-    sent: Sent,
+    sent: SheetKey,
 }
 
 /// Finds what is wrong with the lines of a sheet of a file of some version, and the companies that
@@ -82,7 +82,7 @@ fn ends_sheet(number: u32, line: &[u8]) -> bool
 /// Adds what there is to say of a line of a sheet, if anything.
 fn add_said<'a>(
     line: &FileLine<'a>,
-    sent: Sent,
+    sent: SheetKey,
     said: Option<Said>,
     found: &mut Found<'a>,
 ) -> Result<(), AllocError>
@@ -192,7 +192,7 @@ impl Read {
     }
 
     /// Returns how far it is behind an order that has a place in a sheet.
-    fn with_order(self, sent: Sent, read: &NumberedLine) -> Read
+    fn with_order(self, sent: SheetKey, read: &NumberedLine) -> Read
         requires { self.number ≤ lines_most }
         ensures { result ≡ read_by_order sent self (line_read read.now) }
     {
@@ -221,7 +221,7 @@ impl Read {
 
 /// Returns why an order is wrong by the orders before it, or by the map and the tables.
 fn wrong_by_itself(
-    sent: Sent,
+    sent: SheetKey,
     is_open: bool,
     block: Block,
     order: &Order,

@@ -3,11 +3,11 @@
 use crate::check_text::push_rule;
 use desk_base::Piece::{Bytes, Count, Words};
 use desk_base::{Objection, Piece, fill, push_objection, who};
-use desk_trials::{Finding, Said, Sent};
+use desk_trials::{Finding, Said};
 use hints::{Faulty, push_hint, sentence_of};
 use order_grammar::Fault;
 use report::name;
-use sheets::Sheets;
+use sheets::{SheetKey, Sheets};
 use std::alloc::AllocError;
 use tables::{PLAYERS_MOST, Round, Seat};
 
@@ -72,7 +72,7 @@ pub(crate) fn push_closing<'a>(
     sheets: &Sheets,
     finding: &Finding<'a>,
     fault: Fault,
-    sent: Option<Sent>,
+    sent: Option<SheetKey>,
     below: Option<(usize, usize)>,
     last_fault: &mut LastFault<'a>,
 ) -> Result<(), AllocError> {

@@ -7,9 +7,8 @@ use Rattle.std.proofs.lemmas.List.{append-nil, map-append}
 use Rattle.std.specs.Map.{lookup}
 use Rattle.std.specs.Option.{option_or}
 use Rattle.desk_trials.specs.SheetLines.{HeadAt, ReplaceTheLast, complete_by, first_line, head_at}
-use Rattle.desk_trials.specs.SheetLines.{last_line, later_of, sheet_key_of, same_sent}
+use Rattle.desk_trials.specs.SheetLines.{last_line, later_of}
 use Rattle.desk_trials.specs.declared.check_sheets.Head.{Head}
-use Rattle.desk_trials.specs.declared.check_sheets.Sent.{Sent}
 use Rattle.sheets.specs.File.{sheet_key_at, same_sheet_key}
 use Rattle.sheets.specs.declared.sheet_key.SheetKey.{SheetKey}
 use Rattle.std.specs.Prelude.{◌==◌, if◌then◌else◌, nat_lt}
@@ -39,7 +38,7 @@ same_post_is a b same =
 
 -- one more head, which replaces the last before it
 pub replaces_with_one : (before : List HeadAt) (heads : List Head) (head : Head) →
-    ReplaceTheLast before heads → head.replaces ≡ last_line (sheet_key_of head.sent) (before ++ map head_at heads)
+    ReplaceTheLast before heads → head.replaces ≡ last_line head.sent (before ++ map head_at heads)
     → ReplaceTheLast before (heads ++ head ∷ [])
 replaces_with_one before [] head h e = (rw append-nil at e, tt)
 replaces_with_one before (first ∷ heads) head h e =
@@ -52,15 +51,15 @@ or_by_test true line other = refl
 or_by_test false line other = refl
 
 -- the line of the last head that begins a sheet, once one more head has come
-pub last_after_insert : (key sent : Sent) (line : ℕ) (old new : List (Sent × ℕ)) (heads : List HeadAt) →
-    lookup (same_sent sent) new ≡ cond (same_sent key sent) (Some line) (lookup (same_sent sent) old)
-    → lookup (same_sent sent) old ≡ last_line (sheet_key_of sent) heads
-    → lookup (same_sent sent) new ≡ last_line (sheet_key_of sent)
-    (heads ++ record { line = line; sheet_key = sheet_key_of key } ∷ [])
+pub last_after_insert : (key sent : SheetKey) (line : ℕ) (old new : List (SheetKey × ℕ)) (heads : List HeadAt) →
+    lookup (same_sheet_key sent) new ≡ cond (same_sheet_key key sent) (Some line) (lookup (same_sheet_key sent) old)
+    → lookup (same_sheet_key sent) old ≡ last_line sent heads
+    → lookup (same_sheet_key sent) new ≡ last_line sent
+    (heads ++ record { line = line; sheet_key = key } ∷ [])
 last_after_insert key sent line old new heads put kept =
-    put ∙ ap (λ o. cond (same_sent key sent) (Some line) o) kept
-    ∙ or_by_test (same_sent key sent) line (last_line (sheet_key_of sent) heads)
-    ∙ sym (last_with_one (sheet_key_of sent) heads (record { line = line; sheet_key = sheet_key_of key }))
+    put ∙ ap (λ o. cond (same_sheet_key key sent) (Some line) o) kept
+    ∙ or_by_test (same_sheet_key key sent) line (last_line sent heads)
+    ∙ sym (last_with_one sent heads (record { line = line; sheet_key = key }))
 
 -- the first of some heads and one more
 first_with_one : (sheet_key : SheetKey) (heads : List HeadAt) (head : HeadAt) →
@@ -105,32 +104,32 @@ none_before None test line none = refl
 none_before (Some first) true line none = absurd (cc (none refl))
 none_before (Some first) false line none = refl
 
-module _ (key sent : Sent) (line : ℕ) (heads : List HeadAt) where
+module _ (key sent : SheetKey) (line : ℕ) (heads : List HeadAt) where
   -- where one begins this sheet, the first stays
-  pub first_stays : (entries : List (Sent × ℕ)) → lookup (same_sent sent) entries
-      ≡ first_line (sheet_key_of sent) heads →
-      is_some (first_line (sheet_key_of key) heads) ≡ true →
-      lookup (same_sent sent) entries ≡ first_line (sheet_key_of sent)
-      (heads ++ record { line = line; sheet_key = sheet_key_of key } ∷ [])
+  pub first_stays : (entries : List (SheetKey × ℕ)) → lookup (same_sheet_key sent) entries
+      ≡ first_line sent heads →
+      is_some (first_line key heads) ≡ true →
+      lookup (same_sheet_key sent) entries ≡ first_line sent
+      (heads ++ record { line = line; sheet_key = key } ∷ [])
   first_stays entries kept there =
       kept
-      ∙ there_before (first_line (sheet_key_of sent) heads) (same_sent key sent) line
+      ∙ there_before (first_line sent heads) (same_sheet_key key sent) line
       (λ same. subst (λ (sheet_key : SheetKey). is_some (first_line sheet_key heads) ≡ true)
-      (same_post_is (sheet_key_of key) (sheet_key_of sent) same) there)
-      ∙ sym (first_with_one (sheet_key_of sent) heads (record { line = line; sheet_key = sheet_key_of key }))
+      (same_post_is key sent same) there)
+      ∙ sym (first_with_one sent heads (record { line = line; sheet_key = key }))
 
   -- where none does, this is the first
-  pub first_comes : (old new : List (Sent × ℕ)) →
-      lookup (same_sent sent) new ≡ cond (same_sent key sent) (Some line) (lookup (same_sent sent) old) →
-      lookup (same_sent sent) old ≡ first_line (sheet_key_of sent) heads → first_line (sheet_key_of key) heads ≡ None →
-      lookup (same_sent sent) new ≡ first_line (sheet_key_of sent)
-      (heads ++ record { line = line; sheet_key = sheet_key_of key } ∷ [])
+  pub first_comes : (old new : List (SheetKey × ℕ)) →
+      lookup (same_sheet_key sent) new ≡ cond (same_sheet_key key sent) (Some line) (lookup (same_sheet_key sent) old) →
+      lookup (same_sheet_key sent) old ≡ first_line sent heads → first_line key heads ≡ None →
+      lookup (same_sheet_key sent) new ≡ first_line sent
+      (heads ++ record { line = line; sheet_key = key } ∷ [])
   first_comes old new put kept none =
-      put ∙ ap (λ o. cond (same_sent key sent) (Some line) o) kept
-      ∙ none_before (first_line (sheet_key_of sent) heads) (same_sent key sent) line
+      put ∙ ap (λ o. cond (same_sheet_key key sent) (Some line) o) kept
+      ∙ none_before (first_line sent heads) (same_sheet_key key sent) line
       (λ same. subst (λ (sheet_key : SheetKey). first_line sheet_key heads ≡ None)
-      (same_post_is (sheet_key_of key) (sheet_key_of sent) same) none)
-      ∙ sym (first_with_one (sheet_key_of sent) heads (record { line = line; sheet_key = sheet_key_of key }))
+      (same_post_is key sent same) none)
+      ∙ sym (first_with_one sent heads (record { line = line; sheet_key = key }))
 
 -- the line by which one player more had a sheet
 pub complete_next : (seats : ℕ) (round : Round) (heads : List HeadAt) →

@@ -1,7 +1,7 @@
 -- The lines of a player's sheet that a game did not obey in its round, as its events say.
 use Rattle.std.specs.Prelude.{ℕ, ◌==◌, Bool, true, false, if◌then◌else◌, List, [], ◌∷◌, Option, Some, None, slice_get}
 use Rattle.std.specs.List.{flat_map}
-use Rattle.desk_trials.specs.declared.check_sheets.Sent.{Sent}
+use Rattle.sheets.specs.declared.sheet_key.SheetKey.{SheetKey}
 use Rattle.desk_trials.specs.declared.refusals.RefusedLine.{RefusedLine}
 use Rattle.desk_why.specs.Refused.{refused_in}
 use Rattle.events.specs.RulingText.{verdict_of}
@@ -40,5 +40,5 @@ row_at events seat place = row_by seat place (slice_get events place)
 
 -- the lines of a sheet that were refused in its round, but not for their condition, or have a fault, in the order of their
 -- rulings
-abbrev pub refused_of : Sent → List Event → List RefusedLine
+abbrev pub refused_of : SheetKey → List Event → List RefusedLine
 refused_of sent events = flat_map (row_at events sent.seat) (refused_in sent.round events)

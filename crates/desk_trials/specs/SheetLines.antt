@@ -1,28 +1,18 @@
 -- The good SHEET lines of a file: whose sheet for which round each begins, where it is, and which
 -- line's sheet it replaces.
-use Rattle.std.specs.Prelude.{◌≡◌, ℕ, zero, suc, ◌+◌, ◌==◌, ◌&&◌, Bool, true, false, if◌then◌else◌, List, [], ◌∷◌, ◌++◌}
+use Rattle.std.specs.Prelude.{◌≡◌, ℕ, zero, suc, ◌+◌, ◌==◌, Bool, true, false, if◌then◌else◌, List, [], ◌∷◌, ◌++◌}
 use Rattle.std.specs.Prelude.{Option, Some, None, max, nat_lt, ⊤}
 use Rattle.std.specs.Option.{option_or}
 use Rattle.desk_trials.specs.declared.check_sheets.Beginning.{Beginning}
 use Rattle.desk_trials.specs.declared.check_sheets.Beginning.TheVariants.{Sheet, Closing, Other}
 use Rattle.desk_trials.specs.declared.check_sheets.Head.{Head}
-use Rattle.desk_trials.specs.declared.check_sheets.Sent.{Sent}
 use Rattle.sheets.specs.File.{begins, is_sheet_line, sheet_key_at, same_sheet_key}
 use Rattle.sheets.specs.declared.sheet_key.SheetKey.{SheetKey}
-use Rattle.tables.specs.Round.{same_round}
 use Rattle.tables.specs.declared.round.Round.{Round}
-
--- the sheet, as the definitions of files name it
-abbrev pub sheet_key_of : Sent → SheetKey
-sheet_key_of sent = record { seat = sent.seat; round = sent.round }
-
--- the same seat and the same round
-abbrev pub same_sent : Sent → Sent → Bool
-same_sent a b = a.seat.0 == b.seat.0 && same_round a.round b.round
 
 -- what a line begins: a sheet; nothing, though it is a SHEET line; or it is none
 abbrev pub Begins : List (List ℕ) → List ℕ → Beginning → Type 0
-Begins players line (Sheet sent) = begins players line ≡ Some (sheet_key_of sent)
+Begins players line (Sheet sent) = begins players line ≡ Some sent
 Begins players line Closing = (is_sheet_line line ≡ true) × (begins players line ≡ None)
 Begins players line Other = (is_sheet_line line ≡ false) × (begins players line ≡ None)
 
@@ -44,7 +34,7 @@ heads_in players passed (line ∷ lines) =
 
 -- a head that was kept, with the number of its line
 abbrev pub head_at : Head → HeadAt
-head_at head = record { line = head.line.number; sheet_key = sheet_key_of head.sent }
+head_at head = record { line = head.line.number; sheet_key = head.sent }
 
 -- the last of some heads that begins this sheet
 abbrev pub last_line : SheetKey → List HeadAt → Option ℕ
@@ -85,4 +75,4 @@ is_under (Some line) number = nat_lt line number
 abbrev pub ReplaceTheLast : List HeadAt → List Head → Type 0
 ReplaceTheLast before [] = ⊤
 ReplaceTheLast before (head ∷ heads) =
-    (head.replaces ≡ last_line (sheet_key_of head.sent) before) × ReplaceTheLast (before ++ head_at head ∷ []) heads
+    (head.replaces ≡ last_line head.sent before) × ReplaceTheLast (before ++ head_at head ∷ []) heads

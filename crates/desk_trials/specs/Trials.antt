@@ -3,10 +3,10 @@ use Rattle.std.specs.Prelude.{◌≡◌, ℕ, Bool, ◌&&◌, ◌||◌, nat_le, 
 use Rattle.std.specs.List.{flat_map}
 use Rattle.desk_trials.specs.Heads.{came}
 use Rattle.desk_trials.specs.Refusals.{refused_of}
-use Rattle.desk_trials.specs.SheetLines.{is_at, last_line, sheet_key_of}
+use Rattle.desk_trials.specs.SheetLines.{is_at, last_line}
 use Rattle.desk_trials.specs.declared.check_sheets.Head.{Head}
 use Rattle.desk_trials.specs.declared.check_sheets.Heads.{Heads}
-use Rattle.desk_trials.specs.declared.check_sheets.Sent.{Sent}
+use Rattle.sheets.specs.declared.sheet_key.SheetKey.{SheetKey}
 use Rattle.desk_trials.specs.declared.trials.Tried.{Tried}
 use Rattle.rounds.specs.Play.{IsTheGame}
 use Rattle.sheets.specs.Limits.{file_most, sheets_most}
@@ -17,7 +17,7 @@ use Rattle.tables.specs.declared.round.Round.{Round}
 abbrev pub is_for : Heads → Round → ℕ → Head → Bool
 is_for heads round from head =
     same_round head.sent.round round
-    && (nat_le from head.line.number && is_at (last_line (sheet_key_of head.sent) (came heads)) head.line.number)
+    && (nat_le from head.line.number && is_at (last_line head.sent (came heads)) head.line.number)
 
 -- a head, if it does
 abbrev pub head_if : Heads → Round → ℕ → Head → List Head
@@ -33,7 +33,7 @@ has_no_room file heads = nat_le file_most (length file) || nat_le sheets_most (l
 
 -- the trial plays the game of its file; its rows are the lines of a sheet that were refused in that game, but not for their
 -- condition, or have a fault
-pub record IsTried (file : List ℕ) (sent : Sent) (tried : Tried) : Type 0 where
+pub record IsTried (file : List ℕ) (sent : SheetKey) (tried : Tried) : Type 0 where
   pub of_file : tried.game.file ≡ file
   pub game : IsTheGame tried.game
   pub rows : tried.rows.items ≡ refused_of sent tried.game.game.events

@@ -1,26 +1,15 @@
 //! The SHEET lines of a file: whose sheet for which round each begins, and which it replaces.
-ghost use Rattle.std.specs.Prelude.{◌≡◌, ◌≤◌, OnOk, [], option_map};
+ghost use Rattle.std.specs.Prelude.{◌≡◌, ◌≤◌, OnOk, []};
 ghost use Rattle.desk_trials.specs.Heads.{AreKept, came, with_head};
 ghost use Rattle.desk_trials.specs.SheetLines.{Begins, complete_by, is_at, last_line};
-ghost use Rattle.desk_trials.specs.SheetLines.{sheet_key_of};
-ghost use Rattle.order_grammar.specs.Line.{reading_of};
-ghost use Rattle.sheets.specs.File.{players_of, sheet_key_begun};
+ghost use Rattle.sheets.specs.File.{players_of};
 
 use crate::check_lines::FileLine;
-use order_grammar::{Order, begins_with_word, read_line};
-use sheets::Sheets;
+use order_grammar::begins_with_word;
+use sheets::{SheetKey, Sheets};
 use std::alloc::{AllocError, Global};
 use std::collections::HashMap;
 use tables::{Round, Seat};
-
-/// Whose sheet for which round.
-#[derive(Clone, Copy, PartialEq, Eq, Hash)]
-pub struct Sent {
-    /// The player whose sheet it is.
-    pub seat: Seat,
-    /// The round that it is for.
-    pub round: Round,
-}
 
 /// A good SHEET line.
 #[derive(Clone, Copy)]
@@ -28,7 +17,7 @@ pub struct Head<'a> {
     /// The line.
     pub line: FileLine<'a>,
     /// The sheet that it begins.
-    pub sent: Sent,
+    pub sent: SheetKey,
     /// The number of the last line above that began the same sheet; `None` if there is none.
     pub replaces: Option<usize>,
 }
@@ -41,9 +30,9 @@ pub struct Heads<'a> {
     /// How many players there are.
     pub seats: usize,
     /// The number of the first line that begins each sheet.
-    first: HashMap<Sent, usize>,
+    first: HashMap<SheetKey, usize>,
     /// The number of the last line that does.
-    last: HashMap<Sent, usize>,
+    last: HashMap<SheetKey, usize>,
 }
 
 impl<'a> Heads<'a> {
@@ -64,7 +53,7 @@ impl<'a> Heads<'a> {
 
     /// Takes the next of them: a line, and the sheet that it begins. Fails only if allocation
     /// fails.
-    pub fn take(&mut self, line: FileLine<'a>, sent: Sent) -> Result<(), AllocError>
+    pub fn take(&mut self, line: FileLine<'a>, sent: SheetKey) -> Result<(), AllocError>
         requires { AreKept self.old }
         ensures came { OnOk result (came self.new ≡ with_head (came self.old) line.entry sent) }
         ensures seats { self.new.seats ≡ self.old.seats }
@@ -92,7 +81,7 @@ impl<'a> Heads<'a> {
         let mut by = 0;
         for number in 0..self.seats {
             let seat = Seat::at(number);
-            let first = self.first.get(&Sent { seat, round })?;
+            let first = self.first.get(&SheetKey { seat, round })?;
             by = by.max(*first);
         }
         Some(by)
@@ -101,8 +90,7 @@ impl<'a> Heads<'a> {
     /// Returns whether the sheet that a line begins counts, because no later one replaces it.
     pub fn counts(&self, head: &Head) -> bool
         requires { AreKept self.now }
-        ensures { result ≡ is_at (last_line (sheet_key_of head.now.sent) (came self.now))
-            head.now.line.number }
+        ensures { result ≡ is_at (last_line head.now.sent (came self.now)) head.now.line.number }
     {
         match self.last.get(&head.sent) {
             Some(last) => *last == head.line.number,
@@ -115,7 +103,7 @@ impl<'a> Heads<'a> {
 #[derive(Clone, Copy)]
 pub enum Beginning {
     /// A sheet.
-    Sheet(Sent),
+    Sheet(SheetKey),
     /// Nothing, though its first word is SHEET: it closes the sheet before it.
     Closing,
     /// Nothing, and its first word is another.
@@ -130,28 +118,8 @@ pub fn begun_by(sheets: &Sheets, line: &[u8]) -> Beginning
     if !begins_with_word(line, b"SHEET") {
         return Beginning::Other;
     }
-    match sheet_named(sheets, line) {
+    match sheets.sheet_begun(line) {
         Some(sent) => Beginning::Sheet(sent),
         None => Beginning::Closing,
     }
-}
-
-/// Returns the sheet that a line begins whose first word is SHEET, if it begins one. (A function of
-/// its own, since its caller would otherwise zero 848 bytes for each line.)
-#[inline(never)]
-fn sheet_named(sheets: &Sheets, line: &[u8]) -> Option<Sent>
-    ensures { option_map sheet_key_of result
-        ≡ sheet_key_begun (players_of sheets.now) (reading_of line.now) }
-{
-    let Ok(read) = read_line(line) else {
-        return None;
-    };
-    let Order::Sheet { name, round } = &read.order else {
-        return None;
-    };
-    let seat = sheets.seat_of(name)?;
-    Some(Sent {
-        seat,
-        round: *round,
-    })
 }

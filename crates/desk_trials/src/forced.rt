@@ -1,14 +1,13 @@
 //! The train that a company must buy because its own orders leave it without one: what it is, who
 //! pays for it, what is sold for it, and whether its president is bankrupt.
 
-use crate::check_sheets::Sent;
 use desk_base::Piece::{Bytes, Number, Words};
 use desk_base::{fill, view_behind};
 use forced_purchase::cheapest;
 use history::{Event, GameView, ShareCount, Walk};
 use report::name;
 use rounds::Game;
-use sheets::Sheets;
+use sheets::{SheetKey, Sheets};
 use std::alloc::{AllocError, Global};
 use tables::{Amount, Company, Kind, Money, Seat, train};
 
@@ -42,7 +41,11 @@ pub(crate) struct Forced {
 
 /// Returns what happens in a round as the companies over which a player presides must buy trains,
 /// in its order. Fails only if allocation fails.
-pub(crate) fn forced_of(alloc: Global, game: &Game, sent: Sent) -> Result<Vec<Forced>, AllocError> {
+pub(crate) fn forced_of(
+    alloc: Global,
+    game: &Game,
+    sent: SheetKey,
+) -> Result<Vec<Forced>, AllocError> {
     let mut forced = Vec::new(alloc);
     let (events, seats) = (game.history().events(), game.history().seats());
     let mut walk = Walk::along(events);

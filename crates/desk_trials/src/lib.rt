@@ -35,7 +35,7 @@ pub use check_changed::first_changed;
 pub use check_found::{Change, Finding, Found, Lateness, Matter, Said, Standing};
 pub use check_lines::{FileLine, FileLines};
 pub use check_mail::is_mail;
-pub use check_sheets::{Beginning, Head, Heads, Sent, begun_by};
+pub use check_sheets::{Beginning, Head, Heads, begun_by};
 pub use outcome::Outcome;
 pub use sheet_like::{closes, is_like_sheet};
 pub use trials::{Reached, try_sheets};

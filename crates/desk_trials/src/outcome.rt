@@ -3,11 +3,11 @@
 ghost use Rattle.std.specs.Prelude.{◌≡◌, ◌==◌, ◌&&◌};
 
 use crate::check_changed::are_alike;
-use crate::check_sheets::Sent;
 use crate::forced::{Forced, forced_of};
 use crate::refusals::{RefusedLine, refused_of};
 use history::Verdict;
 use rounds::Game;
+use sheets::SheetKey;
 use std::alloc::{AllocError, Global};
 use tables::{Round, Seat};
 
@@ -37,7 +37,7 @@ impl Outcome {
         let mut forced = Vec::new(alloc);
         for number in 0..game.sheets().seats() {
             let seat = Seat::at(number);
-            let sent = Sent { seat, round };
+            let sent = SheetKey { seat, round };
             let rows = refused_of(alloc, events, sent)?;
             push_lines(&mut refused, seat, rows.as_slice())?;
             for fact in &forced_of(alloc, game, sent)? {

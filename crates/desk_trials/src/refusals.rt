@@ -3,9 +3,9 @@ ghost use Rattle.std.specs.Prelude.{◌≡◌, ◌++◌, IfOk, OnOk};
 ghost use Rattle.std.specs.List.{flat_map};
 ghost use Rattle.desk_trials.specs.Refusals.{is_told, refused_of, row_at, row_in, row_of};
 
-use crate::check_sheets::Sent;
 use desk_why::refused_in;
 use history::{Event, Refusal, Verdict};
+use sheets::SheetKey;
 use std::alloc::{AllocError, Global};
 use tables::Seat;
 
@@ -25,7 +25,7 @@ pub(crate) struct RefusedLine {
 pub(crate) fn refused_of(
     alloc: Global,
     events: &[Event],
-    sent: Sent,
+    sent: SheetKey,
 ) -> Result<Vec<RefusedLine>, AllocError>
     ensures { IfOk result (λ rows. rows.items ≡ refused_of sent events.now) }
 {

@@ -4,7 +4,7 @@
 use crate::check_found::{CodedLine, Found, Matter};
 use crate::check_lines::FileLine;
 use crate::check_mail::is_mail;
-use crate::check_sheets::{Head, Sent};
+use crate::check_sheets::Head;
 use crate::consent::push_consent;
 use crate::forced::{Forced, push_forced};
 use crate::numbered::{head_of, line_numbered};
@@ -15,6 +15,7 @@ use desk_base::{push, view_behind};
 use desk_why::{Ruled, SheetLine, find_line, lines_of, push_rule};
 use history::{Event, GameView, PackedRuling, Ruling, Verdict, Walk};
 use rounds::Game;
+use sheets::SheetKey;
 use std::alloc::{AllocError, Global};
 
 /// Which trial it is.
@@ -147,7 +148,7 @@ fn push_others(
 fn add_told<'a>(
     found: &mut Found<'a>,
     line: &FileLine<'a>,
-    sent: Sent,
+    sent: SheetKey,
     from: usize,
 ) -> Result<(), AllocError> {
     let to = found.told.len();

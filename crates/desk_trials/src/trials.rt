@@ -6,7 +6,7 @@ ghost use Rattle.desk_trials.specs.Heads.{AreKept};
 ghost use Rattle.desk_trials.specs.Trials.{IsTried, has_no_room, head_if, sheets_for};
 
 use crate::check_found::{Found, Standing};
-use crate::check_sheets::{Head, Heads, Sent};
+use crate::check_sheets::{Head, Heads};
 use crate::forced::forced_of;
 use crate::numbered::numbered_lines;
 use crate::outcome::{Outcome, SeatLine, push_lines, rows_beyond};
@@ -14,7 +14,7 @@ use crate::refusals::{RefusedLine, refused_of};
 use crate::told::{Trial, TriedSheet, tell_forced, tell_refused};
 use foresight::TrialFile;
 use rounds::{End, Game, play};
-use sheets::{FILE_MOST, FileFault, SHEETS_MOST, Sheets, collect};
+use sheets::{FILE_MOST, FileFault, SHEETS_MOST, SheetKey, Sheets, collect};
 use std::alloc::{AllocError, Global};
 use tables::Round;
 
@@ -220,7 +220,11 @@ fn try_alone<'a>(
 
 /// Plays the sheets of a trial, and returns the game with the lines of a sheet that it did not
 /// obey. Fails only if allocation fails.
-fn try_sheet<'g>(alloc: Global, tried: &'g Sheets<'g>, sent: Sent) -> Result<Tried<'g>, AllocError>
+fn try_sheet<'g>(
+    alloc: Global,
+    tried: &'g Sheets<'g>,
+    sent: SheetKey,
+) -> Result<Tried<'g>, AllocError>
     ensures { IfOk result (IsTried tried.now sent) }
 {
     let game = play(alloc, tried)?;

@@ -235,7 +235,7 @@ fn is_sheet_line(line: &[u8]) -> bool
 /// Returns whose sheet for which round a line begins; `None` if it begins none. (Kept apart from
 /// its callers: inlined, it would zero 848 bytes for each line that they skip.)
 #[inline(never)]
-fn sheet_key_begun(players: &Players, line: &[u8]) -> Option<SheetKey>
+pub(crate) fn sheet_key_begun(players: &Players, line: &[u8]) -> Option<SheetKey>
     requires { length players.now ≤ 6 }
     ensures { result ≡ sheet_key_begun players.now (reading_of line.now) }
 {

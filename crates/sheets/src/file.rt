@@ -6,13 +6,13 @@ ghost use Rattle.order_grammar.specs.Line.{reading_of};
 ghost use Rattle.sheets.specs.CompanyOrders.{company_orders_for};
 ghost use Rattle.sheets.specs.File.{Fails, IsAccepted, all_posted, body_content, content_of, header_version};
 ghost use Rattle.sheets.specs.File.{lines_content};
-ghost use Rattle.sheets.specs.File.{players_content, players_of, seat_from, sheet_of, unread_of, version_in};
-ghost use Rattle.sheets.specs.File.{version_numbered, version_of};
+ghost use Rattle.sheets.specs.File.{players_content, players_of, seat_from, sheet_key_begun, sheet_of, unread_of};
+ghost use Rattle.sheets.specs.File.{version_in, version_numbered, version_of};
 ghost use Rattle.sheets.specs.Part.{parts_for};
 ghost use Rattle.sheets.specs.Sheet.{sent_in_version};
 ghost use Rattle.sheets.specs.Text.{written_lines};
 
-use crate::collecting::{collect_body, examine_body};
+use crate::collecting::{collect_body, examine_body, sheet_key_begun};
 use crate::fault::FileFault;
 use crate::parts::PartsLeft;
 use crate::players::{Players, players_named};
@@ -137,6 +137,14 @@ impl<'a> Sheets<'a> {
         ensures { result ≡ seat_from 0 (players_of self.now) name.now }
     {
         self.players.seat_of(name)
+    }
+
+    /// Returns whose sheet for which round a line begins whose first word is SHEET; `None` if it
+    /// begins none.
+    pub fn sheet_begun(&self, line: &[u8]) -> Option<SheetKey>
+        ensures { result ≡ sheet_key_begun (players_of self.now) (reading_of line.now) }
+    {
+        sheet_key_begun(&self.players, line)
     }
 }
 

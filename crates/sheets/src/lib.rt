@@ -54,4 +54,5 @@ pub use file::{FILE_MOST, GAME, Sheets, collect, examine};
 pub use parts::{PartsLeft, is_head_of};
 pub use place::{fault_out_of_place, is_of_file};
 pub use sheet::{LINES_MOST, Lines, NumberedLine, ReadLine, Sheet, UnreadLine};
+pub use sheet_key::SheetKey;
 pub use text::{LineAndRest, first_line, is_blank};

@@ -4,7 +4,9 @@ use tables::{Round, Seat};
 
 /// Whose sheet for which round.
 #[derive(Clone, Copy, Debug, PartialEq, Eq, Hash)]
-pub(crate) struct SheetKey {
-    pub(crate) seat: Seat,
-    pub(crate) round: Round,
+pub struct SheetKey {
+    /// The player whose sheet it is.
+    pub seat: Seat,
+    /// The round that it is for.
+    pub round: Round,
 }
