@@ -7,7 +7,6 @@ ghost use Rattle.desk_base.specs.SetNumber.{IsNumberPlayed, number_in_set};
 ghost use Rattle.rounds.specs.Steps.{ComesNext, game_so_far};
 ghost use Rattle.rounds.specs.Play.{Between, IsTheGame};
 ghost use Rattle.rounds.specs.declared.game.End.TheVariants.{Awaiting};
-ghost use Rattle.tables.specs.Round.{same_round};
 
 use crate::fault::DeskFault;
 use crate::set_number::{end_after, number_after, number_in_set};
@@ -16,7 +15,7 @@ use history::History;
 use rounds::{End, Game, Play, Step};
 use sheets::Sheets;
 use std::alloc::{AllocError, Global};
-use tables::Round;
+use tables::{Round, same_round};
 
 /// A moment between two rounds of a game.
 #[derive(Clone, Copy)]
@@ -164,16 +163,9 @@ fn is_last(last: Option<Round>, asked: Round) -> bool
     ensures { result ≡ is_last last asked }
 {
     match last {
-        Some(round) => is_same(round, asked),
+        Some(round) => same_round(round, asked),
         None => false,
     }
-}
-
-/// Returns whether two rounds are one.
-fn is_same(one: Round, other: Round) -> bool
-    ensures { result ≡ same_round one other }
-{
-    one == other
 }
 
 /// Returns whether a round comes next, and each player has a sheet for it.
@@ -192,7 +184,7 @@ fn is_awaited(end: End, asked: Round) -> bool
     ensures { result ≡ true → end ≡ Awaiting asked }
 {
     match end {
-        End::Awaiting(round) => is_same(round, asked),
+        End::Awaiting(round) => same_round(round, asked),
         End::Bank | End::Bankrupt => false,
     }
 }

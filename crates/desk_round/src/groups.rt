@@ -4,10 +4,10 @@ ghost use Rattle.desk_round.specs.Groups.{any_group, grouped_then, groups_of, is
 ghost use Rattle.desk_round.specs.Groups.{same_whose, whose_behind, whose_line, whose_now, whose_place};
 ghost use Rattle.desk_round.specs.Groups.{whose_turn, with_event};
 
-use desk_why::{LinePlace, SheetLine, find_line, same_round};
+use desk_why::{LinePlace, SheetLine, find_line};
 use history::Event;
 use std::alloc::{AllocError, Global};
-use tables::{Company, Round, Seat};
+use tables::{Company, Round, Seat, same_round};
 
 /// Whose turn some events belong to.
 #[derive(Clone, Copy)]

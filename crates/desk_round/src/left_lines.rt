@@ -3,12 +3,12 @@
 use crate::bulletin_text::BROUGHT;
 use desk_base::Piece::{Bytes, Column, Count, Cut, Right, Words};
 use desk_base::{fill, push, push_wrapped, who};
-use desk_why::{FAULTY_COLUMNS, LinePlace, SheetLine, same_round};
+use desk_why::{FAULTY_COLUMNS, LinePlace, SheetLine};
 use history::Event;
 use report::name;
 use sheets::Sheets;
 use std::alloc::{AllocError, Global};
-use tables::{Company, Money, Round, Seat};
+use tables::{Company, Money, Round, Seat, same_round};
 
 /// A company that has had its turn in a round.
 #[derive(Clone, Copy)]

@@ -2,9 +2,8 @@
 ghost use Rattle.std.specs.Prelude.{◌≡◌};
 ghost use Rattle.desk_round.specs.Played.{begins, was_played};
 
-use desk_why::same_round;
 use history::Event;
-use tables::Round;
+use tables::{Round, same_round};
 
 /// Returns whether a round was played, by the events of a game.
 pub(crate) fn was_played(events: &[Event], round: Round) -> bool

@@ -19,6 +19,6 @@ mod ways;
 mod why;
 
 pub use refusal_detail::Ruled;
-pub use refused::{refused_in, same_round, within_then};
+pub use refused::{refused_in, within_then};
 pub use sheet_line::{LinePlace, SheetLine, find_line, lines_of};
 pub use why::{FAULTY_COLUMNS, push_rule, push_why};

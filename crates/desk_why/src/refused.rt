@@ -1,11 +1,10 @@
 //! Which lines of a round were refused.
 ghost use Rattle.std.specs.Prelude.{◌≡◌, IfOk};
 ghost use Rattle.desk_why.specs.Refused.{is_refused, refused_in, within_then};
-ghost use Rattle.tables.specs.Round.{same_round};
 
 use history::{Event, Verdict};
 use std::alloc::{AllocError, Global};
-use tables::Round;
+use tables::{Round, same_round};
 
 /// Returns the places in the list of events of all rulings of a round that refuse a line or find a
 /// fault in it, in order. Fails only if allocation fails.
@@ -39,19 +38,6 @@ fn is_refused(event: &Event) -> bool
 {
     match event {
         Event::Ruled { ruling, .. } => !matches!(ruling.verdict(), Verdict::Obeyed),
-        _ => false,
-    }
-}
-
-/// Returns whether two rounds are the same.
-pub fn same_round(one: Round, other: Round) -> bool
-    ensures { result ≡ same_round one other }
-{
-    match (one, other) {
-        (Round::Opening(a), Round::Opening(b)) | (Round::Stock(a), Round::Stock(b)) => a == b,
-        (Round::Operating { set: a, number: m }, Round::Operating { set: b, number: n }) => {
-            a == b && m == n
-        }
         _ => false,
     }
 }

@@ -6,7 +6,6 @@ ghost use Rattle.page_routes.specs.LastRuns.{last_operating};
 ghost use Rattle.page_routes.specs.LastRuns.{operating_then, ran, ran_by, ran_in_last, ruled_then, those_in};
 ghost use Rattle.page_routes.specs.LastRuns.{within_last, within_then};
 ghost use Rattle.page_routes.specs.ShownRuns.{AddsBest, all_shown, claimed_by, place_of};
-ghost use Rattle.tables.specs.Round.{same_round};
 
 use crate::lanes::{Border, turned_borders};
 use board::Board;
@@ -19,7 +18,7 @@ use order_grammar::{Order, PlayOrder};
 use picture::{Look, centre};
 use reach::Network;
 use std::alloc::{AllocError, Global};
-use tables::{Amount, Company, Kind, Round};
+use tables::{Amount, Company, Kind, Round, same_round};
 
 /// A place of a run.
 #[derive(Clone, Copy)]
@@ -158,19 +157,6 @@ fn is_last(round: Option<Round>, begun: Round) -> bool
     match round {
         Some(round) => same_round(begun, round),
         None => false,
-    }
-}
-
-/// Returns whether two rounds are the same.
-fn same_round(one: Round, other: Round) -> bool
-    ensures { result ≡ same_round one other }
-{
-    match (one, other) {
-        (Round::Opening(a), Round::Opening(b)) | (Round::Stock(a), Round::Stock(b)) => a == b,
-        (Round::Operating { set: a, number: m }, Round::Operating { set: b, number: n }) => {
-            a == b && m == n
-        }
-        _ => false,
     }
 }
 

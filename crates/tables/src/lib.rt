@@ -29,7 +29,7 @@ pub use roster::{
     BID_STEP, COMPANIES, Company, POOL_SHARES_MOST, PRESIDENT_SHARES, PRIVATES, PerCompany,
     PerPrivate, Private, SHARES, face, revenue, token_price, tokens,
 };
-pub use round::{NUMBER_MOST, OPERATING_MOST, Round};
+pub use round::{NUMBER_MOST, OPERATING_MOST, Round, same_round};
 pub use rule_table::{Advice, Printed, RuleRow, rule_with_code};
 pub use seat::{
     Amount, Money, PLAYERS_LEAST, PLAYERS_MOST, PerSeat, Seat, amount_of, bank_start,

@@ -1,6 +1,6 @@
 //! The rounds of a game and the order in which they come.
 ghost use Rattle.std.specs.Prelude.{◌≡◌, ◌<◌, ◌^◌};
-ghost use Rattle.tables.specs.Round.{is_before, rank_of, stock_rank};
+ghost use Rattle.tables.specs.Round.{is_before, rank_of, same_round, stock_rank};
 
 /// The largest number of an order or a round.
 pub const NUMBER_MOST: u32 = 99_999;
@@ -38,6 +38,13 @@ impl Round {
     {
         self.rank() < other.rank()
     }
+}
+
+/// Returns whether two rounds are the same.
+pub fn same_round(one: Round, other: Round) -> bool
+    ensures { result ≡ same_round one other }
+{
+    one == other
 }
 
 /// Returns the place of a stock round among all rounds.
