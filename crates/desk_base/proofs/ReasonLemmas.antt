@@ -1,6 +1,6 @@
 -- What a word that is the code of no fault and of no rule is the code of: nothing that a report
 -- prints.
-use Rattle.std.proofs.Common.{◌∙◌, ℕ, List, ap, arith, get_or, sym, true}
+use Rattle.std.proofs.Common.{◌∙◌, ℕ, List, ap, arith, get_or, sym}
 use Rattle.desk_base.specs.Reason.{NoFaultHasCode, NoneHasCode}
 use Rattle.desk_base.specs.declared.reason.Reason.TheVariants as reason
 use Rattle.events.specs.RuleCodes.{code_of_refusal}

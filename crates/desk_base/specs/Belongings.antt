@@ -1,6 +1,6 @@
 -- Who presides over a company, if another does than a seat. And why an order is wrong by what a seat or a company has: the
 -- rule that it breaks, and what there is to say of it.
-use Rattle.std.specs.Prelude.{◌==◌, Bool, true, false, List, Option, Some, None, if◌then◌else◌}
+use Rattle.std.specs.Prelude.{◌==◌, Bool, false, List, Option, Some, None, if◌then◌else◌}
 use Rattle.std.specs.Option.{option_or}
 use Rattle.desk_base.specs.declared.objection.Objection.{Objection}
 use Rattle.desk_base.specs.declared.objection.Objection.TheVariants as objection

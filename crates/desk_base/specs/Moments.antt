@@ -1,5 +1,5 @@
 -- A game at a moment between two rounds: what it shows of a play, and which round it comes after.
-use Rattle.std.specs.Prelude.{◌≡◌, ◌≤◌, ⊤, Bool, true, false, ℕ, List, Option, Some, None, Ok}
+use Rattle.std.specs.Prelude.{◌≡◌, ◌≤◌, ⊤, Bool, false, ℕ, List, Option, Some, None, Ok}
 use Rattle.desk_base.specs.SetNumber.{end_after, number_in_set}
 use Rattle.desk_base.specs.declared.between_rounds.Stood.{Stood}
 use Rattle.events.specs.declared.event.Event.{Event}

@@ -1,5 +1,5 @@
 -- What a hex is: its colour, who keeps it closed, and where its track leads from a side.
-use Rattle.std.specs.Prelude.{if◌then◌else◌, Bool, false, List, [], ◌∷◌, Option, Some, None}
+use Rattle.std.specs.Prelude.{if◌then◌else◌, Bool, List, Option, Some, None}
 use Rattle.std.specs.List.{list_any}
 use Rattle.desk_moves.specs.declared.hex_text.Ground.{Ground}
 use Rattle.desk_moves.specs.declared.hex_text.Ground.TheVariants as ground

@@ -1,6 +1,6 @@
 -- Of which round the runs are told: of that which is asked for, if it was played; otherwise of the last
 -- in which a company ran, or of the last that was played if none ran.
-use Rattle.std.specs.Prelude.{ℕ, ◌+◌, Bool, true, false, if◌then◌else◌, List, [], ◌∷◌, ◌++◌, Option, Some, None, Result, Ok, Err}
+use Rattle.std.specs.Prelude.{ℕ, ◌+◌, Bool, false, if◌then◌else◌, List, [], ◌++◌, Option, Some, None, Result, Ok, Err}
 use Rattle.std.specs.List.{cons_option, fold}
 use Rattle.std.specs.Option.{option_or}
 use Rattle.desk_base.specs.declared.fault.DeskFault.{DeskFault}

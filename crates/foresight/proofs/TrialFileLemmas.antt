@@ -1,5 +1,5 @@
 -- A copy of a file, and what is put behind it.
-use Rattle.std.proofs.Common.{◌≡◌, ℕ, ◌+◌, List, ◌++◌, length, take, sym, ap, ◌∙◌, subst, arith}
+use Rattle.std.proofs.Common.{◌≡◌, ℕ, List, ◌++◌, length, take, sym, ap, ◌∙◌, subst, arith}
 use Rattle.std.proofs.lemmas.List.{length-append, length-take-le, take-append-le, take_all}
 use Rattle.foresight.specs.TrialFile.{IsBegun, with_line_end}
 use Rattle.foresight.specs.declared.trial_file.TrialFile.{TrialFile}

@@ -1,5 +1,5 @@
 -- The least bid is the least that is not too low.
-use Rattle.std.proofs.Common.{◌≡◌, ◌≤◌, ◌≤ℤ◌, ℕ, ℤ, ◌+◌, Bool, true, false, ◌||◌, nat_lt, List, Option, Some, None, pos}
+use Rattle.std.proofs.Common.{◌≡◌, ◌≤◌, ◌≤ℤ◌, ℕ, ℤ, ◌+◌, Bool, false, ◌||◌, nat_lt, List, Option, Some, None, pos}
 use Rattle.std.proofs.Common.{refl, ap, sym, ◌∙◌, arith}
 use Rattle.std.proofs.lemmas.Bool.{or_parts}
 use Rattle.std.proofs.lemmas.Bool.Decides.{nat_tests}

@@ -1,6 +1,6 @@
 -- What a company earned in a round: what its runs earned, and whether it withheld that. And the rows
 -- of a table of that, one for each operating round of a game.
-use Rattle.std.specs.Prelude.{ℕ, ◌+◌, true, false, if◌then◌else◌, List, [], ◌∷◌, Option, Some, None, map}
+use Rattle.std.specs.Prelude.{ℕ, ◌+◌, true, false, if◌then◌else◌, List, Option, Some, None, map}
 use Rattle.std.specs.List.{filter_map, fold}
 use Rattle.events.specs.declared.event.Event.{Event}
 use Rattle.events.specs.declared.event.Event.TheVariants.{Runs, Withheld}

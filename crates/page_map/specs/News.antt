@@ -1,5 +1,5 @@
 -- What is new on a page: what the events of the last round laid, placed and moved.
-use Rattle.std.specs.Prelude.{Bool, true, false, ◌&&◌, ◌||◌, is_some, is_none, if◌then◌else◌, List, Option, Some, None}
+use Rattle.std.specs.Prelude.{Bool, false, ◌&&◌, ◌||◌, is_some, is_none, if◌then◌else◌, List, Option, Some, None}
 use Rattle.std.specs.List.{fold}
 use Rattle.events.specs.Event.{round_begun_by, square_set, tile_laid, token_placed}
 use Rattle.events.specs.declared.event.Event.{Event}

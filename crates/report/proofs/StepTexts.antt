@@ -1,6 +1,6 @@
 -- What is written step by step, as a game is played, is the prefix of its report, and at the end
 -- the whole of it.
-use Rattle.std.proofs.Common.{◌≡◌, ℕ, zero, suc, false, List, [], ◌∷◌, ◌++◌, refl, sym, ap, subst, ◌∙◌, append_assoc}
+use Rattle.std.proofs.Common.{◌≡◌, ℕ, zero, suc, false, List, [], ◌++◌, refl, sym, ap, subst, ◌∙◌, append_assoc}
 use Rattle.std.specs.Prelude.{Option, Some, Result, Ok, Err, IsOk}
 use Rattle.std.proofs.lemmas.List.{append-nil}
 use Rattle.rounds.proofs.StepByStep.{same_place}

@@ -38,7 +38,7 @@ use Rattle.std.specs.List.{list_any}
 use Rattle.events.specs.declared.event.Bidding.{Bidding}
 use Rattle.operating.specs.BidLaws.{TurnsSayNoBid}
 use Rattle.privates.specs.BidsRise.{BidsRise, OpeningBidsRise, is_near_earlier}
-use Rattle.rounds.proofs.Growing.{stays, over_growth}
+use Rattle.rounds.proofs.Growing.{over_growth}
 use Rattle.sheets.specs.File.{players_of}
 use Rattle.sheets.specs.Laws.{ThreeToSixPlay}
 use Rattle.tables.specs.declared.round.Round.TheVariants.{Opening, Stock, Operating}

@@ -4,7 +4,7 @@
 -- has. One border joins the two cities, so one train runs. The certificate of the chapter on
 -- certificates shows that no set of runs earns more: its marks `befb8` are read over the tree. That
 -- neighbours pair is the law `map_tables: neighbours_pair`.
-use Rattle.std.proofs.Common.{◌≡◌, ◌∙◌, ap, sym, subst, refl, ◌<◌, ◌≤◌, lit<, lit≤, get_or, Bool, true, false}
+use Rattle.std.proofs.Common.{◌≡◌, ◌∙◌, ap, sym, subst, refl, ◌≤◌, lit<, lit≤, get_or, Bool, true, false}
 use Rattle.std.proofs.Common.{List, [], ◌∷◌, Some, None, ◌⊎◌, inl, inr, map, codes}
 use Rattle.std.proofs.lemmas.List.{get_or-map}
 use Rattle.certificate.proofs.Accepted.{accepted_is_greatest, marks_are_read}

@@ -1,5 +1,5 @@
 -- The companies that move up, one after another.
-use Rattle.std.proofs.Common.{◌≡◌, ℕ, ◌+◌, ◌<◌, true, if◌then◌else◌, List, ◌∷◌, length, drop, get_or, sym, ap}
+use Rattle.std.proofs.Common.{◌≡◌, ℕ, ◌+◌, ◌<◌, if◌then◌else◌, List, ◌∷◌, length, drop, get_or, sym, ap}
 use Rattle.std.proofs.Common.{◌∙◌, add-one}
 use Rattle.std.proofs.Math.Seq.{drop-cons}
 use Rattle.totals.specs.LookBack.{Game, with_events}

@@ -1,5 +1,5 @@
 -- The hex in hand comes after those before it.
-use Rattle.std.proofs.Common.{true, false, refl, arith}
+use Rattle.std.proofs.Common.{refl, arith}
 use Rattle.reach.specs.Position.{Position}
 use Rattle.reach.proofs.Collected.{own_hex}
 use Rattle.reach.proofs.Hexes.{index_low}

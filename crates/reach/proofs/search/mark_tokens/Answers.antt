@@ -1,5 +1,5 @@
 -- The stops of a hex come after those of the hexes before it.
-use Rattle.std.proofs.Common.{◌*◌, false, subst, arith}
+use Rattle.std.proofs.Common.{◌*◌, subst, arith}
 use Rattle.reach.proofs.Listed.{unmarked}
 use Rattle.reach.specs.Search.{spot_number, Waits}
 use Rattle.reach.proofs.Collected.{tokens_added, all_tokens}

@@ -1,6 +1,6 @@
 use Rattle.std.proofs.Common.{List, ℕ, ap, subst, arith, rules}
 use Rattle.std.proofs.lemmas.Grind.{common_steps}
-use Rattle.std.specs.Prelude.{Err, Ok}
+use Rattle.std.specs.Prelude.{Err}
 use Rattle.std.proofs.lemmas.Result.{err_from_is_err_and, on_ok_weaker}
 use Rattle.rounds.specs.Steps.{Underway}
 use Rattle.umpire.proofs.Judged.{refused_lacks}
