@@ -1,6 +1,6 @@
 # The part `docs`: the names that the documents cite exist, the picture of the crates is that of
 # crates.txt, the rulebook and the counts of what the claims rest on are fresh, a second count gives
-# the same, and the examples at the roots of crates are tests.
+# the same, the examples at the roots of crates are tests, and each lemma is cited and each import used.
 
 check_docs() {
   take_over tools/names
@@ -9,6 +9,7 @@ check_docs() {
   take_over tools/recount
   take_over tools/rulebook/tests.py
   take_over tools/check/examples
+  take_over tools/lemmas
 }
 
 docs_must_fail() {
@@ -25,6 +26,10 @@ docs_must_fail() {
   sed -i '/^ *--/!s/\bsquare_before\b/before/g' "$wrong/crates/market/specs/Moves.antt"
   sees 'a name with two meanings, and the page that has the old one' 3 take_over "$wrong/tools/names"
   cp crates/market/specs/Moves.antt "$wrong/crates/market/specs"
+  printf '\nnobody_cites : (n : ℕ) → n ≡ n\nnobody_cites n = refl\n' >> "$wrong/crates/market/proofs/Chart.antt"
+  sed -i '2i use Rattle.tables.specs.Train.{kinds}' "$wrong/crates/market/proofs/Chart.antt"
+  sees 'a lemma that nothing cites, and an import that nothing uses' 2 take_over tools/lemmas --crates "$wrong/crates"
+  sees 'a lemma more that states again what another states' 6 take_over tools/lemmas --again 5
   printf '\nAnother line.\n' >> "$wrong/docs/rulebook/13-sales.md"
   sees 'a chapter that is not fresh' 1 take_over "$wrong/tools/claim" --check
   sed -i 's/| S3 | [^|]*/| S3 | it sells nothing /' "$wrong/docs/players/rules.md"
