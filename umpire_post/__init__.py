@@ -15,7 +15,8 @@ Modules, in reading order:
     html        the lines of a text in HTML
     sheets      the sheets among the lines
     reading     who may send what
-    letters     answers, and the mail of a round
+    letters     how a letter is made, and the mail of a round
+    answers     the answer to a message
     evening     what each command does
     delivery    letters handed to sendmail or to a host
     commands    the command line

@@ -10,6 +10,7 @@ from datetime import datetime
 from pathlib import Path
 
 from umpire_post import letters
+from umpire_post.answers import answer
 from umpire_post.club import Club, Player, club_text, is_address
 from umpire_post.disk import Step, flush_folder, write_flushed
 from umpire_post.errors import FILE_REFUSED, SET_ASIDE, PostError
@@ -204,12 +205,12 @@ def _answers(evening: Evening, reader: Reader, reading: Reading, number: int, is
     club, now = reader.club, evening.now()
     if is_vouched:
         players = [club.players[it] for it in dict.fromkeys(one.found.player for one in reading.sheets) if it]
-        return [letters.answer(club, reading, number, _owed(reader, reading, [it]), now, to=it.addresses[0],
-                               name=f"{number:04}-answer-{it.name}", player=it) for it in players]
+        return [answer(club, reading, number, _owed(reader, reading, [it]), now, to=it.addresses[0],
+                       name=f"{number:04}-answer-{it.name}", player=it) for it in players]
     if not reading.is_answered or not reading.incoming.sender:
         return []
-    return [letters.answer(club, reading, number, _owed(reader, reading, reading.senders), now, to=reading.incoming.sender,
-                           name=f"{number:04}-answer")]
+    return [answer(club, reading, number, _owed(reader, reading, reading.senders), now, to=reading.incoming.sender,
+                   name=f"{number:04}-answer")]
 
 
 def _owed(reader: Reader, reading: Reading, players: Iterable[Player]) -> list[str]:

@@ -1,4 +1,4 @@
-"""Letters: the answer to a message, and the mail of a round."""
+"""Letters: how each is made, and the mail of a round."""
 
 import textwrap
 from collections.abc import Iterable, Sequence
@@ -10,10 +10,8 @@ from email.utils import format_datetime
 
 from umpire_post.club import Club, Player
 from umpire_post.programs import Report
-from umpire_post.reading import Judged, Reading
 
 COLUMNS = 78
-LONGEST_SHOWN = 160  # characters of a line of a sheet in an answer
 # (a line of a bulletin has up to 80 columns, and is to be left as it is)
 FORM = policy.default.clone(max_line_length=100)
 
@@ -52,23 +50,6 @@ def letter(club: Club, name: str, to: str, subject: str, text: str, now: datetim
     return Letter(name, message.as_bytes())
 
 
-def answer(club: Club, reading: Reading, number: int, owed: Sequence[str], now: datetime, *, to: str, name: str,
-           player: Player | None = None) -> Letter:
-    """Makes the answer to a message: of the sheets of this player, if one is named, and otherwise of all."""
-    sheets = [it for it in reading.sheets if player is None or it.found.player == player.name]
-    who = player.name if player else " and ".join(it.name for it in reading.senders) or to
-    parts = [club.spoken(club.greeting, who), f"This answers your message, number {number} of this game."]
-    if reading.incoming.refused:
-        parts.append(f"It was not read: {reading.incoming.refused}.")
-    elif not sheets:
-        parts.append("No line of it begins with SHEET, so it has no sheet. A sheet begins with a line such as\n\n"
-                     f"    SHEET {who.split()[0] if reading.senders else 'ANN'} SR2\n\nThe umpire may still read it.")
-    parts += [part for it in sheets for part in _of_sheet(it)]
-    parts += _unread(reading) + list(owed) + [club.spoken(club.closing, who)]
-    text = _masked("\n\n".join(parts) + "\n", club)
-    return letter(club, name, to, f"your message {number}", text, now, automatic="auto-replied", answers=reading.incoming.message_id)
-
-
 def round_letter(club: Club, name: str, player: Player, report: Report, bulletin: str, page: str, own: Sequence[str],
                  now: datetime) -> Letter:
     """Makes the letter of a round for a player: the bulletin, what comes next, the page, the report."""
@@ -102,7 +83,7 @@ def findings_text(findings: Sequence[str]) -> str:
     """Says what the desk found in a sheet."""
     if not findings:
         return "The desk finds nothing to correct in it, as things stand."
-    return "The desk finds:\n\n" + "\n".join(_wrapped(it) for it in findings)
+    return "The desk finds:\n\n" + "\n".join(wrapped(it) for it in findings)
 
 
 def listed(names: Iterable[str]) -> str:
@@ -116,48 +97,10 @@ def shown(text: str) -> str:
     return "".join(it if it.isprintable() or it == "\n" else "?" for it in text)
 
 
-def _of_sheet(judged: Judged) -> list[str]:
-    """Returns what an answer says of a sheet."""
-    if not judged.is_shown:
-        return [f"{judged.name}\n\n" + _wrapped(judged.said, "")]
-    parts = [f"{judged.name}, as it was read:\n\n" + "\n".join(_numbered(judged)), judged.said]
-    undone = [f"    {_line_name(number)}: {', '.join(line.undone)}"
-              for line, (number, _) in zip(judged.found.lines, judged.found.numbered()) if line.undone]
-    if undone:
-        parts.append("Mail had changed these lines, and that was undone:\n\n" + "\n".join(undone))
-    if judged.counts or judged.findings:
-        parts.append(findings_text(judged.findings))
-    return parts
-
-
-def _numbered(judged: Judged) -> list[str]:
-    cut = (lambda it: it if len(it) <= LONGEST_SHOWN else it[:LONGEST_SHOWN] + " ..")
-    return [f"{number or '':>6}  {cut(text)}".rstrip() for number, text in judged.found.numbered()]
-
-
-def _line_name(number: int | None) -> str:
-    return f"line {number}" if number else "a line without a number"
-
-
-def _unread(reading: Reading) -> list[str]:
-    """Says what of a message was not read."""
-    counts = [(reading.quoted, "quoted line"), (reading.signature, "line of a signature"), (reading.others, "line above a sheet")]
-    said = [f"{number} {what if number == 1 else what.replace('line', 'lines')}" for number, what in counts if number]
-    said += reading.incoming.unread[:10]
-    return [_wrapped(f"Not read: {', '.join(said)}.", "")] if said else []
-
-
-def _wrapped(text: str, indent: str = "    ") -> str:
+def wrapped(text: str, indent: str = "    ") -> str:
+    """Returns a paragraph in lines of a letter."""
     return textwrap.fill(text, COLUMNS, initial_indent=indent, subsequent_indent=indent and indent + "  ", break_long_words=False,
                          break_on_hyphens=False)
-
-
-def _masked(text: str, club: Club) -> str:
-    """Takes the keys of the club out of a text."""
-    for player in club.players.values():
-        if player.key:
-            text = text.replace(player.key, "****")
-    return text
 
 
 def _name_boundaries(message: EmailMessage, name: str) -> None:

@@ -7,7 +7,7 @@ import time
 import unittest
 from email.policy import default
 
-from umpire_post.letters import answer
+from umpire_post.answers import answer
 from umpire_post.reading import Reading
 from umpire_post.tests.club import CLUB, KEY, Clock, read
 from umpire_post.tests.test_messages import MESSAGES

@@ -5,7 +5,7 @@ import time
 import unittest
 from email.policy import default
 
-from umpire_post.letters import answer
+from umpire_post.answers import answer
 from umpire_post.message import MAX_DEPTH, MAX_PARTS, MAX_TEXT, take_apart
 from umpire_post.reading import Reading
 from umpire_post.sheets import MAX_SHEETS
