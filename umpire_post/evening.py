@@ -17,7 +17,7 @@ from umpire_post.errors import FILE_REFUSED, SET_ASIDE, PostError
 from umpire_post.folder import (CLUB, HANDED_OVER, INBOX, ORDERS, OUTBOX, ROUNDS, SENT, UNDONE, Folder, Record, Round, Sheet,
                                 empty_sheet, line_count, with_sheets)
 from umpire_post.letters import Letter, listed
-from umpire_post.message import take_apart
+from umpire_post.message import plain, take_apart
 from umpire_post.programs import ALONE, Programs, Report
 from umpire_post.reading import Reader, Reading, findings_in
 from umpire_post.sheets import Found
@@ -71,7 +71,7 @@ def read_messages(evening: Evening, messages: Iterable[Raw]) -> int:
     reader = Reader(folder, evening.programs, evening.programs.report(folder.orders))
     known = aside = 0
     for raw in messages:
-        if raw.digest in folder.digests:
+        if raw.is_known(folder.digests):
             known += 1
             continue
         aside += _read(evening, reader, raw, raw.content)
@@ -81,11 +81,14 @@ def read_messages(evening: Evening, messages: Iterable[Raw]) -> int:
 
 
 def accept(evening: Evening, numbers: Sequence[int]) -> int:
-    """Reads messages once more as if they came now, and from an address of the players of their sheets."""
+    """Reads messages once more as if they came from an address of the players of their sheets: the
+    sheets that were set aside."""
     folder = Folder(evening.top)
     reader = Reader(folder, evening.programs, evening.programs.report(folder.orders))
-    contents = [folder.message(it) for it in numbers]
-    return SET_ASIDE if sum([_read(evening, reader, Raw(it, len(it)), it, True) for it in contents]) else 0
+    contents = {it: folder.message(it) for it in numbers}
+    records = [it for it in folder.records if it.number in contents]
+    raws = [(it, Raw(contents[it.number], len(contents[it.number]), it.arrived)) for it in records]
+    return SET_ASIDE if sum([_read(evening, reader, raw, raw.content, it) for it, raw in raws]) else 0
 
 
 def status(evening: Evening, finds: bool, reminds: bool) -> None:
@@ -176,15 +179,15 @@ def _name_of(top: Path) -> str:
     return name or "game"
 
 
-def _read(evening: Evening, reader: Reader, raw: Raw, content: bytes, is_vouched: bool = False) -> bool:
+def _read(evening: Evening, reader: Reader, raw: Raw, content: bytes, accepted: Record | None = None) -> bool:
     """Reads a message, and keeps it with its record and its answers. Returns whether something was set aside."""
     folder = reader.folder
     number = folder.next_message()
-    reading = reader.read(take_apart(raw), is_vouched)
-    answers = _answers(evening, reader, reading, number, is_vouched)
+    reading = reader.read(take_apart(raw), accepted)
+    answers = _answers(evening, reader, reading, number, accepted is not None)
     counting = tuple(it.sheet for it in reading.counting())
     record = Record(number, raw.digest, evening.time(), reading.incoming.sender, reading.incoming.subject, counting,
-                    tuple(reading.aside), tuple(it.file for it in answers), raw.is_too_large)
+                    tuple(reading.aside), tuple(it.file for it in answers), raw.is_too_large, raw.arrived)
     step = folder.step("in")
     step.put(f"{INBOX}/{number:04}.eml", content)
     step.put(f"{INBOX}/{number:04}.json", record.to_json())
@@ -285,7 +288,7 @@ def _tell_findings(evening: Evening, folder: Folder, report: Report) -> None:
 
 def _tell_aside(evening: Evening, record: Record) -> None:
     for why in record.aside:
-        subject = f" ({record.subject})" if record.subject else ""
+        subject = f" ({plain(record.subject)})" if record.subject else ""
         evening.tell(f"set aside: message {record.number} from {record.sender or 'nobody'}{subject}: {plain_sentence(why)}")
 
 

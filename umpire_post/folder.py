@@ -16,12 +16,14 @@ import json
 import re
 from collections.abc import Iterable
 from dataclasses import asdict, dataclass, field
+from datetime import datetime
 from pathlib import Path
 from typing import Any
 
 from umpire_post.club import Club, parse_club
 from umpire_post.disk import Step
 from umpire_post.errors import PostError
+from umpire_post.sources import Moment
 
 ORDERS = "game.orders"
 CLUB = "club.toml"
@@ -46,8 +48,9 @@ class Sheet:
 
 @dataclass(frozen=True)
 class Record:
-    """What was read in a message: the sheets that count, and why others were set aside. Of one that is
-    cut only the front was kept."""
+    """What was read in a message: the sheets that count, and why others were set aside. It arrived at
+    a moment that its mailbox told, and was read when it `came`. Of one that is cut only the front was
+    kept."""
 
     number: int
     digest: str
@@ -58,6 +61,7 @@ class Record:
     aside: tuple[str, ...] = ()
     letters: tuple[str, ...] = ()
     is_cut: bool = False
+    arrived: Moment = (0, 0, 0)
 
     def to_json(self) -> bytes:
         return _json(asdict(self))
@@ -66,8 +70,11 @@ class Record:
     def from_json(cls, text: bytes) -> "Record":
         whole = json.loads(text)
         sheets = tuple(Sheet(it["player"], it["round"], tuple(it["lines"])) for it in whole["sheets"])
+        # (an earlier version kept no moment of arrival)
+        read = (int(datetime.fromisoformat(whole["came"]).timestamp()), 0, whole["number"])
+        seconds, micro, place = whole.get("arrived", read)
         return cls(whole["number"], whole["digest"], whole["came"], whole["sender"], whole["subject"], sheets,
-                   tuple(whole["aside"]), tuple(whole["letters"]), whole["is_cut"])
+                   tuple(whole["aside"]), tuple(whole["letters"]), whole["is_cut"], (seconds, micro, place))
 
 
 @dataclass(frozen=True)
@@ -142,9 +149,10 @@ class Folder:
         self.digests.add(record.digest)
 
     def pending(self, round_: str) -> dict[str, Pending]:
-        """Returns the sheets that count for a round: of each player the last that came."""
+        """Returns the sheets that count for a round: of each player the one that arrived last."""
+        by_arrival = sorted(self.records, key=lambda it: it.arrived)
         return {sheet.player: Pending(record, sheet)
-                for record in self.records for sheet in record.sheets if sheet.round == round_}
+                for record in by_arrival for sheet in record.sheets if sheet.round == round_}
 
     def letters(self) -> list[Path]:
         """Returns the letters that are to be sent, in the order of their names."""

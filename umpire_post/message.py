@@ -14,13 +14,17 @@ from email.message import Message
 from email.policy import compat32
 
 from umpire_post.club import is_address
-from umpire_post.sources import MAX_BYTES, Raw
+from umpire_post.sources import MAX_BYTES, Moment, Raw
 
 MAX_PARTS = 40
 MAX_DEPTH = 8
 MAX_HEAD = 4096  # characters of a head that is read
 MAX_TEXT = 256 * 1024  # bytes of a text, decoded
 MAX_NAME = 60  # characters of a name that is told
+MAX_SUBJECT = 1000  # characters of a subject
+MAX_ANSWERED = 50  # messages that one answers
+MAX_RECIPIENTS = 100
+RECIPIENTS = ("To", "Cc", "Delivered-To", "X-Original-To")
 NAMES_OF_TEXTS = (".txt", ".text", ".orders")
 READABLE = re.compile(r"ascii|utf-8|utf-8-sig|utf-16.*|utf-32.*|iso8859.*|cp\d+|koi8.*|mac-roman|gb\w*|big5\w*"
                       r"|euc_\w+|iso2022\w*|shift_jis\w*")
@@ -44,12 +48,17 @@ class Text:
 
 @dataclass
 class Incoming:
-    """A message taken apart. `sender` is empty if it has not exactly one; `automatic` says which
-    program's message it is, if it is one; `unread` names the parts that were not read."""
+    """A message taken apart. `sender` is empty if it has not exactly one; `answers` has the Message-IDs
+    of those that it answers, the newest last; `recipients` the addresses to which it was sent;
+    `automatic` says which program's message it is, if it is one; `unread` names the parts that were
+    not read."""
 
+    arrived: Moment = (0, 0, 0)
     sender: str = ""
     subject: str = ""
     message_id: str = ""
+    answers: tuple[str, ...] = ()
+    recipients: tuple[str, ...] = ()
     automatic: str = ""
     refused: str = ""
     texts: list[Text] = field(default_factory=list)
@@ -58,14 +67,15 @@ class Incoming:
 
 def take_apart(raw: Raw) -> Incoming:
     """Takes a message apart. Of one that is refused it returns the sender, if it can."""
-    incoming = Incoming()
+    incoming = Incoming(raw.arrived)
     try:
         _bounded(raw)
         parsed = email.message_from_bytes(raw.content, policy=compat32)
         incoming.sender = _sender(parsed)
-        incoming.subject = plain(_decoded(parsed.get("Subject", "")))
-        identity = MESSAGE_ID.search(str(parsed.get("Message-ID", ""))[:MAX_HEAD])
-        incoming.message_id = identity[0] if identity else ""
+        incoming.subject = one_line(_decoded(parsed.get("Subject", "")))[:MAX_SUBJECT]
+        incoming.message_id = (*_identities(parsed, "Message-ID"), "")[0]
+        incoming.answers = _identities(parsed, "References", "In-Reply-To")[-MAX_ANSWERED:]
+        incoming.recipients = _recipients(parsed)
         incoming.automatic = _automatic(parsed, incoming.sender)
         if not incoming.automatic:
             _texts(parsed, incoming, 0)
@@ -77,11 +87,15 @@ def take_apart(raw: Raw) -> Incoming:
     return incoming
 
 
+def one_line(text: str) -> str:
+    """Returns a text of a message on one line, without control characters."""
+    return " ".join("".join(it if it.isprintable() else " " for it in text[:MAX_HEAD]).split())
+
+
 def plain(text: str) -> str:
     """Returns a text of a message as it may be told: on one line, short, without control
     characters."""
-    shown = "".join(it if it.isprintable() else " " for it in text[:MAX_HEAD])
-    shown = " ".join(shown.split())
+    shown = one_line(text)
     return shown if len(shown) <= MAX_NAME else shown[:MAX_NAME - 2] + ".."
 
 
@@ -111,6 +125,20 @@ def _sender(parsed: Message) -> str:
 def _is_plain_name(head: str, address: str) -> bool:
     """Returns whether the address stands alone in the only angle brackets, at the end."""
     return head.count("<") == 1 and head.rstrip().endswith(f"<{address}>") and "," not in head.split('"')[-1]
+
+
+def _identities(parsed: Message, *names: str) -> tuple[str, ...]:
+    """Returns the Message-IDs in these heads, each where it is last."""
+    heads = [str(head)[-MAX_HEAD:] for name in names for head in parsed.get_all(name, [])[:MAX_ANSWERED]]
+    found = [identity for head in heads for identity in MESSAGE_ID.findall(head)]
+    return tuple(dict.fromkeys(reversed(found)))[::-1]
+
+
+def _recipients(parsed: Message) -> tuple[str, ...]:
+    """Returns the addresses to which the message was sent, each once."""
+    heads = [str(head)[:MAX_HEAD] for name in RECIPIENTS for head in parsed.get_all(name, [])[:MAX_RECIPIENTS]]
+    found = [address for _, address in email.utils.getaddresses(heads) if is_address(address)]
+    return tuple(dict.fromkeys(found))[:MAX_RECIPIENTS]
 
 
 def _automatic(parsed: Message, sender: str) -> str:

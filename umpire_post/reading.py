@@ -10,7 +10,7 @@ from collections.abc import Iterator, Sequence
 from dataclasses import dataclass, field
 
 from umpire_post.club import Club, Player
-from umpire_post.folder import Folder, Sheet, line_count, with_sheets
+from umpire_post.folder import Folder, Pending, Record, Sheet, line_count, with_sheets
 from umpire_post.message import Incoming
 from umpire_post.programs import Programs, Report
 from umpire_post.sheets import MAX_SHEETS, Found, InMessage, find_sheets
@@ -69,8 +69,10 @@ class Reader:
     def club(self) -> Club:
         return self.folder.club
 
-    def read(self, incoming: Incoming, is_vouched: bool = False) -> Reading:
-        """Reads a message. If the umpire vouches for it, its sender and its key are not looked at."""
+    def read(self, incoming: Incoming, accepted: Record | None = None) -> Reading:
+        """Reads a message. If the umpire accepts one that was read before, its record is given: then the
+        sender and the key are not looked at, and the sheets that counted are left out."""
+        is_vouched = accepted is not None
         reading = Reading(incoming, self.club.players_at(incoming.sender))
         if incoming.refused:
             return self._set_aside(reading, incoming.refused, bool(reading.senders))
@@ -85,8 +87,10 @@ class Reader:
             return self._of_stranger(reading, found)
         if len(found.sheets) > MAX_SHEETS:
             return self._set_aside(reading, f"it has more than {MAX_SHEETS} sheets", True)
+        counted = {(it.player, it.round) for it in accepted.sheets} if accepted else set()
         for at, one in enumerate(found.sheets):
-            self._judge(reading, found, at, one, is_vouched)
+            if (one.player, one.round) not in counted:
+                self._judge(reading, found, at, one, is_vouched)
         return reading
 
     def _count(self, reading: Reading, texts: list[Lines], found: InMessage) -> None:
@@ -135,11 +139,19 @@ class Reader:
         elif any((it.player, it.round) == (one.player, one.round) for it in found.sheets[at + 1:]):
             self._add(reading, one, "Your message has a later sheet for this round. This one does not count.", is_shown=False)
         else:
-            reading.sheets.append(Judged(one, self._welcome(one), True, self._findings(one)))
+            self._weigh(reading, one)
 
-    def _welcome(self, one: Found) -> str:
-        """Says for what a sheet counts, and which other sheet it replaces."""
+    def _weigh(self, reading: Reading, one: Found) -> None:
+        """Takes a sheet, unless one is here that arrived later."""
         before = self.folder.pending(one.round).get(one.player)
+        if before and before.record.arrived > reading.incoming.arrived:
+            self._add(reading, one, f"A sheet of {one.player} for {one.round} that arrived later is here, in message "
+                                    f"{before.record.number}. That one counts, and this one does not.", is_shown=False)
+        else:
+            reading.sheets.append(Judged(one, self._welcome(one, before), True, self._findings(one)))
+
+    def _welcome(self, one: Found, before: Pending | None) -> str:
+        """Says for what a sheet counts, and which other sheet it replaces."""
         instead = f", in place of the one in message {before.record.number}" if before else ""
         if one.round == self.report.awaited:
             return f"It counts for {one.round}{instead}."

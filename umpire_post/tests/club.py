@@ -53,6 +53,6 @@ class Unwritten(Folder):
         self.digests = set()
 
 
-def read(content: bytes, is_vouched: bool = False) -> Reading:
+def read(content: bytes) -> Reading:
     """Reads a message as the first one that came."""
-    return Reader(Unwritten(), Silent(), REPORT).read(take_apart(Raw(content, len(content))), is_vouched)
+    return Reader(Unwritten(), Silent(), REPORT).read(take_apart(Raw(content, len(content))))
