@@ -5,8 +5,10 @@ from datetime import datetime
 
 from umpire_post.club import Club, Player
 from umpire_post.letters import Letter, findings_text, letter, wrapped
+from umpire_post.message import Contents
 from umpire_post.reading import Judged, Reading
 
+MAX_UNREAD = 10  # parts that were not read
 LONGEST_SHOWN = 160  # characters of a line of a sheet in an answer
 
 
@@ -22,7 +24,7 @@ def answer(club: Club, reading: Reading, number: int, owed: Sequence[str], now: 
         parts.append("No line of it begins with SHEET, so it has no sheet. A sheet begins with a line such as\n\n"
                      f"    SHEET {who.split()[0] if reading.senders else 'ANN'} SR2\n\nThe umpire may still read it.")
     parts += [part for it in sheets for part in _of_sheet(it)]
-    parts += _unread(reading) + list(owed) + [club.spoken(club.closing, who)]
+    parts += _unread(reading.incoming.contents) + list(owed) + [club.spoken(club.closing, who)]
     text = _masked("\n\n".join(parts) + "\n", club)
     return letter(club, name, to, f"your message {number}", text, now, automatic="auto-replied", answers=reading.incoming.message_id)
 
@@ -50,11 +52,11 @@ def _line_name(number: int | None) -> str:
     return f"line {number}" if number else "a line without a number"
 
 
-def _unread(reading: Reading) -> list[str]:
+def _unread(contents: Contents) -> list[str]:
     """Says what of a message was not read."""
-    counts = [(reading.quoted, "quoted line"), (reading.signature, "line of a signature"), (reading.others, "line above a sheet")]
+    counts = [(contents.quoted, "quoted line"), (contents.signature, "line of a signature"), (contents.found.others, "line above a sheet")]
     said = [f"{number} {what if number == 1 else what.replace('line', 'lines')}" for number, what in counts if number]
-    said += reading.incoming.unread[:10]
+    said += contents.unread[:MAX_UNREAD]
     return [wrapped(f"Not read: {', '.join(said)}.", "")] if said else []
 
 

@@ -13,8 +13,7 @@ from umpire_post.club import Club, Player
 from umpire_post.folder import Folder, Pending, Record, Sheet, line_count, with_sheets
 from umpire_post.message import Incoming
 from umpire_post.programs import Programs, Report
-from umpire_post.sheets import MAX_SHEETS, Found, InMessage, find_sheets
-from umpire_post.text import Lines, lines_of
+from umpire_post.sheets import Found, InMessage
 
 CITED = re.compile(r"\b([Ll]ine|Lines) (\d+)(?: to (\d+))?\b")  # lines of the file
 
@@ -47,9 +46,6 @@ class Reading:
     senders: Sequence[Player] = ()
     sheets: list[Judged] = field(default_factory=list)
     aside: list[str] = field(default_factory=list)
-    quoted: int = 0
-    signature: int = 0
-    others: int = 0
     is_answered: bool = True
 
     def counting(self) -> list[Judged]:
@@ -78,25 +74,16 @@ class Reader:
             return self._set_aside(reading, incoming.refused, bool(reading.senders))
         if incoming.automatic:
             return self._set_aside(reading, incoming.automatic, False)
-        texts = [lines_of(it) for it in incoming.texts]
-        found = find_sheets(it.own for it in texts)
-        self._count(reading, texts, found)
+        found = incoming.contents.found
         if not incoming.sender and not is_vouched:
             return self._set_aside(reading, "it has not exactly one sender", False)
         if not reading.senders and not is_vouched:
             return self._of_stranger(reading, found)
-        if len(found.sheets) > MAX_SHEETS:
-            return self._set_aside(reading, f"it has more than {MAX_SHEETS} sheets", True)
         counted = {(it.player, it.round) for it in accepted.sheets} if accepted else set()
         for at, one in enumerate(found.sheets):
             if (one.player, one.round) not in counted:
                 self._judge(reading, found, at, one, is_vouched)
         return reading
-
-    def _count(self, reading: Reading, texts: list[Lines], found: InMessage) -> None:
-        reading.quoted = sum(it.quoted for it in texts)
-        reading.signature = sum(it.signature for it in texts)
-        reading.others = found.others
 
     def _set_aside(self, reading: Reading, why: str, is_answered: bool) -> Reading:
         reading.aside.append(why)
@@ -107,7 +94,7 @@ class Reader:
         """A message from an address that is nobody's: its sheets do not count."""
         if not found.sheets:
             return self._set_aside(reading, "it is from nobody of the club, and has no sheet", False)
-        for one in found.sheets[:MAX_SHEETS]:
+        for one in found.sheets:
             whose = f"for {one.player} " if one.player in self.club.players else ""
             reading.aside.append(f"a sheet {whose}from an address that is nobody's")
             reading.sheets.append(Judged(one, "This address is nobody's in the club, so the sheet does not count. "

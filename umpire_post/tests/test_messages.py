@@ -12,7 +12,7 @@ def told(reading: Reading) -> str:
     """Returns what was read in the form of the files NAME.read: the sender; each sheet with what became of
     it, its numbered lines and below each what was undone; what was set aside; the parts and lines that
     were not read."""
-    incoming = reading.incoming
+    incoming, contents = reading.incoming, reading.incoming.contents
     lines = [f"from {incoming.sender or 'nobody'}"]
     for judged in reading.sheets:
         lines.append(f"{' '.join(('sheet', judged.found.player, judged.found.round)).strip()}: {judged.said}")
@@ -22,12 +22,13 @@ def told(reading: Reading) -> str:
                 lines += [f"    {it}" for it in line.undone]
     lines += [f"aside: {it}" for it in reading.aside]
     lines += [] if reading.is_answered else ["no answer"]
-    lines += [f"unread {it}" for it in incoming.unread]
+    lines += [f"unread {it}" for it in contents.unread]
     return "\n".join(lines) + "\n"
 
 
 def counts(reading: Reading) -> str:
-    return f"quoted {reading.quoted}, signature {reading.signature}, above {reading.others}\n"
+    contents = reading.incoming.contents
+    return f"quoted {contents.quoted}, signature {contents.signature}, above {contents.found.others}\n"
 
 
 class Messages(unittest.TestCase):
