@@ -5,19 +5,26 @@ sheet, what is wrong with it and what a round brings is what `umpire` and `umpir
 
 Modules, in reading order:
 
+    deadlines   when sheets are due, and the time zone of a club
     club        who plays, from which addresses, and how mail is sent: `club.toml`
     programs    the two programs, and what is read from their answers
-    disk        steps that are done whole or not at all
-    folder      a game's folder: messages, sheets, rounds, letters
+    disk        steps that are done whole or not at all, and the lock of a folder
     sources     messages from a file, an mbox, a Maildir or standard input
+    folder      a game's folder: messages, sheets, rounds, letters
+    games       a game alone, or a club of several games in one folder
     message     a message taken apart, within bounds: who sent it, and its texts
     text        the lines of a text: joined, without quotations and signatures, cleaned of mail
     html        the lines of a text in HTML
     sheets      the sheets among the lines
     reading     who may send what
-    letters     how a letter is made, and the mail of a round
+    routing     which game of a club a message belongs to
+    letters     how a letter is made, and the letters of a game
     answers     the answer to a message
-    evening     what each command does
-    delivery    letters handed to sendmail or to a host
+    evening     what a command works with
+    beginning   `new` and `club`
+    intake      `in`
+    rounds      `round` and `undo`
+    overview    `status` and `due`
+    delivery    `send`: letters handed to sendmail or to a host
     commands    the command line
 """

@@ -4,12 +4,14 @@ from collections.abc import Sequence
 from datetime import datetime
 
 from umpire_post.club import Club, Player
+from umpire_post.evening import counted
 from umpire_post.letters import Letter, findings_text, letter, wrapped
-from umpire_post.message import Contents
+from umpire_post.message import Contents, Incoming
 from umpire_post.reading import Judged, Reading
 
 MAX_UNREAD = 10  # parts that were not read
 LONGEST_SHOWN = 160  # characters of a line of a sheet in an answer
+LONGEST_THREAD = 10  # messages before the one that is answered
 
 
 def answer(club: Club, reading: Reading, number: int, owed: Sequence[str], now: datetime, *, to: str, name: str,
@@ -26,7 +28,27 @@ def answer(club: Club, reading: Reading, number: int, owed: Sequence[str], now: 
     parts += [part for it in sheets for part in _of_sheet(it)]
     parts += _unread(reading.incoming.contents) + list(owed) + [club.spoken(club.closing, who)]
     text = _masked("\n\n".join(parts) + "\n", club)
-    return letter(club, name, to, f"your message {number}", text, now, automatic="auto-replied", answers=reading.incoming.message_id)
+    return letter(club, name, to, _subject(club, reading, sheets), text, now, automatic="auto-replied", answers=_thread(reading.incoming))
+
+
+def _subject(club: Club, reading: Reading, sheets: Sequence[Judged]) -> str:
+    """Returns the subject of an answer: the game, the rounds of the sheets, and what became of them."""
+    rounds = dict.fromkeys(it.found.round for it in sheets if it.found.round)
+    about = f"Re: {club.game}{' ' if rounds else ''}{', '.join(rounds)}"
+    if reading.incoming.refused:
+        return f"{about}: your message was not read"
+    if not sheets:
+        return f"{about}: your message has no sheet"
+    what = "your sheet" if len(sheets) == 1 else "your sheets"
+    if not any(it.counts for it in sheets):
+        return f"{about}: {what} {'does' if len(sheets) == 1 else 'do'} not count"
+    found = sum(len(it.findings) for it in sheets)
+    return f"{about}: {what}, {counted(found, 'finding') if found else 'no findings'}"
+
+
+def _thread(incoming: Incoming) -> list[str]:
+    """Returns the Message-IDs of a message and of those that it answers, if it has one."""
+    return [*incoming.answers[-LONGEST_THREAD:], incoming.message_id] if incoming.message_id else []
 
 
 def _of_sheet(judged: Judged) -> list[str]:

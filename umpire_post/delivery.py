@@ -1,105 +1,138 @@
 """Letters handed to sendmail or to a host, each once.
 
 A letter is renamed before it is handed over, and moved to `sent/` once it was accepted. If `send` is
-broken off between the two, nobody knows whether it was: it is in doubt, and is neither sent again nor
-forgotten until the umpire says which.
+interrupted between the two, nobody knows whether it was: it is in doubt, and is neither sent again nor
+forgotten until the umpire says which. After such a letter the others wait in the outbox. Between two
+letters another command may take the folder.
 """
 
 import email
-import os
 import smtplib
 import ssl
 import subprocess
+import time
 from collections.abc import Callable, Iterator
-from contextlib import contextmanager
+from contextlib import AbstractContextManager, contextmanager, suppress
 from email.policy import default
 from pathlib import Path
 
-from umpire_post.club import Delivery
-from umpire_post.disk import flush_folder
+from umpire_post.club import Club, Delivery, read_club
+from umpire_post.disk import PAUSE, move
 from umpire_post.errors import DEVICE_FAILED, PostError
 from umpire_post.evening import Evening, counted
-from umpire_post.folder import HANDED_OVER, OUTBOX, SENT, Folder
+from umpire_post.folder import CLUB, HANDED_OVER, SENT, in_doubt_in, letters_in
+from umpire_post.games import Place
 
 SECONDS = 60  # without an answer of a host or of sendmail
+CLOSING = 421  # by which a host ends a connection
 
 # Hands over a letter: from, to, and its bytes. Fails with why it was not accepted.
 HandOver = Callable[[str, str, bytes], None]
+# Takes the folder for a letter.
+Lock = Callable[[], AbstractContextManager[object]]
 
 
 class NotAccepted(Exception):
-    """A letter was refused: it is certain that it was not sent."""
+    """A letter was refused: it is certain that it was not sent. If `is_last` no other can be sent now."""
+
+    def __init__(self, why: str, is_last: bool = False) -> None:
+        super().__init__(why)
+        self.is_last = is_last
 
 
 class Unknown(Exception):
     """The connection broke before the host said whether it accepts a letter."""
 
 
-def send(evening: Evening) -> int:
-    """Sends the letters of the outbox, or tells where they are. Returns a status."""
-    folder = Folder(evening.top)
-    delivery, failed = folder.club.delivery, 0
-    if delivery.by == "program":
-        for path in folder.letters():
-            evening.tell(f"{path}: to {_to(path.read_bytes())}")
-        evening.tell(f"Send them with your own mail program, and then run: send {evening.top} --sent")
-        return 0
-    if folder.letters():
-        with _opened(delivery) as hand_over:
-            for path in folder.letters():
-                failed += not _send_one(evening, folder, path, hand_over)
-    for path in folder.in_doubt():
-        evening.tell(f"in doubt: {path.name.removesuffix(HANDED_OVER)}. Ask {_to(path.read_bytes())} or your mail system whether it "
-                     f"arrived, and then run: send {evening.top} --sent, or --again")
-        failed += 1
-    return DEVICE_FAILED if failed else 0
+def send(evening: Evening, place: Place, lock: Lock) -> int:
+    """Sends the letters of each outbox, or tells where they are. Returns a status."""
+    is_well = True
+    for top in place.outboxes():
+        club = _club_of(place, top)
+        if club.delivery.by == "program":
+            _tell_letters(evening, top)
+        elif letters_in(top):
+            with _opened(club.delivery) as hand_over:
+                is_well = _send_all(evening, club, top, hand_over, lock) and is_well
+    for top in place.outboxes():
+        for path in in_doubt_in(top):
+            evening.tell(f"in doubt: {path.name.removesuffix(HANDED_OVER)}. Ask {_to(path.read_bytes())} or your mail system whether it "
+                         f"arrived, and then run: send {place.root} --sent, or --again")
+            is_well = False
+    return 0 if is_well else DEVICE_FAILED
 
 
-def say_sent(evening: Evening) -> None:
+def say_sent(evening: Evening, place: Place) -> None:
     """Moves letters to `sent/` that the umpire sent: those in doubt, or if there are none all."""
-    folder = Folder(evening.top)
-    paths = folder.in_doubt() or folder.letters()
+    doubtful = [it for top in place.outboxes() for it in in_doubt_in(top)]
+    paths = doubtful or [it for top in place.outboxes() for it in letters_in(top)]
     for path in paths:
-        _move(path, evening.top / SENT / path.with_suffix(".eml").name)
+        move(path, path.parent.parent / SENT / path.with_suffix(".eml").name)
     evening.tell(f"{counted(len(paths), 'letter')} moved to {SENT}")
 
 
-def say_again(evening: Evening) -> None:
+def say_again(evening: Evening, place: Place) -> None:
     """Puts letters in doubt back into the outbox."""
-    folder = Folder(evening.top)
-    for path in folder.in_doubt():
-        _move(path, path.with_suffix(".eml"))
-    evening.tell(f"{counted(len(folder.letters()), 'letter')} in {OUTBOX}")
+    for top in place.outboxes():
+        for path in in_doubt_in(top):
+            move(path, path.with_suffix(".eml"))
+    evening.tell(f"{counted(sum(len(letters_in(it)) for it in place.outboxes()), 'letter')} in outbox")
 
 
-def _send_one(evening: Evening, folder: Folder, path: Path, hand_over: HandOver) -> bool:
-    """Sends a letter. Returns whether it was accepted."""
+def _club_of(place: Place, top: Path) -> Club:
+    return read_club(top / CLUB, place.root / CLUB if top != place.root else None)
+
+
+def _tell_letters(evening: Evening, top: Path) -> None:
+    """Tells which letters the umpire is to send with a program of their own."""
+    for path in letters_in(top):
+        evening.tell(f"{path}: to {_to(path.read_bytes())}")
+    if letters_in(top):
+        evening.tell(f"Send them with your own mail program, and then run: send {top} --sent")
+
+
+def _send_all(evening: Evening, club: Club, top: Path, hand_over: HandOver, lock: Lock) -> bool:
+    """Sends the letters of an outbox, until one is in doubt or no other can be sent. Returns whether each
+    was sent."""
+    tried: set[str] = set()
+    is_well = True
+    while True:
+        with lock():
+            path = next((it for it in letters_in(top) if it.name not in tried), None)
+            if path is None:
+                return is_well
+            tried.add(path.name)
+            try:
+                is_well = _send_one(evening, club, path, hand_over) and is_well
+            except (Unknown, NotAccepted) as why:
+                left = counted(len(letters_in(top)), "letter")
+                evening.tell(f"{path.name}: {why}. {left} left in outbox: run send again for them")
+                return False
+        time.sleep(2 * PAUSE)  # (so that a command that waits for the folder gets it)
+
+
+def _send_one(evening: Evening, club: Club, path: Path, hand_over: HandOver) -> bool:
+    """Sends a letter. Returns whether it was accepted. Fails if it is in doubt, or if no other can be sent
+    after it."""
     content = path.read_bytes()
     to = _to(content)
     handed = path.with_suffix(HANDED_OVER)
-    _move(path, handed)
+    move(path, handed)
     try:
-        hand_over(folder.club.umpire, to, content)
+        hand_over(club.umpire, to, content)
     except NotAccepted as why:
-        _move(handed, path)
+        move(handed, path)
+        if why.is_last:
+            raise
         evening.tell(f"{path.name}: not accepted for {to}: {why}")
         return False
-    except Unknown as why:
-        evening.tell(f"{path.name}: {why}")
-        return True  # (it is told of as one in doubt)
-    _move(handed, evening.top / SENT / path.name)
+    move(handed, path.parent.parent / SENT / path.name)
     evening.tell(f"{path.name}: sent to {to}")
     return True
 
 
 def _to(content: bytes) -> str:
     return str(email.message_from_bytes(content, policy=default)["To"])
-
-
-def _move(path: Path, place: Path) -> None:
-    place.parent.mkdir(exist_ok=True)
-    os.replace(path, place)
-    flush_folder(place.parent)
 
 
 @contextmanager
@@ -110,15 +143,14 @@ def _opened(delivery: Delivery) -> Iterator[HandOver]:
         return
     try:
         host = _connected(delivery)
-    except (OSError, smtplib.SMTPException) as wrong:
+    except (OSError, UnicodeError) as wrong:
         raise PostError(f"{delivery.host} does not accept letters: {wrong}", DEVICE_FAILED) from wrong
     try:
         yield lambda sender, to, content: _by_host(host, sender, to, content)
     finally:
-        try:
+        with suppress(OSError):
             host.quit()
-        except (OSError, smtplib.SMTPException):
-            host.close()
+        host.close()
 
 
 def _connected(delivery: Delivery) -> smtplib.SMTP:
@@ -131,18 +163,39 @@ def _connected(delivery: Delivery) -> smtplib.SMTP:
         host.starttls(context=context)
     if delivery.user:
         host.login(delivery.user, Path(delivery.password_file).read_text(encoding="utf-8").strip())
+    host.ehlo_or_helo_if_needed()
     return host
 
 
 def _by_host(host: smtplib.SMTP, sender: str, to: str, content: bytes) -> None:
+    """Hands a letter to a host. It is in doubt only once the host may have all of it."""
     try:
-        host.sendmail(sender, [to], content)
-    except smtplib.SMTPServerDisconnected as wrong:
-        raise Unknown(f"the host broke off: {wrong}") from wrong
-    except smtplib.SMTPException as wrong:
-        raise NotAccepted(str(wrong)) from wrong
+        _accepted(host.mail(sender))
+        _accepted(host.rcpt(to))
+    except OSError as wrong:  # (a connection that broke is one, too)
+        raise NotAccepted(f"the connection broke: {wrong}", is_last=True) from wrong
+    except NotAccepted:
+        _reset(host)
+        raise
+    try:
+        _accepted(host.data(content.replace(b"\n", b"\r\n")))
+    except smtplib.SMTPDataError as wrong:
+        raise NotAccepted(str(wrong), is_last=wrong.smtp_code == CLOSING) from wrong
     except OSError as wrong:
         raise Unknown(f"the connection broke: {wrong}") from wrong
+
+
+def _accepted(answer: tuple[int, bytes]) -> None:
+    """Fails if a host refuses: the letter, or all that would follow."""
+    code, text = answer
+    if not 200 <= code < 300:
+        raise NotAccepted(f"{code} {text.decode('utf-8', 'replace')}", is_last=code == CLOSING)
+
+
+def _reset(host: smtplib.SMTP) -> None:
+    """Has a host forget a letter that it refused. The next one fails if the host does not."""
+    with suppress(OSError):
+        host.rset()
 
 
 def _by_sendmail(delivery: Delivery, sender: str, to: str, content: bytes) -> None:
@@ -150,8 +203,10 @@ def _by_sendmail(delivery: Delivery, sender: str, to: str, content: bytes) -> No
         done = subprocess.run([*delivery.sendmail, "-oi", "-f", sender, "--", to], input=content, capture_output=True, check=False,
                               timeout=SECONDS)
     except subprocess.TimeoutExpired as wrong:
-        raise Unknown("sendmail did not end") from wrong
+        raise Unknown(f"sendmail did not end within {SECONDS} seconds") from wrong
     except OSError as wrong:
-        raise NotAccepted(f"{delivery.sendmail[0]} does not run: {wrong.strerror}") from wrong
+        raise NotAccepted(f"{delivery.sendmail[0]} does not run: {wrong.strerror}", is_last=True) from wrong
+    if done.returncode < 0:
+        raise Unknown(f"sendmail was stopped by signal {-done.returncode}")
     if done.returncode != 0:
         raise NotAccepted(f"sendmail ended with status {done.returncode}: {done.stderr.decode('utf-8', 'replace').strip()[:200]}")

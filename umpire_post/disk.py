@@ -1,114 +1,155 @@
 """Steps that are done whole or not at all.
 
-A step changes several files of a folder. It writes what they are to become into `.step.new`, and
-flushes it. Then it renames that folder to `.step-WORD`, with the word of its command: this is the
-moment at which the step is done. Each file of it is then renamed to its place. A step that was broken
-off before that moment has changed nothing; one that was broken off behind it is finished by the next
-command. So no reader sees a file that is half written, and none misses one file of a step for good.
+A step changes several files below a folder. It writes what they are to become into `.step.new`, and
+flushes it. Then it renames that folder to `.step`: this is the moment at which the step is done. Each
+file of it is then renamed to its place. A step that was interrupted before that moment has changed
+nothing; one that was interrupted after it is finished by the next command. So no reader sees a file
+that is half written, and none misses one file of a step for good.
 """
 
 import fcntl
+import json
 import os
 import shutil
-from collections.abc import Iterator
-from contextlib import contextmanager
+import time
+from collections.abc import Iterable, Iterator
+from contextlib import contextmanager, suppress
+from dataclasses import asdict, dataclass
 from pathlib import Path
 
-from umpire_post.errors import DEVICE_FAILED, PostError
+from umpire_post.errors import TRY_AGAIN, PostError
 
 BEGUN = ".step.new"
-DONE = ".step-"
-FILES = "files"
-REMOVED = "removed"
+DONE = ".step"
+FILES, REMOVED, WORK = "files", "removed", "work.json"
 LOCK = ".lock"
+PAUSE = 0.05  # seconds between two tries to get the lock
+FEW = 64  # files that are flushed one by one; for more the device writes out all that waits
+
+
+@dataclass(frozen=True)
+class Work:
+    """What a step does: the word of its command, and the game and the round that it is about."""
+
+    word: str
+    game: str = ""
+    round: str = ""
 
 
 class Step:
     """A step of a command, as it is written."""
 
-    def __init__(self, top: Path, word: str) -> None:
+    def __init__(self, top: Path, work: Work) -> None:
         self.top = top
-        self.word = word
-        self.removed: list[str] = []
+        self.work = work
+        self.removed: list[Path] = []
         drop_begun(top)
         (top / BEGUN / FILES).mkdir(parents=True)
 
-    def put(self, place: str, content: bytes) -> None:
-        """Puts a file in its place, in place of one that is there."""
-        path = self.top / BEGUN / FILES / place
+    def put(self, place: Path, content: bytes) -> None:
+        """Puts a file in its place below the folder, instead of one that is there."""
+        path = self.top / BEGUN / FILES / place.relative_to(self.top)
         path.parent.mkdir(parents=True, exist_ok=True)
-        write_flushed(path, content)
+        write(path, content)
 
-    def remove(self, place: str) -> None:
-        """Removes a file, and folders that it leaves empty."""
-        self.removed.append(place)
+    def remove(self, place: Path) -> None:
+        """Removes a file, or a folder if it is empty by then."""
+        self.removed.append(place.relative_to(self.top))
 
     def commit(self) -> None:
         """Does the step."""
-        write_flushed(self.top / BEGUN / REMOVED, "".join(f"{it}\n" for it in self.removed).encode())
-        for folder, _, _ in os.walk(self.top / BEGUN):
-            flush_folder(Path(folder))
-        os.rename(self.top / BEGUN, self.top / f"{DONE}{self.word}")
-        flush_folder(self.top)
+        begun = self.top / BEGUN
+        write(begun / REMOVED, "".join(f"{it}\n" for it in self.removed).encode())
+        write(begun / WORK, json.dumps(asdict(self.work)).encode())
+        flush([begun, *begun.rglob("*")])
+        os.rename(begun, self.top / DONE)
+        flush([self.top])
         finish(self.top)
 
 
-def finish(top: Path) -> str | None:
-    """Finishes a step that was broken off behind the moment at which it was done. Returns the word of
-    its command, if there is one."""
-    word = None
-    for done in top.glob(f"{DONE}*"):
-        word = done.name.removeprefix(DONE)
-        for path in sorted(it for it in (done / FILES).rglob("*") if not it.is_dir()):
-            place = top / path.relative_to(done / FILES)
-            place.parent.mkdir(parents=True, exist_ok=True)
-            os.replace(path, place)
-            flush_folder(place.parent)
-        listed = done / REMOVED
-        for name in listed.read_text().splitlines() if listed.exists() else ():
-            (top / name).unlink(missing_ok=True)
-            _drop_empty((top / name).parent, top)
-        shutil.rmtree(done)
-    return word
+def finish(top: Path) -> Work | None:
+    """Finishes a step that was interrupted after the moment at which it was done. Returns what it does,
+    if there is one."""
+    done = top / DONE
+    if not done.is_dir():
+        return None
+    work = Work(**json.loads((done / WORK).read_bytes()))
+    changed = {top}
+    for path in sorted(it for it in (done / FILES).rglob("*") if not it.is_dir()):
+        place = top / path.relative_to(done / FILES)
+        place.parent.mkdir(parents=True, exist_ok=True)
+        os.replace(path, place)
+        changed.update(it for it in place.parents if top in it.parents)
+    for name in (done / REMOVED).read_text(encoding="utf-8").splitlines():
+        _remove(top / name)
+        changed.add((top / name).parent)
+    flush(it for it in changed if it.is_dir())
+    # (the file that says what the step does goes last, since without it nothing could be finished)
+    os.rename(done, top / BEGUN)
+    drop_begun(top)
+    return work
 
 
 def drop_begun(top: Path) -> None:
-    """Forgets a step that was broken off before the moment at which it was done."""
+    """Forgets a step that was interrupted before the moment at which it was done."""
     if (top / BEGUN).is_dir():
         shutil.rmtree(top / BEGUN)
 
 
-def write_flushed(path: Path, content: bytes) -> None:
-    """Writes a file, and waits until the device has it."""
+def write(path: Path, content: bytes) -> None:
+    """Writes a file. The device need not have it yet."""
     with open(path, "wb") as file:
         file.write(content)
-        file.flush()
-        os.fsync(file.fileno())
 
 
-def flush_folder(path: Path) -> None:
-    """Waits until the device has the names of a folder."""
-    at = os.open(path, os.O_RDONLY | os.O_DIRECTORY)
-    try:
-        os.fsync(at)
-    finally:
-        os.close(at)
+def flush(paths: Iterable[Path]) -> None:
+    """Waits until the device has these files and folders."""
+    waiting = list(paths)
+    if len(waiting) > FEW:
+        os.sync()
+        return
+    for path in waiting:
+        at = os.open(path, os.O_RDONLY)
+        try:
+            os.fsync(at)
+        finally:
+            os.close(at)
+
+
+def move(path: Path, place: Path) -> None:
+    """Moves a file, and waits until the device has its name."""
+    place.parent.mkdir(exist_ok=True)
+    os.replace(path, place)
+    flush({path.parent, place.parent})
 
 
 @contextmanager
-def locked(top: Path) -> Iterator[str | None]:
-    """Keeps the folder to one command, and finishes a step that was broken off, whose word it gives.
-    Fails at once if another command has the folder."""
+def locked(top: Path, seconds: float = 0) -> Iterator[Work | None]:
+    """Keeps the folder to one command, and finishes a step that was interrupted, of which it gives what
+    it does. Fails with TRY_AGAIN if another command has the folder for so many seconds."""
     with open(top / LOCK, "wb") as lock:
-        try:
-            fcntl.flock(lock, fcntl.LOCK_EX | fcntl.LOCK_NB)
-        except OSError as wrong:
-            raise PostError(f"another command works on {top}", DEVICE_FAILED) from wrong
+        until = time.monotonic() + seconds
+        while not _is_taken(lock.fileno()):
+            if time.monotonic() >= until:
+                raise PostError(f"another command works on {top}, and did not end within {seconds:g} seconds: try again later", TRY_AGAIN)
+            time.sleep(PAUSE)
         drop_begun(top)
         yield finish(top)
 
 
-def _drop_empty(folder: Path, top: Path) -> None:
-    while top in folder.parent.parents and folder.is_dir() and not any(folder.iterdir()):
-        folder.rmdir()
-        folder = folder.parent
+def _is_taken(lock: int) -> bool:
+    """Takes the lock, if no other command has it. Returns whether it did."""
+    try:
+        fcntl.flock(lock, fcntl.LOCK_EX | fcntl.LOCK_NB)
+    except BlockingIOError:
+        return False
+    return True
+
+
+def _remove(path: Path) -> None:
+    """Removes a file, or a folder if it is empty."""
+    if path.is_dir():
+        with suppress(OSError):
+            path.rmdir()
+    else:
+        path.unlink(missing_ok=True)

@@ -4,6 +4,7 @@ WRONG_ASKED = 1
 FILE_REFUSED = 2
 SET_ASIDE = 3
 DEVICE_FAILED = 4
+TRY_AGAIN = 75  # (by which a mail host keeps a message, and hands it over again later)
 
 
 class PostError(Exception):

@@ -5,8 +5,10 @@ and for a round that is not played yet. The last one that comes for a round coun
 in a sheet is asked of the order file with this sheet alone, so it tells nothing of another's.
 """
 
+import os
 import re
-from collections.abc import Iterator, Sequence
+from collections.abc import Sequence
+from concurrent.futures import Future, ThreadPoolExecutor
 from dataclasses import dataclass, field
 
 from umpire_post.club import Club, Player
@@ -20,14 +22,19 @@ CITED = re.compile(r"\b([Ll]ine|Lines) (\d+)(?: to (\d+))?\b")  # lines of the f
 
 @dataclass(frozen=True)
 class Judged:
-    """A sheet of a message: what became of it in a sentence, whether it counts, and what the desk finds
-    in it."""
+    """A sheet of a message: what became of it in a sentence, whether it counts, and what was asked of the
+    desk about it."""
 
     found: Found
     said: str
     counts: bool = False
-    findings: tuple[str, ...] = ()
+    asked: Future[tuple[str, ...]] | None = None
     is_shown: bool = True
+
+    @property
+    def findings(self) -> tuple[str, ...]:
+        """What the desk finds in it, once the desk has said so."""
+        return self.asked.result() if self.asked else ()
 
     @property
     def sheet(self) -> Sheet:
@@ -54,12 +61,18 @@ class Reading:
 
 
 class Reader:
-    """Reads messages for a game as it stands."""
+    """Reads messages for a game as it stands. The desk looks at their sheets meanwhile, at several of them
+    side by side."""
 
     def __init__(self, folder: Folder, programs: Programs, report: Report) -> None:
         self.folder = folder
         self.programs = programs
         self.report = report
+        self.desk = ThreadPoolExecutor(os.cpu_count())
+
+    def close(self) -> None:
+        """Ends what the desk has not begun yet."""
+        self.desk.shutdown(cancel_futures=True)
 
     @property
     def club(self) -> Club:
@@ -105,7 +118,7 @@ class Reader:
         """Judges a sheet, and says what became of it."""
         player = self.club.players.get(one.player)
         if player is None:
-            self._add(reading, one, "No sheet begins with this line, so nothing of it counts.", self._findings(one))
+            self._add(reading, one, "No sheet begins with this line, so nothing of it counts.", self._asked(one))
         elif not is_vouched and player not in reading.senders:
             self._refuse(reading, one, f"from an address that is not {player.name}'s",
                          f"This is a sheet of {player.name}, and did not come from an address of {player.name}. "
@@ -135,7 +148,7 @@ class Reader:
             self._add(reading, one, f"A sheet of {one.player} for {one.round} that arrived later is here, in message "
                                     f"{before.record.number}. That one counts, and this one does not.", is_shown=False)
         else:
-            reading.sheets.append(Judged(one, self._welcome(one, before), True, self._findings(one)))
+            reading.sheets.append(Judged(one, self._welcome(one, before), True, self._asked(one)))
 
     def _welcome(self, one: Found, before: Pending | None) -> str:
         """Says for what a sheet counts, and which other sheet it replaces."""
@@ -148,18 +161,18 @@ class Reader:
         reading.aside.append(f"the sheet of {one.player} for {one.round}, {why}")
         self._add(reading, one, said, is_shown=False)
 
-    def _add(self, reading: Reading, one: Found, said: str, findings: tuple[str, ...] = (), is_shown: bool = True) -> None:
-        reading.sheets.append(Judged(one, said, False, findings, is_shown))
+    def _add(self, reading: Reading, one: Found, said: str, asked: Future[tuple[str, ...]] | None = None, is_shown: bool = True) -> None:
+        reading.sheets.append(Judged(one, said, False, asked, is_shown))
 
-    def _findings(self, one: Found) -> tuple[str, ...]:
-        """Returns what the desk finds in a sheet, with the numbers of its own lines."""
-        sheet, orders = Sheet(one.player, one.round, one.texts()), self.folder.orders
-        return tuple(findings_in(sheet, one, orders, self.programs))
+    def _asked(self, one: Found) -> Future[tuple[str, ...]]:
+        """Asks the desk what it finds in a sheet, with the numbers of its own lines."""
+        sheet = Sheet(one.player, one.round, one.texts())
+        return self.desk.submit(findings_in, sheet, one, self.folder.orders, self.report, self.programs)
 
 
-def findings_in(sheet: Sheet, found: Found, orders: bytes, programs: Programs) -> Iterator[str]:
-    """Yields what the desk finds in a sheet alone at the end of an order file, with the numbers that its
-    lines have in the sheet in place of those in the file."""
+def findings_in(sheet: Sheet, found: Found, orders: bytes, report: Report, programs: Programs) -> tuple[str, ...]:
+    """Returns what the desk finds in a sheet alone at the end of an order file that has this report, with
+    the numbers that its lines have in the sheet instead of those in the file."""
     first = line_count(orders) + 1
     numbers = {first + at: number for at, (number, _) in enumerate(found.numbered())}
 
@@ -167,7 +180,9 @@ def findings_in(sheet: Sheet, found: Found, orders: bytes, programs: Programs) -
         own = [numbers.get(int(it)) for it in cited.groups()[1:] if it]
         return f"{cited[1]} {' to '.join(map(str, own))}" if all(own) else cited[0]
 
-    for it in programs.findings(with_sheets(orders, [sheet]), first):
-        number = numbers.get(it.line)
-        said = CITED.sub(named, it.said)
-        yield f"line {number} | {said}" if number else said
+    def shown(line: int, said: str) -> str:
+        number = numbers.get(line)
+        return f"line {number} | {said}" if number else said
+
+    owed = report.owed_without((sheet.player, sheet.round))
+    return tuple(shown(it.line, CITED.sub(named, it.said)) for it in programs.findings(with_sheets(orders, [sheet]), first, owed))

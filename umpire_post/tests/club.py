@@ -1,5 +1,6 @@
 """A club for the tests, and what reads its messages without the programs."""
 
+from collections.abc import Sequence
 from datetime import datetime, timedelta, timezone
 from pathlib import Path
 
@@ -40,7 +41,7 @@ class Silent(Programs):
     def __init__(self) -> None:
         super().__init__((), ())
 
-    def findings(self, orders: bytes, first: int = 1) -> list[Finding]:
+    def findings(self, orders: bytes, first: int, owed: Sequence[str] = ()) -> list[Finding]:
         return []
 
 
@@ -48,9 +49,10 @@ class Unwritten(Folder):
     """A folder in which nothing has come yet, on no disk."""
 
     def __init__(self) -> None:
-        self.top = Path("nowhere")
+        self.root = self.top = Path("nowhere")
         self.club, self.orders, self.records, self.rounds = CLUB, b"", [], []
-        self.digests = set()
+        self.digests, self.done = set(), set()
+        self._pending, self._round_due, self._due = {}, "", ""
 
 
 def read(content: bytes) -> Reading:

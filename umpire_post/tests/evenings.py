@@ -41,9 +41,9 @@ class Evenings(unittest.TestCase):
         self.addCleanup(shutil.rmtree, self.place)
         self.game = self.place / "our-game"
         # (waiting for the device takes most of the time, and shows nothing here)
-        waits = mock.patch.object(os, "fsync", lambda _: None)
-        waits.start()
-        self.addCleanup(waits.stop)
+        for wait in (mock.patch.object(os, "fsync", lambda _: None), mock.patch.object(os, "sync", lambda: None)):
+            wait.start()
+            self.addCleanup(wait.stop)
         self.clock = Clock()
 
     def post(self, *words: str, status: int = 0) -> str:
@@ -55,9 +55,11 @@ class Evenings(unittest.TestCase):
         return told.getvalue()
 
     def new(self, *players: str) -> None:
-        """Makes the game, with the mark of the tests."""
-        self.post("new", "--umpire", UMPIRE, *(players or THREE))
+        """Makes the game, with the mark of the tests, and takes away its first letters."""
+        self.post("new", "--umpire", UMPIRE, "--zone", "UTC", *(players or THREE))
         self.change("club.toml", r"mark = .*", f'mark = "{MARK}"')
+        for path in (self.game / "outbox").iterdir():
+            path.unlink()
 
     def change(self, name: str, pattern: str, to: str) -> None:
         path = self.game / name

@@ -89,8 +89,8 @@ class Delivery(Evenings):
         self.assertEqual(["round-001-PR1-BOB.eml", "round-001-PR1-CYD.sending"], self.names("outbox"))
         self.assertEqual(NAMES[:1], self.names("sent"))
         letter = email.message_from_bytes(Host.taken[0], policy=default)
-        self.assertEqual(["ann@example.org", "our-game: PR1 was played"], [letter["To"], letter["Subject"]])
-        self.assertEqual(["our-game-PR1.html", "our-game-PR1.report"], [it.get_filename() for it in letter.iter_attachments()])
+        self.assertEqual(["ann@example.org", "our-game PR1: played, PR2 is next"], [letter["To"], letter["Subject"]])
+        self.assertEqual(["our-game-PR1.html", "our-game-PR1.report", "our-game.orders"], [it.get_filename() for it in letter.iter_attachments()])
         self.assertIn("in doubt: round-001-PR1-CYD", self.post("status"))
         self.post("send", "--again")
         self.assertEqual(NAMES[1:], self.names("outbox"))
@@ -116,6 +116,7 @@ class Delivery(Evenings):
         texts = [it.get_content() for it in letter.walk() if not it.is_multipart()]
         at = self.game / "rounds" / "001-PR1"
         self.assertIn((at / "bulletin").read_text(), texts[0])
-        self.assertEqual([(at / "page.html").read_text(), (at / "report").read_text()], texts[1:])
+        orders = (self.game / "game.orders").read_text()
+        self.assertEqual([(at / "page.html").read_text(), (at / "report").read_text(), orders], texts[1:])
 
 

@@ -17,7 +17,7 @@ EMPTY = [[f"SHEET {it} PR1"] for it in ("ANN", "BOB", "CYD")]
 class New(Evenings):
     def test_a_folder_is_made(self) -> None:
         told = self.post("new", "--umpire", UMPIRE, *THREE)
-        self.assertEqual("PR1 comes next. It awaits a sheet from each of ANN, BOB and CYD.\n", told)
+        self.assertEqual("PR1 comes next. It awaits a sheet from each of ANN, BOB and CYD.\nThe first letters are in outbox.\n", told)
         self.assertEqual("GAME 1830 2\nPLAYERS ANN BOB CYD\n", (self.game / "game.orders").read_text())
         self.assertEqual(["club.toml", "game.orders", "inbox", "outbox", "rounds", "sent"], self.names("."))
 
@@ -193,14 +193,17 @@ class Round(Evenings):
 
     def test_a_file_that_is_refused(self) -> None:
         (self.game / "game.orders").write_text("GAME 1831 1\n")
-        for words in (["status"], ["round"], ["in", str(self.place)]):
+        message = self.place / "message"
+        message.write_bytes(mail("ANN", EMPTY[0], 1))
+        for words in (["status"], ["round"], ["in", str(message)]):
             self.assertIn("F1", self.post(*words, status=2))
 
-    def test_the_report_may_be_linked(self) -> None:
-        self.change("club.toml", "# link = .*", 'link = "https://example.org/report"')
+    def test_the_report_and_the_order_file_may_be_linked(self) -> None:
+        self.change("club.toml", "# report_link = .*", 'report_link = "https://example.org/report"')
+        self.change("club.toml", "# orders_link = .*", 'orders_link = "https://example.org/orders"')
         self.post("round", "--without", "ANN", "BOB", "CYD")
         letter = (self.game / "outbox" / "round-001-PR1-ANN.eml").read_text()
-        self.assertIn("The report is at https://example.org/report\n", letter)
+        self.assertIn("The report is at https://example.org/report\nThe order file is at https://example.org/orders\n", letter)
         self.assertEqual(1, letter.count("Content-Disposition: attachment"))
 
 
@@ -209,8 +212,8 @@ class Status(Evenings):
         self.new()
         self.comes(mail("ANN", EMPTY[0], 1), mail("BOB", EMPTY[2], 2), status=3)
         self.assertEqual([
-            "PR1 has been awaited since 2026-11-02 18:01",
-            "  ANN      sent message 1 at 2026-11-02 18:03",
+            "our-game: PR1 has been awaited since Monday 2026-11-02 18:01 (UTC)",
+            "  ANN      sent message 1, read Monday 2026-11-02 18:06 (UTC)",
             "  BOB      owes a sheet",
             "  CYD      owes a sheet",
             "set aside: message 2 from bob@example.org (sheet): the sheet of CYD for PR1, from an address that is not CYD's",
@@ -232,7 +235,9 @@ class Status(Evenings):
         self.assertIn("reminders for BOB and CYD are in outbox", self.post("status", "--remind"))
         self.assertIn("nobody needs a reminder today", self.post("status", "--remind"))
         letter = (self.game / "outbox" / "reminder-PR1-BOB-2026-11-02.eml").read_text()
-        self.assertIn("You still owe a sheet for PR1. It has been awaited since 2026-11-02.", letter)
+        self.assertIn("You still owe a sheet for PR1. It has been awaited since Monday 2026-11-02\n18:01 (UTC).\n", letter)
+        self.assertIn("Subject: Re: our-game PR1: you owe a sheet\n", letter)
+        self.assertIn("In-Reply-To: <new-BOB.5eed@example.org>\n", letter)
 
     def test_a_folder_that_is_none(self) -> None:
         self.assertIn("there is no folder", self.post("status", status=1))
@@ -259,7 +264,7 @@ class Status(Evenings):
     def test_two_commands_at_once(self) -> None:
         self.new()
         with locked(self.game):
-            self.assertIn("another command works on", self.post("status", status=4))
+            self.assertIn("another command works on", self.post("status", "--wait", "0", status=75))
 
 
 if __name__ == "__main__":
