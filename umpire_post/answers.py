@@ -5,10 +5,14 @@ from datetime import datetime
 
 from umpire_post.club import Club, Player
 from umpire_post.evening import counted
+from umpire_post.heads import plain
 from umpire_post.letters import Letter, findings_text, letter, wrapped
-from umpire_post.message import Incoming
+from umpire_post.message import Contents, Incoming
+from umpire_post.prose import ANSWERS, READ
 from umpire_post.reading import Judged, Reading
 
+MAX_UNREAD = 10  # parts that were not read
+MAX_LEFT_OUT = 5  # lines that were left out of a sheet
 LONGEST_SHOWN = 160  # characters of a line of a sheet in an answer
 LONGEST_THREAD = 10  # messages before the one that is answered
 
@@ -18,15 +22,10 @@ def answer(club: Club, reading: Reading, number: int, owed: Sequence[str], now: 
     """Makes the answer to a message: of the sheets of this player, if one is named, and otherwise of all."""
     sheets = [it for it in reading.sheets if player is None or it.found.player == player.name]
     who = player.name if player else " and ".join(it.name for it in reading.senders) or to
-    parts = [club.spoken(club.greeting, who), f"This answers your message, number {number} of this game."]
-    if reading.incoming.refused:
-        parts.append(f"It was not read: {reading.incoming.refused}.")
-    elif not sheets:
-        parts.append("No line of it begins with SHEET, so it has no sheet. A sheet begins with a line such as\n\n"
-                     f"    SHEET {who.split()[0] if reading.senders else 'ANN'} SR2\n\nThe umpire may still read it.")
+    parts = [club.spoken(club.greeting, who), f"{ANSWERS} {number} of this game.", *map(_paragraph, reading.said)]
     parts += [part for it in sheets for part in _of_sheet(it)]
-    parts += _unread(reading) + list(owed) + [club.spoken(club.closing, who)]
-    text = _masked("\n\n".join(parts) + "\n", club)
+    parts += _unread(reading.incoming.contents) + list(owed) + [club.spoken(club.closing, who)]
+    text = _masked("\n\n".join(parts) + "\n", [player] if player else reading.senders)
     return letter(club, name, to, _subject(club, reading, sheets), text, now, automatic="auto-replied", answers=_thread(reading.incoming))
 
 
@@ -54,7 +53,9 @@ def _of_sheet(judged: Judged) -> list[str]:
     """Returns what an answer says of a sheet."""
     if not judged.is_shown:
         return [f"{judged.name}\n\n" + wrapped(judged.said, "")]
-    parts = [f"{judged.name}, as it was read:\n\n" + "\n".join(_numbered(judged)), judged.said]
+    parts = [f"{judged.name}{READ}\n\n" + "\n".join(_numbered(judged)), wrapped(judged.said, ""), *map(_paragraph, judged.below)]
+    if judged.found.left_out:
+        parts.append("Left out below its last order, since no order begins so:\n\n" + "\n".join(_left_out(judged.found.left_out)))
     undone = [f"    {_line_name(number)}: {', '.join(line.undone)}"
               for line, (number, _) in zip(judged.found.lines, judged.found.numbered()) if line.undone]
     if undone:
@@ -69,21 +70,34 @@ def _numbered(judged: Judged) -> list[str]:
     return [f"{number or '':>6}  {cut(text)}".rstrip() for number, text in judged.found.numbered()]
 
 
+def _left_out(lines: Sequence[str]) -> list[str]:
+    """Returns lines that were left out of a sheet as an answer shows them."""
+    more = [f"    and {counted(len(lines) - MAX_LEFT_OUT, 'line')} more"] if len(lines) > MAX_LEFT_OUT else []
+    return [f"    {plain(it)}" for it in lines[:MAX_LEFT_OUT]] + more
+
+
+def _paragraph(text: str) -> str:
+    """Returns a paragraph in lines of a letter, and lines below it as they are."""
+    first, blank, rest = text.partition("\n")
+    return wrapped(first, "") + blank + rest
+
+
 def _line_name(number: int | None) -> str:
     return f"line {number}" if number else "a line without a number"
 
 
-def _unread(reading: Reading) -> list[str]:
+def _unread(contents: Contents) -> list[str]:
     """Says what of a message was not read."""
-    counts = [(reading.quoted, "quoted line"), (reading.signature, "line of a signature"), (reading.others, "line above a sheet")]
+    counts = [(contents.quoted, "quoted line"), (contents.signature, "line of a signature"), (contents.found.others, "line above a sheet")]
     said = [f"{number} {what if number == 1 else what.replace('line', 'lines')}" for number, what in counts if number]
-    said += reading.incoming.unread[:10]
+    said += contents.unread[:MAX_UNREAD]
     return [wrapped(f"Not read: {', '.join(said)}.", "")] if said else []
 
 
-def _masked(text: str, club: Club) -> str:
-    """Takes the keys of the club out of a text."""
-    for player in club.players.values():
+def _masked(text: str, readers: Sequence[Player]) -> str:
+    """Takes the keys of the readers of a letter out of its text. To mask another's would tell that a guess
+    was right."""
+    for player in readers:
         if player.key:
             text = text.replace(player.key, "****")
     return text

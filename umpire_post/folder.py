@@ -55,7 +55,8 @@ class Sheet:
 class Record:
     """What was read in a message: the sheets that count, and why others were set aside. It arrived at
     a moment that its mailbox told, and was read when it `came`. Of one that is cut only the front was
-    kept. `warned` names the players who were told that their sheet makes them bankrupt."""
+    kept. `warned` names the players who were told that their sheet makes them bankrupt, `wrong_keys` those
+    for whose sheets it brought a wrong key."""
 
     number: int
     digest: str
@@ -68,6 +69,7 @@ class Record:
     is_cut: bool = False
     arrived: Moment = (0, 0, 0)
     warned: tuple[str, ...] = ()
+    wrong_keys: tuple[str, ...] = ()
 
     def to_json(self) -> bytes:
         return _json(asdict(self))

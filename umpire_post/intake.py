@@ -96,7 +96,7 @@ class Intake:
         reader = self.reader(game)
         reading = reader.read(incoming, accepted)
         record = replace(self._record(game, raw, incoming), sheets=tuple(it.sheet for it in reading.counting()),
-                         aside=tuple(reading.aside))
+                         aside=tuple(reading.aside), wrong_keys=tuple(reading.wrong_keys))
         entry = self._kept(Entry(game, raw, record, incoming, reading, (), accepted is not None))
         return replace(entry, owed=tuple((it, _owed(reader, it)) for it in self._answered(entry)))
 

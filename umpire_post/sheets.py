@@ -1,41 +1,48 @@
 """The sheets among the lines of a message.
 
-A line whose first word is SHEET begins a sheet, and the next such line or the end of the text ends it.
-What is below a SHEET line goes into the sheet as it is: whether it is an order is ruled by the umpire.
+A line whose first word is SHEET begins a sheet, and the next such line or the end of the text ends it. A
+greeting, a closing or an attribution below its last order ends it, too. What else is below a SHEET line
+goes into the sheet as it is: whether it is an order is ruled by the umpire.
 """
 
 import hmac
 import re
-from collections.abc import Iterable
+from collections.abc import Collection, Iterable
 from dataclasses import dataclass, field
 
+from umpire_post.parts import Refused
 from umpire_post.programs import ROUND
-from umpire_post.text import Line
+from umpire_post.prose import is_closing, is_order
+from umpire_post.text import SHEET_WORD, Line
 
 LONGEST_LINE = 1024  # bytes of a line that the umpire reads
 MAX_SHEETS = 24
-SHEET_WORD = re.compile(r"\s*SHEET(?![A-Z0-9])", re.I | re.A)
 HEAD = re.compile(rf" *SHEET +([A-Z][A-Z0-9]*) +({ROUND}) *(?:#.*)?", re.I | re.A)
-KEY_LINE = re.compile(r"\s*KEY\s*:?\s+(\S+)\s*", re.I)
+MAX_BELOW = 100  # lines below the last order that are looked at
+KEY_WORD = re.compile(r"\s*KEY(?=[\s:])", re.I)
 
 
 @dataclass(frozen=True)
 class Found:
-    """A sheet in a message, or lines below a SHEET line with a fault: then it has no player."""
+    """A sheet in a message, or lines below a SHEET line with a fault: then it has no player. What was
+    `left_out` stood below its last order."""
 
     lines: tuple[Line, ...]
     player: str = ""
     round: str = ""
+    left_out: tuple[str, ...] = ()
 
     def texts(self) -> tuple[str, ...]:
         return tuple(it.text for it in self.lines)
 
     @classmethod
-    def of(cls, lines: Iterable[Line]) -> "Found":
-        """Returns the sheet of lines that begin with a SHEET line."""
+    def of(cls, lines: Iterable[Line], names: Collection[str] = ()) -> "Found":
+        """Returns the sheet of lines that begin with a SHEET line. `names` are those of its writer."""
         own = tuple(lines)
         head = HEAD.fullmatch(own[0].text) if size(own[0].text) <= LONGEST_LINE else None
-        return cls(own, head[1].upper(), head[2].upper()) if head else cls(own)
+        player, round_ = (head[1].upper(), head[2].upper()) if head else ("", "")
+        end = _end(own, {*names, player.lower()})
+        return cls(own[:end], player, round_, tuple(it.text.strip() for it in own[end:] if it.text.strip()))
 
     def numbered(self) -> list[tuple[int | None, str]]:
         """Returns its lines, each with the number by which a report calls it, if it has one."""
@@ -56,37 +63,53 @@ class InMessage:
     keys: list[str] = field(default_factory=list)
     others: int = 0
 
+    def add(self, lines: list[Line], names: Collection[str]) -> None:
+        """Adds the sheet of lines, if there are any."""
+        if lines and len(self.sheets) == MAX_SHEETS:
+            raise Refused(f"it has more than {MAX_SHEETS} sheets")
+        self.sheets += [Found.of(lines, names)] if lines else []
+
     def has_key(self, key: str | None) -> bool:
-        """Returns whether the message brings the key of a player, who may have none."""
-        return key is None or any(hmac.compare_digest(it.encode(), key.encode()) for it in self.keys)
+        """Returns whether the message brings the key of a player, who may have none, and no other."""
+        return key is None or len(self.keys) == 1 and hmac.compare_digest(self.keys[0].encode("utf-8", "replace"), key.encode())
 
 
-def find_sheets(texts: Iterable[list[Line]]) -> InMessage:
-    """Returns the sheets of the texts of a message, in order. A sheet ends with its text."""
+def find_sheets(texts: Iterable[list[Line]], names: Collection[str] = ()) -> InMessage:
+    """Returns the sheets of the texts of a message, in order. A sheet ends with its text. `names` are those
+    of the writer, in lower case. Fails with Refused if there are too many."""
     found = InMessage()
     for lines in texts:
-        below: list[Line] | None = None
+        below: list[Line] = []
         for line in lines:
-            key = KEY_LINE.fullmatch(line.text)
-            if key:
-                found.keys.append(key[1])
+            key = key_in(line.text)
+            if key is not None:
+                found.keys.append(key)
             elif SHEET_WORD.match(line.text):
-                _close(found, below)
+                found.add(below, names)
                 below = [line]
-            elif below is None:
-                found.others += bool(line.text.strip())
-            else:
+            elif below:
                 below.append(line)
-        _close(found, below)
+            else:
+                found.others += bool(line.text.strip())
+        found.add(below, names)
     return found
 
 
-def _close(found: InMessage, lines: list[Line] | None) -> None:
-    if lines is None:
-        return
-    while len(lines) > 1 and not lines[-1].text.strip():
-        lines.pop()
-    found.sheets.append(Found.of(lines))
+def key_in(text: str) -> str | None:
+    """Returns the word of a KEY line: the word KEY, perhaps a colon, and one word."""
+    word = KEY_WORD.match(text)
+    words = text[word.end():].strip().removeprefix(":").split(maxsplit=1) if word else []
+    return words[0] if len(words) == 1 else None
+
+
+def _end(lines: tuple[Line, ...], names: Collection[str]) -> int:
+    """Returns how many of the lines of a sheet belong to it."""
+    last = next((at for at in range(len(lines) - 1, 0, -1) if is_order(lines[at].text)), 0)
+    below = range(last + 1, min(last + 1 + MAX_BELOW, len(lines)))
+    end = next((at for at in below if is_closing(lines[at].text, names, not lines[at - 1].text.strip())), len(lines))
+    while end > 1 and not lines[end - 1].text.strip():
+        end -= 1
+    return end
 
 
 def size(text: str) -> int:

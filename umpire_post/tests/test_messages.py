@@ -10,9 +10,9 @@ MESSAGES = sorted((HERE / "messages").glob("*.eml"))
 
 def told(reading: Reading) -> str:
     """Returns what was read in the form of the files NAME.read: the sender; each sheet with what became of
-    it, its numbered lines and below each what was undone; what was set aside; the parts and lines that
-    were not read."""
-    incoming = reading.incoming
+    it, its numbered lines and below each what was undone, and the lines left out of it; what was set aside;
+    the parts and lines that were not read."""
+    incoming, contents = reading.incoming, reading.incoming.contents
     lines = [f"from {incoming.sender or 'nobody'}"]
     for judged in reading.sheets:
         lines.append(f"{' '.join(('sheet', judged.found.player, judged.found.round)).strip()}: {judged.said}")
@@ -20,19 +20,21 @@ def told(reading: Reading) -> str:
             if judged.is_shown:
                 lines.append(f"{number or '':>2}|{text}")
                 lines += [f"    {it}" for it in line.undone]
+        lines += [f"left out {it}" for it in judged.found.left_out if judged.is_shown]
     lines += [f"aside: {it}" for it in reading.aside]
     lines += [] if reading.is_answered else ["no answer"]
-    lines += [f"unread {it}" for it in incoming.unread]
+    lines += [f"unread {it}" for it in contents.unread]
     return "\n".join(lines) + "\n"
 
 
 def counts(reading: Reading) -> str:
-    return f"quoted {reading.quoted}, signature {reading.signature}, above {reading.others}\n"
+    contents = reading.incoming.contents
+    return f"quoted {contents.quoted}, signature {contents.signature}, above {contents.found.others}\n"
 
 
 class Messages(unittest.TestCase):
-    def test_there_are_forty(self) -> None:
-        self.assertGreaterEqual(len(MESSAGES), 40)
+    def test_there_are_seventy(self) -> None:
+        self.assertGreaterEqual(len(MESSAGES), 70)
 
     def test_each_is_read_as_its_writer_meant(self) -> None:
         for path in MESSAGES:

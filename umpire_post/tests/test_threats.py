@@ -6,7 +6,8 @@ import unittest
 from email.policy import default
 
 from umpire_post.answers import answer
-from umpire_post.message import MAX_DEPTH, MAX_PARTS, MAX_TEXT, take_apart
+from umpire_post.message import take_apart
+from umpire_post.parts import MAX_DEPTH, MAX_LINES, MAX_PARTS, MAX_TEXT, MAX_TEXT_LINES
 from umpire_post.reading import Reading
 from umpire_post.sheets import MAX_SHEETS
 from umpire_post.sources import MAX_BYTES, Raw
@@ -90,7 +91,7 @@ class Threats(unittest.TestCase):
         inner = "From: ann@example.org\n\nSHEET ANN SR2\nTURN\n"
         heads = 'MIME-Version: 1.0\nContent-Type: message/rfc822\n'
         reading = read(message(inner, heads, "bob@example.org"))
-        self.assertEqual(([], ["a message that is attached"]), (reading.sheets, reading.incoming.unread))
+        self.assertEqual(([], ["a message that is attached"]), (reading.sheets, reading.incoming.contents.unread))
 
     # A bomb of a message.
 
@@ -108,11 +109,12 @@ class Threats(unittest.TestCase):
         heads = "Content-Type: multipart/mixed; boundary=b0\n"
         nested = "".join(f"--b{it}\nContent-Type: multipart/mixed; boundary=b{it + 1}\n\n" for it in range(depth))
         self.assert_refused(message(nested + f"--b{depth}\n\n{SHEET}", heads), "nested more than")
-        deeper = "".join(f"--b{it}\nContent-Type: multipart/mixed; boundary=b{it + 1}\n\n" for it in range(20_000))
+        deeper = "".join(f"--b{it}\nContent-Type: multipart/mixed; boundary=b{it + 1}\n\n" for it in range(MAX_LINES // 4))
         self.assert_refused(message(deeper, heads), f"more than {MAX_PARTS} parts")
 
     def test_a_long_text_is_not_read(self) -> None:
-        self.assert_refused(message(SHEET + "#\n" * MAX_TEXT), f"and at most {MAX_TEXT:,} are read")
+        self.assert_refused(message(SHEET + "#" * MAX_TEXT), f"and at most {MAX_TEXT:,} are read")
+        self.assert_refused(message(SHEET + "#\n" * MAX_TEXT_LINES), f"lines, and at most {MAX_TEXT_LINES:,} are read")
 
     def test_many_sheets_are_not_read(self) -> None:
         self.assert_refused(message(SHEET * (MAX_SHEETS + 1)), f"more than {MAX_SHEETS} sheets")
@@ -144,7 +146,7 @@ class Threats(unittest.TestCase):
                  f"{SHEET}--b\nContent-Type: application/zip; name=bomb.zip\nContent-Transfer-Encoding: base64\n\nUEsDBA==\n--b--\n")
         reading = read(message(parts, "Content-Type: multipart/mixed; boundary=b\n"))
         self.assertEqual([("SHEET ANN SR2", "TURN", "BUY PRR IPO")], [it.sheet.lines for it in reading.counting()])
-        self.assertEqual(["bomb.zip (application/zip)"], reading.incoming.unread)
+        self.assertEqual(["bomb.zip (application/zip)"], reading.incoming.contents.unread)
         self.assertIn("Not read: bomb.zip (application/zip).", answered(reading)[0])
 
     # Heads and lines of letters.
