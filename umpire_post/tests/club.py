@@ -5,7 +5,7 @@ from datetime import datetime, timedelta, timezone
 from pathlib import Path
 
 from umpire_post.club import Club, Player
-from umpire_post.folder import Folder
+from umpire_post.folder import Folder, Record
 from umpire_post.programs import Finding, Programs, Report
 from umpire_post.reading import Reader, Reading
 from umpire_post.message import take_apart
@@ -14,6 +14,7 @@ from umpire_post.sources import Raw
 HERE = Path(__file__).resolve().parent
 NAMES = ("ANN", "BOB", "CYD", "DOT", "EVE")
 KEY = "Heron-7"
+CAME = "2026-11-02T18:00:00+00:00"
 CLUB = Club("our-game", "umpire@example.org", "5eed", "2026-11-01T12:00:00+00:00", {
     "ANN": Player("ANN", ("ann@example.org", "ann.archer@work.example", "archers@home.example")),
     "BOB": Player("BOB", ("bob@example.org",)),
@@ -55,6 +56,30 @@ class Unwritten(Folder):
         self._pending, self._round_due, self._due = {}, "", ""
 
 
+class Inbox:
+    """A folder on no disk, into which messages come."""
+
+    def __init__(self) -> None:
+        self.folder = Unwritten()
+        self.reader = Reader(self.folder, Silent(), REPORT)
+
+    def comes(self, content: bytes, at: int = 0, accepted: Record | None = None) -> Reading:
+        """Reads a message that arrived at a second, and keeps its record."""
+        reading = self.read(content, at, accepted)
+        incoming = reading.incoming
+        self.folder.keep(Record(self.folder.next_message(), f"{len(self.folder.records)}", CAME, incoming.sender, incoming.subject,
+                                tuple(it.sheet for it in reading.counting()), tuple(reading.aside), arrived=incoming.arrived,
+                                wrong_keys=tuple(reading.wrong_keys)))
+        return reading
+
+    def read(self, content: bytes, at: int = 0, accepted: Record | None = None) -> Reading:
+        """Reads a message, and keeps nothing."""
+        return self.reader.read(take_apart(Raw(content, len(content), (at, 0, 0))), accepted)
+
+
 def read(content: bytes) -> Reading:
     """Reads a message as the first one that came."""
-    return Reader(Unwritten(), Silent(), REPORT).read(take_apart(Raw(content, len(content))))
+    return EMPTY.read(content)
+
+
+EMPTY = Inbox()

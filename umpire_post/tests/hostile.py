@@ -1,7 +1,7 @@
 """Messages of somebody who wants the post to stop: each is as long as one may be, and of a kind that a
 careless reader takes long for, or fails on."""
 
-from collections.abc import Callable
+from collections.abc import Callable, Iterator
 
 from umpire_post.sources import MAX_BYTES
 
@@ -95,6 +95,7 @@ TEXTS = {
     "sent from": "Von meinem ",
     "the post's own letter": "SHEET ANN SR2, as it was read:\n\n        SHEET ANN SR2\n     1  TURN\n",
 }
+LONGER = ("bare CRs", "blank lines above quoted ones", "short lines", "one word", "zeros", "wide characters")
 PAGES = {
     "a broken declaration": "<<!---->![x[>",
     "broken declarations": "<<!>!doctype<!---->[<![CDATA[",
@@ -119,59 +120,67 @@ HEADS = {
     "X": ("x\n\t", "(", "=?utf-8?q?a?="),
 }
 SENDERS = ("(", '"', "<", "@", "=?utf-8?q?", ",", "\\", "a.", "=?utf-8?q?a?= ", "ann@example.org, ", "<ann@example.org>", ";", ":", "\r", "\n ", "a@b ")
-BYTES = {
-    "a base64 text": part("Content-Type: text/plain\nContent-Transfer-Encoding: base64\n", "U0hFRVQgQU5OIFNSMgo=\n"),
-    "base64 of signs that are none": part("Content-Type: text/plain\nContent-Transfer-Encoding: base64\n", "*=-!"),
-    "base64 of padding": part("Content-Type: text/plain\nContent-Transfer-Encoding: base64\n", "="),
-    "base64 in one line": part("Content-Type: application/zip\nContent-Transfer-Encoding: base64\n", "AAAA"),
-    "quoted-printable": part("Content-Type: text/plain\nContent-Transfer-Encoding: quoted-printable\n", "=41"),
-    "quoted-printable breaks": part("Content-Type: text/plain\nContent-Transfer-Encoding: quoted-printable\n", "=\n"),
-    "quoted-printable spaces": part("Content-Type: text/plain\nContent-Transfer-Encoding: quoted-printable\n", " " * 30_000 + "=\n"),
-    "uuencode": part("Content-Type: text/plain\nContent-Transfer-Encoding: x-uuencode\n", "begin 644 x\n#0V%T\nend\n"),
-    "uuencode without an end": part("Content-Type: text/plain\nContent-Transfer-Encoding: uuencode\n", "begin 644 x\n"),
-    "parts without a type": message(filled("--b\n\n"), "Content-Type: multipart/mixed; boundary=b\n"),
-    "parts without a line": message(filled("--b\n"), "Content-Type: multipart/mixed; boundary=b\n"),
-    "parts with a head": message(filled("--b\nA: b\n\nx\n"), "Content-Type: multipart/mixed; boundary=b\n"),
-    "digests": message(filled("--b\n\nA: b\n\n"), "Content-Type: multipart/digest; boundary=b\n"),
-    "messages within messages": message(filled("Content-Type: message/rfc822\n\n"), "Content-Type: message/rfc822\n"),
-    "reports": message(filled("A: b\n\n"), "Content-Type: message/delivery-status\n"),
-    "reports within": part("Content-Type: message/delivery-status\n", "A: b\n\n"),
-    "parts within parts": nested(20_000, lambda at: f"b{at}"),
-    "parts within parts, and lines": nested(30, lambda at: f"b{at}", "--b\n"),
-    "parts of one boundary": nested(40, lambda _: "b"),
-    "a boundary and spaces": nested(7, lambda _: "b", "--b" + " " * 100_000 + "x\n"),
-    "a boundary and one line of spaces": nested(39, lambda _: "b", "--b" + " " * 1_900_000 + "x\n"),
-    "a boundary of dashes": message(filled("-"), "Content-Type: multipart/mixed; boundary=" + "-" * 60 + "\n"),
-    "a boundary of nothing": message(filled("--\n"), 'Content-Type: multipart/mixed; boundary=""\n'),
-    "an alternative of alternatives": nested(30, lambda at: f"b{at}").replace(b"multipart/mixed", b"multipart/alternative"),
-    "heads": message(SHEET, filled("A: b\n")),
-    "heads without a name": message(SHEET, filled(":\n")),
-    "heads of a part": part(filled("A: b\n"), "x", 10),
-    "types of a part": part(filled("Content-Type: text/plain\n"), "x", 10),
-    "a type of a part": part("Content-Type: text/plain" + filled(";") + "\n", "x", 10),
-    "a name of a part": part('Content-Disposition: attachment; filename="' + filled("x") + '"\n', "x", 10),
-    "names of a part": part("Content-Disposition: attachment" + filled("; filename*0*=a%41") + "\n", "x", 10),
-    "senders": message(SHEET, filled("From: ann@example.org\n")),
-    "one line of heads": b"From: ann@example.org" + b" " * (MAX_BYTES - 2000),
-    "no heads": b"x" * (MAX_BYTES - 10),
-    "bytes that are none": b"From: ann@example.org\n\n" + b"\xff\xfe" * (IN_TEXT // 2),
-    "UTF-16": b"From: ann@example.org\nContent-Type: text/plain; charset=utf-16\n\n" + (SHEET * 9_000).encode("utf-16")[:IN_TEXT],
-    "marks of UTF-8": b"From: ann@example.org\n\n" + b"\xef\xbb\xbf" * (IN_TEXT // 3),
-    "CRs as line ends": message(SHEET + filled("x\n")).replace(b"\n", b"\r"),
-    "CRs and heads": message(SHEET, filled("A: b\r")),
+BYTES: dict[str, Callable[[], bytes]] = {
+    "a base64 text": lambda: part("Content-Type: text/plain\nContent-Transfer-Encoding: base64\n", "U0hFRVQgQU5OIFNSMgo=\n"),
+    "base64 of signs that are none": lambda: part("Content-Type: text/plain\nContent-Transfer-Encoding: base64\n", "*=-!"),
+    "base64 of padding": lambda: part("Content-Type: text/plain\nContent-Transfer-Encoding: base64\n", "="),
+    "base64 in one line": lambda: part("Content-Type: application/zip\nContent-Transfer-Encoding: base64\n", "AAAA"),
+    "quoted-printable": lambda: part("Content-Type: text/plain\nContent-Transfer-Encoding: quoted-printable\n", "=41"),
+    "quoted-printable breaks": lambda: part("Content-Type: text/plain\nContent-Transfer-Encoding: quoted-printable\n", "=\n"),
+    "quoted-printable spaces": lambda: part("Content-Type: text/plain\nContent-Transfer-Encoding: quoted-printable\n", " " * 30_000 + "=\n"),
+    "uuencode": lambda: part("Content-Type: text/plain\nContent-Transfer-Encoding: x-uuencode\n", "begin 644 x\n#0V%T\nend\n"),
+    "uuencode without an end": lambda: part("Content-Type: text/plain\nContent-Transfer-Encoding: uuencode\n", "begin 644 x\n"),
+    "parts without a type": lambda: message(filled("--b\n\n"), "Content-Type: multipart/mixed; boundary=b\n"),
+    "parts without a line": lambda: message(filled("--b\n"), "Content-Type: multipart/mixed; boundary=b\n"),
+    "parts with a head": lambda: message(filled("--b\nA: b\n\nx\n"), "Content-Type: multipart/mixed; boundary=b\n"),
+    "digests": lambda: message(filled("--b\n\nA: b\n\n"), "Content-Type: multipart/digest; boundary=b\n"),
+    "messages within messages": lambda: message(filled("Content-Type: message/rfc822\n\n"), "Content-Type: message/rfc822\n"),
+    "reports": lambda: message(filled("A: b\n\n"), "Content-Type: message/delivery-status\n"),
+    "reports within": lambda: part("Content-Type: message/delivery-status\n", "A: b\n\n"),
+    "parts within parts": lambda: nested(20_000, lambda at: f"b{at}"),
+    "parts within parts, and lines": lambda: nested(30, lambda at: f"b{at}", "--b\n"),
+    "parts of one boundary": lambda: nested(40, lambda _: "b"),
+    "a boundary and spaces": lambda: nested(7, lambda _: "b", "--b" + " " * 100_000 + "x\n"),
+    "a boundary and one line of spaces": lambda: nested(39, lambda _: "b", "--b" + " " * 1_900_000 + "x\n"),
+    "a boundary of dashes": lambda: message(filled("-"), "Content-Type: multipart/mixed; boundary=" + "-" * 60 + "\n"),
+    "a boundary of nothing": lambda: message(filled("--\n"), 'Content-Type: multipart/mixed; boundary=""\n'),
+    "an alternative of alternatives": lambda: nested(30, lambda at: f"b{at}").replace(b"multipart/mixed", b"multipart/alternative"),
+    "heads": lambda: message(SHEET, filled("A: b\n")),
+    "heads without a name": lambda: message(SHEET, filled(":\n")),
+    "heads of a part": lambda: part(filled("A: b\n"), "x", 10),
+    "types of a part": lambda: part(filled("Content-Type: text/plain\n"), "x", 10),
+    "a type of a part": lambda: part("Content-Type: text/plain" + filled(";") + "\n", "x", 10),
+    "a name of a part": lambda: part('Content-Disposition: attachment; filename="' + filled("x") + '"\n', "x", 10),
+    "names of a part": lambda: part("Content-Disposition: attachment" + filled("; filename*0*=a%41") + "\n", "x", 10),
+    "senders": lambda: message(SHEET, filled("From: ann@example.org\n")),
+    "one line of heads": lambda: b"From: ann@example.org" + b" " * (MAX_BYTES - 2000),
+    "no heads": lambda: b"x" * (MAX_BYTES - 10),
+    "bytes that are none": lambda: b"From: ann@example.org\n\n" + b"\xff\xfe" * (IN_TEXT // 2),
+    "UTF-16": lambda: b"From: ann@example.org\nContent-Type: text/plain; charset=utf-16\n\n" + (SHEET * 9_000).encode("utf-16")[:IN_TEXT],
+    "marks of UTF-8": lambda: b"From: ann@example.org\n\n" + b"\xef\xbb\xbf" * (IN_TEXT // 3),
+    "CRs as line ends": lambda: message(SHEET + filled("x\n")).replace(b"\n", b"\r"),
+    "CRs and heads": lambda: message(SHEET, filled("A: b\r")),
 }
 CHARSETS = ("utf-7", "punycode", "idna", "unicode_escape", "zlib", "rot13", "hz", "gb18030", "iso2022_jp_ext", "utf-32", "undefined", "../x", "x" * 4000)
 
 
-def attacks() -> dict[str, bytes]:
-    """Returns all of them, each by its name."""
-    found = {f"text: {name}": text(piece) for name, piece in TEXTS.items()}
-    found |= {f"longer text: {name}": text(piece, MAX_BYTES - 2000) for name, piece in TEXTS.items()}
-    found |= {f"one line: {name}": text(piece.replace("\n", " ")) for name, piece in TEXTS.items()}
-    found |= {f"flowed: {name}": flowed(piece.replace("\n", " \n")) for name, piece in TEXTS.items()}
-    found |= {f"page: {name}": html(piece) for name, piece in PAGES.items()}
-    found |= {f"page of words: {name}": html(f"x {piece} y\n") for name, piece in PAGES.items()}
-    found |= {f"head: {name} {piece!r}": head(name, piece) for name, pieces in HEADS.items() for piece in pieces}
-    found |= {f"sender {piece!r}": message(SHEET, "", filled(piece)) for piece in SENDERS}
-    found |= {f"charset {name[:20]}": message(filled("xn--a-", IN_TEXT), f"Content-Type: text/plain; charset={name}\n") for name in CHARSETS}
-    return found | BYTES
+def attacks() -> Iterator[tuple[str, bytes]]:
+    """Yields all of them, each with its name."""
+    for name, piece in TEXTS.items():
+        yield f"text: {name}", text(piece)
+        if name in LONGER:
+            yield f"longer text: {name}", text(piece, MAX_BYTES - 2000)
+        yield f"one line: {name}", text(piece.replace("\n", " "))
+        yield f"flowed: {name}", flowed(piece.replace("\n", " \n"))
+    for name, piece in PAGES.items():
+        yield f"page: {name}", html(piece)
+        yield f"page of words: {name}", html(f"x {piece} y\n")
+    for name, pieces in HEADS.items():
+        for piece in pieces:
+            yield f"head: {name} {piece!r}", head(name, piece)
+    for piece in SENDERS:
+        yield f"sender {piece!r}", message(SHEET, "", filled(piece))
+    for name in CHARSETS:
+        yield f"charset {name[:20]}", message(filled("xn--a-", IN_TEXT), f"Content-Type: text/plain; charset={name}\n")
+    for name, content in BYTES.items():
+        yield name, content()

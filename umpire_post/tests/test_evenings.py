@@ -151,7 +151,7 @@ class In(Evenings):
         self.assertNotIn("is here already", (self.game / "outbox" / "round-001-PR1-ANN.eml").read_text())
 
     def test_a_sheet_that_no_umpire_reads_does_not_stop_the_round(self) -> None:
-        self.comes(mail("ANN", [f"SHEET ANN PR1 #{'x' * 1100}", "TURN"], 1))
+        self.comes(mail("ANN", [f"SHEET ANN PR1 #{'x' * 1100}", "TURN"], 1), status=3)
         self.assertIn("No sheet begins with this line", (self.game / "outbox" / "0001-answer.eml").read_text())
 
 

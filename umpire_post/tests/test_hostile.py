@@ -1,0 +1,153 @@
+"""Messages of strangers: 5,000 that are made by chance, each with what is expected of it, and those of
+somebody who wants the post to stop, each read within the limits."""
+
+import email
+import os
+import signal
+import time
+import unittest
+from collections import Counter
+from email.policy import default
+from unittest import mock
+
+from umpire_post.answers import answer
+from umpire_post.limited import Exceeded, Limited
+from umpire_post.message import DAMAGED, contents_of
+from umpire_post.reading import Reading
+from umpire_post.tests.club import CLUB, KEY, Clock, read
+from umpire_post.tests.hostile import SHEET, attacks
+from umpire_post.tests.made import Made, Maker
+from umpire_post.tests.test_threats import HEADS
+
+COUNT = 5000
+SECONDS, MEMORY = 2, 100 * 1024 * 1024  # for a message, whatever it holds
+READ = ("SHEET ANN SR2", "TURN", "BUY PRR IPO")
+
+
+class MadeByChance(unittest.TestCase):
+    """The messages in four parts, so that they may be read side by side."""
+
+    def look_at(self, part: int) -> None:
+        found: Counter[str] = Counter()
+        for number in range(part, COUNT, 4):
+            with self.subTest(number):
+                made = Maker(number).made()
+                reading = read(made.content)
+                self.look_at_reading(made, reading)
+                self.look_at_answer(reading)
+                found["counts" if made.sheets else made.aside] += 1
+        self.assertGreater(len(found), 15)
+        self.assertGreater(min(found.values()), 0)
+
+    def look_at_reading(self, made: Made, reading: Reading) -> None:
+        self.assertEqual(made.sheets, [it.sheet.lines for it in reading.counting()])
+        self.assertEqual(made.left_out, tuple(line for it in reading.counting() for line in it.found.left_out))
+        self.assertIn(made.aside, "; ".join(reading.aside))
+        self.assertEqual(bool(made.aside), bool(reading.aside), reading.aside)
+        self.assertEqual(made.is_answered, reading.is_answered)
+
+    def look_at_answer(self, reading: Reading) -> None:
+        """An answer goes to the sender alone, its heads are those of an answer, and no key is in it."""
+        if reading.is_answered:
+            letter = answer(CLUB, reading, 1, [], Clock()(), to=reading.incoming.sender, name="0001-answer")
+            parsed = email.message_from_bytes(letter.content, policy=default)
+            self.assertLessEqual(set(parsed.keys()), HEADS)
+            self.assertEqual(reading.incoming.sender, parsed["To"])
+            self.assertNotIn(KEY, parsed.get_content())
+
+    def test_first(self) -> None:
+        self.look_at(0)
+
+    def test_second(self) -> None:
+        self.look_at(1)
+
+    def test_third(self) -> None:
+        self.look_at(2)
+
+    def test_fourth(self) -> None:
+        self.look_at(3)
+
+
+class Attacks(unittest.TestCase):
+    """Each is read within two seconds of a processor and 100 MB, or the system would end its process."""
+
+    def look_at(self, part: int) -> None:
+        limited = Limited(contents_of, SECONDS, MEMORY)
+        self.addCleanup(limited.end)
+        count = 0
+        for at, (name, content) in enumerate(attacks()):
+            if at % 4 == part:
+                count += 1
+                with self.subTest(name):
+                    contents = limited(content)
+                    self.assertNotEqual("", contents.refused or contents.found)
+                    self.look_at_reading(read(content))
+        self.assertGreater(count, 70)
+
+    def look_at_reading(self, reading: Reading) -> None:
+        """The sheet above an attack is read as it is, or nothing is, and the umpire is told why."""
+        for judged in reading.counting():
+            self.assertEqual(READ[:2], judged.sheet.lines[:2])
+        self.assertTrue(reading.counting() or reading.aside)
+
+    def test_first(self) -> None:
+        self.look_at(0)
+
+    def test_second(self) -> None:
+        self.look_at(1)
+
+    def test_third(self) -> None:
+        self.look_at(2)
+
+    def test_fourth(self) -> None:
+        self.look_at(3)
+
+
+class Failing(unittest.TestCase):
+    """Whatever the reading of a message does, the next one is read."""
+
+    def test_what_the_library_raises_sets_the_message_aside(self) -> None:
+        for wrong in (AssertionError, RecursionError, KeyError, ValueError, TypeError, IndexError, UnicodeError, NotImplementedError):
+            with mock.patch("umpire_post.message.texts_of", side_effect=wrong("x")):
+                self.assertEqual(DAMAGED, contents_of(SHEET.encode()).refused)
+            with mock.patch("umpire_post.message.read_heads", side_effect=wrong("x")):
+                self.assertEqual([DAMAGED], read(b"From: ann@example.org\n\n" + SHEET.encode()).aside)
+
+    def test_a_call_that_never_ends_is_ended(self) -> None:
+        def never(_: bytes) -> int:
+            while True:
+                pass
+        self.assert_exceeded(never, 0.2)
+
+    def test_a_call_that_takes_too_much_memory_is_ended(self) -> None:
+        self.assert_exceeded(lambda _: len(b"x" * (300 << 20)), 5)
+
+    def test_a_call_that_ends_its_process_is_told(self) -> None:
+        self.assert_exceeded(lambda _: os.kill(os.getpid(), signal.SIGKILL) or 0, 5)
+        self.assert_exceeded(lambda _: os._exit(0), 5)
+
+    def test_a_call_that_raises_is_told(self) -> None:
+        self.assert_exceeded(lambda _: 1 // 0, 5)
+
+    def assert_exceeded(self, function: "object", seconds: float) -> None:
+        def first_fails(argument: bytes) -> int:
+            return function(argument) if argument == b"first" else len(argument)  # type: ignore[operator]
+
+        limited = Limited(first_fails, seconds, 50 << 20)
+        self.addCleanup(limited.end)
+        self.assertEqual(3, limited(b"one"))
+        begun = time.monotonic()
+        self.assertRaises(Exceeded, limited, b"first")
+        self.assertLess(time.monotonic() - begun, 60)
+        self.assertEqual(3, limited(b"two"))
+
+    def test_what_takes_too_much_is_set_aside(self) -> None:
+        with mock.patch("umpire_post.message._LIMITED", side_effect=Exceeded()):
+            reading = read(b"From: ann@example.org\n\n" + SHEET.encode())
+        self.assertEqual(["it takes too much time or memory to read"], reading.aside)
+        self.assertTrue(reading.is_answered)
+        self.assertEqual([READ], [it.sheet.lines for it in read(b"From: ann@example.org\n\n" + SHEET.encode()).counting()])
+
+
+if __name__ == "__main__":
+    unittest.main()
