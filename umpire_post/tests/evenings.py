@@ -7,7 +7,7 @@ import re
 import shutil
 import tempfile
 import unittest
-from collections.abc import Sequence
+from collections.abc import Iterator, Sequence
 from pathlib import Path
 from unittest import mock
 
@@ -27,6 +27,14 @@ def mail(name: str, lines: Sequence[str], number: int, sender: str = "") -> byte
     address = sender or f"{name.lower()}@example.org"
     heads = f"From: {name.title()} <{address}>\nTo: {UMPIRE}\nSubject: sheet\nMessage-ID: <{number}@example.org>\n"
     return f"{heads}Content-Type: text/plain; charset=us-ascii\n\n".encode() + "".join(f"{it}\n" for it in lines).encode()
+
+
+def letter_of(name: str, lines: Sequence[str], number: int, *, subject: str = "sheet", to: str = UMPIRE, answers: str = "",
+              sender: str = "") -> bytes:
+    """Returns a message of a player with these heads."""
+    content = mail(name, lines, number, sender).replace(b"Subject: sheet\n", f"Subject: {subject}\n".encode())
+    content = content.replace(f"To: {UMPIRE}\n".encode(), f"To: {to}\n".encode())
+    return f"In-Reply-To: {answers}\n".encode() + content if answers else content
 
 
 def mbox(messages: Sequence[bytes]) -> bytes:
@@ -77,6 +85,26 @@ class Evenings(unittest.TestCase):
 
     def names(self, folder: str) -> list[str]:
         return sorted(it.name for it in (self.game / folder).iterdir())
+
+
+class Clubs(Evenings):
+    """A test with the folder of a club `self.club` that is not there yet."""
+
+    def setUp(self) -> None:
+        super().setUp()
+        self.club = self.game = self.place / "our-club"
+
+    @contextlib.contextmanager
+    def at(self, game: str) -> Iterator[Path]:
+        """Has commands work on a game of the club."""
+        self.game = self.club / game
+        yield self.game
+        self.game = self.club
+
+    def on(self, game: str, *words: str, status: int = 0) -> str:
+        """Runs a command on a game of the club."""
+        with self.at(game):
+            return self.post(*words, status=status)
 
 
 def tree(top: Path) -> dict[str, bytes]:

@@ -1,49 +1,25 @@
 """A club of two games with one mailbox: each message counts in one game, or in none."""
 
-import contextlib
 import email
 import re
 import unittest
-from collections.abc import Iterator, Sequence
 from email.policy import default
-from pathlib import Path
 
 from umpire_post.tests.club import HERE
-from umpire_post.tests.evenings import UMPIRE, Evenings, mail
+from umpire_post.tests.evenings import UMPIRE, Clubs, letter_of, mail
 
 FOUR = ("ANN=ann@example.org", "BOB=bob@example.org", "CYD=cyd@example.org", "DOT=dot@example.org")
 SENDMAIL = "#!/bin/sh\nwhile [ \"$1\" != -- ]; do shift; done\n{{ echo \"to $2\"; cat; }} >> '{gone}'\n"
 
 
-def letter_of(name: str, lines: Sequence[str], number: int, *, subject: str = "sheet", to: str = UMPIRE, answers: str = "",
-              sender: str = "") -> bytes:
-    """Returns a message of a player with these heads."""
-    content = mail(name, lines, number, sender).replace(b"Subject: sheet\n", f"Subject: {subject}\n".encode())
-    content = content.replace(f"To: {UMPIRE}\n".encode(), f"To: {to}\n".encode())
-    return f"In-Reply-To: {answers}\n".encode() + content if answers else content
-
-
-class Clubs(Evenings):
+class TwoGames(Clubs):
     """A test with ANN, BOB and CYD in alpha, and ANN, CYD and DOT in beta."""
 
     def setUp(self) -> None:
         super().setUp()
-        self.club = self.game = self.place / "our-club"
         self.post("club", "--umpire", UMPIRE, "--zone", "Europe/Berlin", "--due", "Sunday 18:00", *FOUR)
         for name, players in (("alpha", ("ANN", "BOB", "CYD")), ("beta", ("ANN", "CYD", "DOT"))):
             self.on(name, "new", *players)
-
-    @contextlib.contextmanager
-    def at(self, game: str) -> Iterator[Path]:
-        """Has commands work on a game of the club."""
-        self.game = self.club / game
-        yield self.game
-        self.game = self.club
-
-    def on(self, game: str, *words: str, status: int = 0) -> str:
-        """Runs a command on a game of the club."""
-        with self.at(game):
-            return self.post(*words, status=status)
 
     def told(self, *messages: bytes, status: int = 0) -> list[str]:
         """Has `in` read messages. Returns the lines that it tells."""
@@ -58,7 +34,7 @@ class Clubs(Evenings):
         raise AssertionError(letter)
 
 
-class Making(Clubs):
+class Making(TwoGames):
     def test_the_folders(self) -> None:
         self.assertEqual(["alpha", "beta", "club.toml", "inbox", "outbox", "sent"], [it for it in self.names(".") if it[0] != "."])
         self.assertEqual(["ANN", "BOB", "CYD", "DOT"], re.findall(r"players\.(\w+)", (self.club / "club.toml").read_text()))
@@ -93,7 +69,7 @@ class Making(Clubs):
         self.assertIn("solo: PR1 has been awaited", self.post("status"))
 
 
-class Routing(Clubs):
+class Routing(TwoGames):
     def test_by_the_letter_that_it_answers(self) -> None:
         answers = self.identity("alpha", "new-ANN")
         told = self.told(letter_of("ANN", ["SHEET ANN PR1"], 1, subject="Re: beta", to="umpire+beta@example.org", answers=answers))
@@ -163,7 +139,7 @@ class Routing(Clubs):
         self.assertEqual(["alpha 0001 ann@example.org: ANN PR1", "beta 0001 ann@work.example: ANN PR1"], told)
 
 
-class Commands(Clubs):
+class Commands(TwoGames):
     def test_one_mailbox_is_read_once_for_all_games(self) -> None:
         messages = [mail("BOB", ["SHEET BOB PR1"], 1), mail("DOT", ["SHEET DOT PR1"], 2), mail("ANN", ["hello"], 3)]
         self.comes(*messages, status=3)

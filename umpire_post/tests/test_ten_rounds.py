@@ -1,16 +1,18 @@
-"""The ten rounds of `games/desk/ten-rounds` by post: each round is sent with every slip that there is
-and sent again, as it was mended. The report is that of the game's file, and each slip is told to its
-sender alone."""
+"""The ten rounds of `games/desk/ten-rounds` by post, in a club with another game that goes on beside it:
+each round is sent with every slip that there is and sent again, as it was mended. The report is that of
+the game's file, and each slip is told to its sender alone."""
 
 import email
 import re
 import unittest
 import unittest.mock
 from collections.abc import Iterator
+from contextlib import AbstractContextManager
 from email.policy import default
 from pathlib import Path
 
-from umpire_post.tests.evenings import Evenings, mail, mbox
+from umpire_post.programs import Programs
+from umpire_post.tests.evenings import UMPIRE, Clubs, Evenings, letter_of, mail, mbox
 from umpire_post.tests.programs import PROGRAMS
 
 SESSION = Path(__file__).resolve().parents[2] / "games" / "desk" / "ten-rounds"
@@ -43,31 +45,55 @@ def flat(text: str) -> str:
     return re.sub(r"\b(on line|Lines) \d+( to \d+)?\b", r"\1 N", " ".join(text.split()))
 
 
-class TenRounds(Evenings):
+def without(programs: Programs, word: str, answer: object) -> AbstractContextManager[object]:
+    """Has the programs answer a word at once."""
+    return unittest.mock.patch.object(type(programs), word, lambda *_: answer)
+
+
+class TenRounds(Clubs):
     def setUp(self) -> None:
         super().setUp()
-        self.post("new", "--umpire", "umpire@example.org", *(f"{it}={ADDRESSES[it]}" for it in NAMES))
+        # (a page takes most of the time, and other tests have one)
+        self.enterContext(without(PROGRAMS, "page", "<html></html>"))
+        self.post("club", "--umpire", UMPIRE, *(f"{it}={ADDRESSES[it]}" for it in NAMES))
+        self.on("ten", "new", *NAMES)
+        self.on("other", "new", *NAMES[:3])
         sendmail = self.place / "sendmail"
         sendmail.write_text(SENDMAIL)
         sendmail.chmod(0o755)
         self.change("club.toml", 'by = "program"', f'sendmail = ["{sendmail}"]\nby = "sendmail"')
         self.mail = self.place / "mail"
-        self.number = 0
+        self.number = self.others = 0
 
     def arrive(self, sheets: list[tuple[str, list[str]]], status: int = 0) -> dict[str, str]:
-        """Adds messages to the umpire's mailbox and reads all of it. Returns the answer to each player, without those
-        sent before."""
+        """Adds messages to the umpire's mailbox, each of which says in one of three ways for which game it is,
+        and reads all of it. Returns the answer to each player, without those sent before."""
         with open(self.mail, "ab") as box:
             for name, lines in sheets:
                 self.number += 1
-                box.write(mbox([mail(name, lines, self.number)]))
+                ways = ({"subject": "Re: ten"}, {"to": "umpire+ten@example.org"}, {"answers": self.identity(name)})
+                box.write(mbox([letter_of(name, lines, self.number, **ways[self.number % 3])]))
         self.post("in", str(self.mail), status=status)
         found = {}
-        for path in (self.game / "outbox").glob("*-answer.eml"):
+        for path in (self.club / "ten" / "outbox").glob("*-answer.eml"):
             letter = email.message_from_bytes(path.read_bytes(), policy=default)
             found[str(letter["To"])] = letter.get_content()
         self.post("send")
         return found
+
+    def identity(self, name: str) -> str:
+        """Returns the Message-ID of the first letter to a player of the game."""
+        letter = next((self.club / "ten").glob(f"*/new-{name}.eml"))
+        return str(email.message_from_bytes(letter.read_bytes(), policy=default)["Message-ID"])
+
+    def play_other(self) -> None:
+        """Has ANN send a sheet for a round of the other game, which is read with the mailbox, and plays that
+        round."""
+        self.others += 1
+        with open(self.mail, "ab") as box:
+            box.write(mbox([letter_of("ANN", [f"SHEET ANN PR{self.others}", "TURN"], 1000 + self.others, subject="other")]))
+        self.post("in", str(self.mail))
+        self.on("other", "round", "--without", "BOB", "CYD")
 
     def look_at_slips(self, sent: Path, answers: dict[str, str], before: int) -> None:
         """Each finding of the session is in the answer to the player of its sheet, and in no other of a line of this text."""
@@ -99,10 +125,11 @@ class TenRounds(Evenings):
             # (what is right once another has ordered first is refused as things stand)
             for found in re.findall(r"^ {4}line [\s\S]*?(?=^ {4}line|^$)", answer, re.M):
                 self.assertIn("| as things stand: ", flat(found))
-        self.post("round")
+        self.play_other()
+        self.on("ten", "round")
         if sheets.stem == UNDONE_AFTER:
-            self.post("undo")
-            self.post("round")
+            self.on("ten", "undo", "OR2.1")
+            self.on("ten", "round", "OR2.1")
         self.post("send")
         return lines + len(sheets.read_bytes().splitlines())
 
@@ -113,24 +140,29 @@ class TenRounds(Evenings):
             lines = self.play(sheets, lines)
         owed = PROGRAMS.report(b"".join(it.read_bytes() for it in paths))
         self.assertEqual(10, len(owed.played))
-        self.assertEqual(owed, PROGRAMS.report((self.game / "game.orders").read_bytes()))
-        self.assertEqual(owed.text, (self.game / "rounds" / "011-OR4.1" / "report").read_text())
-        self.assertTrue(re.match(r"OR4.2 has been awaited since .*\n  ANN      owes a sheet\n", self.post("status")))
-        self.assertEqual([], self.names("outbox"))
-        letters = [it for it in self.names("sent") if it.startswith("round-")]
-        self.assertEqual(10 * len(NAMES), len(letters))
+        self.assertEqual(owed, PROGRAMS.report((self.club / "ten" / "game.orders").read_bytes()))
+        self.assertEqual(owed.text, (self.club / "ten" / "rounds" / "011-OR4.1" / "report").read_text())
+        self.assertRegex(self.on("ten", "status"), r"^ten: OR4.2 has been awaited since .*\n  ANN      owes a sheet\n")
+        sheets_of_other = [f"SHEET ANN PR{it}\nTURN\nSHEET BOB PR{it}\nSHEET CYD PR{it}\n" for it in range(1, 11)]
+        other = PROGRAMS.report(f"GAME 1830 2\nPLAYERS ANN BOB CYD\n{''.join(sheets_of_other)}".encode())
+        self.assertEqual(10, len(other.played))
+        self.assertEqual(other, PROGRAMS.report((self.club / "other" / "game.orders").read_bytes()))
+        self.assertEqual([[], [], []], [self.names(it) for it in ("ten/outbox", "other/outbox", "outbox")])
+        self.assertEqual(10 * len(NAMES), sum(it.startswith("round-") for it in self.names("ten/sent")))
+        self.assertEqual([], self.names("inbox"))
 
 
 class AtOnce(Evenings):
     def test_one_mbox_of_all_rounds(self) -> None:
         """All sheets of the ten rounds come at once, before the first is played."""
-        self.post("new", "--umpire", "umpire@example.org", *(f"{it}={ADDRESSES[it]}" for it in NAMES))
+        self.post("new", "--umpire", UMPIRE, *(f"{it}={ADDRESSES[it]}" for it in NAMES))
         paths = sorted(SESSION.glob("*.sheets"))
         sheets = [it for path in paths[1:] for it in chunks(path)]
-        with unittest.mock.patch.object(type(PROGRAMS), "findings", lambda *_: []):
+        with without(PROGRAMS, "findings", []):
             self.comes(*(mail(name, lines, at) for at, (name, lines, _) in enumerate(sheets)))
-        for _ in paths[1:]:
-            self.post("round")
+        with without(PROGRAMS, "page", "<html></html>"):
+            for _ in paths[1:]:
+                self.post("round")
         owed = PROGRAMS.report(b"".join(it.read_bytes() for it in paths))
         self.assertEqual(owed, PROGRAMS.report((self.game / "game.orders").read_bytes()))
 
