@@ -3,7 +3,9 @@
 import email
 import socketserver
 import threading
+import unittest
 from email.policy import default
+from unittest import mock
 
 from umpire_post.tests.evenings import Evenings
 
@@ -16,9 +18,11 @@ NAMES = ["round-001-PR1-ANN.eml", "round-001-PR1-BOB.eml", "round-001-PR1-CYD.em
 
 
 class Host(socketserver.StreamRequestHandler):
-    """A host that takes letters, refuses those to BOB, and breaks off in one to CYD."""
+    """A host that takes letters, refuses those to BOB, and breaks off in one to somebody: before it has it,
+    or after."""
 
     taken: list[bytes] = []
+    breaks_at: tuple[bytes, bytes] = (b"DATA", b"cyd@")
 
     def handle(self) -> None:
         self.say(b"220 host")
@@ -27,12 +31,14 @@ class Host(socketserver.StreamRequestHandler):
             word = line[:4].upper()
             if word == b"RCPT":
                 to = line
+            if (word, self.breaks_at[0]) == (b"RCPT", b"RCPT") and self.breaks_at[1] in line:
+                return
             if word == b"RCPT" and b"bob@" in line:
                 self.say(b"550 no such user")
             elif word == b"DATA":
                 self.say(b"354 go on")
                 content = b"".join(iter(self.rfile.readline, b".\r\n"))
-                if b"cyd@" in to:
+                if self.breaks_at[0] == b"DATA" and self.breaks_at[1] in to:
                     return
                 self.taken.append(content)
                 self.say(b"250 taken")
@@ -77,13 +83,32 @@ class Delivery(Evenings):
         self.assertIn("/nowhere/sendmail does not run", self.post("send", status=4))
         self.assertEqual(NAMES, self.names("outbox"))
 
-    def test_a_host(self) -> None:
+    def send_to_host(self, word: bytes, name: bytes) -> str:
+        """Sends the letters to a host that breaks off at this word of a letter to somebody."""
         Host.taken.clear()
-        with socketserver.ThreadingTCPServer(("127.0.0.1", 0), Host) as host:
+        with mock.patch.object(Host, "breaks_at", (word, name)), socketserver.ThreadingTCPServer(("127.0.0.1", 0), Host) as host:
             threading.Thread(target=host.serve_forever, daemon=True).start()
-            self.change("club.toml", 'by = "program"', f'by = "smtp"\nhost = "127.0.0.1"\nport = {host.server_address[1]}\ntls = "none"')
+            self.change("club.toml", 'by = "program"',
+                        f'by = "smtp"\nhost = "127.0.0.1"\nport = {host.server_address[1]}\ntls = "none"')
             told = self.post("send", status=4)
             host.shutdown()
+        return told
+
+    def test_a_connection_that_breaks_leaves_one_letter_in_doubt(self) -> None:
+        told = self.send_to_host(b"DATA", b"ann@")
+        self.assertIn("round-001-PR1-ANN.eml: the connection broke: ", told)
+        self.assertIn("2 letters left in outbox: run send again for them", told)
+        self.assertEqual(["round-001-PR1-ANN.sending", *NAMES[1:]], self.names("outbox"))
+
+    def test_a_connection_that_breaks_before_a_letter_leaves_none_in_doubt(self) -> None:
+        told = self.send_to_host(b"RCPT", b"cyd@")
+        self.assertIn("round-001-PR1-CYD.eml: the connection broke: ", told)
+        self.assertNotIn("in doubt", told)
+        self.assertEqual((NAMES[1:], NAMES[:1]), (self.names("outbox"), self.names("sent")))
+
+    def test_a_host(self) -> None:
+        told = self.send_to_host(b"DATA", b"cyd@")
+        self.assertEqual(Host.taken[0].count(b"\n"), Host.taken[0].count(b"\r\n"))
         self.assertIn("round-001-PR1-BOB.eml: not accepted for bob@example.org", told)
         self.assertIn("in doubt: round-001-PR1-CYD", told)
         self.assertEqual(["round-001-PR1-BOB.eml", "round-001-PR1-CYD.sending"], self.names("outbox"))
@@ -120,3 +145,5 @@ class Delivery(Evenings):
         self.assertEqual([(at / "page.html").read_text(), (at / "report").read_text(), orders], texts[1:])
 
 
+if __name__ == "__main__":
+    unittest.main()

@@ -9,7 +9,8 @@ from unittest import mock
 
 from umpire_post.disk import locked
 from umpire_post.sources import KEPT_OF_LARGE, MAX_BYTES
-from umpire_post.tests.evenings import THREE, UMPIRE, Evenings, mail, mbox
+from umpire_post.tests.club import HERE
+from umpire_post.tests.evenings import THREE, UMPIRE, Evenings, mail, mbox, tree
 
 EMPTY = [[f"SHEET {it} PR1"] for it in ("ANN", "BOB", "CYD")]
 
@@ -205,6 +206,57 @@ class Round(Evenings):
         letter = (self.game / "outbox" / "round-001-PR1-ANN.eml").read_text()
         self.assertIn("The report is at https://example.org/report\nThe order file is at https://example.org/orders\n", letter)
         self.assertEqual(1, letter.count("Content-Disposition: attachment"))
+
+
+class Outlook(Evenings):
+    """What `round` tells before it plays: ANN presides over PRR, which must buy a train that she cannot pay
+    for."""
+
+    def begin(self, round_: str) -> None:
+        """Makes a game that awaits this round."""
+        orders, front = self.place / "old.orders", f"SHEET ANN {round_}\n".encode()
+        orders.write_bytes((HERE.parents[1] / "games" / "a-president-is-bankrupt.orders").read_bytes().partition(front)[0])
+        self.new("--orders", str(orders), *THREE)
+
+    def test_what_is_bought_and_sold_by_force(self) -> None:
+        self.begin("OR4.1")
+        self.comes(mail("ANN", ["SHEET ANN OR4.1"], 1), mail("BOB", ["SHEET BOB OR4.1", "COMPANY BO", "BYU"], 2))
+        told = self.post("round", "--without", "CYD")
+        self.assertIn("OR4.1 has these purchases and sales by force:\n  FORCED PRR\n  SELLS BO ANN 1 45\n  AID ANN PRR 79\n  TRAIN PRR 2 BANK 80\n", told)
+        self.assertRegex(told, r"(?s)\| BYU \|.*OR4\.1 was played")
+
+    def test_the_outlook_of_a_round_that_is_not_played_yet(self) -> None:
+        self.begin("OR4.1")
+        self.assertIn("  AID ANN PRR 79\n", self.post("status", "--check"))
+
+    def test_a_bankruptcy_of_which_no_letter_has_told(self) -> None:
+        self.begin("OR5.1")
+        before = tree(self.game)
+        told = self.post("round", "--without", "ANN", "BOB", "CYD", status=1)
+        self.assertIn("ANN goes bankrupt in OR5.1, and no letter has told ANN", told)
+        self.assertEqual(before, tree(self.game))
+        self.assertIn("OR5.1 was played. The game is over.", self.post("round", "--go", "--without", "ANN", "BOB", "CYD"))
+        self.assertIn("our-game: the game is over.", self.post("status"))
+
+    def test_a_bankruptcy_of_which_the_answer_has_told(self) -> None:
+        self.begin("OR5.1")
+        self.comes(mail("ANN", ["SHEET ANN OR5.1"], 1))
+        self.assertIn("ANN IS BANKRUPT", (self.game / "outbox" / "0001-answer.eml").read_text())
+        self.post("round", "--without", "BOB", "CYD")
+
+
+class Waiting(Evenings):
+    def test_a_message_waits_until_the_umpire_has_dealt_with_it(self) -> None:
+        self.new()
+        self.comes(mail("ANN", EMPTY[1], 1), mail("BOB", EMPTY[2], 2), status=3)
+        self.assertEqual(2, self.post("status").count("set aside"))
+        self.assertIn("2 messages wait for you: see status", self.post("round", "--without", "ANN", "BOB", "CYD"))
+        self.assertEqual(2, self.post("status").count("set aside"))
+        self.assertEqual("1 message left that waits for you\n", self.post("in", "--done", "1"))
+        self.assertIn("set aside: message 2 from bob@example.org", self.post("status"))
+        self.assertIn("message 1 does not wait for you", self.post("in", "--done", "1", status=1))
+        self.post("in", "--done", "2")
+        self.assertNotIn("set aside", self.post("status"))
 
 
 class Status(Evenings):
