@@ -89,12 +89,12 @@ def parser(name: str = "post") -> argparse.ArgumentParser:
     said.add_argument("--again", action="store_true", help="the letters in doubt were not sent")
     one = word("club", "Makes the folder of a club of several games with one mailbox",
                "our-club --umpire umpire@example.org ANN=ann@example.org BOB=bob@example.org", "the folder of the club")
-    _add_players(one, "*", True)
+    _add_players(one, True)
     return top
 
 
-def _add_players(one: argparse.ArgumentParser, count: str, needs_umpire: bool) -> None:
-    one.add_argument("players", metavar="NAME=ADDRESS", nargs=count,
+def _add_players(one: argparse.ArgumentParser, needs_umpire: bool) -> None:
+    one.add_argument("players", metavar="NAME=ADDRESS", nargs="+",
                      help="a player, in the order of the seats; a name again for another address; without an address one of the club")
     one.add_argument("--umpire", required=needs_umpire, metavar="ADDRESS", help="the address that letters come from")
     one.add_argument("--zone", metavar="ZONE", help="the time zone of all times, such as Europe/Berlin; that of this machine if none is named")
@@ -104,7 +104,7 @@ def _add_players(one: argparse.ArgumentParser, count: str, needs_umpire: bool) -
 def _add_new(word: _Word) -> None:
     example = "our-game --umpire umpire@example.org ANN=ann@example.org BOB=bob@example.org CYD=cyd@example.org"
     one = word("new", "Makes a game's folder, and writes the first letters", example, GAME)
-    _add_players(one, "+", False)
+    _add_players(one, False)
     one.add_argument("--game-version", type=int, choices=(1, 2), default=2,
                      help="the version of the order file: 2, with conditions, unless 1 is named")
     one.add_argument("--orders", type=Path, metavar="FILE", help="the order file of a game that has begun")

@@ -1,27 +1,26 @@
 """Steps that are done whole or not at all.
 
 A step changes several files below a folder. It writes what they are to become into `.step.new`, and
-flushes it. Then it renames that folder to `.step`: this is the moment at which the step is done. Each
-file of it is then renamed to its place. A step that was interrupted before that moment has changed
+flushes it. Then it renames that folder to `.step-`, followed by what it does: this is the moment at
+which the step is done. Each file of it is then renamed to its place. A step that was interrupted before that moment has changed
 nothing; one that was interrupted after it is finished by the next command. So no reader sees a file
 that is half written, and none misses one file of a step for good.
 """
 
 import fcntl
-import json
 import os
 import shutil
 import time
 from collections.abc import Iterable, Iterator
 from contextlib import contextmanager, suppress
-from dataclasses import asdict, dataclass
+from dataclasses import dataclass
 from pathlib import Path
 
 from umpire_post.errors import TRY_AGAIN, PostError
 
 BEGUN = ".step.new"
-DONE = ".step"
-FILES, REMOVED, WORK = "files", "removed", "work.json"
+DONE = ".step-"
+FILES, REMOVED = "files", "removed"
 LOCK = ".lock"
 PAUSE = 0.05  # seconds between two tries to get the lock
 FEW = 64  # files that are flushed one by one; for more the device writes out all that waits
@@ -29,11 +28,20 @@ FEW = 64  # files that are flushed one by one; for more the device writes out al
 
 @dataclass(frozen=True)
 class Work:
-    """What a step does: the word of its command, and the game and the round that it is about."""
+    """What a step does: the word of its command, and the game and the round that it is about. None of
+    them has a comma."""
 
     word: str
     game: str = ""
     round: str = ""
+
+    def folder(self) -> str:
+        """Returns the name of the folder of such a step that is done."""
+        return f"{DONE}{self.word},{self.game},{self.round}"
+
+    @classmethod
+    def of(cls, folder: str) -> "Work":
+        return cls(*folder.removeprefix(DONE).split(","))
 
 
 class Step:
@@ -60,9 +68,8 @@ class Step:
         """Does the step."""
         begun = self.top / BEGUN
         write(begun / REMOVED, "".join(f"{it}\n" for it in self.removed).encode())
-        write(begun / WORK, json.dumps(asdict(self.work)).encode())
         flush([begun, *begun.rglob("*")])
-        os.rename(begun, self.top / DONE)
+        os.rename(begun, self.top / self.work.folder())
         flush([self.top])
         finish(self.top)
 
@@ -70,23 +77,12 @@ class Step:
 def finish(top: Path) -> Work | None:
     """Finishes a step that was interrupted after the moment at which it was done. Returns what it does,
     if there is one."""
-    done = top / DONE
-    if not done.is_dir():
-        return None
-    work = Work(**json.loads((done / WORK).read_bytes()))
-    changed = {top}
-    for path in sorted(it for it in (done / FILES).rglob("*") if not it.is_dir()):
-        place = top / path.relative_to(done / FILES)
-        place.parent.mkdir(parents=True, exist_ok=True)
-        os.replace(path, place)
-        changed.update(it for it in place.parents if top in it.parents)
-    for name in (done / REMOVED).read_text(encoding="utf-8").splitlines():
-        _remove(top / name)
-        changed.add((top / name).parent)
-    flush(it for it in changed if it.is_dir())
-    # (the file that says what the step does goes last, since without it nothing could be finished)
-    os.rename(done, top / BEGUN)
-    drop_begun(top)
+    work = None
+    for done in top.glob(f"{DONE}*"):
+        work = Work.of(done.name)
+        _put_in_place(done, top)
+        # (the folder itself goes last, so that what was done is told if that is interrupted)
+        shutil.rmtree(done)
     return work
 
 
@@ -144,6 +140,21 @@ def _is_taken(lock: int) -> bool:
     except BlockingIOError:
         return False
     return True
+
+
+def _put_in_place(done: Path, top: Path) -> None:
+    """Moves the files of a step to their places, and removes those that it removes."""
+    changed = {top}
+    for path in sorted(it for it in (done / FILES).rglob("*") if not it.is_dir()):
+        place = top / path.relative_to(done / FILES)
+        place.parent.mkdir(parents=True, exist_ok=True)
+        os.replace(path, place)
+        changed.update(it for it in place.parents if top in it.parents)
+    listed = done / REMOVED
+    for name in listed.read_text(encoding="utf-8").splitlines() if listed.exists() else ():
+        _remove(top / name)
+        changed.add((top / name).parent)
+    flush(it for it in changed if it.is_dir())
 
 
 def _remove(path: Path) -> None:

@@ -192,7 +192,7 @@ def accept(evening: Evening, place: Place, numbers: Sequence[int], game: str | N
         if intake.shared and not game:
             raise PostError("say with --game for which game the message is")
         to = named(intake.games, game) if game else intake.games[0]
-        entries = [intake.accept(to, *box.message(it)) for it in numbers]
+        entries = [intake.accept(to, *_not_accepted(to, *box.message(it))) for it in numbers]
         return SET_ASIDE if intake.write(entries, [box.in_inbox(it, DEALT_WITH) for it in numbers]) else 0
 
 
@@ -216,6 +216,14 @@ def tell_aside(evening: Evening, record: Record, whose: str = "") -> None:
     for why in record.aside:
         subject = f" ({plain(record.subject)})" if record.subject else ""
         evening.tell(f"set aside: {whose}message {record.number} from {record.sender or 'nobody'}{subject}: {plain_sentence(why)}")
+
+
+def _not_accepted(game: Folder, record: Record, content: bytes) -> tuple[Record, bytes]:
+    """Returns a message again. Fails if it was accepted for the game before."""
+    last = max((it.number for it in game.records if it.digest == record.digest), default=0)
+    if last > (record.number if record in game.records else 0):
+        raise PostError(f"message {record.number} was accepted before, as message {last} of {game.club.game}")
+    return record, content
 
 
 def _write(step: Step, entry: Entry, answers: Sequence[Letter]) -> Record:

@@ -12,6 +12,7 @@ from pathlib import Path
 from unittest import mock
 
 from umpire_post.commands import main
+from umpire_post.programs import Programs
 from umpire_post.tests.club import Clock
 from umpire_post.tests.programs import PROGRAMS
 
@@ -45,12 +46,13 @@ class Evenings(unittest.TestCase):
             wait.start()
             self.addCleanup(wait.stop)
         self.clock = Clock()
+        self.programs: Programs = PROGRAMS
 
     def post(self, *words: str, status: int = 0) -> str:
         """Runs a command on the game, whose status must be this. Returns what it tells, and why it failed."""
         told = io.StringIO()
         with contextlib.redirect_stdout(told), contextlib.redirect_stderr(told):
-            found = main([words[0], str(self.game), *words[1:]], now=self.clock, programs=PROGRAMS)
+            found = main([words[0], str(self.game), *words[1:]], now=self.clock, programs=self.programs)
         self.assertEqual(status, found, told.getvalue())
         return told.getvalue()
 
@@ -75,3 +77,8 @@ class Evenings(unittest.TestCase):
 
     def names(self, folder: str) -> list[str]:
         return sorted(it.name for it in (self.game / folder).iterdir())
+
+
+def tree(top: Path) -> dict[str, bytes]:
+    """Returns each file of a folder with its content, but for the lock."""
+    return {str(it.relative_to(top)): it.read_bytes() for it in top.rglob("*") if it.is_file() and it.name != ".lock"}

@@ -15,13 +15,13 @@ from unittest import mock
 
 from umpire_post import disk
 from umpire_post.commands import main
-from umpire_post.tests.evenings import MARK, THREE, UMPIRE, Evenings, mail, mbox
+from umpire_post.tests.evenings import MARK, THREE, UMPIRE, Evenings, mail, mbox, tree
 from umpire_post.tests.programs import PROGRAMS
 
 KILLED, BROKEN = 77, 78
 NOON = datetime(2026, 11, 2, 12, 0, tzinfo=timezone.utc)
 MOST = 400  # writes of a command
-WRITES = ("rename", "replace", "unlink", "rmdir", "mkdir", "fsync")
+WRITES = ("rename", "replace", "unlink", "rmdir", "mkdir", "fsync", "sync")
 SENDMAIL = "#!/bin/sh\nwhile [ \"$1\" != -- ]; do shift; done\n{ echo \"$2\"; cat; } > \"$(mktemp \"${0%/*}/gone/XXXXXX\")\"\n"
 
 
@@ -93,11 +93,6 @@ def is_killed(words: Sequence[str], at: int) -> bool:
     return status == KILLED
 
 
-def tree(top: Path) -> dict[str, bytes]:
-    """Returns each file of a folder with its content, but for the lock."""
-    return {str(it.relative_to(top)): it.read_bytes() for it in top.rglob("*") if it.is_file() and it.name != ".lock"}
-
-
 class Killed(Evenings):
     """A test that kills a command."""
 
@@ -107,27 +102,34 @@ class Killed(Evenings):
         known.start()
         self.addCleanup(known.stop)
 
-    def look_at(self, words: Sequence[str]) -> None:
-        """Kills a command at each write. Run again, it must leave what it leaves when nothing happens."""
+    def look_at(self, words: Sequence[str], named: str = "") -> None:
+        """Kills a command at each write. Run again, it must leave what it leaves when nothing happens; so
+        must it with another command between, if it names the round that it is about."""
         before = self.place / "before"
         if self.game.exists():
             shutil.copytree(self.game, before)
         run(words)
         owed = tree(self.game)
         for at in range(1, MOST):
-            shutil.rmtree(self.game)
-            if before.exists():
-                shutil.copytree(before, self.game)
-            if not is_killed(words, at):
+            for between in (False, True):
+                shutil.rmtree(self.game)
+                if before.exists():
+                    shutil.copytree(before, self.game)
+                was_killed = is_killed(words, at)
+                if was_killed and between:
+                    run(["status", str(self.game)])
+                    run([*words, *([named] if named else [])])
+                elif was_killed:
+                    run(words)
+                self.assertEqual(owed.keys(), tree(self.game).keys(), f"write {at}, {between}")
+                self.assertEqual(owed, tree(self.game), f"write {at}, {between}")
+            if not was_killed:
                 break
-            run(words)
-            self.assertEqual(owed.keys(), tree(self.game).keys(), f"write {at}")
-            self.assertEqual(owed, tree(self.game), f"write {at}")
         self.assertGreater(at, 5)
         self.assertLess(at, MOST - 1)
 
     def begun(self) -> None:
-        run(["new", str(self.game), "--umpire", UMPIRE, *THREE])
+        run(["new", str(self.game), "--umpire", UMPIRE, "--due", "Sunday 18:00", *THREE])
 
     def came(self) -> Path:
         path = self.place / "mbox"
@@ -139,7 +141,7 @@ class Killed(Evenings):
 
 class Steps(Killed):
     def test_new(self) -> None:
-        self.look_at(["new", str(self.game), "--umpire", UMPIRE, *THREE])
+        self.look_at(["new", str(self.game), "--umpire", UMPIRE, "--due", "Sunday 18:00", *THREE])
 
     def test_in(self) -> None:
         self.begun()
@@ -150,7 +152,16 @@ class Steps(Killed):
         self.begun()
         run(["round", str(self.game), "--without", "ANN", "BOB", "CYD"])
         run(["round", str(self.game), "--without", "ANN", "BOB", "CYD"])
-        self.look_at(["undo", str(self.game)])
+        self.look_at(["undo", str(self.game)], "PR2")
+
+    def test_due(self) -> None:
+        self.begun()
+        self.look_at(["due", str(self.game), "2026-11-08 18:00"])
+
+    def test_accept(self) -> None:
+        self.begun()
+        run(["in", str(self.game), str(self.came())])
+        self.look_at(["in", str(self.game), "--accept", "1"])
 
     def test_status_that_reminds(self) -> None:
         self.begun()
@@ -161,7 +172,7 @@ class Rounds(Killed):
     def test_round(self) -> None:
         self.begun()
         run(["in", str(self.game), str(self.came())])
-        self.look_at(["round", str(self.game)])
+        self.look_at(["round", str(self.game)], "PR1")
 
     def test_round_is_not_followed_by_the_next_one(self) -> None:
         self.begun()
@@ -169,7 +180,7 @@ class Rounds(Killed):
         names = ("ANN", "BOB", "CYD")
         path.write_bytes(mbox([mail(it, [f"SHEET {it} PR1", f"SHEET {it} PR2"], at) for at, it in enumerate(names)]))
         run(["in", str(self.game), str(path)])
-        self.look_at(["round", str(self.game)])
+        self.look_at(["round", str(self.game)], "PR1")
 
     def test_send(self) -> None:
         """No letter is lost or sent twice: if nobody knows whether it was, the umpire is told."""

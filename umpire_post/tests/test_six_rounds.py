@@ -1,6 +1,7 @@
 """Six rounds, from an mbox to the outbox: each evening the umpire reads the mbox, which has grown, and
 plays the round. BOB sends none for the last. All letters together are `six-rounds.outbox`, in which
-`{bulletin}`, `{page}` and `{report}` stand for what the programs say of the round.
+`{bulletin}`, `{page}`, `{report}` and `{orders}` stand for what the programs say of the round and for
+the order file, and `{rules}` for a page for players.
 
     python3 -m umpire_post.tests.test_six_rounds --write
 
@@ -8,18 +9,22 @@ writes that file anew: read it before it is kept."""
 
 import email
 import re
+import secrets
 import sys
 import unittest
 from email.message import EmailMessage
 from email.policy import default
 from pathlib import Path
+from unittest import mock
 
 from umpire_post.tests.club import HERE
-from umpire_post.tests.evenings import Evenings
+from umpire_post.tests.evenings import MARK, UMPIRE, Evenings
 from umpire_post.tests.programs import PROGRAMS
 
 MBOX, OUTBOX = HERE / "six-rounds.mbox", HERE / "six-rounds.outbox"
 ADDRESSES = ("ANN=ann@example.org", "BOB=bob@example.org", "CYD=cyd@gmail.example", "DOT=dot@example.org")
+RULES = [HERE.parents[1] / "docs" / "players" / it for it in ("playing.md", "rules.md")]
+DUE = "Sunday 2026-11-08 18:00 (Europe/Berlin)"
 DAY = re.compile(rb"^From umpire-mailbox (\w+ \w+ +\d+)", re.M)
 EVENINGS_WITH_ASIDE = {2, 3, 4, 5}
 
@@ -37,7 +42,8 @@ class SixRounds(Evenings):
 
     def letters(self) -> str:
         """Plays the six rounds. Returns all letters, with what the programs say taken out."""
-        self.new(*ADDRESSES)
+        with mock.patch.object(secrets, "token_hex", lambda _: MARK):
+            self.post("new", "--umpire", UMPIRE, "--zone", "Europe/Berlin", "--due", "Sunday 18:00", *ADDRESSES)
         self.change("club.toml", re.escape('addresses = ["cyd@gmail.example"]'), 'addresses = ["cyd@gmail.example"]\nkey = "heron-7"')
         box = self.place / "mbox"
         for number, content in enumerate(evenings(), 1):
@@ -57,12 +63,13 @@ class SixRounds(Evenings):
         assert body is not None
         text = f"{heads}\n{body.get_content()}"
         attached = [(str(it.get_filename()), it.get_content()) for it in letter.iter_attachments()]
+        said = {it.read_text(encoding="utf-8"): "{rules}" for it in RULES}
         if path.name.startswith("round-"):
             orders = self.orders_after(path.name.split("-")[1])
-            text = text.replace(PROGRAMS.bulletin(orders).rstrip("\n"), "{bulletin}")
-            said = {PROGRAMS.page(orders): "{page}", PROGRAMS.report(orders).text: "{report}"}
-            text += "".join(f"[{name}: {said.get(content, content)}]\n" for name, content in attached)
-        return text
+            report = PROGRAMS.report(orders)
+            text = text.replace(PROGRAMS.bulletin(orders, report, DUE).rstrip("\n"), "{bulletin}")
+            said |= {PROGRAMS.page(orders, DUE): "{page}", report.text: "{report}", orders.decode(): "{orders}"}
+        return text + "".join(f"[{name}: {said.get(content, content)}]\n" for name, content in attached)
 
     def orders_after(self, number: str) -> bytes:
         """Returns the order file as a round left it."""
