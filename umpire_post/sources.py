@@ -122,7 +122,7 @@ def _of_mbox(path: Path) -> Iterator[Raw]:
 
 
 def _dated(line: bytes) -> int:
-    """Returns the second that a `From ` line names, or 0."""
+    """Returns the second that a `From ` line names, in the local time of the machine, or 0."""
     try:
         date = parsedate_tz(line.decode("latin-1").partition(" ")[2].partition(" ")[2])
         return int(mktime_tz(date)) if date else 0

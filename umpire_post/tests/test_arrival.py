@@ -67,7 +67,7 @@ class Arrival(unittest.TestCase):
         lines = ("From a@b Mon Nov  2 18:00:00 2026", "From a@b Mon Nov  2 17:00:00 2026", "From a@b nonsense", "From a@b Tue Nov  3 18:00:00 2099", "From ")
         path.write_bytes(b"".join(f"{line}\n".encode() + with_body(str(at)) + b"\n\n" for at, line in enumerate(lines)))
         os.utime(path, (1_800_000_000, 1_800_000_000))
-        monday = 1_793_642_400  # 2026-11-02 18:00:00 UTC
+        monday = int(time.mktime((2026, 11, 2, 18, 0, 0, 0, 0, -1)))
         self.assertEqual(["0", "1", "2", "3", "4"], self.bodies(path))
         self.assertEqual([(monday, 0, 0), (monday, 0, 1), (monday, 0, 2), (1_800_000_000, 0, 3), (1_800_000_000, 0, 4)], self.moments(path))
 
