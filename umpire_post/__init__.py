@@ -12,10 +12,14 @@ Modules, in reading order:
     sources     messages from a file, an mbox, a Maildir or standard input
     folder      a game's folder: messages, sheets, rounds, letters
     games       a game alone, or a club of several games in one folder
-    message     a message taken apart, within bounds: who sent it, and its texts
-    text        the lines of a text: joined, without quotations and signatures, cleaned of mail
+    heads       the heads of a message: who sent it, and what it answers
+    parts       the texts in the parts of a message, within bounds
     html        the lines of a text in HTML
+    prose       what stands around orders: attributions, greetings, closings
+    text        the lines of a text: joined, without quotations and signatures, cleaned of mail
     sheets      the sheets among the lines
+    limited     a function in a process of its own, with a limit of time and memory
+    message     a message taken apart, by all of these
     reading     who may send what
     routing     which game of a club a message belongs to
     letters     how a letter is made, and the letters of a game

@@ -67,7 +67,8 @@ def split(content: bytes) -> tuple[bytes, bytes]:
 
 
 def read_heads(content: bytes) -> Heads:
-    """Reads the heads of a message. It never fails."""
+    """Reads the heads of a message. Fails only with what the library raises on heads that no mail program
+    writes."""
     heads, _ = split(content[:MAX_HEADS])
     parsed = BytesHeaderParser(policy=BOUNDED).parsebytes(heads)
     sender, name = _sender(parsed)

@@ -12,8 +12,9 @@ from umpire_post.errors import SET_ASIDE, PostError
 from umpire_post.evening import Evening, counted, plain_sentence
 from umpire_post.folder import DEALT_WITH, OUTBOX, Folder, Messages, Record
 from umpire_post.games import Place, named
+from umpire_post.heads import plain
 from umpire_post.letters import Letter
-from umpire_post.message import Incoming, plain, take_apart
+from umpire_post.message import Incoming, take_apart
 from umpire_post.programs import BANKRUPT
 from umpire_post.reading import Reader, Reading
 from umpire_post.routing import game_of

@@ -82,4 +82,6 @@ class Limited(Generic[Result]):
         signal.setitimer(signal.ITIMER_PROF, self.seconds)
         if SIZE.exists():
             used = int(SIZE.read_text().split()[0]) * resource.getpagesize()
-            resource.setrlimit(resource.RLIMIT_AS, (used + self.memory, resource.getrlimit(resource.RLIMIT_AS)[1]))
+            most = resource.getrlimit(resource.RLIMIT_AS)[1]
+            limit = used + self.memory if most == resource.RLIM_INFINITY else min(used + self.memory, most)
+            resource.setrlimit(resource.RLIMIT_AS, (limit, most))

@@ -6,14 +6,13 @@ of its own, with a limit of time and memory: whatever a message holds, it is rea
 
 from dataclasses import dataclass, field
 
-from umpire_post.heads import Heads, plain, read_heads
+from umpire_post.heads import Heads, read_heads
 from umpire_post.limited import Exceeded, Limited
 from umpire_post.parts import Refused, texts_of
+from umpire_post.prose import WORD
 from umpire_post.sheets import InMessage, find_sheets
 from umpire_post.sources import MAX_BYTES, Moment, Raw
 from umpire_post.text import lines_of
-
-__all__ = ["Contents", "Incoming", "contents_of", "plain", "take_apart"]
 
 SECONDS = 1.5  # of a processor for what is below the heads
 MEMORY = 64 * 1024 * 1024
@@ -81,7 +80,7 @@ def contents_of(content: bytes) -> Contents:
     """Reads what is below the heads of a message. It fails only for want of memory."""
     try:
         heads = read_heads(content)
-        names = {it.lower() for it in (*heads.name.split(), heads.sender.partition("@")[0])}
+        names = {it.lower() for it in WORD.findall(f"{heads.name} {heads.sender.partition('@')[0]}")}
         texts = texts_of(content)
         lines = [lines_of(it) for it in texts.found]
         found = find_sheets((it.own for it in lines), names)

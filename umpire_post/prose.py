@@ -36,8 +36,9 @@ BEGINS = re.compile(r"\s*(-{4,}\s*\w.*\w\s*-{4,}|Begin forwarded message:|_{20,}
 # The post's own letters: their words are no player's.
 ANSWERS = "This answers your message, number"
 READ = ", as it was read:"
-OWN_LETTER = re.compile(rf"\s*({ANSWERS} \d+ .*|SHEET [A-Z0-9]+ \S+{READ}|\S+ comes next\. It awaits a sheet from each of .*"
-                        r"|You still owe a sheet for \S+\. It has been awaited since .*)", re.I)
+ROUND = r"(?:[PS]R\d{1,4}|OR\d{1,4}\.[123])"
+OWN_LETTER = re.compile(rf"\s*({ANSWERS} \d+ .*|SHEET [A-Z0-9]+ {ROUND}{READ}|{ROUND} was played\.|{ROUND} comes next\. It awaits .*"
+                        rf"|You still owe a sheet for {ROUND}\. .*|Sheets for {ROUND} are now due .*|The game \S+ of 1830 begins\. .*)", re.I)
 
 CLOSINGS = frozenset(it.casefold() for it in (
     "kind regards", "regards", "best regards", "warm regards", "warmest regards", "with kind regards", "with best regards", "rgds",
@@ -68,7 +69,7 @@ SIMILAR = 0.6  # of a word and the first word of an order
 
 def is_order(text: str) -> bool:
     """Returns whether a line begins with the first word of an order."""
-    return (text[:LONGEST].split() or [""])[0].upper() in ORDERS
+    return (text[:LONGEST].split(maxsplit=1) or [""])[0].upper() in ORDERS
 
 
 def is_attribution(text: str) -> bool:
@@ -83,6 +84,11 @@ def is_attribution(text: str) -> bool:
 def is_full_attribution(text: str) -> bool:
     """Returns whether a line says who wrote what is below it, and when."""
     return _may_be_prose(text) and _ends_in_colon(text) and _is_of_someone(text) and DATED.search(text) is not None
+
+
+def is_certain_attribution(text: str) -> bool:
+    """Returns whether a line can be nothing else: it has an address or begins as mail programs begin one."""
+    return is_full_attribution(text) and (ADDRESS.search(text) is not None or BEGUN.match(text) is not None)
 
 
 def is_above_quotation(text: str) -> bool:
@@ -140,8 +146,8 @@ def _is_similar(words: list[str]) -> bool:
 
 
 def _may_be_prose(text: str) -> bool:
-    shown = text[:LONGEST].lstrip()
-    return len(text) <= LONGEST and bool(shown) and not shown.startswith("#") and not is_order(shown)
+    first = (text[:LONGEST].split(maxsplit=1) or [""])[0].upper()
+    return len(text) <= LONGEST and bool(first) and not first.startswith(("#", "SHEET", "KEY")) and first not in ORDERS
 
 
 def _ends_in_colon(text: str) -> bool:

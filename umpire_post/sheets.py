@@ -8,7 +8,7 @@ goes into the sheet as it is: whether it is an order is ruled by the umpire.
 import hmac
 import re
 from collections.abc import Collection, Iterable
-from dataclasses import dataclass, field
+from dataclasses import dataclass, field, replace
 
 from umpire_post.parts import Refused
 from umpire_post.programs import ROUND
@@ -36,13 +36,17 @@ class Found:
         return tuple(it.text for it in self.lines)
 
     @classmethod
-    def of(cls, lines: Iterable[Line], names: Collection[str] = ()) -> "Found":
-        """Returns the sheet of lines that begin with a SHEET line. `names` are those of its writer."""
+    def of(cls, lines: Iterable[Line]) -> "Found":
+        """Returns the sheet of lines that begin with a SHEET line."""
         own = tuple(lines)
         head = HEAD.fullmatch(own[0].text) if size(own[0].text) <= LONGEST_LINE else None
-        player, round_ = (head[1].upper(), head[2].upper()) if head else ("", "")
-        end = _end(own, {*names, player.lower()})
-        return cls(own[:end], player, round_, tuple(it.text.strip() for it in own[end:] if it.text.strip()))
+        return cls(own, head[1].upper(), head[2].upper()) if head else cls(own)
+
+    def ended(self, names: Collection[str]) -> "Found":
+        """Returns the sheet without what is no part of it below its last order. `names` are those of its
+        writer."""
+        end = _end(self.lines, {*names, self.player.lower()})
+        return replace(self, lines=self.lines[:end], left_out=tuple(it.text.strip() for it in self.lines[end:] if it.text.strip()))
 
     def numbered(self) -> list[tuple[int | None, str]]:
         """Returns its lines, each with the number by which a report calls it, if it has one."""
@@ -67,7 +71,7 @@ class InMessage:
         """Adds the sheet of lines, if there are any."""
         if lines and len(self.sheets) == MAX_SHEETS:
             raise Refused(f"it has more than {MAX_SHEETS} sheets")
-        self.sheets += [Found.of(lines, names)] if lines else []
+        self.sheets += [Found.of(lines).ended(names)] if lines else []
 
     def has_key(self, key: str | None) -> bool:
         """Returns whether the message brings the key of a player, who may have none, and no other."""

@@ -122,7 +122,7 @@ def _of_mbox(path: Path) -> Iterator[Raw]:
 
 
 def _dated(line: bytes) -> int:
-    """Returns the second that a `From ` line names, or 0."""
+    """Returns the second that a `From ` line names, in the local time of the machine, or 0."""
     try:
         date = parsedate_tz(line.decode("latin-1").partition(" ")[2].partition(" ")[2])
         return int(mktime_tz(date)) if date else 0
@@ -134,8 +134,9 @@ def _of_folder(path: Path) -> Iterator[Raw]:
     inner = [path / "cur", path / "new"] if (path / "new").is_dir() else [path]
     found = [it for folder in inner if folder.is_dir() for it in folder.iterdir() if it.is_file() and not it.name.startswith(".")]
     moments = _of_names(found) if inner != [path] else _of_times(found)
-    for name, moment in moments:
-        yield _read(name, moment)
+    for file, moment in moments:
+        if file.exists():  # (a mail program may have moved it meanwhile: then it is read next time)
+            yield _read(file, moment)
 
 
 def _of_names(paths: Iterable[Path]) -> list[tuple[Path, Moment]]:

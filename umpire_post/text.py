@@ -8,7 +8,7 @@ from dataclasses import dataclass, field
 from umpire_post.html import html_lines
 from umpire_post.parts import Text
 from umpire_post.prose import (CONTEXT, are_heads_of_mail, begins_attribution, begins_quotation, is_above_quotation, is_attribution,
-                               is_full_attribution, is_head_of_mail)
+                               is_certain_attribution, is_full_attribution, is_head_of_mail, is_order)
 
 # A soft break is one only where the next word would not have fitted on the line.
 FLOWED_COLUMNS = 60
@@ -208,16 +208,18 @@ class _Own:
             return True
         if is_head_of_mail(text) and are_heads_of_mail([it.text for it in self.lines[at:at + 1 + CONTEXT]]):
             return True
-        if not (is_attribution(text) if self.has_sheet else is_full_attribution(text)) or self._goes_on(at):
+        if not is_full_attribution(text) and not (self.has_sheet and is_attribution(text)) or self._goes_on(at):
             return False
         self._keep(self.lines[at])
         self.found.quoted += self._drop_attribution(is_attribution) - 1
         return True
 
     def _goes_on(self, at: int) -> bool:
-        """Returns whether an attribution has another line, or marks of a quotation below it."""
-        below = next((it.text for it in self.lines[at + 1:at + 1 + CONTEXT] if it.text.strip()), "")
-        return QUOTED_LINE.match(below) is not None or not is_above_quotation(self.lines[at].text) and is_above_quotation(below)
+        """Returns whether an attribution has another line, or marks of a quotation below it; or whether it is
+        right above an order, and may be a remark between orders."""
+        text, below = self.lines[at].text, next((it.text for it in self.lines[at + 1:at + 1 + CONTEXT] if it.text.strip()), "")
+        return (QUOTED_LINE.match(below) is not None or not is_above_quotation(text) and is_above_quotation(below)
+                or is_order(below) and not is_certain_attribution(text))
 
     def _drop_attribution(self, is_last: Callable[[str], bool]) -> int:
         """Takes off the lines that say who wrote what follows. Returns how many."""

@@ -2,6 +2,9 @@
 
 # The modules of umpire_post/tests, the longest first, and the parts of one.
 post_modules=(test_killed.Rounds test_killed.Steps test_ten_rounds test_six_rounds test_evenings test_delivery test_damaged test_threats test_messages)
+# Those of messages from strangers, in parts that run side by side.
+post_modules+=(test_hostile.MadeByChance.test_{first,second,third,fourth} test_hostile.Attacks.test_{first,second,third,fourth} test_hostile.Failing
+  test_arrival)
 
 # run_tests TESTS [FOLDER]: runs tests of umpire_post in a folder that has it, this one where none is
 # named, by the programs that are tried, and counts each test.
@@ -63,8 +66,17 @@ sees_wrong_post() {
       ;;
     key)
       sees 'a post that shows the key' 1 run_tests test_threats.Threats.test_a_key_among_the_orders_is_not_put_into_the_file \
-        "$(wrong_post 's/elif player.key and any(/elif False and any(/' reading.py)"
+        "$(wrong_post 's/if player.key and any(/if False and any(/' reading.py)"
       ;;
+    guesses)
+      sees 'a post that compares any number of keys' 1 run_tests test_threats.Threats.test_after_five_wrong_keys_within_a_day_sheets_wait_for_the_umpire \
+        "$(wrong_post 's/MOST_WRONG_KEYS = 5/MOST_WRONG_KEYS = 50/' reading.py)"
+      ;;
+    raises) sees 'a post that an error of the library ends' 1 run_tests test_hostile.Failing.test_what_the_library_raises_sets_the_message_aside \
+      "$(wrong_post 's/except Exception:/except ZeroDivisionError:/' message.py)" ;;
+    older) sees 'an older sheet in place of a newer one' 1 run_tests test_arrival.Newest.test_an_older_message_replaces_no_newer_sheet \
+      "$(wrong_post 's/DELIVERY = .*/DELIVERY = re.compile("no number")/' sources.py)" ;;
+    closing) sees 'a closing among the orders' 1 run_tests test_messages "$(wrong_post 's/"kind regards", //' prose.py)" ;;
     step) sees 'a step that is not finished' 1 run_tests test_killed.Steps.test_undo "$(wrong_post 's/yield finish(top)/yield None/' disk.py)" ;;
     twice)
       sees 'a letter that is sent twice' 1 run_tests test_killed.Rounds.test_send \
@@ -74,4 +86,4 @@ sees_wrong_post() {
   esac
 }
 
-post_must_fail() { side_by_side sees_wrong_post letter twice step key anybody; }
+post_must_fail() { side_by_side sees_wrong_post letter twice step key anybody guesses raises older closing; }

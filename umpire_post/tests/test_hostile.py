@@ -2,8 +2,10 @@
 somebody who wants the post to stop, each read within the limits."""
 
 import email
+import fcntl
 import os
 import signal
+import tempfile
 import time
 import unittest
 from collections import Counter
@@ -140,6 +142,27 @@ class Failing(unittest.TestCase):
         self.assertRaises(Exceeded, limited, b"first")
         self.assertLess(time.monotonic() - begun, 60)
         self.assertEqual(3, limited(b"two"))
+
+    def test_its_process_has_nothing_open(self) -> None:
+        """Else it would keep the lock of a folder."""
+        limited = Limited(len, 5, 50 << 20)
+        self.addCleanup(limited.end)
+        with tempfile.NamedTemporaryFile() as lock:
+            with open(lock.name, "rb") as first:
+                fcntl.flock(first, fcntl.LOCK_EX)
+                self.assertEqual(1, limited(b"x"))
+            with open(lock.name, "rb") as second:
+                fcntl.flock(second, fcntl.LOCK_EX | fcntl.LOCK_NB)
+
+    def test_a_process_that_was_forked_begins_its_own(self) -> None:
+        limited = Limited(len, 5, 50 << 20)
+        self.addCleanup(limited.end)
+        limited(b"x")
+        child = os.fork()
+        if child == 0:
+            os._exit(limited(b"two") if limited(b"x") == 1 else 0)
+        self.assertEqual(2, limited(b"xx"))
+        self.assertEqual(3, os.waitstatus_to_exitcode(os.waitpid(child, 0)[1]))
 
     def test_what_takes_too_much_is_set_aside(self) -> None:
         with mock.patch("umpire_post.message._LIMITED", side_effect=Exceeded()):

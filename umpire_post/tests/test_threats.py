@@ -1,26 +1,33 @@
 """What somebody may send who wants to harm a game or its umpire, each refused with a sentence."""
 
 import email
+import hmac
 import time
 import unittest
 from email.policy import default
+from unittest import mock
 
 from umpire_post.answers import answer
 from umpire_post.message import take_apart
 from umpire_post.parts import MAX_DEPTH, MAX_LINES, MAX_PARTS, MAX_TEXT, MAX_TEXT_LINES
-from umpire_post.reading import Reading
+from umpire_post.reading import DAY, MOST_WRONG_KEYS, Reading
 from umpire_post.sheets import MAX_SHEETS
 from umpire_post.sources import MAX_BYTES, Raw
-from umpire_post.tests.club import CLUB, KEY, Clock, read
+from umpire_post.tests.club import CLUB, KEY, Clock, Inbox, read
 
 HEADS = {"From", "To", "Subject", "Date", "Message-ID", "Auto-Submitted", "In-Reply-To", "References", "Content-Type",
          "Content-Transfer-Encoding", "MIME-Version"}
 SHEET = "SHEET ANN SR2\nTURN\nBUY PRR IPO\n"
-SECONDS = 3
+SECONDS = 60  # of a clock: the machine may have other things to do
 
 
 def message(body: str, heads: str = "", sender: str = "Ann <ann@example.org>") -> bytes:
     return f"From: {sender}\nSubject: sheet\nMessage-ID: <1@example.org>\n{heads}\n{body}".encode()
+
+
+def of_eve(line: str) -> bytes:
+    """Returns a message of the player who has a key, with a line and a sheet."""
+    return message(f"{line}\nSHEET EVE SR2\nTURN\n", sender="eve@example.org")
 
 
 def answered(reading: Reading) -> tuple[str, dict[str, str]]:
@@ -44,18 +51,62 @@ class Threats(unittest.TestCase):
 
     def test_a_sheet_without_the_key_is_set_aside(self) -> None:
         content = message("SHEET EVE SR2\nTURN\n", sender="eve@example.org")
-        text, _ = answered(self.assert_refused(content, "without the right KEY line"))
+        text, _ = answered(self.assert_refused(content, "without a KEY line"))
         self.assertIn("A sheet of EVE counts only with the line KEY", text)
 
     def test_a_wrong_key_is_not_repeated(self) -> None:
-        content = message("KEY Stork-9\nSHEET EVE SR2\nTURN\n", sender="eve@example.org")
-        text, _ = answered(self.assert_refused(content, "without the right KEY line"))
-        self.assertNotIn("Stork-9", text)
+        reading = self.assert_refused(of_eve("KEY Stork-9"), "with a wrong KEY line")
+        self.assertNotIn("Stork-9", answered(reading)[0])
+        self.assertEqual(["EVE"], reading.wrong_keys)
 
     def test_the_right_key_counts_and_is_not_repeated(self) -> None:
         reading = read(message(f"SHEET EVE SR2\nTURN\nKEY {KEY}\nBUY PRR IPO\n", sender="eve@example.org"))
         self.assertEqual([("SHEET EVE SR2", "TURN", "BUY PRR IPO")], [it.sheet.lines for it in reading.counting()])
         self.assertNotIn(KEY, answered(reading)[0])
+
+    def test_a_message_has_one_key_line(self) -> None:
+        """Else one message could try many words."""
+        for lines in (f"KEY {KEY}\nKEY {KEY}", f"KEY Stork-9\nKEY {KEY}", "\n".join(f"KEY {at}" for at in range(9_000))):
+            reading = self.assert_refused(of_eve(lines), "KEY lines")
+            self.assertEqual(["EVE"], reading.wrong_keys)
+            text, _ = answered(reading)
+            self.assertIn("and a message may have one. Nothing of it counts. The umpire is told.", text.replace("\n", " "))
+            self.assertNotIn(KEY, text)
+
+    def test_a_key_line_in_each_form(self) -> None:
+        for line in (f"KEY {KEY}", f"key: {KEY}", f"  Key :  {KEY}  ", f"KEY:{KEY}", f"KEY\t{KEY}"):
+            self.assertEqual(1, len(read(of_eve(line)).counting()), line)
+        for line in (f"KEY{KEY}", f"KEYS {KEY}", f"KEY {KEY} please", "KEY", f"> KEY {KEY}"):
+            self.assertEqual([], read(of_eve(line)).counting(), line)
+
+    def test_after_five_wrong_keys_within_a_day_sheets_wait_for_the_umpire(self) -> None:
+        inbox = Inbox()
+        for at in range(MOST_WRONG_KEYS):
+            self.assertEqual(["EVE"], inbox.comes(of_eve(f"KEY Stork-{at}"), at * 60).wrong_keys)
+        last = (MOST_WRONG_KEYS - 1) * 60
+        waits = inbox.comes(of_eve(f"KEY {KEY}"), last + 1)
+        self.assertEqual(["the sheet of EVE for SR2, after 5 wrong KEY lines within a day"], waits.aside)
+        self.assertIn("sheets of EVE wait for the umpire", answered(waits)[0].replace("\n", " "))
+        self.assertEqual([("SHEET EVE SR2", "TURN")], [it.sheet.lines for it in inbox.read(of_eve("KEY x"), last, inbox.folder.records[-1]).counting()])
+        self.assertEqual(1, len(inbox.read(message(SHEET), last).counting()))  # (others' sheets count)
+        self.assertEqual(1, len(inbox.read(of_eve(f"KEY {KEY}"), DAY).counting()))  # (the first is a day ago)
+
+    def test_whether_a_key_is_right_is_told_to_nobody_then(self) -> None:
+        """Right and wrong ones get the same answer, and are not compared."""
+        inbox = Inbox()
+        for at in range(MOST_WRONG_KEYS):
+            inbox.comes(of_eve(f"KEY Stork-{at}"), at)
+        self.assertEqual(answered(inbox.read(of_eve(f"KEY {KEY}"), 9)), answered(inbox.read(of_eve("KEY Stork-9"), 9)))
+
+    def test_a_guess_in_a_sheet_is_not_masked(self) -> None:
+        """A letter to ANN that masks EVE's key would say that ANN has guessed it."""
+        text, _ = answered(read(message(f"SHEET ANN SR2\nTURN # {KEY}\n")))
+        self.assertIn(f"TURN # {KEY}", text)
+
+    def test_a_key_is_compared_in_constant_time(self) -> None:
+        with mock.patch.object(hmac, "compare_digest", return_value=True) as compared:
+            self.assertEqual(1, len(read(of_eve("KEY Stork-9")).counting()))
+        compared.assert_called_once_with(b"Stork-9", KEY.encode())
 
     def test_a_key_among_the_orders_is_not_put_into_the_file(self) -> None:
         content = message(f"KEY {KEY}\nSHEET EVE SR2\nTURN # {KEY}\n", sender="eve@example.org")
@@ -68,7 +119,9 @@ class Threats(unittest.TestCase):
 
     def test_an_address_in_a_name_is_not_the_sender(self) -> None:
         self.assert_refused(message(SHEET, sender='"ann@example.org" <eve@elsewhere.example>'), "an address that is nobody's")
-        for sender in ("ann@example.org <eve@elsewhere.example>", "ann@example.org)eve@elsewhere.example",
+        self.assertEqual("ann@example.org", read(message(SHEET, sender="Ann @ home <ann@example.org>")).incoming.sender)
+        self.assertEqual("ann@example.org", read(message(SHEET, "From: Ann <ann@example.org>\n")).incoming.sender)
+        for sender in ("ann@example.org <eve@elsewhere.example>", "x@ann <ann@example.org>", "ann@example.org)eve@elsewhere.example",
                        "<ann@example.org>, <eve@elsewhere.example>", '"<ann@example.org>" <eve@elsewhere.example>',
                        "Ann", "", "<>", "@", "ann@example.org\0"):
             self.assert_refused(message(SHEET, sender=sender), "not exactly one sender")
@@ -119,25 +172,29 @@ class Threats(unittest.TestCase):
     def test_many_sheets_are_not_read(self) -> None:
         self.assert_refused(message(SHEET * (MAX_SHEETS + 1)), f"more than {MAX_SHEETS} sheets")
 
-    def test_html_that_is_expensive_to_read_takes_no_long_time(self) -> None:
-        for piece in ("<div>", "<!--", "<![CDATA[", "<a ", "<a b='", "</", "&#", "<p class=gmail_quote>", "<b></i>", "&" * 9, "<!"):
-            heads = "Content-Type: text/html\n"
-            begun = time.monotonic()
-            read(message(piece * (MAX_TEXT // len(piece) - 1), heads))
-            self.assertLess(time.monotonic() - begun, SECONDS, piece)
+    def test_a_page_of_many_elements_is_not_read(self) -> None:
+        self.assert_refused(message("<b>x</b>" * 20_001, "Content-Type: text/html\n"), "its HTML has more than 20,000 elements")
 
-    def test_lines_that_are_expensive_to_match_take_no_long_time(self) -> None:
-        for piece in (" ", "- ", "On wrote: ", ">", "=20", "-", "From: ", "KEY ", "wrote", "SHEET ANN ", "On "):
-            begun = time.monotonic()
-            read(message(f"SHEET ANN SR2\n{piece * (MAX_TEXT // len(piece) - 20)}\n> x\n"))
-            self.assertLess(time.monotonic() - begun, SECONDS, piece)
+    def test_long_heads_are_not_read(self) -> None:
+        reading = self.assert_refused(message(SHEET, "X: x\n" * 30_000), "its heads are too long")
+        self.assertEqual("ann@example.org", reading.incoming.sender)
 
-    def test_heads_that_are_expensive_to_read_take_no_long_time(self) -> None:
-        for piece in ("(", '"', "<", "@", "=?utf-8?q?", ",", "\\", "a.", "=?utf-8?q?a?= "):
-            begun = time.monotonic()
-            reading = read(message(SHEET, f"X: {piece * 200_000}\nSubject: {piece * 100_000}\n", piece * 100_000))
-            self.assertLess(time.monotonic() - begun, SECONDS, piece)
-            self.assertEqual([], reading.counting())
+    def test_what_is_not_read_has_its_sender(self) -> None:
+        reading = self.assert_refused(message(SHEET + "#" * MAX_TEXT), "are read")
+        text, heads = answered(reading)
+        self.assertEqual("ann@example.org", heads["To"])
+        self.assertIn("It was not read: it has a text of 262,175 bytes", text)
+
+    def test_a_broken_declaration_does_not_end_the_reading(self) -> None:
+        page = "<p>SHEET ANN SR2<br>TURN<br><<!---->![x[>BUY PRR IPO</p>"
+        reading = read(message(page, "Content-Type: text/html\n"))
+        self.assertEqual(["SHEET ANN SR2", "TURN"], list(reading.counting()[0].sheet.lines[:2]))
+
+    def test_parts_are_counted_without_their_types(self) -> None:
+        heads = "Content-Type: multipart/mixed; boundary=b\n"
+        self.assert_refused(message("--b\n\nx\n" * 5_000, heads), f"more than {MAX_PARTS} parts")
+        words = "".join(f"# Content-Type: multipart/mixed {at}\n" for at in range(300))
+        self.assertEqual(1, len(read(message(SHEET + words)).counting()))
 
     # Attachments.
 
@@ -158,9 +215,22 @@ class Threats(unittest.TestCase):
             content = f"From: {sender}\n{heads}\n{SHEET}".encode()
             text, found = answered(read(content))
             self.assertLessEqual(set(found), HEADS)
-            self.assertEqual("our-game: your message 1", found["Subject"])
+            self.assertEqual("Re: our-game SR2: your sheet, no findings", found["Subject"])
             self.assertEqual("ann@example.org", found["To"])
             self.assertNotIn("all@", text)
+
+    def test_a_bare_cr_makes_no_head(self) -> None:
+        reading = read(b"From: bob@example.org\nSubject: x\rFrom: ann@example.org\rX: y\nTo: z@example.org\n\n" + SHEET.encode())
+        self.assertEqual(("bob@example.org", ("z@example.org",)), (reading.incoming.sender, reading.incoming.recipients))
+        self.assertEqual("x From: ann@example.org X: y", reading.incoming.subject)
+
+    def test_what_is_told_of_a_message_is_bounded(self) -> None:
+        heads = f"To: {'ann@example.org, bob@example.org, ' * 1_000}\nReferences: {'<1@example.org> <2@example.org> ' * 1_000}\nIn-Reply-To: <3@example.org>\n"
+        incoming = read(message(SHEET, heads + f"Subject: {'x' * 5_000}\n", "Ann <ann@example.org>")).incoming
+        self.assertEqual(("ann@example.org", "bob@example.org"), incoming.recipients)
+        self.assertEqual(("<1@example.org>", "<2@example.org>", "<3@example.org>"), tuple(sorted(incoming.answers)))
+        self.assertEqual("<3@example.org>", incoming.answers[-1])
+        self.assertLessEqual(len(incoming.subject), 1000)
 
     def test_an_address_with_a_line_end_is_none(self) -> None:
         for sender in ('"x\\\nBcc: y@example.org" <ann@example.org\n>', "ann@example.org\r\nBcc: y@example.org", "<ann@exa mple.org>"):
