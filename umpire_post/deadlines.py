@@ -3,7 +3,7 @@
 import os
 import re
 from dataclasses import dataclass
-from datetime import date, datetime, time, timedelta, timezone, tzinfo
+from datetime import datetime, time, timedelta, timezone, tzinfo
 from pathlib import Path
 from zoneinfo import ZoneInfo, ZoneInfoNotFoundError
 
@@ -76,8 +76,7 @@ def deadline(text: str, now: datetime, zone: Zone) -> datetime:
     if is_rule(text):
         return Rule.of(text).next(now, zone)
     try:
-        day, _, at = text.strip().partition(" ")
-        found = datetime.combine(date.fromisoformat(day), time.fromisoformat(at.zfill(5)), zone.rule)
+        found = datetime.strptime(text.strip(), "%Y-%m-%d %H:%M").replace(tzinfo=zone.rule)
     except ValueError as wrong:
         raise PostError(f"{text!r} is not a date and a time such as '2026-12-06 18:00'") from wrong
     if found <= now:

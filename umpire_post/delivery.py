@@ -46,18 +46,21 @@ class Unknown(Exception):
 
 def send(evening: Evening, place: Place, lock: Lock) -> int:
     """Sends the letters of each outbox, or tells where they are. Returns a status."""
-    is_well = True
+    folder = place.root if place.is_club else place.tops[0]
+    is_well, is_own = True, False
     for top in place.outboxes():
         club = _club_of(place, top)
         if club.delivery.by == "program":
-            _tell_letters(evening, top)
+            is_own = _tell_letters(evening, top) or is_own
         elif letters_in(top):
             with _opened(club.delivery) as hand_over:
                 is_well = _send_all(evening, club, top, hand_over, lock) and is_well
+    if is_own:
+        evening.tell(f"Send them with your own mail program, and then run: send {folder} --sent")
     for top in place.outboxes():
         for path in in_doubt_in(top):
             evening.tell(f"in doubt: {path.name.removesuffix(HANDED_OVER)}. Ask {_to(path.read_bytes())} or your mail system whether it "
-                         f"arrived, and then run: send {place.root} --sent, or --again")
+                         f"arrived, and then run: send {folder} --sent, or --again")
             is_well = False
     return 0 if is_well else DEVICE_FAILED
 
@@ -83,12 +86,11 @@ def _club_of(place: Place, top: Path) -> Club:
     return read_club(top / CLUB, place.root / CLUB if top != place.root else None)
 
 
-def _tell_letters(evening: Evening, top: Path) -> None:
-    """Tells which letters the umpire is to send with a program of their own."""
+def _tell_letters(evening: Evening, top: Path) -> bool:
+    """Tells which letters the umpire is to send with a program of their own. Returns whether there are any."""
     for path in letters_in(top):
         evening.tell(f"{path}: to {_to(path.read_bytes())}")
-    if letters_in(top):
-        evening.tell(f"Send them with your own mail program, and then run: send {top} --sent")
+    return bool(letters_in(top))
 
 
 def _send_all(evening: Evening, club: Club, top: Path, hand_over: HandOver, lock: Lock) -> bool:

@@ -16,7 +16,8 @@ from umpire_post.rounds import outlook, put_letters, report_of, tell_outlook
 
 def status(evening: Evening, place: Place, finds: bool, reminds: bool) -> None:
     """Tells of each game who has sent, who owes, since when and until when, and which messages wait."""
-    for folder in place.games():
+    games, shared = place.games(), place.shared()
+    for folder in games:
         whose = f"{folder.club.game} " if place.is_club else ""
         report = report_of(folder, evening.programs_of(folder.club))
         if report.awaited is None:
@@ -28,8 +29,10 @@ def status(evening: Evening, place: Place, finds: bool, reminds: bool) -> None:
         _tell_waiting(evening, folder, whose)
         if reminds and report.awaited:
             _remind(evening, folder, report, report.awaited)
-    if shared := place.shared():
+    if shared:
         _tell_waiting(evening, shared, f"{shared.club.game} ")
+    if any(it.waiting() for it in (*games, *([shared] if shared else []))):
+        evening.tell("Deal with a message by: in FOLDER --accept NUMBER, or in FOLDER --done NUMBER")
 
 
 def set_due(evening: Evening, folder: Folder, text: str) -> None:

@@ -2,8 +2,8 @@
 
 It belongs to the game of the letter that it answers; otherwise of the address with a tag to which it
 was sent, such as `umpire+alpha@example.org`; otherwise of the game that its subject names; otherwise
-to the only game that its sender plays in. Of games that are over the last rule knows nothing. A
-message that is left belongs to none.
+to the only game that its sender plays in, or the only one of them that goes on. A message that is left
+belongs to none.
 """
 
 import re

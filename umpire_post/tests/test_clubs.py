@@ -163,6 +163,7 @@ class Commands(TwoGames):
             "3 letters in beta outbox",
             "set aside: our-club message 1 from ann@example.org (sheet): it names none of the games of its sender, alpha and beta",
             "1 letter in our-club outbox",
+            "Deal with a message by: in FOLDER --accept NUMBER, or in FOLDER --done NUMBER",
         ], self.post("status").splitlines())
         self.assertEqual(5, len(self.on("alpha", "status").splitlines()))
 

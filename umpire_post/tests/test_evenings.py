@@ -218,15 +218,21 @@ class Outlook(Evenings):
         orders.write_bytes((HERE.parents[1] / "games" / "a-president-is-bankrupt.orders").read_bytes().partition(front)[0])
         self.new("--orders", str(orders), *THREE)
 
+    def sell_a_train(self) -> None:
+        """PRR sells its only train to BO before its turn, so that it must buy another."""
+        self.comes(mail("ANN", ["SHEET ANN OR3.1", "OFFER TRAIN 2 PRR BO 1"], 1),
+                   mail("BOB", ["SHEET BOB OR3.1", "COMPANY BO", "TRAIN 2 PRR 1", "BYU"], 2))
+
     def test_what_is_bought_and_sold_by_force(self) -> None:
-        self.begin("OR4.1")
-        self.comes(mail("ANN", ["SHEET ANN OR4.1"], 1), mail("BOB", ["SHEET BOB OR4.1", "COMPANY BO", "BYU"], 2))
+        self.begin("OR3.1")
+        self.sell_a_train()
         told = self.post("round", "--without", "CYD")
-        self.assertIn("OR4.1 has these purchases and sales by force:\n  FORCED PRR\n  SELLS BO ANN 1 45\n  AID ANN PRR 79\n  TRAIN PRR 2 BANK 80\n", told)
-        self.assertRegex(told, r"(?s)\| BYU \|.*OR4\.1 was played")
+        self.assertIn("OR3.1 has these purchases and sales by force:\n  FORCED PRR\n  SELLS BO ANN 1 45\n  AID ANN PRR 79\n  TRAIN PRR 2 BANK 80\n", told)
+        self.assertRegex(told, r"(?s)\| BYU \|.*by force.*OR3\.1 was played")
 
     def test_the_outlook_of_a_round_that_is_not_played_yet(self) -> None:
-        self.begin("OR4.1")
+        self.begin("OR3.1")
+        self.sell_a_train()
         self.assertIn("  AID ANN PRR 79\n", self.post("status", "--check"))
 
     def test_a_bankruptcy_of_which_no_letter_has_told(self) -> None:
@@ -270,6 +276,7 @@ class Status(Evenings):
             "  CYD      owes a sheet",
             "set aside: message 2 from bob@example.org (sheet): the sheet of CYD for PR1, from an address that is not CYD's",
             "2 letters in outbox",
+            "Deal with a message by: in FOLDER --accept NUMBER, or in FOLDER --done NUMBER",
         ], self.post("status").splitlines())
 
     def test_what_is_for_the_umpire_alone(self) -> None:

@@ -20,6 +20,7 @@ NAMES = ("ANN", "BOB", "CYD", "DOT")
 ADDRESSES = {it: f"{it.lower()}@example.org" for it in NAMES}
 MEANT = {"DTO": "DOT"}
 UNDONE_AFTER = "05-OR2.1"
+WITH_ASIDE = ("04-SR2", "06-SR3")  # a name with a slip, and a sheet for a round that was played
 SENDMAIL = "#!/bin/sh\ncat > /dev/null\n"
 
 # What the desk says of lines of the file that the post has put right or left out: ends of lines, =20, a
@@ -119,7 +120,7 @@ class TenRounds(Clubs):
         sent = sheets.with_suffix(".sent")
         if sent.exists():
             first = [(name, text) for name, text, _ in chunks(sent)]
-            self.look_at_slips(sent, self.arrive(first, 3 if sent.stem == "06-SR3" else 0), lines)
+            self.look_at_slips(sent, self.arrive(first, 3 if sent.stem in WITH_ASIDE else 0), lines)
             mended = [it for it in mended if it not in first]
         for answer in self.arrive(mended).values():
             # (what is right once another has ordered first is refused as things stand)
