@@ -58,10 +58,11 @@ class Heads:
 
 
 def split(content: bytes) -> tuple[bytes, bytes]:
-    """Returns the heads of a message and the rest. A line end that is none, in the midst of a head, is a
-    space: nothing behind it is another head."""
-    end = HEADS_END.search(content)
-    heads, rest = (content[:end.start()], content[end.end():]) if end else (content, b"")
+    """Returns the heads of a message and the rest. Empty lines above them are none of it. A bare CR in the
+    midst of a head is a space: nothing behind it is another head."""
+    whole = content.lstrip(b"\r\n")
+    end = HEADS_END.search(whole)
+    heads, rest = (whole[:end.start()], whole[end.end():]) if end else (whole, b"")
     heads = heads.replace(b"\r\n", b"\n")
     return (heads.replace(b"\r", b" ") if b"\n" in heads else heads), rest
 

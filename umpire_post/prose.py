@@ -86,11 +86,6 @@ def is_full_attribution(text: str) -> bool:
     return _may_be_prose(text) and _ends_in_colon(text) and _is_of_someone(text) and DATED.search(text) is not None
 
 
-def is_certain_attribution(text: str) -> bool:
-    """Returns whether a line can be nothing else: it has an address or begins as mail programs begin one."""
-    return is_full_attribution(text) and (ADDRESS.search(text) is not None or BEGUN.match(text) is not None)
-
-
 def is_above_quotation(text: str) -> bool:
     """Returns whether a line right above a quotation belongs to it: one with a colon at its end."""
     return _may_be_prose(text) and _ends_in_colon(text)
@@ -98,7 +93,7 @@ def is_above_quotation(text: str) -> bool:
 
 def begins_attribution(text: str) -> bool:
     """Returns whether a line may be the front of an attribution that is broken in several lines."""
-    return _may_be_prose(text) and (BEGUN.match(text) is not None or DATED.search(text) is not None or _is_of_someone(text))
+    return _may_be_prose(text) and not _ends_in_colon(text) and (BEGUN.match(text) is not None or DATED.search(text) is not None or _is_of_someone(text))
 
 
 def is_head_of_mail(text: str) -> bool:

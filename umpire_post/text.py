@@ -8,7 +8,7 @@ from dataclasses import dataclass, field
 from umpire_post.html import html_lines
 from umpire_post.parts import Text
 from umpire_post.prose import (CONTEXT, are_heads_of_mail, begins_attribution, begins_quotation, is_above_quotation, is_attribution,
-                               is_certain_attribution, is_full_attribution, is_head_of_mail, is_order)
+                               is_full_attribution, is_head_of_mail, is_order)
 
 # A soft break is one only where the next word would not have fitted on the line.
 FLOWED_COLUMNS = 60
@@ -208,27 +208,36 @@ class _Own:
             return True
         if is_head_of_mail(text) and are_heads_of_mail([it.text for it in self.lines[at:at + 1 + CONTEXT]]):
             return True
-        if not is_full_attribution(text) and not (self.has_sheet and is_attribution(text)) or self._goes_on(at):
+        if not is_attribution(text):
+            return False
+        own = self.found.own
+        is_full = is_full_attribution(" ".join([*(it.text for it in own[len(own) - self._front(len(own)):]), text]))
+        if not (is_full or self.has_sheet) or self._goes_on(at, is_full):
             return False
         self._keep(self.lines[at])
         self.found.quoted += self._drop_attribution(is_attribution) - 1
         return True
 
-    def _goes_on(self, at: int) -> bool:
-        """Returns whether an attribution has another line, or marks of a quotation below it; or whether it is
-        right above an order, and may be a remark between orders."""
+    def _goes_on(self, at: int, is_full: bool) -> bool:
+        """Returns whether an attribution has another line, or marks of a quotation below it. One that does not
+        say who and when may be a remark, if it is right above an order."""
         text, below = self.lines[at].text, next((it.text for it in self.lines[at + 1:at + 1 + CONTEXT] if it.text.strip()), "")
         return (QUOTED_LINE.match(below) is not None or not is_above_quotation(text) and is_above_quotation(below)
-                or is_order(below) and not is_certain_attribution(text))
+                or is_order(below) and not is_full)
+
+    def _front(self, end: int) -> int:
+        """Returns how many of the own lines up to one are the front of an attribution that ends below them."""
+        count = 0
+        while count < min(LONGEST_ATTRIBUTION - 1, end) and begins_attribution(self.found.own[end - 1 - count].text):
+            count += 1
+        return count
 
     def _drop_attribution(self, is_last: Callable[[str], bool]) -> int:
         """Takes off the lines that say who wrote what follows. Returns how many."""
         own = self.found.own
         if not self.end or not is_last(own[self.end - 1].text):
             return 0
-        count = 1
-        while count < min(LONGEST_ATTRIBUTION, self.end) and begins_attribution(own[self.end - 1 - count].text):
-            count += 1
+        count = 1 + self._front(self.end - 1)
         del own[self.end - count:]
         while own and not own[-1].text.strip():
             own.pop()
