@@ -1,7 +1,8 @@
 # The part `post`: a game by mail, from the inbox to the outbox.
 
 # The modules of umpire_post/tests, the longest first, and the parts of one.
-post_modules=(test_killed.Rounds test_killed.Steps test_ten_rounds test_six_rounds test_evenings test_delivery test_damaged test_threats test_messages)
+post_modules=(test_killed.Rounds test_killed.Steps test_ten_rounds test_six_rounds test_evenings test_clubs test_faults test_deadlines test_page
+  test_delivery test_damaged test_threats test_messages)
 # Those of messages from strangers, in parts that run side by side.
 post_modules+=(test_hostile.MadeByChance.test_{first,second,third,fourth} test_hostile.Attacks.test_{first,second,third,fourth} test_hostile.Failing
   test_arrival)
@@ -42,8 +43,9 @@ check_post() {
   local words
   has_all_modules
   side_by_side run_tests "${post_modules[@]}"
-  for words in '' nonsense new 'new x ANN=a@x.org' in 'round' 'send x --sent --again' 'status'; do post_answers "$words" 1; done
-  for words in --help 'new --help' 'in --help' 'status --help' 'round --help' 'undo --help' 'send --help'; do post_answers "$words" 0; done
+  for words in '' nonsense new 'new x ANN=a@x.org' in 'round' 'send x --sent --again' 'status' 'in x --accept 1 --done 1' 'due x' \
+    'club x ANN=a@x.org' 'status x --wait -1' 'status x --wait soon'; do post_answers "$words" 1; done
+  for words in --help $(sed -n '/^Commands:/,/^$/s/^  \([a-z]*\) .*/\1,--help/p' tools/help/post.txt); do post_answers "${words/,/ }" 0; done
 }
 
 # wrong_post SCRIPT FILE: makes a copy of the post in which a script of sed has changed a file, and
@@ -51,7 +53,7 @@ check_post() {
 wrong_post() {
   local wrong=$scratch/wrong-post
   rm -rf "$wrong" && mkdir "$wrong"
-  cp -r umpire_post "$wrong" && ln -s "$PWD/games" "$wrong/games"
+  cp -r umpire_post "$wrong" && ln -s "$PWD/games" "$PWD/docs" "$PWD/post" "$wrong/"
   sed -i -e "$1" "$wrong/umpire_post/$2"
   ! cmp -s "umpire_post/$2" "$wrong/umpire_post/$2" || echo 'nothing was changed'
   echo "$wrong"
@@ -80,10 +82,26 @@ sees_wrong_post() {
     step) sees 'a step that is not finished' 1 run_tests test_killed.Steps.test_undo "$(wrong_post 's/yield finish(top)/yield None/' disk.py)" ;;
     twice)
       sees 'a letter that is sent twice' 1 run_tests test_killed.Rounds.test_send \
-        "$(wrong_post 's/handed = path.with_suffix(HANDED_OVER)/handed = path/; s/_move(path, handed)/pass/' delivery.py)"
+        "$(wrong_post 's/handed = path.with_suffix(HANDED_OVER)/handed = path/; s/    move(path, handed)/    pass/' delivery.py)"
+      ;;
+    half)
+      sees 'a post that believes half a report' 2 run_tests test_faults.Halves \
+        "$(wrong_post 's/if not last and not _is_over(lines, players):/if False:/' programs.py)"
+      ;;
+    game)
+      sees 'a message for one game that counts in another' 1 run_tests test_clubs.Routing.test_by_the_letter_that_it_answers \
+        "$(wrong_post 's/if answered.endswith(it.club.identity_end)/if answered/' routing.py)"
+      ;;
+    lock)
+      sees 'a command that does not wait for another' 2 run_tests test_faults.Locked \
+        "$(wrong_post 's/until = time.monotonic() + seconds/until = time.monotonic() - 1/' disk.py)"
+      ;;
+    bankrupt)
+      sees 'a bankruptcy of which nobody was told' 1 run_tests test_evenings.Outlook \
+        "$(wrong_post 's/    if not goes:/    if False:/' rounds.py)"
       ;;
     letter) sees 'another letter' 1 run_tests test_six_rounds "$(wrong_post '0,/It counts/s//It counted/' tests/six-rounds.outbox)" ;;
   esac
 }
 
-post_must_fail() { side_by_side sees_wrong_post letter twice step key anybody guesses raises older closing; }
+post_must_fail() { side_by_side sees_wrong_post letter twice step half lock bankrupt game key anybody guesses raises older closing; }

@@ -71,9 +71,9 @@ class Making(TwoGames):
 
 class Routing(TwoGames):
     def test_by_the_letter_that_it_answers(self) -> None:
-        answers = self.identity("alpha", "new-ANN")
-        told = self.told(letter_of("ANN", ["SHEET ANN PR1"], 1, subject="Re: beta", to="umpire+beta@example.org", answers=answers))
-        self.assertEqual(["alpha 0001 ann@example.org: ANN PR1"], told)
+        answers = self.identity("beta", "new-ANN")
+        told = self.told(letter_of("ANN", ["SHEET ANN PR1"], 1, subject="Re: alpha", to="umpire+alpha@example.org", answers=answers))
+        self.assertEqual(["beta 0001 ann@example.org: ANN PR1"], told)
 
     def test_by_the_address_with_a_tag(self) -> None:
         told = self.told(letter_of("ANN", ["SHEET ANN PR1"], 1, subject="alpha", to="Umpire+Beta@Example.org"))
