@@ -198,7 +198,7 @@ class Slips(Faulty):
         for words in (["--accept", "7"], ["--accept", "-1"], ["--done", "7"]):
             self.assertIn("message", self.post("in", *words, status=1))
         self.comes(mail("ZOE", ["SHEET ZOE PR1"], 1), status=3)
-        self.post("in", "--accept", "1")
+        self.post("in", "--accept", "1", status=3)
         self.assertIn("was accepted before", self.post("in", "--accept", "1", status=1))
 
     def test_a_club_that_is_not_utf_8(self) -> None:
