@@ -8,7 +8,6 @@ from pathlib import Path
 
 from umpire_post import letters
 from umpire_post.club import Player
-from umpire_post.deadlines import deadline
 from umpire_post.disk import Step
 from umpire_post.errors import FILE_REFUSED, PostError
 from umpire_post.evening import Evening, counted
@@ -52,7 +51,7 @@ def play(evening: Evening, folder: Folder, without: Sequence[str], round_: str |
     if round_ not in (None, report.awaited):
         raise PostError(f"{round_} is not the round that comes next: that is {report.awaited}")
     played = _played(folder, programs, report, report.awaited, [it.upper() for it in without])
-    until = _until(evening, folder, played.after, due)
+    until = folder.club.until(due, evening.now()) if played.after.awaited else None
     tell_outlook(evening, programs, folder, played)
     if not goes:
         _look_for_bankrupt(folder, played)
@@ -147,16 +146,6 @@ def _look_for_bankrupt(folder: Folder, played: Played) -> None:
     if untold:
         name = untold[0]
         raise PostError(f"{name} goes bankrupt in {played.round}, and no letter has told {name}. Tell {name}, or run round with --go")
-
-
-def _until(evening: Evening, folder: Folder, after: Report, asked: str | None) -> datetime | None:
-    """Returns when the sheets of the next round are due: as it is asked for, or by the rule of the club."""
-    club, now = folder.club, evening.now()
-    if after.awaited is None:
-        return None
-    if asked:
-        return deadline(asked, now, club.zone)
-    return club.due.next(now, club.zone) if club.due else None
 
 
 def _told(folder: Folder, until: datetime | None) -> str:

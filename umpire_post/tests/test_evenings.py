@@ -258,7 +258,7 @@ class Waiting(Evenings):
         self.assertEqual(2, self.post("status").count("set aside"))
         self.assertIn("2 messages wait for you: see status", self.post("round", "--without", "ANN", "BOB", "CYD"))
         self.assertEqual(2, self.post("status").count("set aside"))
-        self.assertEqual("1 message left that waits for you\n", self.post("in", "--done", "1"))
+        self.assertEqual("1 message left to deal with\n", self.post("in", "--done", "1"))
         self.assertIn("set aside: message 2 from bob@example.org", self.post("status"))
         self.assertIn("message 1 does not wait for you", self.post("in", "--done", "1", status=1))
         self.post("in", "--done", "2")
