@@ -301,7 +301,8 @@ class Status(Evenings):
     def test_a_folder_that_is_none(self) -> None:
         self.assertIn("there is no folder", self.post("status", status=1))
         self.game.mkdir()
-        self.assertIn("is not a game's folder: it has no club.toml", self.post("status", status=1))
+        self.assertIn("is not the folder of a game or a club: it has no club.toml", self.post("status", status=1))
+        self.assertEqual([], self.names("."))
 
     def test_a_club_that_is_wrong(self) -> None:
         self.new()
