@@ -44,6 +44,9 @@ class Limited(Generic[Result]):
         except (EOFError, OSError) as wrong:
             self.end()
             raise Exceeded from wrong
+        except BaseException:  # (what was called may answer yet, and that is no answer to the next call)
+            self.end()
+            raise
 
     def end(self) -> None:
         """Ends the process."""

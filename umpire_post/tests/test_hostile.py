@@ -10,6 +10,7 @@ import time
 import unittest
 from collections import Counter
 from email.policy import default
+from multiprocessing.connection import Connection
 from unittest import mock
 
 from umpire_post.answers import answer
@@ -153,6 +154,14 @@ class Failing(unittest.TestCase):
                 self.assertEqual(1, limited(b"x"))
             with open(lock.name, "rb") as second:
                 fcntl.flock(second, fcntl.LOCK_EX | fcntl.LOCK_NB)
+
+    def test_a_call_that_is_interrupted_gives_its_answer_to_no_other(self) -> None:
+        limited = Limited(lambda it: it, 5, 50 << 20)
+        self.addCleanup(limited.end)
+        limited(b"x")
+        with mock.patch.object(Connection, "recv", side_effect=KeyboardInterrupt):
+            self.assertRaises(KeyboardInterrupt, limited, b"first")
+        self.assertEqual(b"second", limited(b"second"))
 
     def test_a_process_that_was_forked_begins_its_own(self) -> None:
         limited = Limited(len, 5, 50 << 20)
