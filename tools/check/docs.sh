@@ -35,7 +35,15 @@ docs_must_fail() {
   sed -i 's/| S3 | [^|]*/| S3 | it sells nothing /' "$wrong/docs/players/rules.md"
   sees 'a rule in other words, and the chapter that has it' 2 take_over "$wrong/tools/claim" --check
   sed 's/^\(| `run`[^|]*| \)[0-9]*/\10/' docs/developers/claim.md > "$scratch/counts.md"
-  sees 'a count that is not the other' 1 take_over tools/recount "$scratch/counts.md"
+  sees 'a count that is not the other' 1 take_over tools/recount --counts "$scratch/counts.md"
+  sed '/^| `run`/s/`umpire: run`/&, `rounds: games_end_once`/' docs/developers/proof.md > "$scratch/clauses.md"
+  sees 'a clause that the chapters leave out, and three counts without it' 4 take_over tools/recount --clauses "$scratch/clauses.md"
+  rm -r "$wrong/docs" && cp -r docs "$wrong"
+  sed -i 's/\bNoneHasCode\b/NoneHasIt/' "$wrong/docs/rulebook/36-desk.md"
+  sees 'a definition that its chapter leaves out' 1 take_over "$wrong/tools/recount"
+  cp docs/rulebook/36-desk.md "$wrong/docs/rulebook"
+  sed -i 's/`desk_state: all_in_order`, //' "$wrong/docs/developers/proof.md"
+  sees 'a sentence that is gone, with its chapter, names and counts' 4 take_over "$wrong/tools/claim" --check
   sed 's/^market: /&desk_base /' crates.txt > "$wrong/others.txt"
   sees 'a crate that stands on one above it' 1 take_over tools/layers --crates "$wrong/others.txt"
   sed '/>market</d' docs/crates.svg > "$wrong/crates.svg"

@@ -1,32 +1,9 @@
-"""What the rulebook has: its claims, and its chapters in the order of the game."""
+"""What the rulebook has: its chapters in the order of the game, its notes, and the laws that it shows."""
 from __future__ import annotations
-
-from dataclasses import dataclass
 
 from rulebook.chapters import Chapter
 from rulebook.examples import Law
 
-
-@dataclass(frozen=True)
-class Claim:
-    """A claim: the contracts of functions, `crate: name`, that make it."""
-    title: str
-    contracts: tuple[str, ...]
-
-
-CLAIMS = [
-    Claim('`run`: the report', ('umpire: run',)),
-    Claim('`certs`: certificates', ('umpire: certs',)),
-    Claim('`verify`: the report by certificates', ('umpire: verify',)),
-    Claim('`migrate`: the file of version 2', ('umpire: migrate',)),
-    Claim("the desk's words", (
-        'desk_round: round', 'desk_why: cause_of', 'desk_why: figures_of', 'desk_base: explain', 'desk_state: state', 'desk_state: purse_of',
-        'desk_state: game_row', 'desk_state: private_row', 'desk_state: company_row', 'desk_state: share_row', 'desk_state: train_row', 'desk_state: earnings_of',
-        'desk_state: all_in_order', 'desk_base: tokens_left', 'desk_base: trains_left', 'desk_base: tiles_left', 'desk_base: best_at',
-        'desk_check: check', 'desk_check: look_at_sheet', 'desk_check: find_replaced', 'foresight: put_alone', 'foresight: put_all',
-        'desk_trials: refused_of', 'desk_may: push_lines_of_turn', 'desk_moves: line_text', 'desk_may: best_now',
-        'desk_may: best_after_lay', 'desk_may: best_after_token', 'desk_moves: trial', 'page: page')),
-]
 
 # What the definitions that are hardest to read say, taken together, in the chapter that brings the first of them.
 NOTES: list[tuple[str, str]] = [
@@ -71,6 +48,36 @@ NOTES: list[tuple[str, str]] = [
      'lies further back comes first in `option_or`.'),
 ]
 
+# A sentence for each definition whose own comment only has a meaning beside its neighbours, or that has none.
+SENTENCES = {
+    'certificate: for_each': 'what a function gives for each of some things, one list after the other',
+    'desk_base: objection_at_side': 'what is said against a tile for a side at which its track would be bad; nothing if there is no such side',
+    'desk_base: objection_by': 'that another player presides, if one does',
+    'desk_check: begun_by': 'where the lines stand after the head of a turn, or of a company\'s orders',
+    'desk_check: begun_with': 'the lines on which orders begin, and the one of this company, unless its orders began before',
+    'desk_check: block_by': 'where the orders of a company stand after one that has a place in their sequence',
+    'desk_check: passed_by': 'the rule that an order breaks since its step is past, if it has such a rule',
+    'desk_check: presided': 'what is said of the head of a company\'s orders by the game in which the round begins, if that is known',
+    'desk_check: presided_by': 'that another player presides over the company, if one does',
+    'desk_check: replacing_if': 'the sheet that a later one replaces, if it replaces one',
+    'desk_check: said_of_head': 'what is said of the head of a turn or of a company\'s orders',
+    'desk_check: said_of_order': 'what is said of an order',
+    'map_tables: always': 'a value that is the same before and from phase 5',
+    'market: moved_from': 'the list with MOVES, if the token leaves the square that it is on',
+    'markup: read_at': 'what a reader finds from this place on, while these elements are open',
+    'moves: only_if': 'a list if something is true, otherwise the empty list',
+    'moves: private_order': 'the order by which a company buys a private at a price',
+    'moves: train_order': 'the order by which a company buys a train of a kind from a source',
+    'moves: IsExact': 'a list has a thing with a price exactly if the rules give that price for it',
+    'privates: is_the': 'there is a private, and it is this one',
+    'purchases: is_kind': 'there is a kind, and it is this one',
+    'report: is_the_round': 'there is a round, and it is this one',
+    'desk_round: is_round': 'there is a round, and it is this one',
+    'legal_runs: is_hex': 'a hex is the one that is looked for',
+    'rounds: with_round': 'a list of rounds, behind one more if there is one',
+    'totals: now_said': 'what holds now: what the last event that speaks of it says, which may be that nothing does',
+}
+
 # Laws beside the definitions, which are proved, and examples that the crates of the rules state as laws. The examples of crates/rulebook
 # say themselves which chapter they belong to.
 LAWS = [
@@ -86,6 +93,12 @@ LAWS = [
         ('a_greatest_exists', 'one_greatest'), 'Proved'),
     Law('certificates', 'a certificate that is accepted shows the greatest revenue', 'certificate/specs/HoldingLaws', ('AcceptedIsGreatest',),
         ('accepted_is_greatest',), 'Proved'),
+    Law('before-a-round', 'a lay or a token is listed with a price exactly if the rules allow it at that price', 'moves/specs/Exact',
+        ('IsExact', 'LaysAreExact', 'TokensAreExact'), ('lays_are_exact', 'tokens_are_exact'), 'Proved'),
+    Law('before-a-round', 'a listed lay is obeyed as the first line, and no other is', 'moves/specs/TurnLaws',
+        ('AreLaysAtStart', 'IsLayRefused', 'ListedLaysAreObeyed', 'OtherLaysAreRefused'), ('first_lay_is_by_the_list',), 'Proved'),
+    Law('before-a-round', 'play comes to a first turn if nobody else has orders', 'foresight/specs/Reached',
+        ('FirstTurnsAreReached', 'HeadsAreReached'), ('play_reaches_first_turns',), 'Proved'),
     Law('opening-round', 'an opening round of a file', 'rounds/specs/Example', ('first_file', 'first_events', 'first_end'), ('first_example',)),
     Law('stock-round', 'a stock round of a file', 'rounds/specs/Example', ('second_file', 'second_opening', 'second_stock_round', 'second_end'),
         ('second_example',)),
@@ -94,14 +107,47 @@ LAWS = [
     Law('certificates', 'a tree and its marks', 'certificate/specs/Example', (), ('worked_tree', 'worked_marks')),
 ]
 
+# The words of the chapters that no page of the players has. `desk.md` shows what each word of the desk prints.
+TOLD_BEFORE = '''Before a round `may`, `lays`, `best`, `trial` and `check` of the desk say what orders would do. [`desk.md`](desk.md) shows what
+they print.
+
+- **The position.** `may` and `lays` look at the start of one turn of the coming round, as if no other sheet had any
+  orders. In an opening or a stock round the players before this one have passed. In an operating round the standing
+  lines of the sheet are decided, the privates have paid, and the companies before this one have had their turns without
+  orders. If a draft is asked for, the lines of the player's own sheet come first.
+- **Lays and tokens.** `lays` lists each lay and each token that the rules allow there, with its price, and no other.
+  With `--best` it adds the greatest revenue of the company's trains after each.
+- **Other orders.** `may` lists the orders of that turn, each with its price or with the first rule that it breaks. If
+  an order lacks only consent, it names who would have to offer. A train is judged after the company has withheld, since
+  it withholds before a TRAIN line.
+- **What follows.** If nobody else has orders, play comes to that position. There a listed order is obeyed as the first
+  line of the turn, at its price, and no other lay or token is.
+- **Trials.** `trial` plays the file with an empty sheet at its end for exactly the players who owe one. `check` plays
+  each sheet as if all others were empty, and then all of them, and reports the lines that are refused there.
+'''
+TOLD_OF = '''`round`, `runs`, `bulletin`, `state`, `explain` and `page` of the desk say again what a report says, and look up in the
+list of events what it does not say. [`desk.md`](desk.md) shows what they print.
+
+- **A round** is exactly its part of the report of the file. A bulletin has the same events, in groups, each of one
+  turn.
+- **Why a line was refused.** The rule is that of the report. Its figures are what the rule compares, in the game
+  directly before the line. If a rule has several causes, the cause is the one that holds there.
+- **The state** has rows: players with their cash, free cash, certificates and worth, privates, companies, trains, and
+  what is left of trains, tokens and tiles. Each figure is that of the list of events at that moment.
+- **A page** is well-formed HTML: each element is closed, in order. What it draws, and where, is tested.
+'''
+
+# The chapters of what the contracts of a claim name, if no other chapter has that. The claims of the umpire have `streams`.
+CHAPTER_OF = {'what is told before a round': 'before-a-round', 'what is told of a round': 'desk'}
+
+
 def chapters() -> list[Chapter]:
     """Returns the chapters, empty."""
     def rules(file: str, *headings: str, roots: str = '', files: str = '') -> Chapter:
         return Chapter(file, headings[0], [('rules.md', heading) for heading in headings], roots.split(', ') if roots else [], files.split())
 
     def other(file: str, title: str, page: str, *headings: str, roots: str = '', files: str = '') -> Chapter:
-        text = '' if headings else '[`%s`](%s) says what each word prints. Here is what that rests on.\n' % (page, page)
-        return Chapter(file, title, [(page, heading) for heading in headings], roots.split(', ') if roots else [], files.split(), text)
+        return Chapter(file, title, [(page, heading) for heading in headings], roots.split(', ') if roots else [], files.split())
 
     return [
         rules('the-game', 'The game', files='rounds/Play rounds/Sequence report/EndWorth'),
@@ -158,5 +204,6 @@ def chapters() -> list[Chapter]:
               'umpire/Certified'),
         other('version-2', 'Migrating to version 2', 'formats.md', 'Migrating to version 2', files='umpire/Migrated'),
         other('streams', 'What is read and written', 'formats.md', 'The program', files='umpire/Run umpire/Failure umpire/Watched umpire/Verify'),
-        other('desk', 'What the desk writes', 'desk.md'),
+        Chapter('before-a-round', 'What is told before a round', [], text=TOLD_BEFORE),
+        Chapter('desk', 'What is told of a round', [], text=TOLD_OF),
     ]

@@ -75,10 +75,12 @@ class Book:
         """Returns the page of a chapter."""
         text = '# %d. %s\n\n%s\n' % (self.number[id(chapter)], chapter.title, MADE) + without_marks(chapter.text)
         text += ''.join(self.example(one) for one in self.examples if one.chapter == chapter.file)
+        shown = {name for one in self.examples if one.chapter == chapter.file for name in one.names}
         by_kind = {kind: [one for one in chapter.brings if self.kinds[one] is kind] for kind in Kind}
         if not chapter.brings:
             return text
         text += '\n## Definitions\n\n' + wrap(self.count(by_kind)) + self.in_words(chapter)
+        by_kind = {kind: [one for one in ones if one not in shown] for kind, ones in by_kind.items()}
         text += self.tables(by_kind[Kind.TABLE], chapter.text)
         return text + self.code('Rules', by_kind[Kind.RULE]) + self.code('Plumbing', by_kind[Kind.PLUMBING]) + self.needs(chapter)
 

@@ -10,7 +10,7 @@ import unittest
 sys.dont_write_bytecode = True
 sys.path.insert(0, os.path.dirname(os.path.dirname(os.path.abspath(__file__))))
 import specs  # noqa: E402
-from rulebook import chapters, examples, kinds, pages, reach, shapes, sources, terms  # noqa: E402
+from rulebook import chapters, claims, examples, kinds, pages, reach, shapes, sources, terms  # noqa: E402
 
 RULES = '''-- What a sale is.
 use Rattle.std.specs.Prelude.{ℕ, ◌+◌, ◌==◌, Bool, true, false, not, List, [], ◌∷◌, ◌++◌, Option, Some, None, codes}
@@ -248,6 +248,22 @@ class TestShapes(unittest.TestCase):
         self.assertIn('| large | 10 |\n<!-- end -->\nB', pages.with_blocks(page, self.shapes))
         with self.assertRaises(ValueError):
             pages.with_blocks('<!-- rows shop: no_such_rules -->\n<!-- end -->\n', self.shapes)
+
+
+class TestClaims(unittest.TestCase):
+    """The table of sentences and clauses."""
+
+    PAGE = ('<!-- Clauses of the claims. -->\n\n| Claim | Sentence | Clauses |\n|---|---|---|\n%s\n<!-- End of the clauses. -->\n')
+
+    def test_a_row_without_a_title_is_of_the_claim_above(self):
+        found = claims.read_claims(self.PAGE % '| `run`: it | a | `shop: sold` |\n| | b | `shop: paid`, `shop: sold` |\n| told | c | `desk: told` |\n')
+        self.assertEqual(found, [claims.Claim('`run`: it', ['shop: sold', 'shop: paid']), claims.Claim('told', ['desk: told'])])
+        self.assertEqual([claim.is_umpires() for claim in found], [True, False])
+
+    def test_each_sentence_has_a_clause(self):
+        for page in ('no table', self.PAGE % '| `run` | a | in words |\n', self.PAGE % '| | a | `shop: sold` |\n'):
+            with self.assertRaises(ValueError):
+                claims.read_claims(page)
 
 
 class TestChapters(unittest.TestCase):
