@@ -1,9 +1,64 @@
 """What the rulebook has: its chapters in the order of the game, its notes, and the laws that it shows."""
 from __future__ import annotations
 
-from rulebook.chapters import Chapter
+from rulebook.chapters import Chapter, Headed
 from rulebook.examples import Law
 
+
+# What states the rules of each section of rules.md from "The game" to the house rules.
+HEADED = {
+    'The game': Headed('rounds: Plays', 'rounds: play_with', 'codes/ROUND-SR1-after-the-opening'),
+    'The end after a broken bank': Headed('rounds: following', 'rounds: next', 'end-of-the-bank'),
+    'The end by a bankruptcy': Headed('rounds: coming', 'rounds: coming', 'codes/END-BANKRUPT'),
+    'What each player is worth': Headed('report: worth_of', 'report: player_worth', 'codes/END-BANKRUPT'),
+    'Players and money': Headed('totals: cash_of', 'totals: cash', 'first-round'),
+    'Privates': Headed('totals: owner_of', 'totals: owner', 'codes/REVENUE-in-roster-order'),
+    'The shares that come with CA and BOP': Headed('privates: gifts', 'privates: sell_baltimore', 'codes/GIVEN-PRR-with-CA'),
+    'Companies and their shares': Headed('totals: shares_of', 'totals: shares', 'codes/BOUGHT-from-the-pool'),
+    'Presidents': Headed('certs: successor_of', 'certs: successor', 'codes/PRESIDENT-strictly-more'),
+    'When a company floats': Headed('stock_round: with_float', 'stock_round: record_float', 'codes/FLOATS-at-four-left'),
+    'Counted certificates': Headed('certs: counted_of', 'certs: counted', 'codes/PLAYER-yellow-certificates'),
+    'The market': Headed('market: fallen', 'market: fall', 'codes/SELLS-several-shares'),
+    'Trains and phases': Headed('totals: phase_of', 'totals: phase', 'codes/TRADED-a-4-for-the-first-D'),
+    'Priority': Headed('totals: priority_of', 'totals: priority', 'codes/ROUND-priority-at-the-left'),
+    'Conditions': Headed('history: holds', 'history: is_met', 'codes/I1-PRICE-in-a-stock-round'),
+    'Bids': Headed('privates: bid_rules', 'privates: judge', 'codes/A4-under-5-above-a-bid'),
+    'When a private is sold': Headed('privates: settled', 'privates: settle_all', 'codes/SOLD-in-a-chain'),
+    'Auctions': Headed('privates: auction_of', 'privates: auction', 'codes/SOLD-by-auction'),
+    'The price of an auction': Headed('privates: price_among', 'privates: price_paid', 'codes/SOLD-by-auction-limit-over-the-cash'),
+    'Standing lines of an opening': Headed('privates: opening_standing_ruling', 'privates: judge_standing', 'codes/PAR-by-a-standing-line'),
+    'An opening round': Headed('privates: IsOpeningRound', 'privates: play_opening', 'codes/ROUND-one-after-another'),
+    'What becomes of a line of an opening': Headed('privates: opening_judgement', 'privates: judge', 'codes/A3-not-the-cheapest'),
+    'A stock round': Headed('stock_round: IsStockRound', 'stock_round: play_stock', 'codes/ROUND-SR1-after-the-opening'),
+    'What becomes of a line of a stock round': Headed('stock_round: stock_judgement', 'stock_round: judge', 'codes/S9-started-or-not'),
+    'Buying shares': Headed('certs: share_purchase_rules', 'certs: may_buy', 'codes/BOUGHT-from-the-pool'),
+    'Sales': Headed('certs: sale_rules', 'certs: may_sell', 'codes/SELLS-several-shares'),
+    'The exchange of MH': Headed('stock_round: is_no_exchange', 'stock_round: is_no_exchange', 'codes/EXCHANGED-before-NYC-is-started'),
+    'An operating round': Headed('rounds: IsOperatingRound', 'rounds: play_operating', 'codes/REVENUE-in-an-operating-round'),
+    "A company's turn": Headed('operating: IsCompanyTurn', 'operating: play_company', 'codes/WITHHELD-by-itself'),
+    'The home token': Headed('operating: with_home', 'operating: place_home', 'codes/HOME-in-operating-order'),
+    'The steps of a turn': Headed('board: place_of_step', 'operating: is_past_runs', 'codes/R1-after-the-pay-step'),
+    "What becomes of a line of a company's orders": Headed('operating: ReadingLeads', 'operating: rule_lines', 'codes/G6-stock-orders-in-a-companys-orders'),
+    'What a company reaches': Headed('reach: IsReach', 'reach: reached', 'codes/L9-not-reached'),
+    'The Gulf and the Canadian West': Headed('map_tables: joined_stop_of', 'map_tables: joined_stop', 'codes/R5-two-parts-of-the-gulf'),
+    'Lays': Headed('board: lay_rules', 'board: try_lay', 'codes/LAID-terrain-is-paid'),
+    'The lay of CS': Headed('board: is_cs_lay', 'board: is_cs_lay', 'codes/LAID-CS-beside-the-lay'),
+    'The lay and the token of DH': Headed('board: is_dh_lay', 'board: is_dh_token', 'codes/TOKEN-of-DH-for-nothing'),
+    'Tokens': Headed('board: token_rules', 'board: try_token', 'codes/TOKEN-40-then-100'),
+    'The kept slot of a home': Headed('board: kept_at', 'board: kept_at', 'codes/K3-no-free-slot'),
+    'Runs': Headed('legal_runs: IsLegalRun', 'legal_runs: check_run', 'codes/RUNS-add-up'),
+    'RUN BEST': Headed('legal_runs: IsGreatest', 'operating: rule_best', 'codes/RUNS-best-of-two-trains'),
+    'The check of a best revenue': Headed('certificate: IsAcceptedClaim', 'certificate: accepts', 'certificates/verify-two-trains'),
+    'Dividends': Headed('certs: paid_out', 'certs: pay_out', 'codes/DIVIDEND-who-is-paid'),
+    'Consent': Headed('totals: has_consent', 'totals: has_consent', 'codes/T4-no-consent'),
+    'Offers': Headed('purchases: offer_rules', 'purchases: judge_offer', 'codes/T4-an-offer-of-another-seat'),
+    'Buying trains': Headed('purchases: train_purchase_rules', 'purchases: judge_purchase', 'codes/TRAIN-from-a-company'),
+    'The train that a company must buy': Headed('forced_purchase: after_forced', 'forced_purchase: buy_by_force', 'codes/AID-of-a-president'),
+    'RAISE lines': Headed('forced_purchase: raise_judgement', 'forced_purchase: judge_raise', 'codes/S4-of-RAISE'),
+    'Privates that companies buy': Headed('purchases: private_rules', 'purchases: judge_private', 'codes/PRIVATE-anywhere-in-a-companys-orders'),
+    'A new phase': Headed('purchases: with_phase', 'purchases: begin_phase', 'codes/RUSTED-at-the-first-4'),
+    'Which trains are given up': Headed('purchases: next_discard', 'purchases: next_discard', 'codes/DISCARDED-by-a-standing-line'),
+}
 
 # What the definitions that are hardest to read say, taken together, in the chapter that brings the first of them.
 NOTES: list[tuple[str, str]] = [
@@ -143,8 +198,9 @@ CHAPTER_OF = {'what is told before a round': 'before-a-round', 'what is told of 
 
 def chapters() -> list[Chapter]:
     """Returns the chapters, empty."""
-    def rules(file: str, *headings: str, roots: str = '', files: str = '') -> Chapter:
-        return Chapter(file, headings[0], [('rules.md', heading) for heading in headings], roots.split(', ') if roots else [], files.split())
+    def rules(file: str, *headings: str, roots: str = '', files: str = '', steps: str = '') -> Chapter:
+        sections = [('rules.md', heading) for heading in headings] + [('steps.md', steps)] * bool(steps)
+        return Chapter(file, headings[0], sections, roots.split(', ') if roots else [], files.split())
 
     def other(file: str, title: str, page: str, *headings: str, roots: str = '', files: str = '') -> Chapter:
         return Chapter(file, title, [(page, heading) for heading in headings], roots.split(', ') if roots else [], files.split())
@@ -157,16 +213,16 @@ def chapters() -> list[Chapter]:
         rules('market', 'The market', files='market/Moves market/Token tables/Chart'),
         rules('trains-and-phases', 'Trains and phases', files='totals/Trains tables/Train'),
         rules('priority', 'Priority'),
-        rules('conditions', 'Conditions', files='history/Conditions'),
+        rules('conditions', 'Conditions', steps='Conditions, step by step', files='history/Conditions'),
         rules('bids', 'Bids', files='privates/Auction privates/Sale privates/Limit privates/Bid privates/Standing totals/Bids'),
-        rules('opening-round', 'An opening round', 'What becomes of a line of an opening', 'Two openings, step by step',
+        rules('opening-round', 'An opening round', 'What becomes of a line of an opening', steps='Two openings, step by step',
               files='privates/Opening privates/Turn privates/Closing privates/Buy turns/RoundOfTurns turns/Ruling tables/Turns tables/Rules'),
-        rules('stock-round', 'A stock round', 'A stock round, step by step',
+        rules('stock-round', 'A stock round', steps='A stock round, step by step',
               files='stock_round/StockRound stock_round/Turn stock_round/Standing stock_round/Orders stock_round/Deals stock_round/Closing'),
         rules('buying-shares', 'Buying shares', files='certs/Purchase stock_round/Buy stock_round/Par'),
         rules('sales', 'Sales', files='certs/Sale certs/SaleAct stock_round/Sell'),
         rules('exchange', 'The exchange of MH', files='stock_round/Exchange'),
-        rules('operating-round', 'An operating round', 'Operating rounds, step by step',
+        rules('operating-round', 'An operating round', steps='Operating rounds, step by step',
               files='rounds/OperatingRound totals/Operating market/OperatingOrder purchases/Standing'),
         rules('company-turn', "A company's turn", roots='operating: OrderLeads, operating: LinesLead',
               files='operating/Turn operating/TurnEnd operating/CompanyOrders operating/TurnState operating/Progress operating/HomeToken '
@@ -178,14 +234,14 @@ def chapters() -> list[Chapter]:
               'operating/CompletedRuns'),
         rules('best-runs', 'RUN BEST', files='legal_runs/Set operating/RunBest'),
         rules('dividends', 'Dividends', files='certs/Dividend operating/Pay'),
-        rules('consent', 'Consent', 'Three presidents deal, step by step',
+        rules('consent', 'Consent', steps='Three presidents deal, step by step',
               files='purchases/Offer purchases/Consents events/Offers totals/Offers'),
-        rules('buying-trains', 'Buying trains', 'Trains, step by step', files='purchases/Train operating/Train'),
+        rules('buying-trains', 'Buying trains', steps='Trains, step by step', files='purchases/Train operating/Train'),
         rules('forced-purchase', 'The train that a company must buy',
               files='forced_purchase/Forced forced_purchase/Raise forced_purchase/Shortfall legal_runs/TwoTrain'),
         rules('buying-privates', 'Privates that companies buy', files='purchases/Private operating/Private'),
         rules('new-phase', 'A new phase', files='purchases/Phases purchases/Discard'),
-        rules('own-rules', "What is this project's own"),
+        rules('own-rules', 'House rules'),
         other('map', 'The map and its tiles', 'map.md', 'Hexes and sides', 'Stops', 'Companies and privates on the map', 'Tiles',
               files='map_tables/Hex map_tables/Print map_tables/Tile map_tables/Track map_tables/Side map_tables/Border map_tables/Home '
               'map_tables/Place map_tables/OnMap map_tables/Lay map_tables/Laws'),
