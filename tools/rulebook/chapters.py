@@ -9,7 +9,16 @@ from rulebook.reach import House, Name
 
 SPAN = re.compile(r'`([^`\n]+)`')
 CITED = re.compile(r'(\w+): ([^\W\d][\w-]*(?:, [^\W\d][\w-]*)*)$')
-HEADED = re.compile(r'Definition `(\w+): (\w+)` · function `(\w+): (\w+)` · game `([\w./-]+)`\.?$', re.M)
+HEADING = re.compile(r'^#+ (.*)$', re.M)
+
+
+@dataclass(frozen=True)
+class Headed:
+    """What states the rule of a section, each as `crate: name`: the definition and the function that carries it out. And a game of games/
+    that shows it."""
+    definition: str
+    function: str
+    game: str
 
 
 @dataclass
@@ -81,9 +90,10 @@ class Index:
                 yield from (one for one in found if one and one in self.reached)
 
 
-def fill(chapters: list[Chapter], pages: dict[str, str], index: Index, contracts: dict[str, list[Name]]) -> None:
+def fill(chapters: list[Chapter], pages: dict[str, str], index: Index, contracts: dict[str, list[Name]],
+         headed: dict[str, Headed]) -> None:
     """Gives each chapter its text and its definitions: each definition to the first that needs it. What contracts name is at home in
-    the chapter with that file."""
+    the chapter with that file, and what states the rule of a section in the chapter that has it."""
     home: dict[Name, Chapter] = {}
     for chapter in chapters:
         parts = [(heading, section(pages[page], heading)) for page, heading in chapter.sections]
@@ -96,8 +106,8 @@ def fill(chapters: list[Chapter], pages: dict[str, str], index: Index, contracts
                 raise ValueError('no definition %s' % root)
             home.setdefault(one, chapter)
     for chapter in chapters:
-        for crate, name, *_ in HEADED.findall(chapter.text):
-            one = index.named(crate, name)
+        for heading in [heading for _, heading in chapter.sections] + HEADING.findall(chapter.text):
+            one = index.named(*headed[heading].definition.split(': ')) if heading in headed else None
             if one in index.reached:
                 home.setdefault(one, chapter)
     for chapter in chapters:

@@ -7,7 +7,7 @@ from collections import Counter
 
 import specs
 from rulebook import shapes
-from rulebook.chapters import Chapter, Index
+from rulebook.chapters import HEADING, Chapter, Headed, Index
 from rulebook.examples import Example
 from rulebook.kinds import Kind, kind_of
 from rulebook.reach import House, Name, Reach
@@ -15,7 +15,6 @@ from rulebook.shapes import Shapes, cite, table
 
 MADE = '<!-- `tools/claim --write` made this page. -->\n'
 BLOCK = re.compile(r'(<!-- (rows|events|columns|chart|forms) (\w+): ([^>]*?) -->\n)(.*?)(<!-- end -->\n)', re.S)
-HEADED = re.compile(r'^Definition `(\w+): (\w+)` · function `(\w+): (\w+)` · game `([\w./-]+)`$', re.M)
 
 
 def wrap(text: str) -> str:
@@ -27,7 +26,8 @@ def wrap_item(text: str) -> str:
 
 
 def with_blocks(page: str, made: Shapes) -> str:
-    """Returns a players' page whose tables that come from definitions are made again."""
+    """Returns a players' page whose tables that come from definitions are made again. Those of rules and of events stand in the rulebook
+    alone: the page has only their marks."""
     def fresh(found: re.Match[str]) -> str:
         head, shape, crate, rest, inside, end = found.groups()
         if shape != 'columns':
@@ -35,7 +35,7 @@ def with_blocks(page: str, made: Shapes) -> str:
             made.shown |= {one} if shape in ('chart', 'forms') else set()
             if shape == 'forms':
                 return head + made.forms_table(one, dict(re.findall(r'^\| `(.*?)` \| (.*) \|$', inside, re.M))) + end
-            return head + {'rows': made.rows_table, 'events': made.events_table, 'chart': made.chart}[shape](one) + end
+            return head + (made.chart(one) if shape == 'chart' else '') + end
         parts = [part.split(' = ') for part in rest.split('; ')]
         names = [named(made.index, crate, name) for name, _ in parts[1:]]
         made.shown |= set(names)
@@ -51,20 +51,36 @@ def named(index: Index, crate: str, name: str) -> Name:
     return one
 
 
-def without_marks(text: str) -> str:
-    """Returns a text of the players without the marks of its made tables, and with its links as they are from the rulebook."""
-    text = re.sub(r'<!-- (?:rows|events|columns|chart|forms) .*? -->\n|<!-- end -->\n', '', text)
-    text = HEADED.sub(lambda found: 'Definition `%s: %s` · function `%s: %s` · game [`%s`](../../games/%s.orders), [its report]'
-                      '(../../games/%s.report)' % (found.groups() + found.groups()[-1:] * 2), text)
-    return re.sub(r'\]\((?!\.\./|https?:)([\w.-]+\.md)', r'](../players/\1', text)
+def for_readers(page: str, made: Shapes) -> str:
+    """Returns a text of the players without the marks of its made tables, with the tables of rules and events in their places, and with
+    its links as they are from the rulebook."""
+    def whole(found: re.Match[str]) -> str:
+        _, shape, crate, name, inside, _ = found.groups()
+        if shape not in ('rows', 'events'):
+            return inside
+        one = named(made.index, crate, name)
+        head = 'The rules of %s, in the order in which they are tried:' if shape == 'rows' else 'The events of %s:'
+        return '\n%s\n\n%s\n' % (head % cite(one), (made.rows_table if shape == 'rows' else made.events_table)(one))
+
+    text = re.sub(r'\n{3,}', '\n\n', BLOCK.sub(whole, page))
+    text = re.sub(r'\]\(\.\./docs/', '](../', text)
+    return re.sub(r'\]\((?!\.\./|https?:)((?:[\w.-]+\.md)?(?:#[\w-]+)?)\)', lambda found: '](../players/%s)' % (
+        found.group(1) if not found.group(1).startswith('#') else 'rules.md' + found.group(1)), text)
+
+
+def stated_line(of: Headed) -> str:
+    """Returns the line below a heading: what states its rule, and the game that shows it."""
+    return ('Definition `%s` · function `%s` · game [`%s`](../../games/%s.orders), [its report](../../games/%s.report)\n'
+            % (of.definition, of.function, of.game, of.game, of.game))
 
 
 class Book:
     """The rulebook: its chapters with the definitions that they bring."""
 
     def __init__(self, house: House, chapters: list[Chapter], made: Shapes, order: list[str], examples: list[Example],
-                 notes: list[tuple[str, str]]):
-        self.house, self.chapters, self.made, self.order, self.examples, self.notes = house, chapters, made, order, examples, notes
+                 notes: list[tuple[str, str]], headed: dict[str, Headed]):
+        self.house, self.chapters, self.made, self.order = house, chapters, made, order
+        self.examples, self.notes, self.headed = examples, notes, headed
         self.kinds = {one: kind_of(house.definition(one)) for chapter in chapters for one in chapter.brings}
         self.number = {id(chapter): number for number, chapter in enumerate(chapters, 1)}
 
@@ -73,14 +89,24 @@ class Book:
 
     def page(self, chapter: Chapter) -> str:
         """Returns the page of a chapter."""
-        text = '# %d. %s\n\n%s\n' % (self.number[id(chapter)], chapter.title, MADE) + without_marks(chapter.text)
+        text = '# %d. %s\n\n%s\n' % (self.number[id(chapter)], chapter.title, MADE) + self.words(chapter)
         text += ''.join(self.example(one) for one in self.examples if one.chapter == chapter.file)
+        shown = {name for one in self.examples if one.chapter == chapter.file for name in one.names}
         by_kind = {kind: [one for one in chapter.brings if self.kinds[one] is kind] for kind in Kind}
         if not chapter.brings:
             return text
         text += '\n## Definitions\n\n' + wrap(self.count(by_kind)) + self.in_words(chapter)
+        by_kind = {kind: [one for one in ones if one not in shown] for kind, ones in by_kind.items()}
         text += self.tables(by_kind[Kind.TABLE], chapter.text)
         return text + self.code('Rules', by_kind[Kind.RULE]) + self.code('Plumbing', by_kind[Kind.PLUMBING]) + self.needs(chapter)
+
+    def words(self, chapter: Chapter) -> str:
+        """Returns the text of a chapter, with a line below each heading whose rules are stated somewhere."""
+        first = [heading for _, heading in chapter.sections][:1]
+        text = ''.join(stated_line(self.headed[heading]) + '\n' for heading in first if heading in self.headed)
+        text += for_readers(chapter.text, self.made)
+        return HEADING.sub(lambda found: found.group() + '\n\n' + stated_line(self.headed[found.group(1)]).rstrip('\n')
+                           if found.group(1) in self.headed else found.group(), text)
 
     def needs(self, chapter: Chapter) -> str:
         """Returns what the definitions of a chapter use of other chapters."""
