@@ -76,9 +76,9 @@ NOTES: list[tuple[str, str]] = [
      'private are equal.'),
     ('operating: LinesLead', 'Line after line, each leading from the turn before it to the turn after it. A line with a fault ends in '
      '`ReadingLeads`, one whose condition does not hold in `AskedLeads`, and an order in `OrderLeads`, by its own definition.'),
-    ('board: IsLayAnswer', '`reached` is a guess that `exact` makes right: where none of the rules before L9 is broken, it is true exactly if the '
-     'company reaches some piece of the tile. Then the answer is the first rule that is broken, or the cost. Where one of those rules is '
-     'broken, `reached` does not matter.'),
+    ('board: IsLayAnswer', '`reached` is a value fixed by `exact`: if none of the rules before L9 is broken, it is true exactly if the company '
+     'reaches some piece of the tile. Then the answer is the first rule that is broken, or the cost. If one of those rules is broken, `reached` '
+     'does not matter.'),
     ('board: IsTokenAnswer', '`reached` is true exactly if the company reaches the place, where none of the rules before K5 is broken.'),
     ('legal_runs: walk_named', 'The train begins at the stop of the first place. `leg_to` is the step or the two steps to the next place, if '
      'there is such track, and `travelled` goes on from there. `with_leg` adds the steps to what was made so far: here a walk, in which '
@@ -99,9 +99,19 @@ NOTES: list[tuple[str, str]] = [
      'it, unless that begins with a ROUND event.'),
     ('operating: Course', 'A course leads from somewhere to somewhere else, or to a fault, and makes calls of whoever answers RUN BEST. `Then` is '
      'one course after another, with the calls of both, and `SomeTimesThen` some number of the first before the second.'),
+    ('certificate: Hold', 'Marks hold at a node in two ways. `cut`: the mark is 0, and the bound of the node is at most the claimed revenue. '
+     '`split`: the first mark is 1, the node is no leaf, and the marks behind it hold at its children, one after the other (`HoldInTurn`).'),
     ('umpire: from_divider', 'Of all lines `CERTS 1` the last counts: the text is looked at from each of its bytes that begins a line, and what '
      'lies further back comes first in `option_or`.'),
 ]
+
+# What is said of a file of specs/ in the place of its own comment, which speaks of more than the chapters have.
+FILES = {
+    'reach/Walk': ['Walks over the track of a position. A link joins two ends in one hex, each a side of the hex or a stop. A walk is a list of '
+                   'links. Steps are listed last to first. Each link is entered at one of its ends and left at the other, and is joined to the next at a '
+                   'stop, or at the border between their two hexes.'],
+    'certificate/Holding': ['Which marks hold at a node (`Hold`), and how marks are read over a list of nodes that lie ahead (`left_over`).'],
+}
 
 # A sentence for each definition whose own comment only has a meaning beside its neighbours, or that has none.
 SENTENCES = {

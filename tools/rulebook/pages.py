@@ -21,6 +21,21 @@ def wrap(text: str) -> str:
     return textwrap.fill(text, 120, break_long_words=False, break_on_hyphens=False) + '\n'
 
 
+def wrap_comment(lines: list[str]) -> str:
+    """Returns a comment as paragraphs and lists: a line that begins with a hyphen is an item."""
+    parts: list[str] = ['']
+    for line in lines:
+        if not line or line.startswith('- '):
+            parts.append('')
+        parts[-1] = (parts[-1] + ' ' + line).strip()
+    text = ''
+    for part in filter(None, parts):
+        is_item = part.startswith('- ')
+        text += ('' if not text or (is_item and last_item) else '\n') + (wrap_item(part) if is_item else wrap(part))
+        last_item = is_item
+    return text
+
+
 def wrap_item(text: str) -> str:
     return textwrap.fill(text, 120, subsequent_indent='  ', break_long_words=False, break_on_hyphens=False) + '\n'
 
@@ -78,9 +93,9 @@ class Book:
     """The rulebook: its chapters with the definitions that they bring."""
 
     def __init__(self, house: House, chapters: list[Chapter], made: Shapes, order: list[str], examples: list[Example],
-                 notes: list[tuple[str, str]], headed: dict[str, Headed]):
+                 notes: list[tuple[str, str]], headed: dict[str, Headed], files: dict[str, list[str]]):
         self.house, self.chapters, self.made, self.order = house, chapters, made, order
-        self.examples, self.notes, self.headed = examples, notes, headed
+        self.examples, self.notes, self.headed, self.files = examples, notes, headed, files
         self.kinds = {one: kind_of(house.definition(one)) for chapter in chapters for one in chapter.brings}
         self.number = {id(chapter): number for number, chapter in enumerate(chapters, 1)}
 
@@ -167,9 +182,13 @@ class Book:
         for key in sorted({key for key, _ in ones}, key=self.order.index):
             inside = sorted((one for one in ones if one[0] == key), key=lambda one: -self.house.definition(one).number)
             text += '\n#### `%s`\n\n' % key.replace('/specs/', ': specs/')
-            text += wrap(' '.join(self.house.modules[key].comment)) + '\n' if title == 'Rules' and self.is_first(key, ones) else ''
+            text += wrap_comment(self.comment_of(key)) + '\n' if title == 'Rules' and self.is_first(key, ones) else ''
             text += '```agda\n' + '\n'.join(self.text_of(one) for one in inside) + '```\n'
         return text
+
+    def comment_of(self, key: str) -> list[str]:
+        """Returns what a file says of itself, or what is said in its place."""
+        return self.files.get(key.replace('/specs/', '/'), self.house.modules[key].comment)
 
     def is_first(self, key: str, ones: list[Name]) -> bool:
         """Returns whether these are of the chapter that is the first to have rules of a file."""
@@ -193,7 +212,25 @@ class Book:
             rows.append(['`%s: %s`' % one, of.sentence(), '`%s`' % of.file, seen_as(of)])
         text = ('A definition names types of the source: enums and structs. This page has each of them, with the file where it stands. Where a '
                 'type has a model, definitions see the value that the model makes of it, and none of its fields.')
-        return '# Types of the source\n\n%s\n' % MADE + wrap(text) + '\n' + table(['Type', 'What it is', 'File', 'Definitions see'], rows)
+        text = '# Types of the source\n\n%s\n' % MADE + wrap(text) + '\n' + table(['Type', 'What it is', 'File', 'Definitions see'], rows)
+        return text + self.written(types)
+
+    def written(self, types: set[Name]) -> str:
+        """Returns how definitions write the forms of these types: behind which prefixes, and which of them under another name."""
+        prefixes: dict[Name, set[str]] = {}
+        others: dict[Name, set[str]] = {}
+        for key in {key for key, _ in self.kinds}:
+            for local, (target, name) in self.house.modules[key].imports.items():
+                one = self.house.type_at((target, '')) if target.endswith('/TheVariants') or name is None else None
+                if one in types and name is None:
+                    prefixes.setdefault(one, set()).add('`%s.`' % local)
+                elif one in types and local != name:
+                    others.setdefault(one, set()).add('`%s` is `%s`' % (local, name))
+        rows = [['`%s: %s`' % one, ', '.join(sorted(prefixes.get(one, ()))), ', '.join(sorted(others.get(one, ())))]
+                for one in sorted(prefixes.keys() | others.keys())]
+        text = ('A definition writes a form of a type alone, as `Bought`, or behind a prefix, as `event.Bought`: these are the same. Some files '
+                'give a form another name, where two types have forms of one name.')
+        return '\n## How forms are written\n\n' + wrap(text) + '\n' + table(['Type', 'Prefixes', 'Other names'], rows)
 
     def chapters_table(self) -> str:
         """Returns the table of chapters, with what each brings."""
