@@ -1,7 +1,7 @@
 """What the rulebook has: its chapters in the order of the game, its notes, and the laws that it shows."""
 from __future__ import annotations
 
-from rulebook.chapters import Chapter, Headed
+from rulebook.chapters import Chapter, Headed, Made
 from rulebook.examples import Law
 
 
@@ -58,6 +58,29 @@ HEADED = {
     'Privates that companies buy': Headed('purchases: private_rules', 'purchases: judge_private', 'codes/PRIVATE-anywhere-in-a-companys-orders'),
     'A new phase': Headed('purchases: with_phase', 'purchases: begin_phase', 'codes/RUSTED-at-the-first-4'),
     'Which trains are given up': Headed('purchases: next_discard', 'purchases: next_discard', 'codes/DISCARDED-by-a-standing-line'),
+}
+
+# The tables behind the words of a section of rules.md: the rules of an order, and the events of an act.
+TABLES = {
+    'Standing lines of an opening': [Made('rows', 'privates: limit_rules'), Made('rows', 'privates: par_rules')],
+    'What becomes of a line of an opening': [
+        Made('rows', 'privates: private_purchase_rules'),
+        Made('rows', 'privates: bid_rules'),
+        Made('events', 'privates: after_private_sale')],
+    'Buying shares': [
+        Made('rows', 'certs: share_purchase_rules'),
+        Made('events', 'stock_round: after_start'),
+        Made('events', 'stock_round: after_purchase')],
+    'Sales': [Made('rows', 'certs: sale_rules'), Made('events', 'certs: after_sale')],
+    'The exchange of MH': [Made('rows', 'stock_round: exchange_rules'), Made('events', 'stock_round: after_exchange')],
+    'Lays': [Made('rows', 'board: lay_rules'), Made('events', 'operating: after_lay')],
+    'Tokens': [Made('rows', 'board: token_rules'), Made('events', 'operating: after_token')],
+    'Runs': [Made('rows', 'operating: rules_of_turn'), Made('rows', 'legal_runs: rules_of_run')],
+    'Dividends': [Made('rows', 'operating: pay_rules'), Made('events', 'certs: paid_out'), Made('events', 'operating: withheld')],
+    'Offers': [Made('rows', 'purchases: offer_rules')],
+    'Buying trains': [Made('rows', 'purchases: train_purchase_rules'), Made('events', 'purchases: after_train')],
+    'Privates that companies buy': [Made('rows', 'purchases: private_rules'), Made('events', 'purchases: private_bought')],
+    'Which trains are given up': [Made('rows', 'purchases: discard_rules')],
 }
 
 # What the definitions that are hardest to read say, taken together, in the chapter that brings the first of them.
@@ -190,6 +213,12 @@ they print.
 - **Trials.** `trial` plays the file with an empty sheet at its end for exactly the players who owe one. `check` plays
   each sheet as if all others were empty, and then all of them, and reports the lines that are refused there.
 '''
+CERTIFIED = '''Nothing of a certificate is trusted: the runs and the marks are checked, whoever made them. A certificate shows a round, a
+company, its runs and its revenue, and no other order. No round is certified before it has been played.
+'''
+MIGRATED = '''There is no way back to version 1; keep the old file. Sheets that were sent need not be written again, and rounds that
+were played stay as they were. Certificates of the old file fit the new one.
+'''
 TOLD_OF = '''`round`, `runs`, `bulletin`, `state`, `explain` and `page` of the desk say again what a report says, and look up in the
 list of events what it does not say. [`desk.md`](desk.md) shows what they print.
 
@@ -212,8 +241,8 @@ def chapters() -> list[Chapter]:
         sections = [('rules.md', heading) for heading in headings] + [('steps.md', steps)] * bool(steps)
         return Chapter(file, headings[0], sections, roots.split(', ') if roots else [], files.split())
 
-    def other(file: str, title: str, page: str, *headings: str, roots: str = '', files: str = '') -> Chapter:
-        return Chapter(file, title, [(page, heading) for heading in headings], roots.split(', ') if roots else [], files.split())
+    def other(file: str, title: str, page: str, *headings: str, roots: str = '', files: str = '', text: str = '') -> Chapter:
+        return Chapter(file, title, [(page, heading) for heading in headings], roots.split(', ') if roots else [], files.split(), text)
 
     return [
         rules('the-game', 'The game', files='rounds/Play rounds/Sequence report/EndWorth'),
@@ -267,8 +296,8 @@ def chapters() -> list[Chapter]:
         other('certificates', 'Certificates', 'formats.md', 'A certificate',
               files='certificate/Tree certificate/Holding certificate/Digits certificate/Checked certificate/Filled umpire/Groups '
               'umpire/InputSplit umpire/Written operating/TurnCalls operating/Calls rounds/GameCalls rounds/Faults legal_runs/Claim '
-              'umpire/Certified'),
-        other('version-2', 'Migrating to version 2', 'formats.md', 'Migrating to version 2', files='umpire/Migrated'),
+              'umpire/Certified', text=CERTIFIED),
+        other('version-2', 'Migrating to version 2', 'formats.md', 'Migrating to version 2', files='umpire/Migrated', text=MIGRATED),
         other('streams', 'What is read and written', 'formats.md', 'The program', files='umpire/Run umpire/Failure umpire/Watched umpire/Verify'),
         Chapter('before-a-round', 'What is told before a round', [], text=TOLD_BEFORE),
         Chapter('desk', 'What is told of a round', [], text=TOLD_OF),

@@ -7,14 +7,14 @@ from collections import Counter
 
 import specs
 from rulebook import shapes
-from rulebook.chapters import HEADING, Chapter, Headed, Index
+from rulebook.chapters import HEADING, Chapter, Headed, Index, Made
 from rulebook.examples import Example
 from rulebook.kinds import Kind, kind_of
 from rulebook.reach import House, Name, Reach
 from rulebook.shapes import Shapes, cite, table
 
 MADE = '<!-- `tools/claim --write` made this page. -->\n'
-BLOCK = re.compile(r'(<!-- (rows|events|columns|chart|forms) (\w+): ([^>]*?) -->\n)(.*?)(<!-- end -->\n)', re.S)
+BLOCK = re.compile(r'(<!-- (columns|chart|forms) (\w+): ([^>]*?) -->\n)(.*?)(<!-- end -->\n)', re.S)
 
 
 def wrap(text: str) -> str:
@@ -41,8 +41,7 @@ def wrap_item(text: str) -> str:
 
 
 def with_blocks(page: str, made: Shapes) -> str:
-    """Returns a players' page whose tables that come from definitions are made again. Those of rules and of events stand in the rulebook
-    alone: the page has only their marks."""
+    """Returns a players' page whose tables that come from definitions are made again."""
     def fresh(found: re.Match[str]) -> str:
         head, shape, crate, rest, inside, end = found.groups()
         if shape != 'columns':
@@ -66,18 +65,9 @@ def named(index: Index, crate: str, name: str) -> Name:
     return one
 
 
-def for_readers(page: str, made: Shapes) -> str:
-    """Returns a text of the players without the marks of its made tables, with the tables of rules and events in their places, and with
-    its links as they are from the rulebook."""
-    def whole(found: re.Match[str]) -> str:
-        _, shape, crate, name, inside, _ = found.groups()
-        if shape not in ('rows', 'events'):
-            return inside
-        one = named(made.index, crate, name)
-        head = 'The rules of %s, in the order in which they are tried:' if shape == 'rows' else 'The events of %s:'
-        return '\n%s\n\n%s\n' % (head % cite(one), (made.rows_table if shape == 'rows' else made.events_table)(one))
-
-    text = re.sub(r'\n{3,}', '\n\n', BLOCK.sub(whole, page))
+def for_readers(page: str) -> str:
+    """Returns a text of the players without the marks of its made tables, and with its links as they are from the rulebook."""
+    text = re.sub(r'<!-- (?:columns|chart|forms) .*? -->\n|<!-- end -->\n', '', page)
     text = re.sub(r'\]\(\.\./docs/', '](../', text)
     return re.sub(r'\]\((?!\.\./|https?:)((?:[\w.-]+\.md)?(?:#[\w-]+)?)\)', lambda found: '](../players/%s)' % (
         found.group(1) if not found.group(1).startswith('#') else 'rules.md' + found.group(1)), text)
@@ -93,9 +83,9 @@ class Book:
     """The rulebook: its chapters with the definitions that they bring."""
 
     def __init__(self, house: House, chapters: list[Chapter], made: Shapes, order: list[str], examples: list[Example],
-                 notes: list[tuple[str, str]], headed: dict[str, Headed], files: dict[str, list[str]]):
+                 notes: list[tuple[str, str]], headed: dict[str, Headed], below: dict[str, list[Made]], files: dict[str, list[str]]):
         self.house, self.chapters, self.made, self.order = house, chapters, made, order
-        self.examples, self.notes, self.headed, self.files = examples, notes, headed, files
+        self.examples, self.notes, self.headed, self.below, self.files = examples, notes, headed, below, files
         self.kinds = {one: kind_of(house.definition(one)) for chapter in chapters for one in chapter.brings}
         self.number = {id(chapter): number for number, chapter in enumerate(chapters, 1)}
 
@@ -116,12 +106,26 @@ class Book:
         return text + self.code('Rules', by_kind[Kind.RULE]) + self.code('Plumbing', by_kind[Kind.PLUMBING]) + self.needs(chapter)
 
     def words(self, chapter: Chapter) -> str:
-        """Returns the text of a chapter, with a line below each heading whose rules are stated somewhere."""
-        first = [heading for _, heading in chapter.sections][:1]
-        text = ''.join(stated_line(self.headed[heading]) + '\n' for heading in first if heading in self.headed)
-        text += for_readers(chapter.text, self.made)
-        return HEADING.sub(lambda found: found.group() + '\n\n' + stated_line(self.headed[found.group(1)]).rstrip('\n')
-                           if found.group(1) in self.headed else found.group(), text)
+        """Returns the text of a chapter: each section with what states its rules before its words, and with its tables behind them."""
+        text, heading, at = '', chapter.sections[0][1] if chapter.sections else '', 0
+        for found in [*HEADING.finditer(chapter.text), None]:
+            text += self.section(heading, chapter.text[at:found.start() if found else None])
+            if found:
+                text, heading, at = text + found.group() + '\n', found.group(1), found.end()
+        return re.sub(r'\n{3,}', '\n\n', text).strip('\n') + '\n'
+
+    def section(self, heading: str, text: str) -> str:
+        """Returns the text of a section below its heading."""
+        stated = '\n' + stated_line(self.headed[heading]) if heading in self.headed else ''
+        tables = ''.join(self.made_table(one) for one in self.below.get(heading, []))
+        return stated + '\n' + for_readers(text).strip('\n') + '\n' + tables + '\n'
+
+    def made_table(self, made: Made) -> str:
+        """Returns a table of rules or of events, with a sentence before it."""
+        one = named(self.made.index, *made.name.split(': '))
+        if made.shape == 'rows':
+            return '\nThe rules of %s, in the order in which they are tried:\n\n%s' % (cite(one), self.made.rows_table(one))
+        return '\nThe events of %s:\n\n%s' % (cite(one), self.made.events_table(one))
 
     def needs(self, chapter: Chapter) -> str:
         """Returns what the definitions of a chapter use of other chapters."""
