@@ -21,10 +21,17 @@ class Headed:
     game: str
 
 
+@dataclass(frozen=True)
+class Made:
+    """A table that is made from a definition, `crate: name`: the `rows` of a table of rules, or the `events` of an act."""
+    shape: str
+    name: str
+
+
 @dataclass
 class Chapter:
-    """A chapter: its file and its title, the sections of the players' pages that it has (or, where it has none, a
-    text of its own), and more definitions that it brings."""
+    """A chapter: its file and its title, the sections of the players' pages that it has, a text of its own behind them, and more
+    definitions that it brings."""
     file: str
     title: str
     sections: list[tuple[str, str]]
@@ -91,15 +98,14 @@ class Index:
 
 
 def fill(chapters: list[Chapter], pages: dict[str, str], index: Index, contracts: dict[str, list[Name]],
-         headed: dict[str, Headed]) -> None:
+         stated: dict[str, list[str]]) -> None:
     """Gives each chapter its text and its definitions: each definition to the first that needs it. What contracts name is at home in
-    the chapter with that file, and what states the rule of a section in the chapter that has it."""
+    the chapter with that file, and what states the rules of a section, by its heading, in the chapter that has it."""
     home: dict[Name, Chapter] = {}
     for chapter in chapters:
         parts = [(heading, section(pages[page], heading)) for page, heading in chapter.sections]
-        if parts:
-            chapter.text = '\n'.join(part if number == 0 else '### %s\n\n%s' % (heading.rstrip(':'), part)
-                                     for number, (heading, part) in enumerate(parts))
+        chapter.text = '\n'.join([part if number == 0 else '### %s\n\n%s' % (heading.rstrip(':'), part)
+                                  for number, (heading, part) in enumerate(parts)] + [chapter.text] * bool(chapter.text))
         for root in chapter.roots:
             one = index.named(*root.split(': '))
             if one is None:
@@ -107,8 +113,8 @@ def fill(chapters: list[Chapter], pages: dict[str, str], index: Index, contracts
             home.setdefault(one, chapter)
     for chapter in chapters:
         for heading in [heading for _, heading in chapter.sections] + HEADING.findall(chapter.text):
-            one = index.named(*headed[heading].definition.split(': ')) if heading in headed else None
-            if one in index.reached:
+            named = [index.named(*name.split(': ')) for name in stated.get(heading, [])]
+            for one in [one for one in named if one in index.reached]:
                 home.setdefault(one, chapter)
     for chapter in chapters:
         chapter.cited = list(dict.fromkeys(index.cited_in(chapter.text)))

@@ -1,7 +1,7 @@
 """What the rulebook has: its chapters in the order of the game, its notes, and the laws that it shows."""
 from __future__ import annotations
 
-from rulebook.chapters import Chapter, Headed
+from rulebook.chapters import Chapter, Headed, Made
 from rulebook.examples import Law
 
 
@@ -60,6 +60,29 @@ HEADED = {
     'Which trains are given up': Headed('purchases: next_discard', 'purchases: next_discard', 'codes/DISCARDED-by-a-standing-line'),
 }
 
+# The tables behind the words of a section of rules.md: the rules of an order, and the events of an act.
+TABLES = {
+    'Standing lines of an opening': [Made('rows', 'privates: limit_rules'), Made('rows', 'privates: par_rules')],
+    'What becomes of a line of an opening': [
+        Made('rows', 'privates: private_purchase_rules'),
+        Made('rows', 'privates: bid_rules'),
+        Made('events', 'privates: after_private_sale')],
+    'Buying shares': [
+        Made('rows', 'certs: share_purchase_rules'),
+        Made('events', 'stock_round: after_start'),
+        Made('events', 'stock_round: after_purchase')],
+    'Sales': [Made('rows', 'certs: sale_rules'), Made('events', 'certs: after_sale')],
+    'The exchange of MH': [Made('rows', 'stock_round: exchange_rules'), Made('events', 'stock_round: after_exchange')],
+    'Lays': [Made('rows', 'board: lay_rules'), Made('events', 'operating: after_lay')],
+    'Tokens': [Made('rows', 'board: token_rules'), Made('events', 'operating: after_token')],
+    'Runs': [Made('rows', 'operating: rules_of_turn'), Made('rows', 'legal_runs: rules_of_run')],
+    'Dividends': [Made('rows', 'operating: pay_rules'), Made('events', 'certs: paid_out'), Made('events', 'operating: withheld')],
+    'Offers': [Made('rows', 'purchases: offer_rules')],
+    'Buying trains': [Made('rows', 'purchases: train_purchase_rules'), Made('events', 'purchases: after_train')],
+    'Privates that companies buy': [Made('rows', 'purchases: private_rules'), Made('events', 'purchases: private_bought')],
+    'Which trains are given up': [Made('rows', 'purchases: discard_rules')],
+}
+
 # What the definitions that are hardest to read say, taken together, in the chapter that brings the first of them.
 NOTES: list[tuple[str, str]] = [
     ('rounds: Plays', 'A game is found and not made: some number of rounds leads from before the first to its end, each by `IsRound`, '
@@ -76,9 +99,9 @@ NOTES: list[tuple[str, str]] = [
      'private are equal.'),
     ('operating: LinesLead', 'Line after line, each leading from the turn before it to the turn after it. A line with a fault ends in '
      '`ReadingLeads`, one whose condition does not hold in `AskedLeads`, and an order in `OrderLeads`, by its own definition.'),
-    ('board: IsLayAnswer', '`reached` is a guess that `exact` makes right: where none of the rules before L9 is broken, it is true exactly if the '
-     'company reaches some piece of the tile. Then the answer is the first rule that is broken, or the cost. Where one of those rules is '
-     'broken, `reached` does not matter.'),
+    ('board: IsLayAnswer', '`reached` is a value fixed by `exact`: if none of the rules before L9 is broken, it is true exactly if the company '
+     'reaches some piece of the tile. Then the answer is the first rule that is broken, or the cost. If one of those rules is broken, `reached` '
+     'does not matter.'),
     ('board: IsTokenAnswer', '`reached` is true exactly if the company reaches the place, where none of the rules before K5 is broken.'),
     ('legal_runs: walk_named', 'The train begins at the stop of the first place. `leg_to` is the step or the two steps to the next place, if '
      'there is such track, and `travelled` goes on from there. `with_leg` adds the steps to what was made so far: here a walk, in which '
@@ -99,9 +122,19 @@ NOTES: list[tuple[str, str]] = [
      'it, unless that begins with a ROUND event.'),
     ('operating: Course', 'A course leads from somewhere to somewhere else, or to a fault, and makes calls of whoever answers RUN BEST. `Then` is '
      'one course after another, with the calls of both, and `SomeTimesThen` some number of the first before the second.'),
+    ('certificate: Hold', 'Marks hold at a node in two ways. `cut`: the mark is 0, and the bound of the node is at most the claimed revenue. '
+     '`split`: the first mark is 1, the node is no leaf, and the marks behind it hold at its children, one after the other (`HoldInTurn`).'),
     ('umpire: from_divider', 'Of all lines `CERTS 1` the last counts: the text is looked at from each of its bytes that begins a line, and what '
      'lies further back comes first in `option_or`.'),
 ]
+
+# What is said of a file of specs/ in the place of its own comment, which speaks of more than the chapters have.
+FILES = {
+    'reach/Walk': ['Walks over the track of a position. A link joins two ends in one hex, each a side of the hex or a stop. A walk is a list of '
+                   'links. Steps are listed last to first. Each link is entered at one of its ends and left at the other, and is joined to the next at a '
+                   'stop, or at the border between their two hexes.'],
+    'certificate/Holding': ['Which marks hold at a node (`Hold`), and how marks are read over a list of nodes that lie ahead (`left_over`).'],
+}
 
 # A sentence for each definition whose own comment only has a meaning beside its neighbours, or that has none.
 SENTENCES = {
@@ -180,6 +213,12 @@ they print.
 - **Trials.** `trial` plays the file with an empty sheet at its end for exactly the players who owe one. `check` plays
   each sheet as if all others were empty, and then all of them, and reports the lines that are refused there.
 '''
+CERTIFIED = '''Nothing of a certificate is trusted: the runs and the marks are checked, whoever made them. A certificate shows a round, a
+company, its runs and its revenue, and no other order. No round is certified before it has been played.
+'''
+MIGRATED = '''There is no way back to version 1; keep the old file. Sheets that were sent need not be written again, and rounds that
+were played stay as they were. Certificates of the old file fit the new one.
+'''
 TOLD_OF = '''`round`, `runs`, `bulletin`, `state`, `explain` and `page` of the desk say again what a report says, and look up in the
 list of events what it does not say. [`desk.md`](desk.md) shows what they print.
 
@@ -202,8 +241,8 @@ def chapters() -> list[Chapter]:
         sections = [('rules.md', heading) for heading in headings] + [('steps.md', steps)] * bool(steps)
         return Chapter(file, headings[0], sections, roots.split(', ') if roots else [], files.split())
 
-    def other(file: str, title: str, page: str, *headings: str, roots: str = '', files: str = '') -> Chapter:
-        return Chapter(file, title, [(page, heading) for heading in headings], roots.split(', ') if roots else [], files.split())
+    def other(file: str, title: str, page: str, *headings: str, roots: str = '', files: str = '', text: str = '') -> Chapter:
+        return Chapter(file, title, [(page, heading) for heading in headings], roots.split(', ') if roots else [], files.split(), text)
 
     return [
         rules('the-game', 'The game', files='rounds/Play rounds/Sequence report/EndWorth'),
@@ -258,8 +297,8 @@ def chapters() -> list[Chapter]:
               'How a game is verified',
               files='certificate/Tree certificate/Holding certificate/Digits certificate/Checked certificate/Filled umpire/Groups '
               'umpire/InputSplit umpire/Written operating/TurnCalls operating/Calls rounds/GameCalls rounds/Faults legal_runs/Claim '
-              'umpire/Certified'),
-        other('version-2', 'Migrating to version 2', 'formats.md', 'Migrating to version 2', files='umpire/Migrated'),
+              'umpire/Certified', text=CERTIFIED),
+        other('version-2', 'Migrating to version 2', 'formats.md', 'Migrating to version 2', files='umpire/Migrated', text=MIGRATED),
         other('streams', 'What is read and written', 'formats.md', 'The program', files='umpire/Run umpire/Failure umpire/Watched umpire/Verify'),
         Chapter('before-a-round', 'What is told before a round', [], text=TOLD_BEFORE),
         Chapter('desk', 'What is told of a round', [], text=TOLD_OF),

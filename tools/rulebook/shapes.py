@@ -186,7 +186,7 @@ class Shapes:
 
     def step(self, event: str, one: Name) -> Step:
         says = variant_comments(self.house.types[('events', 'Event')]).get(event, '')
-        return Step(EVENT_WORDS.get(event, event.upper()), says, ' '.join(self.house.definition(one).comment), one)
+        return Step(EVENT_WORDS.get(event, event.upper()), for_players(says), for_players(' '.join(self.house.definition(one).comment)), one)
 
     def events_table(self, one: Name) -> str:
         """Returns the events that an act may record, each with what it says, when it comes, and what records it."""
@@ -260,6 +260,11 @@ class Shapes:
         for letter, row in zip('ABCDEFGHIJK', cells):
             lines.append(letter + ' ' + ' '.join('%*s' % (width, cell) for width, cell in zip(widths, row)))
         return '```\n%s\n```\n' % '\n'.join(lines)
+
+
+def for_players(text: str) -> str:
+    """Returns a sentence of the source with the words that players use: the source has seats for players, and speaks of the bank pool."""
+    return re.sub(r'\b([Tt]he|[Aa]|[Tt]his) seat\b', r'\1 player', text).replace('bank pool', 'pool')
 
 
 def without_repeats(steps: list[Step]) -> list[Step]:

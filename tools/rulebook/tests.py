@@ -247,7 +247,7 @@ class TestShapes(unittest.TestCase):
         page = 'A\n<!-- columns shop: case = Kind; price = Price -->\nold\n<!-- end -->\nB\n'
         self.assertIn('| large | 10 |\n<!-- end -->\nB', pages.with_blocks(page, self.shapes))
         with self.assertRaises(ValueError):
-            pages.with_blocks('<!-- rows shop: no_such_rules -->\n<!-- end -->\n', self.shapes)
+            pages.with_blocks('<!-- chart shop: no_such_chart -->\n<!-- end -->\n', self.shapes)
 
 
 class TestClaims(unittest.TestCase):
@@ -290,18 +290,20 @@ class TestChapters(unittest.TestCase):
         house = shop()
         reached = {named(name) for name in house.modules['shop/specs/Rules'].definitions}
         listed = [chapters.Chapter(title, title, [('page', title)]) for title in ('Sales', 'Counts')]
-        stated = {'Counts': chapters.Headed('shop: price', 'shop: is_empty', 'first'), 'Inner': chapters.Headed('shop: sold', 'shop: is_empty', 'second')}
+        stated = {'Counts': ['shop: price'], 'Inner': ['shop: sold']}
         chapters.fill(listed, {'page': '## Sales\n\nIt is so.\n\n### Inner\n\n## Counts\n'}, chapters.Index(house, reached), {}, stated)
         self.assertEqual([{name for _, name in chapter.brings} & {'sold', 'price'} for chapter in listed], [{'sold'}, {'price'}])
 
     def test_words_of_a_chapter(self):
         house = shop()
-        made = shapes.Shapes(house, chapters.Index(house, set()))
-        page = 'See [it](#sales) and [more](map.md#x).\n\n<!-- rows shop: sale_rules -->\n<!-- end -->\n'
-        text = pages.for_readers(page, made)
-        self.assertIn('[it](../players/rules.md#sales) and [more](../players/map.md#x)', text)
-        self.assertIn('| S2 | it is late | not `late` |', text)
-        self.assertEqual(pages.with_blocks(page, made), page)
+        index = chapters.Index(house, set())
+        chapter = chapters.Chapter('sales', 'Sales', [('page', 'Sales')], text='See [it](#sales), [more](map.md#x).\n\n### Inner\n\nMore.\n')
+        headed = {'Inner': chapters.Headed('shop: price', 'shop: is_empty', 'first')}
+        below = {'Sales': [chapters.Made('rows', 'shop: sale_rules')]}
+        book = pages.Book(house, [chapter], shapes.Shapes(house, index), [], [], [], headed, below, {})
+        self.assertRegex(book.words(chapter), r'(?s)^See \[it\]\(../players/rules.md#sales\), \[more\]\(../players/map.md#x\).\n\n'
+                         r'The rules of `shop: sale_rules`.*\| S2 \| it is late \| not `late` \|.*\n\n### Inner\n\n'
+                         r'Definition `shop: price` · function `shop: is_empty` · game \[`first`\].*\n\nMore\.\n$')
 
     def test_example(self):
         text = '-- Example for the chapter `sales`: a sale.\n-- Two are sold.\nuse Rattle.shop.specs.Rules.{price}\n\nabbrev pub it : Kind\nit = Small\n\n-- five\npub small : price it ≡ 5\nunfolding price\n    it\nsmall = refl\n'
