@@ -1,6 +1,8 @@
 # The part `docs`: the names that the documents cite exist, the picture of the crates is that of
 # crates.txt, the rulebook and the counts of what the claims rest on are fresh, a second count gives
-# the same, the examples at the roots of crates are tests, and each lemma is cited and each import used.
+# the same, the examples at the roots of crates are tests, each lemma is cited and each import used,
+# and the pages for players have contents, links that lead somewhere, examples of games and no
+# unwanted words, and their card is fresh.
 
 check_docs() {
   take_over tools/names
