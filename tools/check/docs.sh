@@ -70,7 +70,7 @@ docs_must_fail() {
   sed 's/collect(rt/collects(rt/' crates/sheets/src/lib.rt > "$wrong-crates/sheets/src/lib.rt"
   cp crates/test_umpire/src/examples.rt "$wrong-crates/test_umpire/src/"
   sees 'a page with an unwanted word, no contents, a link to nowhere, another report, and too many words' 5 wrong_pages "$wrong"
-  sed 's/PHASE kind/PHASE kinds/' docs/players/formats.md > "$wrong/docs/players/formats.md"
+  sed 's/ keep the earnings / keep it /' docs/players/formats.md > "$wrong/docs/players/formats.md"
   sees 'a card that is not made from the tables' 1 take_over "$wrong/tools/card" --check
   sees 'an example that no test has' 1 take_over tools/check/examples "$wrong-crates"
 }
