@@ -141,8 +141,8 @@ class Book:
         words = {Kind.RULE: 'rules', Kind.TABLE: 'tables', Kind.PLUMBING: 'of plumbing'}
         parts = ['%d %s in %d lines' % (len(ones), words[kind], self.house.lines(set(ones))) for kind, ones in by_kind.items() if ones]
         parts = [re.sub(r'^1 (rule|table)s', r'1 \1', part) for part in parts]
-        return ('This chapter is the first that needs these: %s. `README.md` says how to read them; a file comes before those that it '
-                'uses, and a definition before those that it uses.' % ', '.join(parts))
+        return ('This chapter is the first that needs these: %s. [How to read them](README.md#how-to-read-a-definition). A definition comes '
+                'before those that it uses.' % ', '.join(parts))
 
     def in_words(self, chapter: Chapter) -> str:
         """Returns what the definitions of a chapter that are hardest to read say, taken together."""
