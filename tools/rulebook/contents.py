@@ -195,54 +195,18 @@ LAWS = [
     Law('certificates', 'a tree and its marks', 'certificate/specs/Example', (), ('worked_tree', 'worked_marks')),
 ]
 
-# The words of the chapters that no page of the players has. `desk.md` shows what each word of the desk prints.
-TOLD_BEFORE = '''Before a round `may`, `lays`, `best`, `trial` and `check` of the desk say what orders would do. [`desk.md`](desk.md) shows what
-they print.
-
-- **The position.** `may` and `lays` look at the start of one turn of the coming round, as if no other sheet had any
-  orders. In an opening or a stock round the players before this one have passed. In an operating round the standing
-  lines of the sheet are decided, the privates have paid, and the companies before this one have had their turns without
-  orders. If a draft is asked for, the lines of the player's own sheet come first.
-- **Lays and tokens.** `lays` lists each lay and each token that the rules allow there, with its price, and no other.
-  With `--best` it adds the greatest revenue of the company's trains after each.
-- **Other orders.** `may` lists the orders of that turn, each with its price or with the first rule that it breaks. If
-  an order lacks only consent, it names who would have to offer. A train is judged after the company has withheld, since
-  it withholds before a TRAIN line.
-- **What follows.** If nobody else has orders, play comes to that position. There a listed order is obeyed as the first
-  line of the turn, at its price, and no other lay or token is.
-- **Trials.** `trial` plays the file with an empty sheet at its end for exactly the players who owe one. `check` plays
-  each sheet as if all others were empty, and then all of them, and reports the lines that are refused there.
-'''
-CERTIFIED = '''Nothing of a certificate is trusted: the runs and the marks are checked, whoever made them. A certificate shows a round, a
-company, its runs and its revenue, and no other order. No round is certified before it has been played.
-'''
-MIGRATED = '''There is no way back to version 1; keep the old file. Sheets that were sent need not be written again, and rounds that
-were played stay as they were. Certificates of the old file fit the new one.
-'''
-TOLD_OF = '''`round`, `runs`, `bulletin`, `state`, `explain` and `page` of the desk say again what a report says, and look up in the
-list of events what it does not say. [`desk.md`](desk.md) shows what they print.
-
-- **A round** is exactly its part of the report of the file. A bulletin has the same events, in groups, each of one
-  turn.
-- **Why a line was refused.** The rule is that of the report. Its figures are what the rule compares, in the game
-  directly before the line. If a rule has several causes, the cause is the one that holds there.
-- **The state** has rows: players with their cash, free cash, certificates and worth, privates, companies, trains, and
-  what is left of trains, tokens and tiles. Each figure is that of the list of events at that moment.
-- **A page** is well-formed HTML: each element is closed, in order. What it draws, and where, is tested.
-'''
-
 # The chapters of what the contracts of a claim name, if no other chapter has that. The claims of the umpire have `streams`.
 CHAPTER_OF = {'what is told before a round': 'before-a-round', 'what is told of a round': 'desk'}
 
 
 def chapters() -> list[Chapter]:
-    """Returns the chapters, empty."""
+    """Returns the chapters, empty. tools/rulebook/own has what a chapter says beside the players' pages, under its file name."""
     def rules(file: str, *headings: str, roots: str = '', files: str = '', steps: str = '') -> Chapter:
         sections = [('rules.md', heading) for heading in headings] + [('steps.md', steps)] * bool(steps)
         return Chapter(file, headings[0], sections, roots.split(', ') if roots else [], files.split())
 
-    def other(file: str, title: str, page: str, *headings: str, roots: str = '', files: str = '', text: str = '') -> Chapter:
-        return Chapter(file, title, [(page, heading) for heading in headings], roots.split(', ') if roots else [], files.split(), text)
+    def other(file: str, title: str, page: str, *headings: str, roots: str = '', files: str = '') -> Chapter:
+        return Chapter(file, title, [(page, heading) for heading in headings], roots.split(', ') if roots else [], files.split())
 
     return [
         rules('the-game', 'The game', files='rounds/Play rounds/Sequence report/EndWorth'),
@@ -297,9 +261,9 @@ def chapters() -> list[Chapter]:
               'How a game is verified',
               files='certificate/Tree certificate/Holding certificate/Digits certificate/Checked certificate/Filled umpire/Groups '
               'umpire/InputSplit umpire/Written operating/TurnCalls operating/Calls rounds/GameCalls rounds/Faults legal_runs/Claim '
-              'umpire/Certified', text=CERTIFIED),
-        other('version-2', 'Migrating to version 2', 'formats.md', 'Migrating to version 2', files='umpire/Migrated', text=MIGRATED),
+              'umpire/Certified'),
+        other('version-2', 'Migrating to version 2', 'formats.md', 'Migrating to version 2', files='umpire/Migrated'),
         other('streams', 'What is read and written', 'formats.md', 'The program', files='umpire/Run umpire/Failure umpire/Watched umpire/Verify'),
-        Chapter('before-a-round', 'What is told before a round', [], text=TOLD_BEFORE),
-        Chapter('desk', 'What is told of a round', [], text=TOLD_OF),
+        Chapter('before-a-round', 'What is told before a round', []),
+        Chapter('desk', 'What is told of a round', []),
     ]
